@@ -1,0 +1,84 @@
+-- Objects, seats and the graph as contracts see them.
+use Rattle.std.specs.Prelude.{◌≡◌, ℕ, ◌+◌, ◌*◌, ◌^◌, Bool, true, false, List, [], ◌∷◌, length, replicate, slice_get, slice_index_or, Option, Some, None, Result, Ok, Err}
+use Rattle.heap_model.specs.declared.heap.Heap.{Heap}
+use Rattle.heap_model.specs.declared.id.Id.{Id}
+use Rattle.heap_model.specs.declared.id.Id.TheVariants.{Board, Made}
+use Rattle.heap_model.specs.declared.id.Value.{Value}
+use Rattle.heap_model.specs.declared.id.Value.TheVariants.{Nil, Number, Object}
+use Rattle.heap_model.specs.declared.reply.Reply.{Reply}
+use Rattle.heap_model.specs.declared.reply.Reply.TheVariants.{NoObject, NoField}
+
+-- a cell: its value, and the stamp of the set that put it there
+pub record Cell : Type 0 where
+  pub value : Value
+  pub stamp : ℕ
+
+-- an object: a record or an array of cells
+pub record Node : Type 0 where
+  pub array : Bool
+  pub cells : List Cell
+
+-- a seat: its registers, the objects that it made in their order, the number of its sets, and whether it left
+pub record Party : Type 0 where
+  pub registers : List Value
+  pub objects : List Node
+  pub sets : ℕ
+  pub left : Bool
+
+-- the board, and the seats in their order
+pub record State : Type 0 where
+  pub board : Node
+  pub seats : List Party
+
+-- a cell that was never set
+abbrev pub unset : Cell
+unset = record { value = Nil; stamp = 0 }
+
+-- an object of cells that were never set
+abbrev pub fresh : Bool → ℕ → Node
+fresh array cells = record { array = array; cells = replicate cells unset }
+
+-- a seat at the opening: register 0 is the board, and the others are nil
+abbrev pub opening_party : Party
+opening_party = record { registers = Object Board ∷ replicate 15 Nil; objects = []; sets = 0; left = false }
+
+-- the graph at the opening
+abbrev pub opening : Heap → State
+opening heap = record { board = fresh false 32; seats = replicate heap.seats opening_party }
+
+-- what stands for a seat that isn't there: it has left
+abbrev pub nobody : Party
+nobody = record { registers = []; objects = []; sets = 0; left = true }
+
+-- the seat of this number
+abbrev pub party : State → ℕ → Party
+party g s = slice_index_or g.seats s nobody
+
+-- the value of a seat's register
+abbrev pub register : State → ℕ → ℕ → Value
+register g s r = slice_index_or (party g s).registers r Nil
+
+-- the object of this id, where it was made
+abbrev pub node : State → Id → Option Node
+node g Board = Some g.board
+node g (Made s count) = slice_get (party g s).objects count
+
+-- the object that a value refers to
+abbrev pub target : State → Value → Option Node
+target g Nil = None
+target g (Number n) = None
+target g (Object id) = node g id
+
+-- the cell that was found, or the refusal of an index past the end
+abbrev pub or_no_field : Option Cell → Result Cell Reply
+or_no_field None = Err NoField
+or_no_field (Some cell) = Ok cell
+
+-- the cell of an object, or the refusal that tells why there is none
+abbrev pub cell_of : Option Node → ℕ → Result Cell Reply
+cell_of None i = Err NoObject
+cell_of (Some object) i = or_no_field (slice_get object.cells i)
+
+-- the cell i of what a register refers to
+abbrev pub cell_at : State → ℕ → ℕ → ℕ → Result Cell Reply
+cell_at g s r i = cell_of (target g (register g s r)) i

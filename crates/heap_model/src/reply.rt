@@ -1,0 +1,29 @@
+use crate::id::{Id, Value};
+
+/// The answer to a command. A stamp is 0 for a cell that was never set, and else says whose set it was and which.
+#[derive(Clone, Copy, Debug, PartialEq, Eq)]
+pub enum Reply {
+    Made(Id),
+    Got { value: Value, stamp: u32 },
+    /// The stamp of the cell before it was set.
+    Was(u32),
+    Done,
+    Yes,
+    No,
+    Length(u16),
+    Phase(u64),
+    Cycle(u64),
+    Waits { seat: u8, answered: u64, phase: u64 },
+    NoObject,
+    NoField,
+    Full { need: u32, found: u32 },
+    SpineFull { need: u32, used: u32 },
+}
+
+/// The answer to a command of the collector.
+#[derive(Clone, Copy, Debug, PartialEq, Eq)]
+pub enum TurnReply {
+    Done,
+    Cycle(u64),
+    Waits { seat: u8, answered: u64, phase: u64 },
+}
