@@ -1,13 +1,12 @@
-// A library with one function.
+//! Scripts as texts: read by a grammar of whole lines, and written.
 #![tactic(auto)]
 
-ghost use Rattle.std.specs.Prelude.{◌≡◌};
-ghost use Rattle.script_text.specs.Echo.{echo_of};
+mod cause;
+mod lines;
+mod script;
+mod writing;
 
-// The `ensures` clause is the contract: what `echo` returns is `echo_of` of its argument, a definition
-// in `specs/Echo.antt`, which a caller's clause can cite too.
-pub fn echo(x: usize) -> usize
-    ensures { result ≡ echo_of x }
-{
-    x
-}
+pub use cause::{Cause, LineFault, ScriptFault};
+pub use lines::Lines;
+pub use script::{Form, Line, Script};
+pub use writing::{push_command, push_heap, push_number, push_word};

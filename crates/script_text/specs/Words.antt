@@ -1,0 +1,51 @@
+-- The words that spell a heap, a command and a line.
+use Rattle.std.specs.Prelude.{ℕ, List, [], ◌∷◌, ◌++◌, codes, decimal, map}
+use Rattle.heap_model.specs.declared.heap.Heap.{Heap}
+use Rattle.heap_model.specs.declared.command.Command.{Command}
+use Rattle.heap_model.specs.declared.command.Command.TheVariants.{New, Array, Get, Set, Num, Nil, Copy, Same, Len, Poll, Collect, Leave}
+use Rattle.heap_model.specs.declared.command.TurnCommand.{TurnCommand}
+use Rattle.heap_model.specs.declared.command.TurnCommand.TheVariants as turns
+use Rattle.script_text.specs.declared.script.Line.{Line}
+use Rattle.script_text.specs.declared.script.Line.TheVariants as lines
+use Rattle.script_text.specs.Text.{sentence}
+
+-- the numbers of a heap line
+abbrev pub heap_words : Heap → List (List ℕ)
+heap_words heap = decimal heap.groups ∷ decimal heap.spine ∷ decimal heap.seats ∷ []
+
+-- the heap line
+abbrev pub heap_line : Heap → List ℕ
+heap_line heap = sentence (codes "heap" ∷ heap_words heap)
+
+-- the words of a command
+abbrev pub command_words : Command → List (List ℕ)
+command_words (New d fields) = codes "new" ∷ decimal d ∷ decimal fields ∷ []
+command_words (Array d cells) = codes "array" ∷ decimal d ∷ decimal cells ∷ []
+command_words (Get d r i) = codes "get" ∷ decimal d ∷ decimal r ∷ decimal i ∷ []
+command_words (Set r i v) = codes "set" ∷ decimal r ∷ decimal i ∷ decimal v ∷ []
+command_words (Num d n) = codes "num" ∷ decimal d ∷ decimal n ∷ []
+command_words (Nil d) = codes "nil" ∷ decimal d ∷ []
+command_words (Copy d r) = codes "copy" ∷ decimal d ∷ decimal r ∷ []
+command_words (Same a b) = codes "same" ∷ decimal a ∷ decimal b ∷ []
+command_words (Len r) = codes "len" ∷ decimal r ∷ []
+command_words Poll = codes "poll" ∷ []
+command_words Collect = codes "collect" ∷ []
+command_words Leave = codes "leave" ∷ []
+
+-- the words of a command of the collector
+abbrev pub turn_words : TurnCommand → List (List ℕ)
+turn_words (turns.Turns n) = codes "turns" ∷ decimal n ∷ []
+turn_words turns.Cycle = codes "cycle" ∷ []
+
+-- the words of a line
+abbrev pub line_words : Line → List (List ℕ)
+line_words (lines.Seat seat command) = decimal seat ∷ command_words command
+line_words (lines.Turns command) = codes "c" ∷ turn_words command
+
+-- a line of a script
+abbrev pub line_text : Line → List ℕ
+line_text line = sentence (line_words line)
+
+-- the lines of a script
+abbrev pub script_lines : Heap → List Line → List (List ℕ)
+script_lines heap lines = codes "schism 1" ∷ heap_line heap ∷ map line_text lines

@@ -1,0 +1,87 @@
+ghost use Rattle.std.specs.Prelude.{◌≡◌, ◌∷◌, ◌++◌, decimal, OnOk};
+ghost use Rattle.script_text.specs.Text.{spaced};
+ghost use Rattle.script_text.specs.Words.{command_words, heap_words};
+
+use heap_model::{Command, Heap, Memory};
+use itoa::Buffer;
+
+/// Appends a space and the word.
+pub fn push_word(text: &mut Vec<u8>, word: &[u8]) -> Result<(), Memory>
+    ensures { OnOk result (text.new.items ≡ text.old.items ++ 32 ∷ word.now) }
+{
+    text.push(b' ')?;
+    text.extend_from_slice(word)?;
+    Ok(())
+}
+
+/// Appends a space and the number in decimal digits.
+pub fn push_number(text: &mut Vec<u8>, number: u64) -> Result<(), Memory>
+    ensures { OnOk result (text.new.items ≡ text.old.items ++ 32 ∷ decimal number) }
+{
+    push_word(text, Buffer::new().format(number).as_bytes())
+}
+
+/// Appends the words of a command as it stands in a script, each after a space.
+pub fn push_command(text: &mut Vec<u8>, command: &Command) -> Result<(), Memory>
+    ensures { OnOk result (text.new.items ≡ text.old.items ++ spaced (command_words command.now)) }
+{
+    match *command {
+        Command::New { d, fields } => {
+            push_word(text, b"new")?;
+            push_number(text, d.into())?;
+            push_number(text, fields.into())
+        }
+        Command::Array { d, cells } => {
+            push_word(text, b"array")?;
+            push_number(text, d.into())?;
+            push_number(text, cells.into())
+        }
+        Command::Get { d, r, i } => {
+            push_word(text, b"get")?;
+            push_number(text, d.into())?;
+            push_number(text, r.into())?;
+            push_number(text, i.into())
+        }
+        Command::Set { r, i, v } => {
+            push_word(text, b"set")?;
+            push_number(text, r.into())?;
+            push_number(text, i.into())?;
+            push_number(text, v.into())
+        }
+        Command::Num { d, n } => {
+            push_word(text, b"num")?;
+            push_number(text, d.into())?;
+            push_number(text, n.into())
+        }
+        Command::Nil { d } => {
+            push_word(text, b"nil")?;
+            push_number(text, d.into())
+        }
+        Command::Copy { d, r } => {
+            push_word(text, b"copy")?;
+            push_number(text, d.into())?;
+            push_number(text, r.into())
+        }
+        Command::Same { a, b } => {
+            push_word(text, b"same")?;
+            push_number(text, a.into())?;
+            push_number(text, b.into())
+        }
+        Command::Len { r } => {
+            push_word(text, b"len")?;
+            push_number(text, r.into())
+        }
+        Command::Poll => push_word(text, b"poll"),
+        Command::Collect => push_word(text, b"collect"),
+        Command::Leave => push_word(text, b"leave"),
+    }
+}
+
+/// Appends the words of a heap line but for the first, each after a space.
+pub fn push_heap(text: &mut Vec<u8>, heap: &Heap) -> Result<(), Memory>
+    ensures { OnOk result (text.new.items ≡ text.old.items ++ spaced (heap_words heap.now)) }
+{
+    push_number(text, heap.groups.into())?;
+    push_number(text, heap.spine.into())?;
+    push_number(text, heap.seats.into())
+}
