@@ -1,13 +1,7 @@
-// A library with one function.
+//! Histories as texts: entries written, one a line.
 #![tactic(auto)]
 
-ghost use Rattle.std.specs.Prelude.{◌≡◌};
-ghost use Rattle.reply_text.specs.Echo.{echo_of};
+mod rendering;
+mod replies;
 
-// The `ensures` clause is the contract: what `echo` returns is `echo_of` of its argument, a definition
-// in `specs/Echo.antt`, which a caller's clause can cite too.
-pub fn echo(x: usize) -> usize
-    ensures { result ≡ echo_of x }
-{
-    x
-}
+pub use rendering::{push_entry, render_entry};

@@ -9,4 +9,4 @@ mod writing;
 pub use cause::{Cause, LineFault, ScriptFault};
 pub use lines::Lines;
 pub use script::{Form, Line, Script};
-pub use writing::{push_command, push_heap, push_number, push_word};
+pub use writing::{push_command, push_digits, push_heap, push_number, push_turn, push_word};

@@ -1,8 +1,8 @@
 ghost use Rattle.std.specs.Prelude.{◌≡◌, ◌∷◌, ◌++◌, decimal, OnOk};
 ghost use Rattle.script_text.specs.Text.{spaced};
-ghost use Rattle.script_text.specs.Words.{command_words, heap_words};
+ghost use Rattle.script_text.specs.Words.{command_words, heap_words, turn_words};
 
-use heap_model::{Command, Heap, Memory};
+use heap_model::{Command, Heap, Memory, TurnCommand};
 use itoa::Buffer;
 
 /// Appends a space and the word.
@@ -14,11 +14,20 @@ pub fn push_word(text: &mut Vec<u8>, word: &[u8]) -> Result<(), Memory>
     Ok(())
 }
 
+/// Appends the number in decimal digits.
+pub fn push_digits(text: &mut Vec<u8>, number: u64) -> Result<(), Memory>
+    ensures { OnOk result (text.new.items ≡ text.old.items ++ decimal number) }
+{
+    text.extend_from_slice(Buffer::new().format(number).as_bytes())?;
+    Ok(())
+}
+
 /// Appends a space and the number in decimal digits.
 pub fn push_number(text: &mut Vec<u8>, number: u64) -> Result<(), Memory>
     ensures { OnOk result (text.new.items ≡ text.old.items ++ 32 ∷ decimal number) }
 {
-    push_word(text, Buffer::new().format(number).as_bytes())
+    text.push(b' ')?;
+    push_digits(text, number)
 }
 
 /// Appends the words of a command as it stands in a script, each after a space.
@@ -84,4 +93,17 @@ pub fn push_heap(text: &mut Vec<u8>, heap: &Heap) -> Result<(), Memory>
     push_number(text, heap.groups.into())?;
     push_number(text, heap.spine.into())?;
     push_number(text, heap.seats.into())
+}
+
+/// Appends the words of a command of the collector, each after a space.
+pub fn push_turn(text: &mut Vec<u8>, command: &TurnCommand) -> Result<(), Memory>
+    ensures { OnOk result (text.new.items ≡ text.old.items ++ spaced (turn_words command.now)) }
+{
+    match *command {
+        TurnCommand::Turns(n) => {
+            push_word(text, b"turns")?;
+            push_number(text, n.into())
+        }
+        TurnCommand::Cycle => push_word(text, b"cycle"),
+    }
 }
