@@ -1,0 +1,29 @@
+-- Parts of a word that are put side by side by `|`.
+use Rattle.std.proofs.Common.{◌≡◌, ℕ, ◌+◌, ◌*◌, ◌%◌, ◌^◌, ◌<◌, bit_or, refl, arith}
+use Rattle.std.proofs.lemmas.Nat.{or_shifted, shl_whole}
+
+-- below a multiple of 2^k there is room for k bits
+or_above : (a n k b : ℕ) → a ≡ n * 2 ^ k → b < 2 ^ k → bit_or a b ≡ a + b
+or_above a n k b e l = rw e (or_shifted n k b l)
+
+-- the three parts of a cell
+pub cell_parts : (k v s : ℕ) → v < 2 ^ 30 → s < 2 ^ 32
+    → bit_or (bit_or (k * 2 ^ 62) (v * 2 ^ 32 % 2 ^ 64)) s ≡ k * 2 ^ 62 + v * 2 ^ 32 + s
+cell_parts k v s p q = rw (
+  shl_whole v 30 32 64 p (omega arith),
+  or_above (k * 2 ^ 62) k 62 (v * 2 ^ 32) refl (omega arith),
+  or_above (k * 2 ^ 62 + v * 2 ^ 32) (k * 2 ^ 30 + v) 32 s (omega arith) q,
+)
+
+-- the four parts of a group
+pub group_parts : (t b m s : ℕ) → t < 2 ^ 16 → b < 2 ^ 16 → m < 2 ^ 16 → s < 2 ^ 16
+    → bit_or (bit_or (bit_or (s * 2 ^ 48 % 2 ^ 64) (m * 2 ^ 32 % 2 ^ 64)) (b * 2 ^ 16 % 2 ^ 64)) t
+    ≡ s * 2 ^ 48 + m * 2 ^ 32 + b * 2 ^ 16 + t
+group_parts t b m s p q r u = rw (
+  shl_whole s 16 48 64 u (omega arith),
+  shl_whole m 16 32 64 r (omega arith),
+  shl_whole b 16 16 64 q (omega arith),
+  or_above (s * 2 ^ 48) s 48 (m * 2 ^ 32) refl (omega arith),
+  or_above (s * 2 ^ 48 + m * 2 ^ 32) (s * 2 ^ 16 + m) 32 (b * 2 ^ 16) (omega arith) (omega arith),
+  or_above (s * 2 ^ 48 + m * 2 ^ 32 + b * 2 ^ 16) (s * 2 ^ 32 + m * 2 ^ 16 + b) 16 t (omega arith) p,
+)

@@ -1,0 +1,12 @@
+use Rattle.std.specs.Prelude.{◌≡◌, ℕ, ◌+◌, ◌^◌, ◌<◌, IsTrue, if◌then◌else◌}
+use Rattle.heap_words.specs.Cell.{cell_word, fixed_cell}
+use Rattle.heap_words.specs.declared.meta.Meta.{Meta}
+
+-- the length is below 8192, the next fragment below 65536, and an array has none
+abbrev pub IsMeta : Meta → Type 0
+IsMeta meta = (meta.length < 2 ^ 13) × (meta.next < 2 ^ 16) × (IsTrue meta.array → meta.next ≡ 0)
+
+-- the word of the fixed cell of the length, plus 2^29 for an array, and the next fragment
+abbrev pub meta_word : Meta → ℕ
+meta_word meta =
+    cell_word (fixed_cell (if meta.array then 2 ^ 29 + meta.length else meta.length) meta.next)

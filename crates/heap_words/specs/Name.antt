@@ -1,0 +1,11 @@
+use Rattle.std.specs.Prelude.{ℕ, ◌^◌, ◌<◌}
+use Rattle.heap_words.specs.Cell.{cell_word, fixed_cell}
+use Rattle.heap_words.specs.declared.name.Name.{Name}
+
+-- the owner is below 256, and the count below 2^32
+abbrev pub IsName : Name → Type 0
+IsName name = (name.owner < 2 ^ 8) × (name.count < 2 ^ 32)
+
+-- the word of the fixed cell of the owner and the count
+abbrev pub name_word : Name → ℕ
+name_word name = cell_word (fixed_cell name.owner name.count)

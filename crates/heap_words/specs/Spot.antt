@@ -1,0 +1,11 @@
+use Rattle.std.specs.Prelude.{ℕ, ◌^◌, ◌<◌}
+use Rattle.heap_words.specs.Cell.{cell_word, fixed_cell}
+use Rattle.heap_words.specs.declared.spot.Spot.{Spot}
+
+-- the half is 0 or 1, and the offset is below 2^32
+abbrev pub IsSpot : Spot → Type 0
+IsSpot spot = (spot.half < 2) × (spot.offset < 2 ^ 32)
+
+-- the word of the fixed cell of the half and the offset
+abbrev pub spot_word : Spot → ℕ
+spot_word spot = cell_word (fixed_cell spot.half spot.offset)

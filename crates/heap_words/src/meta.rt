@@ -1,0 +1,65 @@
+ghost use Rattle.std.specs.Prelude.{◌≡◌, ◌^◌, ◌<◌, IsTrue};
+ghost use Rattle.heap_words.specs.Meta.{IsMeta, meta_word};
+ghost use Rattle.heap_words.specs.Reads.{Reads};
+
+use crate::cell::Cell;
+use crate::kind::Kind;
+
+/// What is added to the length in an array's meta.
+const ARRAY: u32 = 1 << 29;
+
+/// No length reaches this.
+const TOO_LONG: u32 = 1 << 13;
+
+/// What an object is: an array of `length` cells, or a record of `length` fields.
+#[derive(Clone, Copy, Debug, PartialEq, Eq)]
+pub struct Meta {
+    pub array: bool,
+    /// Below 8192.
+    pub length: u16,
+    /// A record's first chain fragment; 0 where it has none, and for an array.
+    pub next: u16,
+}
+
+impl Meta {
+    /// The fixed cell's word that says all this.
+    pub fn pack(&self) -> u64
+        requires length { self.now.length < 2 ^ 13 }
+        requires next { IsTrue self.now.array → self.now.next ≡ 0 }
+        ensures { result ≡ meta_word self.now }
+    {
+        let length = u32::from(self.length);
+        let value = if self.array { ARRAY + length } else { length };
+        Cell {
+            kind: Kind::Fixed,
+            value,
+            stamp: u32::from(self.next),
+        }
+        .pack()
+    }
+
+    /// The meta that packs to this word.
+    pub fn read(word: u64) -> Option<Meta>
+        ensures { Reads IsMeta meta_word word result }
+    {
+        let Cell {
+            kind: Kind::Fixed,
+            value,
+            stamp,
+        } = Cell::read(word)
+        else {
+            return None;
+        };
+        let next = u16::try_from(stamp).ok()?;
+        let array = value >= ARRAY;
+        let length = if array { value - ARRAY } else { value };
+        if length >= TOO_LONG || array && next != 0 {
+            return None;
+        }
+        Some(Meta {
+            array,
+            length: length as u16,
+            next,
+        })
+    }
+}

@@ -1,0 +1,114 @@
+use crate::{Cell, Group, Kind, LEFT, Meta, Name, Phase, Spot};
+
+#[test]
+fn reads_and_packs_cells(rt: HostRuntime) {
+    for (word, kind, value, stamp) in [
+        (0, Kind::Nil, 0, 0),
+        (0x4000_0005_0400_0001, Kind::Number, 5, (1 << 26) + 1),
+        (0x8000_000b_0400_0002, Kind::Reference, 11, (1 << 26) + 2),
+        (
+            0xffff_ffff_ffff_ffff,
+            Kind::Fixed,
+            1_073_741_823,
+            4_294_967_295,
+        ),
+    ] {
+        let cell = Cell::read(word);
+        assert_eq!(rt; cell, Cell { kind, value, stamp }, "at {word:#x}");
+        assert_eq!(rt; cell.pack(), word, "at {word:#x}");
+    }
+}
+
+#[test]
+fn reads_and_packs_metas(rt: HostRuntime) {
+    for (word, want) in [
+        (
+            0xc000_0020_0000_0001,
+            Some(Meta {
+                array: false,
+                length: 32,
+                next: 1,
+            }),
+        ),
+        (
+            0xe000_0008_0000_0000,
+            Some(Meta {
+                array: true,
+                length: 8,
+                next: 0,
+            }),
+        ),
+        (0xe000_0008_0000_0001, None), // an array with a chain
+        (0xc000_2000_0000_0000, None), // 8,192 fields
+        (0xc000_0020_0001_0000, None), // the next fragment is 65,536
+        (0x4000_0020_0000_0001, None), // the number 32
+    ] {
+        let read = Meta::read(word);
+        assert_eq!(rt; read, want, "at {word:#x}");
+        if let Some(meta) = read {
+            assert_eq!(rt; meta.pack(), word, "at {word:#x}");
+        }
+    }
+}
+
+#[test]
+fn reads_and_packs_names(rt: HostRuntime) {
+    for (word, want) in [
+        (0xc000_0000_0000_0000, Some(Name { owner: 0, count: 0 })),
+        (0xc000_0001_0000_0003, Some(Name { owner: 1, count: 3 })),
+        (0xc000_0100_0000_0003, None), // the owner is 256
+        (0x8000_0001_0000_0003, None), // a reference
+    ] {
+        let read = Name::read(word);
+        assert_eq!(rt; read, want, "at {word:#x}");
+        if let Some(name) = read {
+            assert_eq!(rt; name.pack(), word, "at {word:#x}");
+        }
+    }
+}
+
+#[test]
+fn reads_and_packs_spots(rt: HostRuntime) {
+    for (word, want) in [
+        (0xc000_0001_0000_0006, Some(Spot { half: 1, offset: 6 })),
+        (0xc000_0002_0000_0006, None), // the half is 2
+        (0, None), // nil
+    ] {
+        let read = Spot::read(word);
+        assert_eq!(rt; read, want, "at {word:#x}");
+        if let Some(spot) = read {
+            assert_eq!(rt; spot.pack(), word, "at {word:#x}");
+        }
+    }
+}
+
+#[test]
+fn reads_and_packs_groups(rt: HostRuntime) {
+    for (word, taken, born, marked, scanned) in [
+        (0x0000_0000_07ff_07ff, 0x07ff, 0x07ff, 0, 0),
+        (0x0004_0003_0002_0001, 1, 2, 3, 4),
+    ] {
+        let group = Group::read(word);
+        assert_eq!(rt;
+            group,
+            Group {
+                taken,
+                born,
+                marked,
+                scanned
+            },
+            "at {word:#x}"
+        );
+        assert_eq!(rt; group.pack(), word, "at {word:#x}");
+    }
+}
+
+#[test]
+fn reads_and_packs_phases(rt: HostRuntime) {
+    for (number, cycle, k) in [(0, 0, 0), (6, 0, 6), (7, 1, 0), (16, 2, 2)] {
+        let phase = Phase::read(number);
+        assert_eq!(rt; phase, Phase { cycle, k }, "at {number}");
+        assert_eq!(rt; phase.pack(), number, "at {number}");
+    }
+    assert_eq!(rt; LEFT, 18_446_744_073_709_551_615);
+}
