@@ -1,0 +1,39 @@
+-- The numbers and texts of statuses.
+use Rattle.std.specs.Prelude.{ℕ, List, [], ◌++◌, codes, decimal}
+use Rattle.script_text.specs.declared.cause.Cause.{Cause}
+use Rattle.script_text.specs.declared.cause.Cause.TheVariants.{NoHeader, BadHeap, NoSeat, NoCommand, BadNumber, OutOfRange, TooManyWords, TooManyLines, BadEntry, NoEnd, HistoryLines, Unbuilt}
+use Rattle.schism_program.specs.declared.status.Status.{Status}
+use Rattle.schism_program.specs.declared.status.Status.TheVariants.{Done, Refused, Usage, ReadFault, WriteFault, Memory}
+
+-- the exit status of the process
+abbrev pub number_of : Status → ℕ
+number_of Done = 0
+number_of (Refused line cause) = 1
+number_of Usage = 2
+number_of ReadFault = 3
+number_of WriteFault = 4
+number_of Memory = 5
+
+-- the name of a cause
+abbrev pub cause_name : Cause → List ℕ
+cause_name NoHeader = codes "NoHeader"
+cause_name BadHeap = codes "BadHeap"
+cause_name NoSeat = codes "NoSeat"
+cause_name NoCommand = codes "NoCommand"
+cause_name BadNumber = codes "BadNumber"
+cause_name OutOfRange = codes "OutOfRange"
+cause_name TooManyWords = codes "TooManyWords"
+cause_name TooManyLines = codes "TooManyLines"
+cause_name BadEntry = codes "BadEntry"
+cause_name NoEnd = codes "NoEnd"
+cause_name HistoryLines = codes "HistoryLines"
+cause_name Unbuilt = codes "Unbuilt"
+
+-- what standard error says of a status
+abbrev pub status_words : Status → List ℕ
+status_words Done = []
+status_words (Refused line cause) = codes "refused at line " ++ decimal line ++ codes ": " ++ cause_name cause
+status_words Usage = codes "usage"
+status_words ReadFault = codes "read fault"
+status_words WriteFault = codes "write fault"
+status_words Memory = codes "memory"
