@@ -10,7 +10,8 @@ use Rattle.heap_model.specs.declared.reply.Reply.{Reply}
 use Rattle.heap_model.specs.declared.reply.Reply.TheVariants as replies
 use Rattle.heap_model.specs.declared.entry.Entry.{Entry}
 use Rattle.heap_model.specs.declared.entry.Entry.TheVariants as entries
-use Rattle.heap_model.specs.Objects.{Cell, Node, Party, State, fresh, party, register, node}
+use Rattle.heap_model.specs.declared.cell.Cell.{Cell}
+use Rattle.heap_model.specs.Objects.{Node, Party, State, fresh, party, register, node}
 
 -- the graph with another seat at this number
 abbrev pub with_party : State → ℕ → Party → State
@@ -50,10 +51,10 @@ stamp_of s n = (s + 1) * 2 ^ 26 + n
 abbrev pub count_set : State → ℕ → State
 count_set g s = with_party g s (record (party g s) { sets = (party g s).sets + 1 })
 
--- the seat set the cell i of what its register r refers to, to the value of its register v
+-- the seat did one more set: the cell i of what its register r refers to holds the value of its register v
 abbrev pub set_cell : State → ℕ → ℕ → ℕ → ℕ → State
 set_cell g s r i v =
-    count_set (write g (register g s r) i (record { value = register g s v; stamp = stamp_of s ((party g s).sets + 1) })) s
+    write (count_set g s) (register g s r) i (record { value = register g s v; stamp = stamp_of s ((party g s).sets + 1) })
 
 -- the seat's registers are empty, and it has left
 abbrev pub leave : State → ℕ → State

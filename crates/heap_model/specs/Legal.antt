@@ -9,7 +9,8 @@ use Rattle.heap_model.specs.declared.reply.Reply.TheVariants as replies
 use Rattle.heap_model.specs.declared.entry.Entry.{Entry}
 use Rattle.heap_model.specs.declared.entry.Entry.TheVariants as entries
 use Rattle.heap_model.specs.Command.{IsCommand}
-use Rattle.heap_model.specs.Objects.{Cell, Node, State, opening, party, register, target, cell_at}
+use Rattle.heap_model.specs.declared.cell.Cell.{Cell}
+use Rattle.heap_model.specs.Objects.{Node, State, opening, party, register, target, cell_at}
 use Rattle.heap_model.specs.Growth.{after}
 
 -- the seat is below the seats, and hasn't left

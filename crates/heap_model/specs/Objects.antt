@@ -5,13 +5,9 @@ use Rattle.heap_model.specs.declared.id.Id.{Id}
 use Rattle.heap_model.specs.declared.id.Id.TheVariants.{Board, Made}
 use Rattle.heap_model.specs.declared.id.Value.{Value}
 use Rattle.heap_model.specs.declared.id.Value.TheVariants.{Nil, Number, Object}
+use Rattle.heap_model.specs.declared.cell.Cell.{Cell}
 use Rattle.heap_model.specs.declared.reply.Reply.{Reply}
 use Rattle.heap_model.specs.declared.reply.Reply.TheVariants.{NoObject, NoField}
-
--- a cell: its value, and the stamp of the set that put it there
-pub record Cell : Type 0 where
-  pub value : Value
-  pub stamp : ℕ
 
 -- an object: a record or an array of cells
 pub record Node : Type 0 where

@@ -1,3 +1,6 @@
+ghost use Rattle.std.specs.Prelude.{◌↔◌, IsTrue};
+ghost use Rattle.heap_model.specs.Command.{IsTarget, IsCommand};
+
 /// What a seat asks of the heap. `d` is the register that the answer goes to, `r`, `v`, `a` and `b` are registers
 /// that are read, and `i` is the index of a field or a cell.
 #[derive(Clone, Copy, Debug, PartialEq, Eq)]
@@ -14,6 +17,33 @@ pub enum Command {
     Poll,
     Collect,
     Leave,
+}
+
+impl Command {
+    /// Whether each number of the command is in its range.
+    pub fn is_in_range(&self) -> bool
+        ensures { IsTrue result ↔ IsCommand self.now }
+    {
+        match *self {
+            Command::New { d, fields } => is_target(d) && 1 <= fields && fields <= 47,
+            Command::Array { d, cells } => is_target(d) && 1 <= cells && cells <= 4096,
+            Command::Get { d, r, i } => is_target(d) && r <= 15 && i <= 4096,
+            Command::Set { r, i, v } => r <= 15 && i <= 4096 && v <= 15,
+            Command::Num { d, n } => is_target(d) && n < 1 << 30,
+            Command::Nil { d } => is_target(d),
+            Command::Copy { d, r } => is_target(d) && r <= 15,
+            Command::Same { a, b } => a <= 15 && b <= 15,
+            Command::Len { r } => r <= 15,
+            Command::Poll | Command::Collect | Command::Leave => true,
+        }
+    }
+}
+
+/// Whether a command may write this register.
+fn is_target(d: u8) -> bool
+    ensures { IsTrue result ↔ IsTarget d }
+{
+    1 <= d && d <= 15
 }
 
 /// What a script asks of the collector: a number of turns, or turns until a cycle ends.

@@ -1,17 +1,23 @@
 //! The heap that never collects: ids, commands, entries, and the graph that only grows.
 #![tactic(auto)]
 
+mod cell;
 mod command;
 mod entry;
 mod fault;
+mod graph;
 mod heap;
 mod id;
+mod object;
 mod refusal;
 mod reply;
+mod seat;
 
+pub use cell::Cell;
 pub use command::{Command, TurnCommand};
 pub use entry::Entry;
 pub use fault::{ApplyFault, Memory};
+pub use graph::Graph;
 pub use heap::Heap;
 pub use id::{Id, Value};
 pub use refusal::{Full, NoObject, PlaceRefusal, SpaceRefusal};

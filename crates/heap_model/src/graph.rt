@@ -1,0 +1,90 @@
+ghost use Rattle.std.specs.Prelude.{◌≡◌, ◌<◌, ◌≤◌, length, Ok, Err, IfOk, OnOk, OnErr};
+ghost use Rattle.heap_model.specs.Heap.{IsHeap};
+
+use crate::entry::Entry;
+use crate::fault::{ApplyFault, Memory};
+use crate::heap::Heap;
+use crate::id::Value;
+use crate::object::Object;
+use crate::seat::Seat;
+use std::alloc::Global;
+use std::marker::Model;
+
+mod growth;
+mod legal;
+mod lookup;
+#[cfg(test)]
+mod tests;
+
+/// The objects that were ever made, and what each seat holds: a heap that never collects.
+#[derive(Debug, Drop)]
+pub struct Graph {
+    alloc: Global,
+    board: Object,
+    seats: Vec<Seat>,
+}
+
+impl Model for Graph {
+    ghost use Rattle.std.specs.Prelude.{◌≤◌, length};
+    ghost use Rattle.heap_model.specs.Objects.{State};
+
+    ghost Value = { State };
+
+    ghost view = { λ g. record { board = g.board; seats = g.seats.items } };
+
+    ghost invariant = { λ g. length g.seats.items ≤ 16 };
+}
+
+impl Graph {
+    ghost use Rattle.heap_model.specs.Objects.{opening, register as value_of};
+    ghost use Rattle.heap_model.specs.Growth.{after};
+    ghost use Rattle.heap_model.specs.Legal.{Accepts};
+
+    /// The graph in which nothing was done yet.
+    pub fn new(alloc: Global, heap: Heap) -> Result<Graph, Memory>
+        requires { IsHeap heap }
+        ensures { IfOk result (λ graph. graph ≡ opening heap) }
+    {
+        let board = Object::new(alloc, false, 32)?;
+        let mut seats = Vec::with_capacity(alloc, heap.seats as usize)?;
+        for _seat in 0..heap.seats {
+            seats.push(Seat::new(alloc))?;
+        }
+        Ok(Graph {
+            alloc,
+            board,
+            seats,
+        })
+    }
+
+    /// Lets the graph grow by the entry, where it may stand here.
+    pub fn apply(&mut self, entry: &Entry) -> Result<(), ApplyFault>
+        ensures accepted { OnOk result (Accepts self.old entry.now) }
+        ensures grown { OnOk result (self.new ≡ after self.old entry.now) }
+        ensures not_legal { result ≡ Err ApplyFault.NotLegal → ¬ Accepts self.old entry.now }
+        ensures memory { result ≡ Err ApplyFault.Memory → Accepts self.old entry.now }
+        ensures unchanged { OnErr result (self.new ≡ self.old) }
+    {
+        if !self.accepts(entry) {
+            return Err(ApplyFault::NotLegal);
+        }
+        self.grow(entry)?;
+        Ok(())
+    }
+
+    /// How many seats the heap has, those that left among them.
+    pub fn seats(&self) -> usize
+        ensures count { result ≡ length self.now.seats }
+        ensures few { result ≤ 16 }
+    {
+        self.seats.len()
+    }
+
+    pub fn value(&self, seat: u8, register: u8) -> Value
+        requires seat { seat < length self.now.seats }
+        requires register { register ≤ 15 }
+        ensures { result ≡ value_of self.now seat register }
+    {
+        self.register(seat, register)
+    }
+}

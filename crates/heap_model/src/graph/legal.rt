@@ -1,0 +1,110 @@
+ghost use Rattle.std.specs.Prelude.{◌≡◌, ◌↔◌, IsTrue};
+
+use crate::command::Command;
+use crate::entry::Entry;
+use crate::graph::Graph;
+use crate::id::Id;
+use crate::reply::Reply;
+
+/// A seat sets fewer times than this, so that a stamp tells whose set it is and which.
+pub(super) const SETS: u32 = 1 << 26;
+
+impl Graph {
+    ghost use Rattle.heap_model.specs.Objects.{party, cell_at, register as value_of, target as target_of};
+    ghost use Rattle.heap_model.specs.Legal.{Accepts, Says, Makes, Gets, Sets, Compares, length_reply};
+
+    pub(super) fn accepts(&self, entry: &Entry) -> bool
+        ensures { IsTrue result ↔ Accepts self.now entry.now }
+    {
+        match *entry {
+            Entry::Said {
+                seat,
+                command,
+                reply,
+            } => self.is_present(seat) && command.is_in_range() && self.says(seat, command, reply),
+            Entry::Takes { seat, .. }
+            | Entry::GivesBack { seat, .. }
+            | Entry::Answers { seat, .. } => self.is_present(seat),
+            _ => true,
+        }
+    }
+
+    /// Whether this is what the seat is told.
+    fn says(&self, seat: u8, command: Command, reply: Reply) -> bool
+        ensures { IsTrue result ↔ Says self.now seat command reply }
+    {
+        match command {
+            Command::New { .. } => self.makes(seat, reply),
+            Command::Array { .. } => {
+                matches!(reply, Reply::SpineFull { .. }) || self.makes(seat, reply)
+            }
+            Command::Get { r, i, .. } => self.gets(seat, r, i, reply),
+            Command::Set { r, i, .. } => self.sets(seat, r, i, reply),
+            Command::Num { .. } | Command::Nil { .. } | Command::Copy { .. } | Command::Leave => {
+                reply == Reply::Done
+            }
+            Command::Same { a, b } => self.compares(seat, a, b, reply),
+            Command::Len { r } => self.has_length(seat, r, reply),
+            Command::Poll => matches!(reply, Reply::Phase(_)),
+            Command::Collect => matches!(reply, Reply::Cycle(_) | Reply::Waits { .. }),
+        }
+    }
+
+    fn makes(&self, seat: u8, reply: Reply) -> bool
+        ensures { IsTrue result ↔ Makes self.now seat reply }
+    {
+        match reply {
+            Reply::Made(Id::Made { seat: maker, count }) => {
+                maker == seat && count as usize == self.made(seat)
+            }
+            Reply::Full { .. } => true,
+            _ => false,
+        }
+    }
+
+    fn gets(&self, seat: u8, r: u8, i: u32, reply: Reply) -> bool
+        ensures { IsTrue result ↔ Gets (cell_at self.now seat r i) reply }
+    {
+        match self.cell(seat, r, i) {
+            Ok(cell) => {
+                reply
+                    == Reply::Got {
+                        value: cell.value,
+                        stamp: cell.stamp,
+                    }
+            }
+            Err(refusal) => reply == refusal,
+        }
+    }
+
+    fn sets(&self, seat: u8, r: u8, i: u32, reply: Reply) -> bool
+        ensures { IsTrue result ↔ Sets (party self.now seat).sets (cell_at self.now seat r i) reply }
+    {
+        match self.cell(seat, r, i) {
+            Ok(cell) => reply == Reply::Was(cell.stamp) && self.set_count(seat) < SETS - 1,
+            Err(refusal) => reply == refusal,
+        }
+    }
+
+    fn compares(&self, seat: u8, a: u8, b: u8, reply: Reply) -> bool
+        ensures { IsTrue result ↔ Compares (value_of self.now seat a) (value_of self.now seat b) reply }
+    {
+        let same = self.register(seat, a) == self.register(seat, b);
+        match reply {
+            Reply::Yes => same,
+            Reply::No => !same,
+            _ => false,
+        }
+    }
+
+    fn has_length(&self, seat: u8, r: u8, reply: Reply) -> bool
+        ensures { IsTrue result ↔
+            (reply ≡ length_reply (target_of self.now (value_of self.now seat r))) }
+    {
+        match (self.target(self.register(seat, r)), reply) {
+            (Some(object), Reply::Length(n)) => object.len() == n as usize,
+            (None, Reply::NoObject) => true,
+            _ => false,
+        }
+    }
+}
