@@ -1,6 +1,5 @@
 -- How the graph grows with each entry.
-use Rattle.std.specs.Prelude.{ℕ, ◌+◌, ◌*◌, ◌^◌, Bool, true, false, List, [], ◌∷◌, ◌++◌, length, replicate, slice_index_or, slice_set, fold}
-use Rattle.heap_model.specs.declared.id.Id.{Id}
+use Rattle.std.specs.Prelude.{ℕ, ◌+◌, ◌*◌, ◌^◌, true, false, List, [], ◌∷◌, ◌++◌, length, replicate, slice_index_or, slice_set, fold}
 use Rattle.heap_model.specs.declared.id.Id.TheVariants.{Board, Made}
 use Rattle.heap_model.specs.declared.id.Value.{Value}
 use Rattle.heap_model.specs.declared.id.Value.TheVariants.{Nil, Number, Object}
@@ -11,7 +10,7 @@ use Rattle.heap_model.specs.declared.reply.Reply.TheVariants as replies
 use Rattle.heap_model.specs.declared.entry.Entry.{Entry}
 use Rattle.heap_model.specs.declared.entry.Entry.TheVariants as entries
 use Rattle.heap_model.specs.declared.cell.Cell.{Cell}
-use Rattle.heap_model.specs.Objects.{Node, Party, State, fresh, party, register, node}
+use Rattle.heap_model.specs.Objects.{Node, Party, State, fresh, party, register}
 
 -- the graph with another seat at this number
 abbrev pub with_party : State → ℕ → Party → State
