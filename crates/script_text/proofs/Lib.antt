@@ -1,1 +1,4 @@
+pub mod Cuts
+pub mod Numbers
 pub mod Sentences
+pub mod TextLemmas

@@ -1,6 +1,7 @@
 ghost use Rattle.std.specs.Prelude.{◌≡◌};
 ghost use Rattle.script_text.specs.declared.cause.ScriptFault.TheVariants as faults;
 
+use heap_model::Memory;
 use std::alloc::{AllocError, AllocFailed};
 use thiserror::Error;
 
@@ -36,6 +37,22 @@ pub enum ScriptFault {
     Line(LineFault),
     #[error("out of memory")]
     Memory,
+}
+
+impl From<LineFault> for ScriptFault {
+    ghost from_gives = { λ fault e. e ≡ faults.Line fault };
+
+    fn from(fault: LineFault) -> ScriptFault {
+        ScriptFault::Line(fault)
+    }
+}
+
+impl From<Memory> for ScriptFault {
+    ghost from_gives = { λ _ e. e ≡ faults.Memory };
+
+    fn from(_e: Memory) -> ScriptFault {
+        ScriptFault::Memory
+    }
 }
 
 impl From<AllocError> for ScriptFault {

@@ -2,8 +2,19 @@
 #![tactic(auto)]
 
 mod cause;
+mod command;
+mod cut;
+mod heap_line;
+mod line;
 mod lines;
+mod name;
+mod number;
+mod operand;
+mod reading;
 mod script;
+mod text_lines;
+mod turn;
+mod words;
 mod writing;
 
 pub use cause::{Cause, LineFault, ScriptFault};

@@ -1,0 +1,64 @@
+-- The operands of the commands.
+use Rattle.std.specs.Prelude.{ℕ, ◌&&◌, List, [], ◌∷◌, Option, Some, None, Result, Ok, Err, bytes_eq, codes, nat_le, if◌then◌else◌}
+use Rattle.std.specs.Map.{lookup}
+use Rattle.script_text.specs.declared.cause.Cause.{Cause}
+use Rattle.script_text.specs.declared.cause.Cause.TheVariants.{NoCommand, BadNumber, OutOfRange, TooManyWords}
+use Rattle.script_text.specs.Numbers.{number_of}
+
+-- the least and the most number of an operand
+abbrev pub Range : Type 0
+Range = ℕ × ℕ
+
+-- a register that is written, one that is read, and an index
+abbrev pub target : Range
+target = (1, 15)
+
+abbrev pub register : Range
+register = (0, 15)
+
+abbrev pub index : Range
+index = (0, 4096)
+
+-- each command of a seat with its operands
+abbrev pub commands : List (List ℕ × List Range)
+commands =
+    (codes "new", target ∷ (1, 47) ∷ [])
+  ∷ (codes "array", target ∷ (1, 4096) ∷ [])
+  ∷ (codes "get", target ∷ register ∷ index ∷ [])
+  ∷ (codes "set", register ∷ index ∷ register ∷ [])
+  ∷ (codes "num", target ∷ (0, 1073741823) ∷ [])
+  ∷ (codes "nil", target ∷ [])
+  ∷ (codes "copy", target ∷ register ∷ [])
+  ∷ (codes "same", register ∷ register ∷ [])
+  ∷ (codes "len", register ∷ [])
+  ∷ (codes "poll", [])
+  ∷ (codes "collect", [])
+  ∷ []
+
+-- each command of the collector with its operands
+abbrev pub turn_commands : List (List ℕ × List Range)
+turn_commands =
+    (codes "turns", (0, 1000000) ∷ [])
+  ∷ (codes "cycle", [])
+  ∷ []
+
+-- what is left after a number in the range
+abbrev pub after_number : Range → Option ℕ → List (List ℕ) → Result (List (List ℕ)) Cause
+after_number range None rest = Err BadNumber
+after_number range (Some n) rest = if nat_le range.0 n && nat_le n range.1 then Ok rest else Err OutOfRange
+
+-- the words after an operand in the range, which is the first word
+abbrev pub after_operand : Range → List (List ℕ) → Result (List (List ℕ)) Cause
+after_operand range [] = Err BadNumber
+after_operand range (word ∷ rest) = after_number range (number_of word) rest
+
+-- what is wrong with a word, or else with the words after it
+abbrev pub fault_or : (List (List ℕ) → Option Cause) → Result (List (List ℕ)) Cause → Option Cause
+fault_or fault (Ok rest) = fault rest
+fault_or fault (Err cause) = Some cause
+
+-- what is wrong with the operands, looked at from the left
+abbrev pub operands_fault : List Range → List (List ℕ) → Option Cause
+operands_fault [] [] = None
+operands_fault [] (word ∷ rest) = Some TooManyWords
+operands_fault (range ∷ ranges) words = fault_or (operands_fault ranges) (after_operand range words)

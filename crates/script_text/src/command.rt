@@ -1,0 +1,81 @@
+ghost use Rattle.std.specs.Prelude.{◌≡◌, [], ◌∷◌, ◌++◌, Some, IfOk, OnOk, IfErr};
+ghost use Rattle.script_text.specs.Faults.{command_fault};
+ghost use Rattle.script_text.specs.Grammar.{IsScripted};
+ghost use Rattle.script_text.specs.Left.{words_left};
+ghost use Rattle.script_text.specs.Names.{name_word};
+ghost use Rattle.script_text.specs.Operands.{commands, operands_fault};
+ghost use Rattle.script_text.specs.Words.{command_words};
+
+use crate::cause::Cause;
+use crate::name::{Name, read_name};
+use crate::operand::{index, operand, register, target};
+use crate::words::Words;
+use heap_model::Command;
+
+/// The command of this name, with the next words as its operands.
+fn operands(name: Name, words: &mut Words<'_>) -> Result<Command, Cause>
+    ensures found { IfOk result (λ command. name_word name ∷ words_left words.old ≡ command_words command ++ words_left words.new) }
+    ensures range { IfOk result IsScripted }
+    ensures rest { OnOk result (command_fault commands (name_word name ∷ words_left words.old) ≡ operands_fault [] (words_left words.new)) }
+    ensures fault { IfErr result (λ cause. command_fault commands (name_word name ∷ words_left words.old) ≡ Some cause) }
+{
+    match name {
+        Name::New => {
+            let d = target(words)?;
+            let fields = operand(words, 1, 47)? as u16;
+            Ok(Command::New { d, fields })
+        }
+        Name::Array => {
+            let d = target(words)?;
+            let cells = operand(words, 1, 4096)? as u16;
+            Ok(Command::Array { d, cells })
+        }
+        Name::Get => {
+            let d = target(words)?;
+            let r = register(words)?;
+            let i = index(words)?;
+            Ok(Command::Get { d, r, i })
+        }
+        Name::Set => {
+            let r = register(words)?;
+            let i = index(words)?;
+            let v = register(words)?;
+            Ok(Command::Set { r, i, v })
+        }
+        Name::Num => {
+            let d = target(words)?;
+            let n = operand(words, 0, 1_073_741_823)?;
+            Ok(Command::Num { d, n })
+        }
+        Name::Nil => Ok(Command::Nil { d: target(words)? }),
+        Name::Copy => {
+            let d = target(words)?;
+            let r = register(words)?;
+            Ok(Command::Copy { d, r })
+        }
+        Name::Same => {
+            let a = register(words)?;
+            let b = register(words)?;
+            Ok(Command::Same { a, b })
+        }
+        Name::Len => Ok(Command::Len { r: register(words)? }),
+        Name::Poll => Ok(Command::Poll),
+        Name::Collect => Ok(Command::Collect),
+    }
+}
+
+/// The command that the next words are; no fault is looked for after them.
+pub fn read_command(words: &mut Words<'_>) -> Result<Command, Cause>
+    ensures found { IfOk result (λ command. words_left words.old ≡ command_words command ++ words_left words.new) }
+    ensures range { IfOk result IsScripted }
+    ensures rest { OnOk result (command_fault commands (words_left words.old) ≡ operands_fault [] (words_left words.new)) }
+    ensures fault { IfErr result (λ cause. command_fault commands (words_left words.old) ≡ Some cause) }
+{
+    let Some(word) = words.next() else {
+        return Err(Cause::NoCommand);
+    };
+    let Some(name) = read_name(word) else {
+        return Err(Cause::NoCommand);
+    };
+    operands(name, words)
+}

@@ -1,0 +1,40 @@
+ghost use Rattle.std.specs.Prelude.{◌≡◌};
+ghost use Rattle.std.specs.Iterator.{YieldsFirstRef, item_count};
+ghost use Rattle.script_text.specs.Text.{lines_of};
+ghost use Rattle.script_text.specs.Left.{lines_left};
+
+use crate::cut::cut;
+
+/// The lines of a text that are still to be read, one after the other.
+#[derive(Drop)]
+pub struct TextLines<'a> {
+    rest: Option<&'a [u8]>,
+}
+
+impl<'a> TextLines<'a> {
+    pub fn new(text: &'a [u8]) -> TextLines<'a>
+        ensures { lines_left result ≡ lines_of text.now }
+    {
+        TextLines { rest: Some(text) }
+    }
+}
+
+impl<'a> Iterator for TextLines<'a> {
+    type Item = &'a [u8];
+
+    ghost next_gives = { YieldsFirstRef lines_left };
+
+    ghost remaining = { item_count lines_left };
+
+    fn next(&mut self) -> Option<&'a [u8]> {
+        let Some(rest) = self.rest else {
+            return None;
+        };
+        if rest.is_empty() {
+            return None;
+        }
+        let (line, rest) = cut(rest, b'\n');
+        self.rest = rest;
+        Some(line)
+    }
+}
