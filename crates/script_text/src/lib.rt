@@ -19,5 +19,6 @@ mod writing;
 
 pub use cause::{Cause, LineFault, ScriptFault};
 pub use lines::Lines;
+pub use reading::{MOST_LINES, read_script};
 pub use script::{Form, Line, Script};
 pub use writing::{push_command, push_digits, push_heap, push_number, push_turn, push_word};

@@ -89,3 +89,14 @@ fn read(alloc: Global, text: &[u8], form: Form) -> Result<Script, ScriptFault>
     let lines = read_lines(alloc, lines, form, heap.seats)?;
     Ok(Script { heap, lines })
 }
+
+/// The script that the text is, in a form.
+pub fn read_script(alloc: Global, text: &[u8], form: Form) -> Result<Script, ScriptFault>
+    ensures found { IfOk result (IsScript form text.now) }
+    ensures none { OnOk result (first_fault form text.now ≡ None) }
+    ensures fault { IfErr result (FailsBy (first_fault form text.now)) }
+    // It is that script alone, and a text with a fault is none.
+    ensures only { GivesOnly form text.now result }
+{
+    read(alloc, text, form)
+}
