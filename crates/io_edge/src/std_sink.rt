@@ -1,0 +1,103 @@
+ghost use Rattle.std.specs.Prelude.{◌≡◌, [], None, IfOk, OnErr, take};
+ghost use Rattle.std.specs.Io.KnownBytes.{Appends, Keeps};
+ghost use Rattle.io_edge.specs.Faults.{CountsFault};
+ghost use Rattle.io_edge.specs.Taken.{Takes, TakesSome};
+
+use crate::failed::raised;
+use crate::{Failed, Sink};
+use std::io::Write;
+
+/// One of std's writers as a sink, which doesn't tell what it took. It flushes nothing.
+#[derive(Debug, Drop)]
+pub struct StdSink<W> {
+    output: W,
+    faults: u64,
+}
+
+impl<W: Write> StdSink<W> {
+    ghost use Rattle.io_edge.specs.Adapters.{writer};
+
+    /// Takes over a writer.
+    pub fn new(output: W) -> StdSink<W>
+        ensures writer { writer result ≡ output }
+        ensures faults { ⟦<StdSink<W> as Sink>⟧.faults result ≡ 0 }
+    {
+        StdSink { output, faults: 0 }
+    }
+}
+
+impl<W: Write> Sink for StdSink<W> {
+    ghost use Rattle.std.specs.Prelude.{None};
+    ghost use Rattle.io_edge.specs.Adapters.{writer};
+
+    ghost taken = { λ _. None };
+
+    ghost faults = { λ s. s.faults };
+
+    fn write(&mut self, piece: &[u8]) -> Result<usize, Failed>
+        ensures ok { IfOk result (TakesSome None None piece.now) }
+        ensures err { OnErr result (Takes None None []) }
+        ensures count { CountsFault result
+            (⟦<StdSink<W> as Sink>⟧.faults self.old)
+            (⟦<StdSink<W> as Sink>⟧.faults self.new) }
+
+        // The writer got what the sink took.
+        ensures passed { IfOk result (λ n. Appends
+            (W.contents (writer self.old)) (W.contents (writer self.new)) (take n piece.now)) }
+        ensures kept { OnErr result
+            (Keeps (W.contents (writer self.old)) (W.contents (writer self.new))) }
+    {
+        match self.output.write(piece) {
+            Ok(n) if 0 < n || piece.is_empty() => Ok(n),
+            _ => {
+                self.faults = raised(self.faults);
+                Err(Failed)
+            }
+        }
+    }
+}
+
+#[cfg(test)]
+mod tests {
+    use super::*;
+    use std::io;
+
+    #[derive(Drop)]
+    struct Broken;
+
+    impl Write for Broken {
+        fn write(&mut self, _piece: &[u8]) -> io::Result<usize> {
+            Err(io::Error::from(io::ErrorKind::Other))
+        }
+
+        fn flush(&mut self) -> io::Result<()> {
+            Ok(())
+        }
+    }
+
+    #[test]
+    fn counts_a_full_writer(rt: HostRuntime) {
+        let mut page = [b'-'; 3];
+        let mut sink = StdSink::new(page.as_mut_slice());
+        for (piece, want, faults) in [
+            ("ab", Ok(2), 0),
+            ("cd", Ok(1), 0),
+            ("d", Err(Failed), 1),
+            ("", Ok(0), 1),
+            ("e", Err(Failed), 2),
+        ] {
+            assert_eq!(rt; sink.write(piece.as_bytes()), want, "at {piece}");
+            assert_eq!(rt; sink.faults, faults, "at {piece}");
+        }
+        assert_eq!(rt; &page, b"abc");
+    }
+
+    #[test]
+    fn counts_a_broken_writer(rt: HostRuntime) {
+        let mut sink = StdSink::new(Broken);
+        for faults in [1, 2] {
+            assert_eq!(rt; sink.write(b"a"), Err(Failed));
+            assert_eq!(rt; sink.faults, faults);
+        }
+    }
+}
