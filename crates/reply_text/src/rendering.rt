@@ -4,7 +4,7 @@ ghost use Rattle.reply_text.specs.Entries.{entry_text};
 
 use crate::replies::{push_id, push_named, push_reply, push_turn_reply};
 use heap_model::{Entry, Memory};
-use script_text::{push_command, push_digits, push_turn, push_word};
+use script_text::{push_command, push_digits, push_turns, push_word};
 use std::alloc::Global;
 
 fn push_seat(text: &mut Vec<u8>, seat: u8) -> Result<(), Memory>
@@ -72,7 +72,7 @@ pub fn push_entry(text: &mut Vec<u8>, entry: &Entry) -> Result<(), Memory>
         }
         Entry::Turned { command, reply } => {
             text.push(b'c')?;
-            push_turn(text, &command)?;
+            push_turns(text, &command)?;
             push_word(text, b"=")?;
             push_turn_reply(text, &reply)
         }

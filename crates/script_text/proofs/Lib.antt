@@ -1,7 +1,9 @@
 pub mod Cuts
 pub mod Numbers
-pub mod Sentences
 pub mod TextLemmas
 pub mod Tokens
-pub mod Again
+pub mod NoFault
+pub mod Decoded
+pub mod WordBytes
 pub mod Whole
+pub mod Sentences

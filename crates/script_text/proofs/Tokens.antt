@@ -1,6 +1,6 @@
 -- The bytes of words and lines: no word has a space, and no line a line feed.
-use Rattle.std.proofs.Common.{◌≡◌, ◌==◌, ℕ, ◌+◌, ◌<◌, ◌≤◌, ◌^◌, List, [], ◌∷◌, ◌++◌, Bool, true, false, nat_lt, ◌&&◌, codes, decimal, refl, arith, rules}
-use Rattle.std.specs.List.{All, AllByRecursion, join_with_byte, slice_split}
+use Rattle.std.proofs.Common.{◌≡◌, ◌==◌, ℕ, ◌<◌, ◌≤◌, ◌^◌, List, [], ◌∷◌, ◌++◌, Bool, true, false, nat_lt, ◌&&◌, decimal, refl, arith}
+use Rattle.std.specs.List.{All, AllByRecursion}
 use Rattle.std.specs.Str.Parse.{AllDigits}
 use Rattle.std.proofs.lemmas.Bool.{ltb-true, and_parts}
 use Rattle.std.proofs.lemmas.Fmt.{decimal_is_IsNumeral}
@@ -22,7 +22,7 @@ is_above k (b ∷ bs) = nat_lt k b && is_above k bs
 pub IsAbove-from_test : (k : ℕ) (bytes : List ℕ) → is_above k bytes ≡ true → IsAbove k bytes
 IsAbove-from_test k [] e = tt
 IsAbove-from_test k (b ∷ bs) e =
-  let parts = and_parts (nat_lt k b) (is_above k bs) e in (ltb-true k b parts.0, IsAbove-from_test k bs parts.1)
+    let parts = and_parts (nat_lt k b) (is_above k bs) e in (ltb-true k b parts.0, IsAbove-from_test k bs parts.1)
 
 IsAbove-digits : (ds : List ℕ) → AllDigits 10 ds → IsAbove 32 ds
 IsAbove-digits [] h = tt
@@ -50,11 +50,11 @@ free mark bytes f = All-from_recursion (λ b. (b == mark) ≡ false) bytes (apar
 pub words_of-sentence : (word : List ℕ) (words : List (List ℕ)) → AllByRecursion (IsAbove 32) (word ∷ words) → words_of (sentence (word ∷ words)) ≡ word ∷ words
 words_of-sentence word [] f = slice_split_none (λ b. b == 32) word (free 32 word f.0)
 words_of-sentence word (next ∷ words) f =
-  rw (slice_split_at (λ b. b == 32) word 32 (sentence (next ∷ words)) (free 32 word f.0) refl, words_of-sentence next words f.1) refl
+    rw (slice_split_at (λ b. b == 32) word 32 (sentence (next ∷ words)) (free 32 word f.0) refl, words_of-sentence next words f.1) refl
 
 -- no byte of a sentence is below the space
 pub IsAbove-sentence : (words : List (List ℕ)) → AllByRecursion (IsAbove 32) words → IsAbove 31 (sentence words)
 IsAbove-sentence [] f = tt
 IsAbove-sentence (word ∷ []) f = IsAbove-lower 31 32 word (omega arith) f.0
 IsAbove-sentence (word ∷ next ∷ words) f =
-  IsAbove-append 31 word (32 ∷ sentence (next ∷ words)) (IsAbove-lower 31 32 word (omega arith) f.0) (omega arith, IsAbove-sentence (next ∷ words) f.1)
+    IsAbove-append 31 word (32 ∷ sentence (next ∷ words)) (IsAbove-lower 31 32 word (omega arith) f.0) (omega arith, IsAbove-sentence (next ∷ words) f.1)

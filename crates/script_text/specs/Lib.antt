@@ -3,6 +3,11 @@ pub mod Words
 pub mod Grammar
 pub mod Numbers
 pub mod Operands
+pub mod HeapLine
+pub mod LineFaults
+pub mod Faults
+pub mod Reading
 pub mod Names
 pub mod Left
-pub mod Faults
+pub mod Built
+pub mod Writing

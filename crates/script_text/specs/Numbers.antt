@@ -4,7 +4,8 @@ use Rattle.std.specs.Str.Parse.{digits_value}
 
 -- the number below the limit whose decimal digits the word is
 unfoldable pub number_below : ℕ → List ℕ → Option ℕ
-number_below limit word = let n = digits_value 10 word in if nat_lt n limit && bytes_eq word (decimal n) then Some n else None
+number_below limit word =
+    let n = digits_value 10 word in if nat_lt n limit && bytes_eq word (decimal n) then Some n else None
 
 -- the number that a word of a script is: one to ten digits, with no zero before others
 abbrev pub number_of : List ℕ → Option ℕ

@@ -1,8 +1,7 @@
 -- The operands of the commands.
-use Rattle.std.specs.Prelude.{ℕ, ◌&&◌, List, [], ◌∷◌, Option, Some, None, Result, Ok, Err, bytes_eq, codes, nat_le, if◌then◌else◌}
-use Rattle.std.specs.Map.{lookup}
+use Rattle.std.specs.Prelude.{ℕ, ◌&&◌, List, [], ◌∷◌, Option, Some, None, Result, Ok, Err, codes, nat_le, if◌then◌else◌}
 use Rattle.script_text.specs.declared.cause.Cause.{Cause}
-use Rattle.script_text.specs.declared.cause.Cause.TheVariants.{NoCommand, BadNumber, OutOfRange, TooManyWords}
+use Rattle.script_text.specs.declared.cause.Cause.TheVariants.{BadNumber, OutOfRange, TooManyWords}
 use Rattle.script_text.specs.Numbers.{number_of}
 
 -- the least and the most number of an operand
@@ -23,29 +22,30 @@ index = (0, 4096)
 abbrev pub commands : List (List ℕ × List Range)
 commands =
     (codes "new", target ∷ (1, 47) ∷ [])
-  ∷ (codes "array", target ∷ (1, 4096) ∷ [])
-  ∷ (codes "get", target ∷ register ∷ index ∷ [])
-  ∷ (codes "set", register ∷ index ∷ register ∷ [])
-  ∷ (codes "num", target ∷ (0, 1073741823) ∷ [])
-  ∷ (codes "nil", target ∷ [])
-  ∷ (codes "copy", target ∷ register ∷ [])
-  ∷ (codes "same", register ∷ register ∷ [])
-  ∷ (codes "len", register ∷ [])
-  ∷ (codes "poll", [])
-  ∷ (codes "collect", [])
-  ∷ []
+    ∷ (codes "array", target ∷ (1, 4096) ∷ [])
+    ∷ (codes "get", target ∷ register ∷ index ∷ [])
+    ∷ (codes "set", register ∷ index ∷ register ∷ [])
+    ∷ (codes "num", target ∷ (0, 1073741823) ∷ [])
+    ∷ (codes "nil", target ∷ [])
+    ∷ (codes "copy", target ∷ register ∷ [])
+    ∷ (codes "same", register ∷ register ∷ [])
+    ∷ (codes "len", register ∷ [])
+    ∷ (codes "poll", [])
+    ∷ (codes "collect", [])
+    ∷ []
 
 -- each command of the collector with its operands
 abbrev pub turn_commands : List (List ℕ × List Range)
 turn_commands =
     (codes "turns", (0, 1000000) ∷ [])
-  ∷ (codes "cycle", [])
-  ∷ []
+    ∷ (codes "cycle", [])
+    ∷ []
 
 -- what is left after a number in the range
 abbrev pub after_number : Range → Option ℕ → List (List ℕ) → Result (List (List ℕ)) Cause
 after_number range None rest = Err BadNumber
-after_number range (Some n) rest = if nat_le range.0 n && nat_le n range.1 then Ok rest else Err OutOfRange
+after_number range (Some n) rest =
+    if nat_le range.0 n && nat_le n range.1 then Ok rest else Err OutOfRange
 
 -- the words after an operand in the range, which is the first word
 abbrev pub after_operand : Range → List (List ℕ) → Result (List (List ℕ)) Cause

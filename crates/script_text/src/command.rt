@@ -1,7 +1,6 @@
 ghost use Rattle.std.specs.Prelude.{◌≡◌, [], ◌∷◌, ◌++◌, Some, IfOk, OnOk, IfErr};
-ghost use Rattle.script_text.specs.Faults.{command_fault};
+ghost use Rattle.script_text.specs.LineFaults.{command_fault};
 ghost use Rattle.script_text.specs.Grammar.{IsScripted};
-ghost use Rattle.script_text.specs.Left.{words_left};
 ghost use Rattle.script_text.specs.Names.{name_word};
 ghost use Rattle.script_text.specs.Operands.{commands, operands_fault};
 ghost use Rattle.script_text.specs.Words.{command_words};
@@ -14,10 +13,12 @@ use heap_model::Command;
 
 /// The command of this name, with the next words as its operands.
 fn operands(name: Name, words: &mut Words<'_>) -> Result<Command, Cause>
-    ensures found { IfOk result (λ command. name_word name ∷ words_left words.old ≡ command_words command ++ words_left words.new) }
+    ensures found { IfOk result (λ c. name_word name ∷ words.old ≡ command_words c ++ words.new) }
     ensures range { IfOk result IsScripted }
-    ensures rest { OnOk result (command_fault commands (name_word name ∷ words_left words.old) ≡ operands_fault [] (words_left words.new)) }
-    ensures fault { IfErr result (λ cause. command_fault commands (name_word name ∷ words_left words.old) ≡ Some cause) }
+    ensures rest { OnOk result
+        (command_fault commands (name_word name ∷ words.old) ≡ operands_fault [] words.new) }
+    ensures fault { IfErr result
+        (λ cause. command_fault commands (name_word name ∷ words.old) ≡ Some cause) }
 {
     match name {
         Name::New => {
@@ -58,7 +59,9 @@ fn operands(name: Name, words: &mut Words<'_>) -> Result<Command, Cause>
             let b = register(words)?;
             Ok(Command::Same { a, b })
         }
-        Name::Len => Ok(Command::Len { r: register(words)? }),
+        Name::Len => Ok(Command::Len {
+            r: register(words)?,
+        }),
         Name::Poll => Ok(Command::Poll),
         Name::Collect => Ok(Command::Collect),
     }
@@ -66,10 +69,10 @@ fn operands(name: Name, words: &mut Words<'_>) -> Result<Command, Cause>
 
 /// The command that the next words are; no fault is looked for after them.
 pub fn read_command(words: &mut Words<'_>) -> Result<Command, Cause>
-    ensures found { IfOk result (λ command. words_left words.old ≡ command_words command ++ words_left words.new) }
+    ensures found { IfOk result (λ c. words.old ≡ command_words c ++ words.new) }
     ensures range { IfOk result IsScripted }
-    ensures rest { OnOk result (command_fault commands (words_left words.old) ≡ operands_fault [] (words_left words.new)) }
-    ensures fault { IfErr result (λ cause. command_fault commands (words_left words.old) ≡ Some cause) }
+    ensures rest { OnOk result (command_fault commands words.old ≡ operands_fault [] words.new) }
+    ensures fault { IfErr result (λ cause. command_fault commands words.old ≡ Some cause) }
 {
     let Some(word) = words.next() else {
         return Err(Cause::NoCommand);

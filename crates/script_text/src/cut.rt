@@ -9,9 +9,9 @@ fn first_mark(text: &[u8], mark: u8) -> Option<usize>
 
 /// The bytes before the first mark, and those after it where there is one.
 pub fn cut(text: &[u8], mark: u8) -> (&[u8], Option<&[u8]>)
-    ensures { MatchOption result.1
-        (slice_split (λ b. b == mark) text.now ≡ result.0.now ∷ [])
-        (λ rest. slice_split (λ b. b == mark) text.now ≡ result.0.now ∷ slice_split (λ b. b == mark) rest.now) }
+    ensures { let parts = slice_split (λ b. b == mark) in MatchOption result.1
+        (parts text.now ≡ result.0.now ∷ [])
+        (λ rest. parts text.now ≡ result.0.now ∷ parts rest.now) }
 {
     match first_mark(text, mark) {
         None => (text, None),

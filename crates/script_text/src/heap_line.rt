@@ -1,6 +1,6 @@
 ghost use Rattle.std.specs.Prelude.{◌≡◌, Some, IfSome};
 ghost use Rattle.heap_model.specs.Heap.{IsHeap};
-ghost use Rattle.script_text.specs.Faults.{heap_of, heap_within};
+ghost use Rattle.script_text.specs.HeapLine.{heap_of, heap_within};
 ghost use Rattle.script_text.specs.Text.{words_of};
 ghost use Rattle.script_text.specs.Words.{heap_line};
 
@@ -27,9 +27,11 @@ pub fn read_heap(line: &[u8]) -> Option<Heap>
     if word != b"heap".as_slice() {
         return None;
     }
-    let (Some(groups), Some(spine), Some(seats)) =
-        (read_short(groups), read_short(spine), read_short(seats))
-    else {
+    let (Some(groups), Some(spine), Some(seats)) = (
+        read_short(groups),
+        read_short(spine),
+        read_short(seats),
+    ) else {
         return None;
     };
     heap_of_sizes(groups, spine, seats)

@@ -1,7 +1,6 @@
 ghost use Rattle.std.specs.Prelude.{◌≡◌, ◌<◌, [], ◌++◌, None, Some, IfOk, IfErr, IfNone, IfSome, OnOk, OnSome, decimal, true, false};
-ghost use Rattle.script_text.specs.Faults.{is_seat, is_collector, words_fault};
+ghost use Rattle.script_text.specs.LineFaults.{is_seat, is_collector, words_fault};
 ghost use Rattle.script_text.specs.Grammar.{IsLine};
-ghost use Rattle.script_text.specs.Left.{words_left};
 ghost use Rattle.script_text.specs.Operands.{operands_fault};
 ghost use Rattle.script_text.specs.Text.{words_of};
 ghost use Rattle.script_text.specs.Words.{line_words, line_text};
@@ -42,10 +41,10 @@ fn is_turns(word: &[u8], form: Form) -> bool
 
 /// The line that the next words are; no fault is looked for after them.
 fn read_front(words: &mut Words<'_>, form: Form, seats: u8) -> Result<Line, Cause>
-    ensures found { IfOk result (λ line. words_left words.old ≡ line_words line ++ words_left words.new) }
+    ensures found { IfOk result (λ line. words.old ≡ line_words line ++ words.new) }
     ensures range { IfOk result (IsLine form seats) }
-    ensures rest { OnOk result (words_fault form seats (words_left words.old) ≡ operands_fault [] (words_left words.new)) }
-    ensures fault { IfErr result (λ cause. words_fault form seats (words_left words.old) ≡ Some cause) }
+    ensures rest { OnOk result (words_fault form seats words.old ≡ operands_fault [] words.new) }
+    ensures fault { IfErr result (λ cause. words_fault form seats words.old ≡ Some cause) }
 {
     let Some(word) = words.next() else {
         return Err(Cause::NoSeat);

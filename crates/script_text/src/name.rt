@@ -21,7 +21,9 @@ pub enum Name {
 
 /// The command that the word names.
 pub fn read_name(word: &[u8]) -> Option<Name>
-    ensures { MatchOption result (lookup (bytes_eq word.now) commands ≡ None) (λ name. word.now ≡ name_word name) }
+    ensures { MatchOption result
+        (lookup (bytes_eq word.now) commands ≡ None)
+        (λ name. word.now ≡ name_word name) }
 {
     match word {
         b"new" => Some(Name::New),

@@ -1,5 +1,4 @@
 ghost use Rattle.std.specs.Prelude.{◌≡◌, ◌≤◌, ◌∷◌, decimal, Ok, Err, IfOk, MatchResult};
-ghost use Rattle.script_text.specs.Left.{words_left};
 ghost use Rattle.script_text.specs.Operands.{after_operand, target as target_range, register as register_range, index as index_range};
 
 use crate::cause::Cause;
@@ -9,10 +8,10 @@ use crate::words::Words;
 /// The next word as a number in the range, both ends among it.
 pub fn operand(words: &mut Words<'_>, least: u32, most: u32) -> Result<u32, Cause>
     ensures range { IfOk result (λ n. (least ≤ n) × (n ≤ most)) }
-    ensures found { IfOk result (λ n. words_left words.old ≡ decimal n ∷ words_left words.new) }
+    ensures found { IfOk result (λ n. words.old ≡ decimal n ∷ words.new) }
     ensures gives { MatchResult result
-        (λ _. after_operand (least, most) (words_left words.old) ≡ Ok (words_left words.new))
-        (λ cause. after_operand (least, most) (words_left words.old) ≡ Err cause) }
+        (λ _. after_operand (least, most) words.old ≡ Ok words.new)
+        (λ cause. after_operand (least, most) words.old ≡ Err cause) }
 {
     let Some(word) = words.next() else {
         return Err(Cause::BadNumber);
@@ -30,10 +29,10 @@ pub fn operand(words: &mut Words<'_>, least: u32, most: u32) -> Result<u32, Caus
 /// A register that is written.
 pub fn target(words: &mut Words<'_>) -> Result<u8, Cause>
     ensures range { IfOk result (λ d. (1 ≤ d) × (d ≤ 15)) }
-    ensures found { IfOk result (λ d. words_left words.old ≡ decimal d ∷ words_left words.new) }
+    ensures found { IfOk result (λ d. words.old ≡ decimal d ∷ words.new) }
     ensures gives { MatchResult result
-        (λ _. after_operand target_range (words_left words.old) ≡ Ok (words_left words.new))
-        (λ cause. after_operand target_range (words_left words.old) ≡ Err cause) }
+        (λ _. after_operand target_range words.old ≡ Ok words.new)
+        (λ cause. after_operand target_range words.old ≡ Err cause) }
 {
     Ok(operand(words, 1, 15)? as u8)
 }
@@ -41,10 +40,10 @@ pub fn target(words: &mut Words<'_>) -> Result<u8, Cause>
 /// A register that is read.
 pub fn register(words: &mut Words<'_>) -> Result<u8, Cause>
     ensures range { IfOk result (λ r. r ≤ 15) }
-    ensures found { IfOk result (λ r. words_left words.old ≡ decimal r ∷ words_left words.new) }
+    ensures found { IfOk result (λ r. words.old ≡ decimal r ∷ words.new) }
     ensures gives { MatchResult result
-        (λ _. after_operand register_range (words_left words.old) ≡ Ok (words_left words.new))
-        (λ cause. after_operand register_range (words_left words.old) ≡ Err cause) }
+        (λ _. after_operand register_range words.old ≡ Ok words.new)
+        (λ cause. after_operand register_range words.old ≡ Err cause) }
 {
     Ok(operand(words, 0, 15)? as u8)
 }
@@ -52,10 +51,10 @@ pub fn register(words: &mut Words<'_>) -> Result<u8, Cause>
 /// The index of a field or a cell.
 pub fn index(words: &mut Words<'_>) -> Result<u32, Cause>
     ensures range { IfOk result (λ i. i ≤ 4096) }
-    ensures found { IfOk result (λ i. words_left words.old ≡ decimal i ∷ words_left words.new) }
+    ensures found { IfOk result (λ i. words.old ≡ decimal i ∷ words.new) }
     ensures gives { MatchResult result
-        (λ _. after_operand index_range (words_left words.old) ≡ Ok (words_left words.new))
-        (λ cause. after_operand index_range (words_left words.old) ≡ Err cause) }
+        (λ _. after_operand index_range words.old ≡ Ok words.new)
+        (λ cause. after_operand index_range words.old ≡ Err cause) }
 {
     operand(words, 0, 4096)
 }

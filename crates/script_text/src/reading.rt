@@ -2,9 +2,9 @@ ghost use Rattle.std.specs.Prelude.{◌≡◌, ◌+◌, ◌≤◌, None, Some, �
 ghost use Rattle.std.specs.List.{AllByRecursion};
 ghost use Rattle.heap_model.specs.Heap.{IsHeap};
 ghost use Rattle.script_text.specs.declared.script.Form.{Form};
-ghost use Rattle.script_text.specs.Faults.{FailsBy, GivesOnly, first_fault, header_fault, line_fault, lines_fault};
+ghost use Rattle.script_text.specs.Faults.{first_fault, header_fault, line_fault, lines_fault};
 ghost use Rattle.script_text.specs.Grammar.{IsLine, IsScript, most_lines};
-ghost use Rattle.script_text.specs.Left.{lines_left};
+ghost use Rattle.script_text.specs.Reading.{FailsBy, GivesOnly};
 ghost use Rattle.script_text.specs.Words.{heap_line, line_text};
 
 use crate::cause::{Cause, LineFault, ScriptFault};
@@ -29,21 +29,32 @@ fn read_counted(line: &[u8], number: u32, form: Form, seats: u8) -> Result<Line,
 {
     if number > MOST_LINES {
         let cause = Cause::TooManyLines;
-        return Err(LineFault { line: number, cause });
+        return Err(LineFault {
+            line: number,
+            cause,
+        });
     }
     match read_line(line, form, seats) {
         Ok(read) => Ok(read),
-        Err(cause) => Err(LineFault { line: number, cause }),
+        Err(cause) => Err(LineFault {
+            line: number,
+            cause,
+        }),
     }
 }
 
 /// The lines after the heap line.
-fn read_lines(alloc: Global, lines: TextLines<'_>, form: Form, seats: u8) -> Result<Lines, ScriptFault>
-    ensures found { IfOk result (λ read. lines_left lines.entry ≡ map line_text read) }
+fn read_lines(
+    alloc: Global,
+    lines: TextLines<'_>,
+    form: Form,
+    seats: u8,
+) -> Result<Lines, ScriptFault>
+    ensures found { IfOk result (λ read. lines.entry ≡ map line_text read) }
     ensures range { IfOk result (AllByRecursion (IsLine form seats)) }
     ensures short { IfOk result (λ read. length read + 2 ≤ most_lines) }
-    ensures none { OnOk result (lines_fault form seats 3 (lines_left lines.entry) ≡ None) }
-    ensures fault { IfErr result (FailsBy (lines_fault form seats 3 (lines_left lines.entry))) }
+    ensures none { OnOk result (lines_fault form seats 3 lines.entry ≡ None) }
+    ensures fault { IfErr result (FailsBy (lines_fault form seats 3 lines.entry)) }
 {
     let mut read = Lines::new(alloc);
     let mut number = 2;
@@ -56,13 +67,22 @@ fn read_lines(alloc: Global, lines: TextLines<'_>, form: Form, seats: u8) -> Res
 
 /// The heap of the second line, if the first is the header.
 fn read_head(lines: &mut TextLines<'_>) -> Result<Heap, LineFault>
-    ensures found { IfOk result (λ heap. lines_left lines.old ≡ codes "schism 1" ∷ heap_line heap ∷ lines_left lines.new) }
+    ensures found { IfOk result
+        (λ heap. lines.old ≡ codes "schism 1" ∷ heap_line heap ∷ lines.new) }
     ensures range { IfOk result IsHeap }
-    ensures rest { IfOk result (λ heap. (form : Form) → header_fault form (lines_left lines.old) ≡ lines_fault form heap.seats 3 (lines_left lines.new)) }
-    ensures fault { IfErr result (λ fault. (form : Form) → header_fault form (lines_left lines.old) ≡ Some fault) }
+    ensures rest { (form : Form) → IfOk result
+        (λ heap. header_fault form lines.old ≡ lines_fault form heap.seats 3 lines.new) }
+    ensures fault { (form : Form) → IfErr result
+        (λ fault. header_fault form lines.old ≡ Some fault) }
 {
-    let no_header = LineFault { line: 1, cause: Cause::NoHeader };
-    let bad_heap = LineFault { line: 2, cause: Cause::BadHeap };
+    let no_header = LineFault {
+        line: 1,
+        cause: Cause::NoHeader,
+    };
+    let bad_heap = LineFault {
+        line: 2,
+        cause: Cause::BadHeap,
+    };
     let Some(header) = lines.next() else {
         return Err(no_header);
     };

@@ -86,17 +86,8 @@ pub fn push_command(text: &mut Vec<u8>, command: &Command) -> Result<(), Memory>
     }
 }
 
-/// Appends the words of a heap line but for the first, each after a space.
-pub fn push_heap(text: &mut Vec<u8>, heap: &Heap) -> Result<(), Memory>
-    ensures { OnOk result (text.new.items ≡ text.old.items ++ spaced (heap_words heap.now)) }
-{
-    push_number(text, heap.groups.into())?;
-    push_number(text, heap.spine.into())?;
-    push_number(text, heap.seats.into())
-}
-
 /// Appends the words of a command of the collector, each after a space.
-pub fn push_turn(text: &mut Vec<u8>, command: &TurnCommand) -> Result<(), Memory>
+pub fn push_turns(text: &mut Vec<u8>, command: &TurnCommand) -> Result<(), Memory>
     ensures { OnOk result (text.new.items ≡ text.old.items ++ spaced (turn_words command.now)) }
 {
     match *command {
@@ -106,4 +97,13 @@ pub fn push_turn(text: &mut Vec<u8>, command: &TurnCommand) -> Result<(), Memory
         }
         TurnCommand::Cycle => push_word(text, b"cycle"),
     }
+}
+
+/// Appends the words of a heap line but for the first, each after a space.
+pub fn push_heap(text: &mut Vec<u8>, heap: &Heap) -> Result<(), Memory>
+    ensures { OnOk result (text.new.items ≡ text.old.items ++ spaced (heap_words heap.now)) }
+{
+    push_number(text, heap.groups.into())?;
+    push_number(text, heap.spine.into())?;
+    push_number(text, heap.seats.into())
 }

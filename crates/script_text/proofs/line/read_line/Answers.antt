@@ -6,5 +6,5 @@ use Rattle.script_text.proofs.line.read_line.Goals as goal
 
 pub returns-clause-found : goal.returns-clause-found
 returns-clause-found c =
-  let words : words_of c.args.line.now ≡ line_words c.in_ok-read.read = search rules in
-  sentence-words_of c.args.line.now (line_words c.in_ok-read.read) words
+    let words : words_of c.args.line.now ≡ line_words c.in_ok-read.read = search rules in
+    sentence-words_of c.args.line.now (line_words c.in_ok-read.read) words
