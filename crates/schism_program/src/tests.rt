@@ -1,0 +1,174 @@
+use crate::status::{Status, status_text};
+use crate::top::schism;
+use io_edge::{MemSink, MemSource};
+use script_text::Cause;
+use std::alloc::{AllocError, Global};
+use std::test::Fail;
+
+const FIRST: &str = "schism 1\nheap 1 0 1\n0 new 1 2\n0 num 2 9\n0 set 1 0 2\n0 get 3 1 0\n";
+
+const FIRST_PLAYED: &str =
+    "history 1 play\nheap 1 0 1\n0 takes 5\n0 new 1 2 = 0.0\n0 num 2 9 = ok\n0 set 1 0 2 = was -\n0 get 3 1 0 = number 9 at 0:1\n";
+
+const UNBUILT: Status = Status::Refused {
+    line: 0,
+    cause: Cause::Unbuilt,
+};
+
+// What comes of it, and what was written; reads give 5 bytes a call and writes take 8.
+fn ended(
+    alloc: Global,
+    words: &[&str],
+    text: &[u8],
+    source_fails: &[u64],
+    sink_fails: &[u64],
+) -> Result<(Status, Vec<u8>), AllocError> {
+    let text = Vec::from_slice(alloc, text)?;
+    let mut source = MemSource::new(text, 5, Vec::from_slice(alloc, source_fails)?);
+    let room = Vec::with_capacity(alloc, 8192)?;
+    let mut sink = MemSink::new(room, 8, Vec::from_slice(alloc, sink_fails)?);
+    let status = schism(alloc, words, &mut source, &mut sink);
+    Ok((status, Vec::from_slice(alloc, sink.bytes())?))
+}
+
+#[test]
+fn plays_scripts_and_refuses_others(rt: HostRuntime) -> Result<(), Fail> {
+    for (text, status, written) in [
+        (FIRST, Status::Done, FIRST_PLAYED),
+        (
+            "schism 1\nheap 1 0 1\n",
+            Status::Done,
+            "history 1 play\nheap 1 0 1\n",
+        ),
+        (
+            "schism 1\nheap 1 0 1\n0 new 1 1\n0 new 1 1\n0 new 1 1\n0 new 1 1\n0 new 1 1\n0 new 1 1\n",
+            Status::Done,
+            "history 1 play\nheap 1 0 1\n0 takes 5\n0 new 1 1 = 0.0\n0 new 1 1 = 0.1\n0 new 1 1 = 0.2\n0 new 1 1 = 0.3\n0 new 1 1 = 0.4\n0 new 1 1 = full need 1 found 0\n",
+        ),
+        ("schism 1\nheap 1 0 1\n0 nil 1\n", UNBUILT, ""),
+        ("schism 1\nheap 1 0 1\n0 num 1 1073741824\n", UNBUILT, ""),
+        ("schism 1\n", UNBUILT, ""),
+        ("", UNBUILT, ""),
+    ] {
+        let (ended, taken) = ended(rt.alloc(), &["play"], text.as_bytes(), &[], &[])?;
+        assert_eq!(rt; ended, status, "{text}");
+        assert_eq!(rt; taken.as_slice(), written.as_bytes(), "{text}");
+    }
+    Ok(())
+}
+
+// The length of what is written of the first script, cut to this length.
+fn front_played(cut: usize) -> Option<usize> {
+    match cut {
+        19 | 20 => Some(26),
+        29 | 30 => Some(52),
+        39 | 40 => Some(67),
+        51 | 52 => Some(87),
+        63 | 64 => Some(117),
+        _ => None,
+    }
+}
+
+#[test]
+fn plays_the_first_script_cut_at_the_end_of_a_line(rt: HostRuntime) -> Result<(), Fail> {
+    assert_eq!(rt; FIRST.len(), 64);
+    for cut in 0..65 {
+        let text = &FIRST.as_bytes()[..cut];
+        let (ended, taken) = ended(rt.alloc(), &["play"], text, &[], &[])?;
+        match front_played(cut) {
+            Some(front) => {
+                assert_eq!(rt; ended, Status::Done, "cut at {cut}");
+                assert_eq!(rt; taken.len(), front, "cut at {cut}");
+                assert!(rt; FIRST_PLAYED.as_bytes().starts_with(&taken));
+            }
+            None => {
+                assert_eq!(rt; ended, UNBUILT, "cut at {cut}");
+                assert!(rt; taken.is_empty());
+            }
+        }
+    }
+    Ok(())
+}
+
+#[test]
+fn plays_no_more_than_the_limit(rt: HostRuntime) -> Result<(), Fail> {
+    let mut text = Vec::from_slice(rt.alloc(), b"schism 1\nheap 1 0 1\n")?;
+    for _ in 0..406 {
+        text.extend_from_slice(b"0 num 1 5\n")?;
+    }
+    text.extend_from_slice(b"0 num 1 12345678\n")?;
+    assert_eq!(rt; text.len(), 4097);
+    for (cut, status, len) in [(4096, Status::Done, 6139), (4097, UNBUILT, 0)] {
+        let (ended, taken) = ended(rt.alloc(), &["play"], &text[..cut], &[], &[])?;
+        assert_eq!(rt; ended, status, "{cut} bytes");
+        assert_eq!(rt; taken.len(), len, "{cut} bytes");
+    }
+    Ok(())
+}
+
+// Neither side is touched, since the first call of each would fail.
+fn ended_by(alloc: Global, words: &[&str]) -> Result<Status, AllocError> {
+    Ok(ended(alloc, words, FIRST.as_bytes(), &[0], &[0])?.0)
+}
+
+#[test]
+fn says_usage_of_other_words(rt: HostRuntime) -> Result<(), Fail> {
+    let alloc = rt.alloc();
+    assert_eq!(rt; ended_by(alloc, &[])?, Status::Usage);
+    assert_eq!(rt; ended_by(alloc, &["run"])?, Status::Usage);
+    assert_eq!(rt; ended_by(alloc, &["plays"])?, Status::Usage);
+    assert_eq!(rt; ended_by(alloc, &["play", "extra"])?, Status::Usage);
+    assert_eq!(rt; ended_by(alloc, &["play"])?, Status::ReadFault);
+    Ok(())
+}
+
+// The first script is read in 14 calls, the last of which gives nothing, and its text is written in 15.
+#[test]
+fn says_which_side_failed(rt: HostRuntime) -> Result<(), Fail> {
+    for (source_fail, sink_fail, status, front) in [
+        (0, 99, Status::ReadFault, 0),
+        (5, 99, Status::ReadFault, 0),
+        (13, 99, Status::ReadFault, 0),
+        (14, 0, Status::WriteFault, 0),
+        (14, 1, Status::WriteFault, 8),
+        (14, 14, Status::WriteFault, 112),
+        (14, 15, Status::Done, 117),
+    ] {
+        let (ended, taken) = ended(
+            rt.alloc(),
+            &["play"],
+            FIRST.as_bytes(),
+            &[source_fail],
+            &[sink_fail],
+        )?;
+        assert_eq!(rt; ended, status, "read {source_fail}, write {sink_fail}");
+        assert_eq!(rt; taken.len(), front, "read {source_fail}, write {sink_fail}");
+        assert!(rt; FIRST_PLAYED.as_bytes().starts_with(&taken));
+    }
+    Ok(())
+}
+
+#[test]
+fn names_each_status(rt: HostRuntime) {
+    let bad_heap = Status::Refused {
+        line: 2,
+        cause: Cause::BadHeap,
+    };
+    let longest = Status::Refused {
+        line: u32::MAX,
+        cause: Cause::TooManyWords,
+    };
+    for (status, number, text) in [
+        (Status::Done, 0, ""),
+        (bad_heap, 1, "refused at line 2: BadHeap"),
+        (UNBUILT, 1, "refused at line 0: Unbuilt"),
+        (longest, 1, "refused at line 4294967295: TooManyWords"),
+        (Status::Usage, 2, "usage"),
+        (Status::ReadFault, 3, "read fault"),
+        (Status::WriteFault, 4, "write fault"),
+        (Status::Memory, 5, "memory"),
+    ] {
+        assert_eq!(rt; status.number(), number, "{text}");
+        assert_eq!(rt; status_text(&status).as_str(), text);
+    }
+}
