@@ -1,2 +1,2 @@
-mod FormLemmas
-mod RenderLemmas
+pub mod FormLemmas
+pub mod RenderLemmas

@@ -98,7 +98,7 @@ fn plays_no_more_than_the_limit(rt: HostRuntime) -> Result<(), Fail> {
     }
     text.extend_from_slice(b"0 num 1 12345678\n")?;
     assert_eq!(rt; text.len(), 4097);
-    for (cut, status, len) in [(4096, Status::Done, 6139), (4097, UNBUILT, 0)] {
+    for (cut, status, len) in [(4096, Status::Done, 6138), (4097, UNBUILT, 0)] {
         let (ended, taken) = ended(rt.alloc(), &["play"], &text[..cut], &[], &[])?;
         assert_eq!(rt; ended, status, "{cut} bytes");
         assert_eq!(rt; taken.len(), len, "{cut} bytes");
