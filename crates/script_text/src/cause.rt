@@ -30,6 +30,15 @@ pub struct LineFault {
     pub cause: Cause,
 }
 
+impl Cause {
+    /// The fault of the line of this number.
+    pub fn at(self, line: u32) -> LineFault
+        ensures { result ≡ record { line = line; cause = self } }
+    {
+        LineFault { line, cause: self }
+    }
+}
+
 /// Why a text was not read.
 #[derive(Clone, Copy, Debug, PartialEq, Eq, Error)]
 pub enum ScriptFault {

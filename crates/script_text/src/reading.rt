@@ -28,19 +28,9 @@ fn read_counted(line: &[u8], number: u32, form: Form, seats: u8) -> Result<Line,
     ensures fault { IfErr result (λ fault. line_fault form seats number line.now ≡ Some fault) }
 {
     if number > MOST_LINES {
-        let cause = Cause::TooManyLines;
-        return Err(LineFault {
-            line: number,
-            cause,
-        });
+        return Err(Cause::TooManyLines.at(number));
     }
-    match read_line(line, form, seats) {
-        Ok(read) => Ok(read),
-        Err(cause) => Err(LineFault {
-            line: number,
-            cause,
-        }),
-    }
+    read_line(line, form, seats).map_err(|cause| cause.at(number))
 }
 
 /// The lines after the heap line.
@@ -75,27 +65,16 @@ fn read_head(lines: &mut TextLines<'_>) -> Result<Heap, LineFault>
     ensures fault { (form : Form) → IfErr result
         (λ fault. header_fault form lines.old ≡ Some fault) }
 {
-    let no_header = LineFault {
-        line: 1,
-        cause: Cause::NoHeader,
-    };
-    let bad_heap = LineFault {
-        line: 2,
-        cause: Cause::BadHeap,
-    };
     let Some(header) = lines.next() else {
-        return Err(no_header);
+        return Err(Cause::NoHeader.at(1));
     };
     if header != b"schism 1".as_slice() {
-        return Err(no_header);
+        return Err(Cause::NoHeader.at(1));
     }
     let Some(line) = lines.next() else {
-        return Err(bad_heap);
+        return Err(Cause::BadHeap.at(2));
     };
-    let Some(heap) = read_heap(line) else {
-        return Err(bad_heap);
-    };
-    Ok(heap)
+    read_heap(line).ok_or(Cause::BadHeap.at(2))
 }
 
 #[tactic(auto, unfolding(crate::specs::Faults::first_fault))]

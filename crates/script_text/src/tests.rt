@@ -54,7 +54,7 @@ fn fault_of(alloc: Global, text: &[u8], form: Form) -> Option<LineFault> {
 }
 
 fn fault(line: u32, cause: Cause) -> Option<LineFault> {
-    Some(LineFault { line, cause })
+    Some(cause.at(line))
 }
 
 #[test]
