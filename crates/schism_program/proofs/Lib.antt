@@ -1,2 +1,13 @@
+pub mod Answering
+pub mod Fields
 pub mod FormLemmas
+pub mod Heads
+pub mod Keeping
+pub mod Makes
+pub mod OpeningLemmas
+pub mod PlaceLemmas
+pub mod PlayingLemmas
+pub mod Registers
 pub mod RenderLemmas
+pub mod Sets
+pub mod Writes

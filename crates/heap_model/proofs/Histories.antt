@@ -1,0 +1,33 @@
+-- A history with one more entry.
+use Rattle.std.proofs.Common.{◌≡◌, ℕ, zero, ◌+◌, List, [], ◌∷◌, ◌++◌, refl, sym, ap, ◌∙◌, subst, append_assoc, zero-add, Bool, cond}
+use Rattle.std.proofs.lemmas.List.Sums.{sum_by-append, fold-append}
+use Rattle.std.proofs.lemmas.List.{append-nil}
+use Rattle.heap_model.specs.declared.heap.Heap.{Heap}
+use Rattle.heap_model.specs.declared.entry.Entry.{Entry}
+use Rattle.heap_model.specs.Objects.{State}
+use Rattle.heap_model.specs.Growth.{after, graph_after}
+use Rattle.heap_model.specs.Legal.{Accepts, AcceptsAll}
+use Rattle.heap_model.specs.Space.{Effect, effect_of, is_of, total, total_of}
+use Rattle.heap_model.specs.Account.{KeepsSpace, KeepsSpaceAfter}
+
+-- the graph grows by the entry
+pub graph_after-more : (g : State) (history : List Entry) (entry : Entry) → graph_after g (history ++ entry ∷ []) ≡ after (graph_after g history) entry
+graph_after-more g history entry = fold-append after g history (entry ∷ [])
+
+-- an entry that the graph accepts may stand there
+pub AcceptsAll-more : (g : State) (history : List Entry) (entry : Entry) → AcceptsAll g history → Accepts (graph_after g history) entry → AcceptsAll g (history ++ entry ∷ [])
+AcceptsAll-more g [] entry legal accepts = (accepts, tt)
+AcceptsAll-more g (first ∷ history) entry legal accepts = (legal.0, AcceptsAll-more (after g first) history entry legal.1 accepts)
+
+-- an entry that keeps the rules of space may stand there
+pub KeepsSpaceAfter-more : (heap : Heap) (before history : List Entry) (entry : Entry) → KeepsSpaceAfter heap before history → KeepsSpace heap (before ++ history) entry → KeepsSpaceAfter heap before (history ++ entry ∷ [])
+KeepsSpaceAfter-more heap before [] entry kept keeps = (subst (λ b. KeepsSpace heap b entry) (append-nil before) keeps, tt)
+KeepsSpaceAfter-more heap before (first ∷ history) entry kept keeps =
+    (kept.0, KeepsSpaceAfter-more heap (before ++ first ∷ []) history entry kept.1 (subst (λ b. KeepsSpace heap b entry) (sym (append_assoc before (first ∷ []) history)) keeps))
+
+-- the sums grow by what the entry does
+pub total-more : (part : Effect → ℕ) (history : List Entry) (entry : Entry) → total part (history ++ entry ∷ []) ≡ total part history + part (effect_of entry)
+total-more part history entry = sum_by-append (λ e. part (effect_of e)) history (entry ∷ []) ∙ ap (λ n. total part history + n) (zero-add (part (effect_of entry)))
+
+pub total_of-more : (s : ℕ) (part : Effect → ℕ) (history : List Entry) (entry : Entry) → total_of s part (history ++ entry ∷ []) ≡ total_of s part history + cond (is_of s entry) (part (effect_of entry)) 0
+total_of-more s part history entry = sum_by-append (λ e. cond (is_of s e) (part (effect_of e)) 0) history (entry ∷ []) ∙ ap (λ n. total_of s part history + n) (zero-add (cond (is_of s entry) (part (effect_of entry)) 0))

@@ -1,0 +1,86 @@
+ghost use Rattle.std.specs.Prelude.{◌≡◌, ℕ, ◌+◌, ◌<◌, ◌≤◌, ◌^◌, List, [], ◌∷◌, ◌++◌, OnOk, IfOk};
+ghost use Rattle.heap_model.specs.declared.heap.Heap.{Heap};
+ghost use Rattle.heap_model.specs.Command.{IsCommand};
+ghost use Rattle.heap_model.specs.Objects.{Node, Party};
+ghost use Rattle.script_text.specs.declared.script.Form.TheVariants.{Play};
+ghost use Rattle.script_text.specs.declared.script.Line.{Line as ALine};
+ghost use Rattle.script_text.specs.declared.script.Line.TheVariants as lines;
+ghost use Rattle.script_text.specs.Built.{IsBuilt, IsBuiltCommand};
+ghost use Rattle.script_text.specs.Writing.{IsOfForm};
+ghost use Rattle.schism_program.specs.Changes.{Replies};
+ghost use Rattle.schism_program.specs.Play.{IsPlay};
+ghost use Rattle.schism_program.specs.Playing.{IsReady, Playing};
+ghost use Rattle.schism_program.specs.Stands.{Answers, StandsFor};
+
+use crate::store::Store;
+use heap_model::{Command, Entry, Memory, Reply};
+use script_text::{Line, Script};
+use std::alloc::Global;
+
+/// The reply to a command, of fragments that were claimed before.
+fn reply_to(store: &mut Store, command: Command) -> Reply
+    requires command { IsCommand command }
+    requires built { IsBuiltCommand command }
+    requires sets { store.old.sets + 1 < 2 ^ 26 }
+    ensures answers { (board : Node) (seat : Party) → StandsFor store.old board seat → Answers store.new board seat command result }
+    ensures replies { (board : Node) (seat : Party) → StandsFor store.old board seat → Replies store.old store.new command result }
+    ensures few { store.new.sets ≤ store.old.sets + 1 }
+{
+    match command {
+        Command::New { d, fields } => store.new_record(d, fields),
+        Command::Num { d, n } => store.num(d, n),
+        Command::Get { d, r, i } => store.get(d, r, i),
+        Command::Set { r, i, v } => store.set(r, i, v),
+        _ => Reply::Done,
+    }
+}
+
+/// Claims fragments if the command needs one and none is left, and notes how many.
+fn claim_for(store: &mut Store, history: &mut Vec<Entry>, command: Command) -> Result<(), Memory>
+    ensures ready { (heap : Heap) (read : List ALine) → Playing heap 15 store.old history.old.items read → OnOk result (IsReady heap store.new history.new.items read command) }
+    ensures sets { store.new.sets ≡ store.old.sets }
+{
+    let Command::New { .. } = command else {
+        return Ok(());
+    };
+    let count = store.claim();
+    if count > 0 {
+        history.push(Entry::Takes { seat: 0, count })?;
+    }
+    Ok(())
+}
+
+/// Answers a command, and notes what was claimed for it and the reply.
+fn answer(store: &mut Store, history: &mut Vec<Entry>, command: Command) -> Result<(), Memory>
+    requires command { IsCommand command }
+    requires built { IsBuiltCommand command }
+    requires sets { store.old.sets + 1 < 2 ^ 26 }
+    ensures plays { (heap : Heap) (read : List ALine) → Playing heap 15 store.old history.old.items read → OnOk result (Playing heap 15 store.new history.new.items (read ++ lines.Seat 0 command ∷ [])) }
+    ensures few { store.new.sets ≤ store.old.sets + 1 }
+{
+    claim_for(store, history, command)?;
+    let reply = reply_to(store, command);
+    history.push(Entry::Said {
+        seat: 0,
+        command,
+        reply,
+    })?;
+    Ok(())
+}
+
+/// The history of a play of the script.
+pub fn play(alloc: Global, script: &Script) -> Result<Vec<Entry>, Memory>
+    requires form { IsOfForm Play script.now }
+    requires built { IsBuilt script.now }
+    ensures { IfOk result (λ history. IsPlay script.now history.items) }
+{
+    let mut store = Store::new(alloc, script.heap.groups)?;
+    let mut history = Vec::new(alloc);
+    for line in script.lines.as_slice() {
+        let Line::Seat { command, .. } = *line else {
+            continue;
+        };
+        answer(&mut store, &mut history, command)?;
+    }
+    Ok(history)
+}
