@@ -1,16 +1,16 @@
 -- What the reply to a command gives and shows.
-use Rattle.std.proofs.Common.{◌≡◌, ℕ, zero, suc, ◌+◌, ◌-◌, ◌*◌, ◌/◌, ◌<◌, ◌≤◌, ◌⊎◌, inl, inr, refl, sym, ap, ◌∙◌, subst, arith, Result, Ok, Err, length}
+use Rattle.std.proofs.Common.{◌≡◌, ℕ, ◌+◌, ◌≤◌, inl, inr, refl, sym, ap, ◌∙◌, subst, arith, Result, Ok, Err}
 use Rattle.heap_model.specs.declared.id.Id.{Id}
 use Rattle.heap_model.specs.declared.cell.Cell.{Cell}
 use Rattle.heap_model.specs.declared.command.Command.{Command}
-use Rattle.heap_model.specs.declared.command.Command.TheVariants.{New, Get, Set, Num}
+use Rattle.heap_model.specs.declared.command.Command.TheVariants.{New, Get, Set}
 use Rattle.heap_model.specs.declared.reply.Reply.{Reply}
 use Rattle.heap_model.specs.declared.reply.Reply.TheVariants as replies
 use Rattle.heap_model.specs.Objects.{Node, Party, State, cell_at, party, target, register}
 use Rattle.heap_model.specs.Legal.{Says, Gets, Sets}
 use Rattle.heap_model.specs.Space.{need_of, made_by, record_fragments}
 use Rattle.schism_program.specs.declared.store.Store.{Store}
-use Rattle.schism_program.specs.Stands.{alone, StandsFor, Answers}
+use Rattle.schism_program.specs.Stands.{StandsFor, Answers}
 use Rattle.schism_program.specs.Changes.{Gives, SameFragments, ShowsNothing, Replies}
 use Rattle.schism_program.proofs.Fields.{refusals}
 

@@ -1,21 +1,19 @@
 -- A field is read.
-use Rattle.std.proofs.Common.{◌≡◌, ℕ, zero, suc, ◌+◌, ◌*◌, ◌<◌, ◌≤◌, ◌⊎◌, inl, inr, List, length, slice_get, slice_index, slice_index_or, Option, None, Some, Result, Ok, Err, refl, sym, ap, ◌∙◌, subst, arith, lit<}
+use Rattle.std.proofs.Common.{◌≡◌, ℕ, ◌<◌, ◌⊎◌, inl, inr, slice_get, slice_index, slice_index_or, Option, None, Some, Ok, Err, refl, ap, ◌∙◌, subst, arith, lit<}
 use Rattle.std.proofs.lemmas.Option.{slice_get-get_or}
 use Rattle.heap_model.specs.declared.id.Id.{Id}
-use Rattle.heap_model.specs.declared.id.Id.TheVariants.{Board, Made}
 use Rattle.heap_model.specs.declared.id.Value.{Value}
 use Rattle.heap_model.specs.declared.id.Value.TheVariants as values
 use Rattle.heap_model.specs.declared.cell.Cell.{Cell}
-use Rattle.heap_model.specs.declared.command.Command.TheVariants.{Get, Set}
+use Rattle.heap_model.specs.declared.command.Command.TheVariants.{Get}
 use Rattle.heap_model.specs.declared.reply.Reply.{Reply}
 use Rattle.heap_model.specs.declared.reply.Reply.TheVariants.{Got, NoObject, NoField}
 use Rattle.heap_model.specs.Objects.{Node, Party, State, node, register, cell_at, cell_of, or_no_field, target, unset}
-use Rattle.heap_model.specs.Legal.{Gets}
 use Rattle.heap_words.specs.Cell.{cell_word, cell_of as cell_of_word}
 use Rattle.heap_words.specs.Name.{IsName}
 use Rattle.heap_words.specs.declared.cell.Cell.{Cell as WordCell}
 use Rattle.schism_program.specs.declared.store.Store.{Store}
-use Rattle.schism_program.specs.Places.{name_of, cell_with, value_word, IsNamed, place_at, head_of}
+use Rattle.schism_program.specs.Places.{name_of, cell_with, value_word, IsNamed}
 use Rattle.schism_program.specs.Stands.{alone, IsKept, IsFieldAt, StandsFor, Answers}
 use Rattle.schism_program.specs.Changes.{PutsRegister}
 use Rattle.schism_program.proofs.Heads.{known_ids, kept_small, cell_of-value_word}

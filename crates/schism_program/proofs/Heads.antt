@@ -1,13 +1,12 @@
 -- What a register's word tells of what the register refers to.
-use Rattle.std.proofs.Common.{◌≡◌, ℕ, zero, suc, ◌+◌, ◌*◌, ◌^◌, ◌<◌, ◌≤◌, ◌⊎◌, inl, inr, List, [], ◌∷◌, length, slice_get, slice_index, slice_index_or, Option, Some, None, refl, sym, ap, ◌∙◌, subst, arith, lit<, Result, Err}
+use Rattle.std.proofs.Common.{◌≡◌, ℕ, zero, suc, ◌*◌, ◌^◌, ◌<◌, ◌≤◌, ◌⊎◌, inl, inr, length, slice_index, slice_index_or, Option, Some, None, refl, sym, ap, ◌∙◌, arith, lit<, Err}
 use Rattle.std.proofs.lemmas.Option.{slice_get_within, slice_get_past}
 use Rattle.heap_model.specs.declared.id.Id.{Id}
 use Rattle.heap_model.specs.declared.id.Id.TheVariants.{Board, Made}
 use Rattle.heap_model.specs.declared.id.Value.{Value}
 use Rattle.heap_model.specs.declared.id.Value.TheVariants as values
-use Rattle.heap_model.specs.declared.reply.Reply.{Reply}
-use Rattle.heap_model.specs.declared.reply.Reply.TheVariants.{NoObject, NoField}
-use Rattle.heap_model.specs.Objects.{Node, Party, State, node, register, cell_at, target, cell_of}
+use Rattle.heap_model.specs.declared.reply.Reply.TheVariants.{NoField}
+use Rattle.heap_model.specs.Objects.{Node, Party, node, cell_at}
 use Rattle.heap_words.specs.Cell.{cell_word, IsCell, cell_of as cell_of_word}
 use Rattle.heap_words.specs.declared.cell.Cell.{Cell}
 use Rattle.heap_words.specs.declared.meta.Meta.{Meta}

@@ -1,17 +1,15 @@
 -- The store at the opening stands for the opening graph.
-use Rattle.std.proofs.Common.{◌≡◌, ◌≢◌, ℕ, zero, suc, ◌+◌, ◌*◌, ◌^◌, ◌<◌, ◌≤◌, ◌⊎◌, inl, inr, false, List, [], ◌∷◌, length, replicate, slice_get, slice_index, slice_index_or, slice_set, Some, refl, sym, ap, ◌∙◌, subst, arith, lit<, lit≤}
-use Rattle.std.proofs.lemmas.List.{get_or-set_same, get_or-set_other, get_or-replicate, length-set, length-replicate}
-use Rattle.std.proofs.lemmas.Bool.{cases_eq}
+use Rattle.std.proofs.Common.{◌≡◌, ℕ, zero, suc, ◌^◌, ◌<◌, false, List, ◌∷◌, length, replicate, slice_index, slice_index_or, slice_set, Some, refl, sym, ap, ◌∙◌, subst, arith, lit<}
+use Rattle.std.proofs.lemmas.List.{get_or-set_other, get_or-replicate, length-replicate}
 use Rattle.heap_model.specs.declared.id.Id.{Id}
 use Rattle.heap_model.specs.declared.id.Id.TheVariants.{Board, Made}
 use Rattle.heap_model.specs.declared.id.Value.{Value}
 use Rattle.heap_model.specs.declared.id.Value.TheVariants as values
 use Rattle.heap_model.specs.declared.cell.Cell.{Cell}
-use Rattle.heap_model.specs.Objects.{Node, Party, State, node, unset, fresh, opening_party}
+use Rattle.heap_model.specs.Objects.{Node, node, unset, fresh, opening_party}
 use Rattle.heap_words.specs.Meta.{meta_word}
-use Rattle.heap_words.specs.Name.{name_word}
 use Rattle.schism_program.specs.declared.store.Store.{Store}
-use Rattle.schism_program.specs.Places.{meta_of, name_of, place_at, value_word}
+use Rattle.schism_program.specs.Places.{meta_of, value_word}
 use Rattle.schism_program.specs.Opening.{ShowsBoard}
 use Rattle.schism_program.specs.Stands.{alone, IsKept, Shows, StandsFor}
 use Rattle.schism_program.proofs.Sets.{same_object}

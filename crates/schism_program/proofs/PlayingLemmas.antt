@@ -1,5 +1,5 @@
 -- A play goes on by one entry.
-use Rattle.std.proofs.Common.{◌≡◌, ℕ, zero, ◌+◌, ◌-◌, ◌*◌, ◌<◌, ◌≤◌, List, [], ◌∷◌, ◌++◌, length, refl, sym, ap, ◌∙◌, subst, arith, add-zero, append_assoc}
+use Rattle.std.proofs.Common.{◌≡◌, ℕ, ◌+◌, ◌*◌, ◌<◌, ◌≤◌, List, [], ◌∷◌, ◌++◌, length, refl, ap, ◌∙◌, arith, add-zero}
 use Rattle.std.proofs.lemmas.List.{append-nil}
 use Rattle.std.proofs.lemmas.List.Concat.{flat_map-append}
 use Rattle.std.specs.List.{flat_map}
@@ -12,10 +12,10 @@ use Rattle.heap_model.specs.declared.entry.Entry.{Entry}
 use Rattle.heap_model.specs.declared.entry.Entry.TheVariants.{Said, Takes}
 use Rattle.heap_model.specs.Command.{IsCommand}
 use Rattle.heap_model.specs.Objects.{Node, Party, State, opening}
-use Rattle.heap_model.specs.Growth.{after, after_reply, graph_after}
-use Rattle.heap_model.specs.Legal.{Accepts, IsPresent, Says}
-use Rattle.heap_model.specs.Space.{gained, lost, taken_of, spent_of, made_by, need_of}
-use Rattle.heap_model.specs.Account.{KeepsSpace, RefusesRightly, ShowsSpace, most_kept}
+use Rattle.heap_model.specs.Growth.{after_reply, graph_after}
+use Rattle.heap_model.specs.Legal.{IsPresent, Says}
+use Rattle.heap_model.specs.Space.{made_by}
+use Rattle.heap_model.specs.Account.{ShowsSpace, most_kept}
 use Rattle.heap_model.proofs.Histories.{graph_after-more, AcceptsAll-more, KeepsSpaceAfter-more, total-more, total_of-more}
 use Rattle.script_text.specs.declared.script.Line.{Line}
 use Rattle.script_text.specs.declared.script.Line.TheVariants as lines

@@ -1,14 +1,13 @@
 -- A register is put.
-use Rattle.std.proofs.Common.{◌≡◌, ◌≢◌, ℕ, ◌+◌, ◌*◌, ◌<◌, ◌≤◌, ◌⊎◌, inl, inr, List, length, slice_index, slice_index_or, slice_set, Option, Some, refl, sym, ap, ◌∙◌, arith}
+use Rattle.std.proofs.Common.{◌≡◌, ℕ, ◌<◌, inl, inr, List, length, slice_index, slice_index_or, slice_set, refl, sym, ap, ◌∙◌, arith}
 use Rattle.std.proofs.lemmas.List.{get_or-set_same, get_or-set_other, length-set}
 use Rattle.std.proofs.lemmas.Bool.{cases_eq}
-use Rattle.heap_model.specs.declared.id.Id.{Id}
 use Rattle.heap_model.specs.declared.id.Value.{Value}
 use Rattle.heap_model.specs.declared.id.Value.TheVariants as values
-use Rattle.heap_model.specs.Objects.{Node, Party, State, node}
+use Rattle.heap_model.specs.Objects.{Node, Party, State}
 use Rattle.schism_program.specs.declared.store.Store.{Store}
 use Rattle.schism_program.specs.Places.{value_word}
-use Rattle.schism_program.specs.Stands.{alone, IsKept, Shows, StandsFor}
+use Rattle.schism_program.specs.Stands.{alone, IsKept, StandsFor}
 use Rattle.schism_program.specs.Changes.{PutsRegister}
 use Rattle.schism_program.proofs.Keeping.{kept_still, shows_still, node_same, still_same}
 

@@ -1,5 +1,5 @@
 -- The store still stands for the graph when a field is set.
-use Rattle.std.proofs.Common.{◌≡◌, ◌≢◌, ℕ, zero, suc, ◌+◌, ◌*◌, ◌^◌, ◌<◌, ◌≤◌, ◌⊎◌, inl, inr, List, [], ◌∷◌, length, slice_get, slice_index, slice_index_or, slice_set, Option, None, Some, Ok, Err, refl, sym, ap, ◌∙◌, subst, arith, lit<}
+use Rattle.std.proofs.Common.{◌≡◌, ◌≢◌, ℕ, ◌+◌, ◌*◌, ◌^◌, ◌<◌, ◌≤◌, ◌⊎◌, inl, inr, List, length, slice_index, slice_index_or, slice_set, Some, Err, refl, sym, ap, ◌∙◌, subst, arith, lit<}
 use Rattle.std.proofs.lemmas.List.{get_or-set_same, get_or-set_other, length-set}
 use Rattle.std.proofs.lemmas.Bool.{cases_eq}
 use Rattle.heap_model.specs.declared.id.Id.{Id}
@@ -13,16 +13,15 @@ use Rattle.heap_model.specs.declared.reply.Reply.TheVariants.{Was}
 use Rattle.heap_model.specs.Objects.{Node, Party, State, node, register, cell_at, target, unset}
 use Rattle.heap_model.specs.Growth.{with_cell, stamp_of}
 use Rattle.heap_words.specs.Meta.{meta_word}
-use Rattle.heap_words.specs.Name.{name_word}
 use Rattle.heap_words.specs.Cell.{cell_word, cell_of as cell_of_word}
 use Rattle.heap_words.specs.declared.cell.Cell.{Cell as WordCell}
 use Rattle.schism_program.specs.declared.store.Store.{Store}
-use Rattle.schism_program.specs.Places.{head_of, meta_of, name_of, place_at, cell_with, value_word}
+use Rattle.schism_program.specs.Places.{head_of, meta_of, place_at, cell_with, value_word}
 use Rattle.schism_program.specs.Stands.{alone, IsKept, HasSize, Shows, StandsFor, IsFieldAt, Answers}
 use Rattle.schism_program.specs.Changes.{WritesWord}
 use Rattle.schism_program.proofs.Heads.{known_ids, head_below, is_field, kept_small, cell_of-value_word}
 use Rattle.schism_program.proofs.Keeping.{StillThere, kept_still, shows_still}
-use Rattle.schism_program.proofs.PlaceLemmas.{IsField, place_at-below, place_at-apart, place_at-behind}
+use Rattle.schism_program.proofs.PlaceLemmas.{place_at-below, place_at-apart, place_at-behind}
 use Rattle.schism_program.proofs.Fields.{cell_of_field, cell_with-stamp, refusals}
 use Rattle.schism_program.proofs.Writes.{Written, written, id_cases}
 

@@ -1,17 +1,15 @@
 -- A field is set.
-use Rattle.std.proofs.Common.{◌≡◌, ◌≢◌, ℕ, zero, suc, ◌+◌, ◌*◌, ◌^◌, ◌<◌, ◌≤◌, ◌⊎◌, inl, inr, List, [], ◌∷◌, length, slice_get, slice_index, slice_index_or, slice_set, false, Option, None, Some, Ok, refl, sym, ap, ◌∙◌, subst, arith, lit<}
+use Rattle.std.proofs.Common.{◌≡◌, ◌≢◌, ℕ, zero, suc, ◌+◌, ◌<◌, ◌⊎◌, inl, inr, List, length, slice_get, slice_index_or, slice_set, false, Option, None, Some, refl, sym, ap, ◌∙◌, arith}
 use Rattle.std.proofs.lemmas.Option.{slice_get-get_or, slice_get_within, slice_get_past, get_or_from_slice_get}
 use Rattle.std.proofs.lemmas.List.{get_or-set_same, get_or-set_other, length-set}
 use Rattle.std.proofs.lemmas.Bool.{cases_eq, cases_lt}
 use Rattle.heap_model.specs.declared.id.Id.{Id}
 use Rattle.heap_model.specs.declared.id.Id.TheVariants.{Board, Made}
-use Rattle.heap_model.specs.declared.id.Value.{Value}
 use Rattle.heap_model.specs.declared.id.Value.TheVariants as values
 use Rattle.heap_model.specs.declared.cell.Cell.{Cell}
-use Rattle.heap_model.specs.Objects.{Node, Party, State, node, register, cell_at, unset, fresh}
+use Rattle.heap_model.specs.Objects.{Node, Party, node, fresh}
 use Rattle.heap_model.specs.Growth.{with_cell, write}
 use Rattle.schism_program.specs.Stands.{alone}
-use Rattle.schism_program.proofs.Heads.{known_ids}
 
 abbrev made_count : Id → ℕ
 made_count Board = 0

@@ -1,4 +1,3 @@
-use Rattle.std.proofs.Common.{◌≡◌, ℕ, arith}
 use Rattle.schism_program.proofs.PlayingLemmas.{said_plays}
 use Rattle.schism_program.proofs.play.answer.Goals as goal
 

@@ -1,5 +1,4 @@
-use Rattle.std.proofs.Common.{◌≡◌, ℕ, subst, sym, arith}
-use Rattle.schism_program.specs.declared.store.Store.{Store}
+use Rattle.std.proofs.Common.{◌≡◌, ℕ, subst, arith}
 use Rattle.schism_program.specs.Changes.{Claims}
 use Rattle.schism_program.proofs.PlayingLemmas.{ready_takes, ready_still}
 use Rattle.schism_program.proofs.play.claim_for.Goals as goal

@@ -1,4 +1,4 @@
-use Rattle.std.proofs.Common.{◌≡◌, ℕ, ◌≤◌, take}
+use Rattle.std.proofs.Common.{◌≤◌, take}
 use Rattle.schism_program.specs.Playing.{Playing}
 use Rattle.schism_program.proofs.play.play.Given as goal
 

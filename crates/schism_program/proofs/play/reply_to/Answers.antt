@@ -1,13 +1,7 @@
-use Rattle.std.proofs.Common.{◌≡◌, ◌<◌, ◌≤◌, inl, inr, refl, sym, subst, arith}
+use Rattle.std.proofs.Common.{◌≡◌, inl, inr, refl, subst, arith}
 use Rattle.std.proofs.lemmas.Bool.{cases_lt}
-use Rattle.heap_model.specs.declared.command.Command.{Command}
-use Rattle.heap_model.specs.declared.reply.Reply.{Reply}
-use Rattle.heap_model.specs.declared.reply.Reply.TheVariants as replies
-use Rattle.heap_model.specs.Objects.{Node, Party}
 use Rattle.script_text.specs.Built.{IsBuiltCommand}
-use Rattle.schism_program.specs.declared.store.Store.{Store}
-use Rattle.schism_program.specs.Stands.{alone, Answers, StandsFor}
-use Rattle.schism_program.specs.Changes.{Replies}
+use Rattle.schism_program.specs.Stands.{alone}
 use Rattle.schism_program.proofs.Answering.{full_answers, full_replies, made_replies, same_replies, got_shows, set_shows}
 use Rattle.schism_program.proofs.play.reply_to.Goals as goal
 

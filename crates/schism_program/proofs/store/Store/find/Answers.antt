@@ -1,4 +1,4 @@
-use Rattle.std.proofs.Common.{◌≡◌, ◌<◌, ◌≤◌, ◌*◌, ◌+◌, arith, sym, length}
+use Rattle.std.proofs.Common.{◌≡◌, arith, sym}
 use Rattle.schism_program.specs.Places.{place_at, head_of}
 use Rattle.schism_program.proofs.Heads.{refers_to, length_read, refuses_field, is_field, head_below}
 use Rattle.schism_program.proofs.PlaceLemmas.{place_at-below}

@@ -1,4 +1,4 @@
-use Rattle.std.proofs.Common.{ℕ, ◌∷◌, replicate, slice_set, refl, ap}
+use Rattle.std.proofs.Common.{ℕ, replicate, slice_set, refl, ap}
 use Rattle.schism_program.proofs.OpeningLemmas.{stands_open}
 use Rattle.schism_program.proofs.store.Store.new.Goals as goal
 
