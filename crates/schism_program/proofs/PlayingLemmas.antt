@@ -1,5 +1,6 @@
 -- A play goes on by one entry.
-use Rattle.std.proofs.Common.{◌≡◌, ℕ, ◌+◌, ◌*◌, ◌<◌, ◌≤◌, List, [], ◌∷◌, ◌++◌, length, refl, ap, ◌∙◌, arith, add-zero}
+use Rattle.std.proofs.Common.{◌≡◌, true, ℕ, ◌+◌, ◌*◌, ◌<◌, ◌≤◌, List, [], ◌∷◌, ◌++◌, length, refl, ap, ◌∙◌, arith, add-zero}
+use Rattle.std.proofs.lemmas.Bool.{leb-true}
 use Rattle.std.proofs.lemmas.List.{append-nil}
 use Rattle.std.proofs.lemmas.List.Concat.{flat_map-append}
 use Rattle.std.specs.List.{flat_map}
@@ -19,7 +20,7 @@ use Rattle.heap_model.specs.Account.{ShowsSpace, most_kept}
 use Rattle.heap_model.proofs.Histories.{graph_after-more, AcceptsAll-more, KeepsSpaceAfter-more, total-more, total_of-more}
 use Rattle.script_text.specs.declared.script.Line.{Line}
 use Rattle.script_text.specs.declared.script.Line.TheVariants as lines
-use Rattle.script_text.specs.Built.{IsBuiltCommand}
+use Rattle.script_text.specs.Built.{is_built_command}
 use Rattle.schism_program.specs.declared.store.Store.{Store}
 use Rattle.schism_program.specs.Play.{answered}
 use Rattle.schism_program.specs.Stands.{alone, StandsFor, Answers}
@@ -107,33 +108,33 @@ still_plays heap old new history read p c = record {
 }
 
 -- a command that is served keeps up to fifteen fragments
-keeps_fifteen : (command : Command) → IsBuiltCommand command → most_kept command ≡ 15
-keeps_fifteen Leave b = absurd b
+keeps_fifteen : (command : Command) → is_built_command command ≡ true → most_kept command ≡ 15
+keeps_fifteen Leave b = absurd cc
 keeps_fifteen command b = refl
 
 -- what a refusal shows is right
-shows_right : (heap : Heap) (store : Store) (history : List Entry) (command : Command) (reply : Reply) → Counts history store.next store.end → length store.words.items ≡ 64 * heap.groups → IsEnough store command → IsBuiltCommand command → ShowsNothing store command reply → ShowsSpace heap history 0 command reply
+shows_right : (heap : Heap) (store : Store) (history : List Entry) (command : Command) (reply : Reply) → Counts history store.next store.end → length store.words.items ≡ 64 * heap.groups → IsEnough store command → is_built_command command ≡ true → ShowsNothing store command reply → ShowsSpace heap history 0 command reply
 shows_right heap store history (New d fields) (replies.Full need found) c size enough b s =
     let none = enough.0 s.3 in
     (s.0, omega (arith, s.1, s.2), omega (arith, c.gained, c.lost, c.taken, c.spent, s.2, s.3, none, size, store.room))
 shows_right heap store history (Get d r i) (replies.Full need found) c size enough b s = absurd (omega (arith, s.0, s.1))
 shows_right heap store history (Set r i v) (replies.Full need found) c size enough b s = absurd (omega (arith, s.0, s.1))
 shows_right heap store history (Num d n) (replies.Full need found) c size enough b s = absurd (omega (arith, s.0, s.1))
-shows_right heap store history command (replies.Full need found) c size enough b s = absurd b
+shows_right heap store history command (replies.Full need found) c size enough b s = absurd cc
 shows_right heap store history command _ c size enough b s = tt
 
 -- at most fifteen fragments are left over
-reserve_left : (g : State) (old new : Store) (command : Command) (reply : Reply) → Says g 0 command reply → IsEnough old command → IsBuiltCommand command → Replies old new command reply → new.end ≤ new.next + 15
-reserve_left g old new (New d fields) (replies.Made id) says enough b r = omega (arith, r.next, r.end, enough.1, one_fragment fields b)
+reserve_left : (g : State) (old new : Store) (command : Command) (reply : Reply) → Says g 0 command reply → IsEnough old command → is_built_command command ≡ true → Replies old new command reply → new.end ≤ new.next + 15
+reserve_left g old new (New d fields) (replies.Made id) says enough b r = omega (arith, r.next, r.end, enough.1, one_fragment fields (leb-true fields 2 b))
 reserve_left g old new (New d fields) (replies.Full need found) says enough b r = omega (arith, r.next, r.end, r.shows.3)
 reserve_left g old new (New d fields) _ says enough b r = absurd says
 reserve_left g old new (Get d i j) reply says enough b r = omega (arith, r.next, r.end, enough)
 reserve_left g old new (Set i j v) reply says enough b r = omega (arith, r.next, r.end, enough)
 reserve_left g old new (Num d n) reply says enough b r = omega (arith, r.next, r.end, enough)
-reserve_left g old new command reply says enough b r = absurd b
+reserve_left g old new command reply says enough b r = absurd cc
 
 -- a play goes on by a reply
-pub said_plays : (heap : Heap) (old new : Store) (history : List Entry) (read : List Line) (command : Command) (reply : Reply) → Playing heap 16 old history read → IsEnough old command → IsCommand command → IsBuiltCommand command
+pub said_plays : (heap : Heap) (old new : Store) (history : List Entry) (read : List Line) (command : Command) (reply : Reply) → Playing heap 16 old history read → IsEnough old command → IsCommand command → is_built_command command ≡ true
     → ((board : Node) (seat : Party) → StandsFor old board seat → Answers new board seat command reply) → ((board : Node) (seat : Party) → StandsFor old board seat → Replies old new command reply)
     → Playing heap 15 new (history ++ Said 0 command reply ∷ []) (read ++ lines.Seat 0 command ∷ [])
 said_plays heap old new history read command reply p enough fits built answers gives =

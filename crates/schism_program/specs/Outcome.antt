@@ -1,13 +1,14 @@
 -- What the program's statuses say of what it read and wrote.
-use Rattle.std.specs.Prelude.{◌≡◌, ℕ, ◌+◌, ◌≤◌, ◌⊎◌, List, [], ◌∷◌, length, codes, Option}
+use Rattle.std.specs.Prelude.{◌≡◌, ℕ, ◌+◌, ◌≤◌, ◌⊎◌, List, [], ◌∷◌, length, codes, Option, None, Some}
 use Rattle.heap_model.specs.declared.entry.Entry.{Entry}
 use Rattle.script_text.specs.declared.cause.Cause.{Cause}
 use Rattle.script_text.specs.declared.cause.Cause.TheVariants.{Unbuilt}
 use Rattle.script_text.specs.declared.script.Form.TheVariants as forms
 use Rattle.script_text.specs.declared.script.Script.{Script}
 use Rattle.script_text.specs.Grammar.{IsScript}
-use Rattle.script_text.specs.Built.{IsBuilt}
-use Rattle.io_edge.specs.Left.{GivesAll, LosesNext}
+use Rattle.script_text.specs.Built.{unbuilt_line}
+use Rattle.script_text.specs.Faults.{first_fault}
+use Rattle.io_edge.specs.Left.{GivesAll}
 use Rattle.io_edge.specs.Taken.{Takes, TakesFront}
 use Rattle.schism_program.specs.declared.status.Status.{Status}
 use Rattle.schism_program.specs.declared.status.Status.TheVariants as statuses
@@ -22,7 +23,7 @@ IsForm words = words ≡ codes "play" ∷ []
 pub record Serves (input : List ℕ) (script : Script) : Type 0 where
   pub short : length input ≤ MOST_BYTES
   pub spelled : IsScript forms.Play input script
-  pub built : IsBuilt script
+  pub built : unbuilt_line script ≡ None
 
 -- the text is that of a play of the input's script
 pub record Plays (input text : List ℕ) : Type 0 where
@@ -48,15 +49,18 @@ pub record WritesFront (left left' taken taken' : Option (List ℕ)) : Type 0 wh
   pub plays : Plays input text
   pub written : TakesFront taken taken' text
 
--- all that was left was read, and it is no script that the program serves
-pub record IsUnserved (left left' : Option (List ℕ)) : Type 0 where
+-- the first fault of the input is this line's cause; or it is a script, and this line the first that the program doesn't serve
+abbrev pub FailsAt : List ℕ → ℕ → Cause → Type 0
+FailsAt input line cause =
+    (first_fault forms.Play input ≡ Some (record { line = line; cause = cause }))
+    ⊎ ((cause ≡ Unbuilt) × (first_fault forms.Play input ≡ None) × ((script : Script) × IsScript forms.Play input script × (unbuilt_line script ≡ Some line)))
+
+-- all that was left was read, and this line is refused
+pub record IsRefused (left left' : Option (List ℕ)) (line : ℕ) (cause : Cause) : Type 0 where
   pub input : List ℕ
   pub read : GivesAll left left' input
-  pub unserved : (script : Script) → Serves input script → ⊥
-
--- what was read is no script that the program serves, or there is more of it than the program reads
-abbrev pub IsRefused : Option (List ℕ) → Option (List ℕ) → ℕ → Cause → Type 0
-IsRefused left left' line cause = (line ≡ 0) × (cause ≡ Unbuilt) × (IsUnserved left left' ⊎ LosesNext left left' (MOST_BYTES + 1))
+  pub short : length input ≤ MOST_BYTES
+  pub fails : FailsAt input line cause
 
 -- the statuses after which something was written
 abbrev pub IsWriting : Status → Type 0

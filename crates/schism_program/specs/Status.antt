@@ -3,7 +3,7 @@ use Rattle.std.specs.Prelude.{ℕ, List, [], ◌++◌, codes, decimal}
 use Rattle.script_text.specs.declared.cause.Cause.{Cause}
 use Rattle.script_text.specs.declared.cause.Cause.TheVariants.{NoHeader, BadHeap, NoSeat, NoCommand, BadNumber, OutOfRange, TooManyWords, TooManyLines, BadEntry, NoEnd, HistoryLines, Unbuilt}
 use Rattle.schism_program.specs.declared.status.Status.{Status}
-use Rattle.schism_program.specs.declared.status.Status.TheVariants.{Done, Refused, Usage, ReadFault, WriteFault, Memory}
+use Rattle.schism_program.specs.declared.status.Status.TheVariants.{Done, Refused, Usage, ReadFault, WriteFault, Memory, TooLong}
 
 -- the exit status of the process
 abbrev pub number_of : Status → ℕ
@@ -13,6 +13,7 @@ number_of Usage = 2
 number_of ReadFault = 3
 number_of WriteFault = 4
 number_of Memory = 5
+number_of TooLong = 6
 
 -- the name of a cause
 abbrev pub cause_name : Cause → List ℕ
@@ -37,3 +38,4 @@ status_words Usage = codes "usage"
 status_words ReadFault = codes "read fault"
 status_words WriteFault = codes "write fault"
 status_words Memory = codes "memory"
+status_words TooLong = codes "too long"

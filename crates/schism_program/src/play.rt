@@ -1,11 +1,11 @@
-ghost use Rattle.std.specs.Prelude.{◌≡◌, ℕ, ◌+◌, ◌<◌, ◌≤◌, ◌^◌, List, [], ◌∷◌, ◌++◌, OnOk, IfOk};
+ghost use Rattle.std.specs.Prelude.{true, ◌≡◌, ℕ, ◌+◌, ◌<◌, ◌≤◌, ◌^◌, List, [], ◌∷◌, ◌++◌, OnOk, IfOk};
 ghost use Rattle.heap_model.specs.declared.heap.Heap.{Heap};
 ghost use Rattle.heap_model.specs.Command.{IsCommand};
 ghost use Rattle.heap_model.specs.Objects.{Node, Party};
 ghost use Rattle.script_text.specs.declared.script.Form.TheVariants.{Play};
 ghost use Rattle.script_text.specs.declared.script.Line.{Line as ALine};
 ghost use Rattle.script_text.specs.declared.script.Line.TheVariants as lines;
-ghost use Rattle.script_text.specs.Built.{IsBuilt, IsBuiltCommand};
+ghost use Rattle.script_text.specs.Built.{IsBuilt, is_built_command};
 ghost use Rattle.script_text.specs.Writing.{IsOfForm};
 ghost use Rattle.schism_program.specs.Changes.{Replies};
 ghost use Rattle.schism_program.specs.Play.{IsPlay};
@@ -20,7 +20,7 @@ use std::alloc::Global;
 /// The reply to a command, of fragments that were claimed before.
 fn reply_to(store: &mut Store, command: Command) -> Reply
     requires command { IsCommand command }
-    requires built { IsBuiltCommand command }
+    requires built { is_built_command command ≡ true }
     requires sets { store.old.sets + 1 < 2 ^ 26 }
     ensures answers { (board : Node) (seat : Party) → StandsFor store.old board seat → Answers store.new board seat command result }
     ensures replies { (board : Node) (seat : Party) → StandsFor store.old board seat → Replies store.old store.new command result }
@@ -53,7 +53,7 @@ fn claim_for(store: &mut Store, history: &mut Vec<Entry>, command: Command) -> R
 /// Answers a command, and notes what was claimed for it and the reply.
 fn answer(store: &mut Store, history: &mut Vec<Entry>, command: Command) -> Result<(), Memory>
     requires command { IsCommand command }
-    requires built { IsBuiltCommand command }
+    requires built { is_built_command command ≡ true }
     requires sets { store.old.sets + 1 < 2 ^ 26 }
     ensures plays { (heap : Heap) (read : List ALine) → Playing heap 15 store.old history.old.items read → OnOk result (Playing heap 15 store.new history.new.items (read ++ lines.Seat 0 command ∷ [])) }
     ensures few { store.new.sets ≤ store.old.sets + 1 }

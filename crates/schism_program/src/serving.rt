@@ -1,20 +1,23 @@
-ghost use Rattle.std.specs.Prelude.{◌≡◌, ◌≤◌, length, IfOk, IsErrOf};
-ghost use Rattle.script_text.specs.declared.script.Script.{Script};
-ghost use Rattle.schism_program.specs.Outcome.{Plays, Serves};
+ghost use Rattle.std.specs.Prelude.{◌≡◌, ◌≤◌, length, IfOk};
+ghost use Rattle.script_text.specs.declared.cause.LineFault.{LineFault as ALineFault};
+ghost use Rattle.script_text.specs.declared.script.Form.TheVariants.{Play};
+ghost use Rattle.script_text.specs.Built.{IsBuilt};
+ghost use Rattle.script_text.specs.Writing.{IsOfForm};
+ghost use Rattle.schism_program.specs.Outcome.{FailsAt, Plays, Serves};
 ghost use Rattle.schism_program.specs.declared.serving.PlayFault.TheVariants as faults;
 
 use crate::play::play;
 use crate::rendering::render_play;
 use crate::top::MOST_BYTES;
 use heap_model::Memory;
-use script_text::{Form, Script, ScriptFault, is_built, read_script};
+use script_text::{Cause, Form, LineFault, Script, ScriptFault, first_unbuilt, read_script};
 use std::alloc::Global;
 
 /// Why there is no play of an input.
 #[derive(Clone, Copy, Debug, PartialEq, Eq)]
 pub enum PlayFault {
-    /// The input is no script that the program serves.
-    Unserved,
+    /// The first line that is faulty, or that the program doesn't serve.
+    Refused(LineFault),
     Memory,
 }
 
@@ -29,16 +32,18 @@ impl From<Memory> for PlayFault {
 fn served_script(alloc: Global, input: &[u8]) -> Result<Script, PlayFault>
     requires { length input.now ≤ MOST_BYTES }
     ensures ok { IfOk result (λ script. Serves input.now script) }
-    ensures unserved { IsErrOf result PlayFault.Unserved →
-        (script : Script) → ¬ Serves input.now script }
+    ensures form { IfOk result (IsOfForm Play) }
+    ensures built { IfOk result IsBuilt }
+    ensures refused { (fault : ALineFault) → result ≡ Err (PlayFault.Refused fault) →
+        FailsAt input.now fault.line fault.cause }
 {
     let script = match read_script(alloc, input, Form::Play) {
         Ok(script) => script,
-        Err(ScriptFault::Line(_)) => return Err(PlayFault::Unserved),
+        Err(ScriptFault::Line(fault)) => return Err(PlayFault::Refused(fault)),
         Err(ScriptFault::Memory) => return Err(PlayFault::Memory),
     };
-    if !is_built(&script) {
-        return Err(PlayFault::Unserved);
+    if let Some(line) = first_unbuilt(&script) {
+        return Err(PlayFault::Refused(Cause::Unbuilt.at(line)));
     }
     Ok(script)
 }
@@ -47,8 +52,8 @@ fn served_script(alloc: Global, input: &[u8]) -> Result<Script, PlayFault>
 pub fn played_text(alloc: Global, input: &[u8]) -> Result<Vec<u8>, PlayFault>
     requires { length input.now ≤ MOST_BYTES }
     ensures ok { IfOk result (λ text. Plays input.now text.items) }
-    ensures unserved { IsErrOf result PlayFault.Unserved →
-        (script : Script) → ¬ Serves input.now script }
+    ensures refused { (fault : ALineFault) → result ≡ Err (PlayFault.Refused fault) →
+        FailsAt input.now fault.line fault.cause }
 {
     let script = served_script(alloc, input)?;
     let history = play(alloc, &script)?;

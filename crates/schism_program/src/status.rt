@@ -14,6 +14,7 @@ pub enum Status {
     ReadFault,
     WriteFault,
     Memory,
+    TooLong,
 }
 
 impl Status {
@@ -28,6 +29,7 @@ impl Status {
             Status::ReadFault => 3,
             Status::WriteFault => 4,
             Status::Memory => 5,
+            Status::TooLong => 6,
         }
     }
 }
@@ -68,6 +70,7 @@ pub fn status_text(status: &Status) -> ArrayString<64>
         Status::ReadFault => text.push_str("read fault"),
         Status::WriteFault => text.push_str("write fault"),
         Status::Memory => text.push_str("memory"),
+        Status::TooLong => text.push_str("too long"),
     }
     text
 }

@@ -10,10 +10,9 @@ const FIRST: &str = "schism 1\nheap 1 0 1\n0 new 1 2\n0 num 2 9\n0 set 1 0 2\n0 
 const FIRST_PLAYED: &str =
     "history 1 play\nheap 1 0 1\n0 takes 5\n0 new 1 2 = 0.0\n0 num 2 9 = ok\n0 set 1 0 2 = was -\n0 get 3 1 0 = number 9 at 0:1\n";
 
-const UNBUILT: Status = Status::Refused {
-    line: 0,
-    cause: Cause::Unbuilt,
-};
+fn refused(line: u32, cause: Cause) -> Status {
+    Status::Refused { line, cause }
+}
 
 // What comes of it, and what was written; reads give 5 bytes a call and writes take 8.
 fn ended(
@@ -45,10 +44,28 @@ fn plays_scripts_and_refuses_others(rt: HostRuntime) -> Result<(), Fail> {
             Status::Done,
             "history 1 play\nheap 1 0 1\n0 takes 5\n0 new 1 1 = 0.0\n0 new 1 1 = 0.1\n0 new 1 1 = 0.2\n0 new 1 1 = 0.3\n0 new 1 1 = 0.4\n0 new 1 1 = full need 1 found 0\n",
         ),
-        ("schism 1\nheap 1 0 1\n0 nil 1\n", UNBUILT, ""),
-        ("schism 1\nheap 1 0 1\n0 num 1 1073741824\n", UNBUILT, ""),
-        ("schism 1\n", UNBUILT, ""),
-        ("", UNBUILT, ""),
+        (
+            "schism 1\nheap 1 0 1\n0 nil 1\n",
+            refused(3, Cause::Unbuilt),
+            "",
+        ),
+        (
+            "schism 1\nheap 17 0 1\n0 nil 1\n",
+            refused(2, Cause::Unbuilt),
+            "",
+        ),
+        (
+            "schism 1\nheap 1 0 1\n0 poll\n0 num 1 01\n",
+            refused(4, Cause::BadNumber),
+            "",
+        ),
+        (
+            "schism 1\nheap 1 0 1\n0 num 1 1073741824\n",
+            refused(3, Cause::OutOfRange),
+            "",
+        ),
+        ("schism 1\n", refused(2, Cause::BadHeap), ""),
+        ("", refused(1, Cause::NoHeader), ""),
     ] {
         let (ended, taken) = ended(rt.alloc(), &["play"], text.as_bytes(), &[], &[])?;
         assert_eq!(rt; ended, status, "{text}");
@@ -69,12 +86,34 @@ fn front_played(cut: usize) -> Option<usize> {
     }
 }
 
+// The line that is faulty in the first script, cut to this length.
+fn faulty_line(cut: usize) -> Option<u32> {
+    match cut {
+        0..8 => Some(1),
+        8..19 => Some(2),
+        21..29 => Some(3),
+        31..39 => Some(4),
+        41..51 => Some(5),
+        53..63 => Some(6),
+        _ => None,
+    }
+}
+
+// The line that a status refuses.
+fn refused_line(status: Status) -> Option<u32> {
+    match status {
+        Status::Refused { line, .. } => Some(line),
+        _ => None,
+    }
+}
+
 #[test]
 fn plays_the_first_script_cut_at_the_end_of_a_line(rt: HostRuntime) -> Result<(), Fail> {
     assert_eq!(rt; FIRST.len(), 64);
     for cut in 0..65 {
         let text = &FIRST.as_bytes()[..cut];
         let (ended, taken) = ended(rt.alloc(), &["play"], text, &[], &[])?;
+        assert_eq!(rt; refused_line(ended), faulty_line(cut), "cut at {cut}");
         match front_played(cut) {
             Some(front) => {
                 assert_eq!(rt; ended, Status::Done, "cut at {cut}");
@@ -82,7 +121,7 @@ fn plays_the_first_script_cut_at_the_end_of_a_line(rt: HostRuntime) -> Result<()
                 assert!(rt; FIRST_PLAYED.as_bytes().starts_with(&taken));
             }
             None => {
-                assert_eq!(rt; ended, UNBUILT, "cut at {cut}");
+                assert!(rt; refused_line(ended).is_some(), "cut at {cut}");
                 assert!(rt; taken.is_empty());
             }
         }
@@ -91,17 +130,20 @@ fn plays_the_first_script_cut_at_the_end_of_a_line(rt: HostRuntime) -> Result<()
 }
 
 #[test]
-fn plays_no_more_than_the_limit(rt: HostRuntime) -> Result<(), Fail> {
-    let mut text = Vec::from_slice(rt.alloc(), b"schism 1\nheap 1 0 1\n")?;
-    for _ in 0..406 {
-        text.extend_from_slice(b"0 num 1 5\n")?;
+fn reads_no_more_than_the_limit(rt: HostRuntime) -> Result<(), Fail> {
+    let mut text = Vec::with_capacity(rt.alloc(), 1_048_577)?;
+    text.extend_from_slice(b"schism 1\nheap 1 0 1\n")?;
+    for _ in 0..1_048_557 {
+        text.push(b' ')?;
     }
-    text.extend_from_slice(b"0 num 1 12345678\n")?;
-    assert_eq!(rt; text.len(), 4097);
-    for (cut, status, len) in [(4096, Status::Done, 6138), (4097, UNBUILT, 0)] {
+    assert_eq!(rt; text.len(), 1_048_577);
+    for (cut, status) in [
+        (1_048_576, refused(3, Cause::NoSeat)),
+        (1_048_577, Status::TooLong),
+    ] {
         let (ended, taken) = ended(rt.alloc(), &["play"], &text[..cut], &[], &[])?;
         assert_eq!(rt; ended, status, "{cut} bytes");
-        assert_eq!(rt; taken.len(), len, "{cut} bytes");
+        assert!(rt; taken.is_empty());
     }
     Ok(())
 }
@@ -150,23 +192,18 @@ fn says_which_side_failed(rt: HostRuntime) -> Result<(), Fail> {
 
 #[test]
 fn names_each_status(rt: HostRuntime) {
-    let bad_heap = Status::Refused {
-        line: 2,
-        cause: Cause::BadHeap,
-    };
-    let longest = Status::Refused {
-        line: u32::MAX,
-        cause: Cause::TooManyWords,
-    };
+    let bad_heap = refused(2, Cause::BadHeap);
+    let longest = refused(u32::MAX, Cause::TooManyWords);
     for (status, number, text) in [
         (Status::Done, 0, ""),
         (bad_heap, 1, "refused at line 2: BadHeap"),
-        (UNBUILT, 1, "refused at line 0: Unbuilt"),
+        (refused(7, Cause::Unbuilt), 1, "refused at line 7: Unbuilt"),
         (longest, 1, "refused at line 4294967295: TooManyWords"),
         (Status::Usage, 2, "usage"),
         (Status::ReadFault, 3, "read fault"),
         (Status::WriteFault, 4, "write fault"),
         (Status::Memory, 5, "memory"),
+        (Status::TooLong, 6, "too long"),
     ] {
         assert_eq!(rt; status.number(), number, "{text}");
         assert_eq!(rt; status_text(&status).as_str(), text);

@@ -1,21 +1,17 @@
-ghost use Rattle.std.specs.Prelude.{◌≡◌, ◌≢◌, ℕ, ◌↔◌, map, IsTrue};
+ghost use Rattle.std.specs.Prelude.{◌≡◌, ◌≢◌, ℕ, ◌+◌, ◌↔◌, map, IsTrue};
 ghost use Rattle.script_text.specs.declared.cause.Cause.{Cause};
 ghost use Rattle.io_edge.specs.Faults.{Rose};
+ghost use Rattle.io_edge.specs.Left.{LosesNext};
 ghost use Rattle.schism_program.specs.Outcome.{IsForm, IsRefused, IsWriting, WritesFront, WritesPlay};
 
 use crate::serving::{PlayFault, played_text};
 use crate::status::Status;
 use io_edge::{ReadAllFault, Sink, Source, read_all, write_all};
-use script_text::Cause;
+use script_text::LineFault;
 use std::alloc::Global;
 
 /// The most bytes of a script that the program reads.
-pub const MOST_BYTES: usize = 4096;
-
-const UNBUILT: Status = Status::Refused {
-    line: 0,
-    cause: Cause::Unbuilt,
-};
+pub const MOST_BYTES: usize = 1_048_576;
 
 fn is_form(words: &[&str]) -> bool
     ensures { IsTrue result ↔ IsForm (map (λ w. w.now) words.now) }
@@ -40,6 +36,8 @@ pub fn schism<S: Source, K: Sink>(
         WritesPlay (S.left source.old) (S.left source.new) (K.taken sink.old) (K.taken sink.new) }
     ensures refused { (line : ℕ) (cause : Cause) → result ≡ Status.Refused line cause →
         IsRefused (S.left source.old) (S.left source.new) line cause }
+    ensures too_long { result ≡ Status.TooLong →
+        LosesNext (S.left source.old) (S.left source.new) (MOST_BYTES + 1) }
     ensures read_fault { result ≡ Status.ReadFault →
         Rose (S.faults source.old) (S.faults source.new) }
     ensures write_fault { result ≡ Status.WriteFault →
@@ -56,13 +54,16 @@ pub fn schism<S: Source, K: Sink>(
     }
     let input = match read_all(alloc, source, MOST_BYTES) {
         Ok(input) => input,
-        Err(ReadAllFault::TooLong) => return UNBUILT,
+        Err(ReadAllFault::TooLong) => return Status::TooLong,
         Err(ReadAllFault::ReadFault) => return Status::ReadFault,
         Err(ReadAllFault::Memory) => return Status::Memory,
     };
     let text = match played_text(alloc, &input) {
         Ok(text) => text,
-        Err(PlayFault::Unserved) => return UNBUILT,
+        Err(PlayFault::Refused(LineFault { line, cause })) => return Status::Refused {
+            line,
+            cause,
+        },
         Err(PlayFault::Memory) => return Status::Memory,
     };
     match write_all(sink, &text) {

@@ -1,27 +1,37 @@
 -- The scripts that the program serves so far.
-use Rattle.std.specs.Prelude.{◌≡◌, ◌≤◌, All}
+use Rattle.std.specs.Prelude.{◌≡◌, ℕ, ◌+◌, ◌≤◌, ◌==◌, ◌&&◌, Bool, true, false, not, nat_le, if◌then◌else◌, All, Option, Some, None, option_map, position}
 use Rattle.heap_model.specs.declared.command.Command.{Command}
 use Rattle.heap_model.specs.declared.command.Command.TheVariants.{New, Get, Set, Num}
+use Rattle.heap_model.specs.declared.heap.Heap.{Heap}
 use Rattle.script_text.specs.declared.script.Line.{Line}
 use Rattle.script_text.specs.declared.script.Line.TheVariants.{Seat}
 use Rattle.script_text.specs.declared.script.Script.{Script}
 
 -- small records, numbers, and what goes into fields and out of them
-abbrev pub IsBuiltCommand : Command → Type 0
-IsBuiltCommand (New d fields) = fields ≤ 2
-IsBuiltCommand (Num d n) = Unit {0}
-IsBuiltCommand (Set r i v) = Unit {0}
-IsBuiltCommand (Get d r i) = Unit {0}
-IsBuiltCommand _ = ⊥
+abbrev pub is_built_command : Command → Bool
+is_built_command (New d fields) = nat_le fields 2
+is_built_command (Num d n) = true
+is_built_command (Set r i v) = true
+is_built_command (Get d r i) = true
+is_built_command _ = false
 
 -- a line of a seat with such a command
-abbrev pub IsBuiltLine : Line → Type 0
-IsBuiltLine (Seat seat command) = IsBuiltCommand command
-IsBuiltLine _ = ⊥
+abbrev pub is_built_line : Line → Bool
+is_built_line (Seat seat command) = is_built_command command
+is_built_line _ = false
 
--- a small heap for one seat, and such lines alone
+-- a small heap for one seat
+abbrev pub is_built_heap : Heap → Bool
+is_built_heap heap = nat_le heap.groups 16 && heap.spine == 0 && heap.seats == 1
+
+-- the first line that isn't served: the heap line is the second, and the others follow it
+abbrev pub unbuilt_line : Script → Option ℕ
+unbuilt_line script =
+    if is_built_heap script.heap then option_map (λ i. i + 3) (position (λ line. not (is_built_line line)) script.lines) else Some 2
+
+-- each line of the script is served
 pub record IsBuilt (script : Script) : Type 0 where
   pub groups : script.heap.groups ≤ 16
   pub spine : script.heap.spine ≡ 0
   pub seats : script.heap.seats ≡ 1
-  pub lines : All IsBuiltLine script.lines
+  pub lines : All (λ line. is_built_line line ≡ true) script.lines

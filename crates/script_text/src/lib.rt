@@ -19,7 +19,7 @@ mod turn;
 mod words;
 mod writing;
 
-pub use built::is_built;
+pub use built::first_unbuilt;
 pub use cause::{Cause, LineFault, ScriptFault};
 pub use lines::Lines;
 pub use reading::{MOST_LINES, read_script};

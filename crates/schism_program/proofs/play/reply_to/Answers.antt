@@ -1,6 +1,6 @@
-use Rattle.std.proofs.Common.{◌≡◌, inl, inr, refl, subst, arith}
-use Rattle.std.proofs.lemmas.Bool.{cases_lt}
-use Rattle.script_text.specs.Built.{IsBuiltCommand}
+use Rattle.std.proofs.Common.{◌≡◌, inl, inr, refl, sym, ap, ◌∙◌, arith}
+use Rattle.std.proofs.lemmas.Bool.{cases_lt, leb-true}
+use Rattle.script_text.specs.Built.{is_built_command}
 use Rattle.schism_program.specs.Stands.{alone}
 use Rattle.schism_program.proofs.Answering.{full_answers, full_replies, made_replies, same_replies, got_shows, set_shows}
 use Rattle.schism_program.proofs.play.reply_to.Goals as goal
@@ -20,7 +20,7 @@ pub returns-in-New-clause-replies : goal.returns-in-New-clause-replies
 returns-in-New-clause-replies c board seat stands =
     let old = c.args.store.now in
     let new = c.new_record.new.self in
-    let few = subst IsBuiltCommand c.in-New.is c.requires.built in
+    let few = leb-true c.in-New.fields 2 (ap is_built_command (sym c.in-New.is) ∙ c.requires.built) in
     rw c.in-New.is (elim (cases_lt old.next old.end) [
       | inl room ↦ let given = c.new_record.ensures.given room in rw given.0 (made_replies old new c.in-New.d c.in-New.fields _ few given.1)
       | inr none ↦
