@@ -7,3 +7,4 @@ pub mod Decoded
 pub mod WordBytes
 pub mod Whole
 pub mod Sentences
+pub mod OperandCauses

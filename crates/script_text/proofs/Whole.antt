@@ -46,10 +46,10 @@ lines-from_texts form seats (line ∷ lines) few h =
     rw (words_of-line_text form seats line few h.0, line_of-words form seats line few h.0, lines-from_texts form seats lines few h.1) refl
 
 -- the text of a heap line asks for the heap
-heap_of-heap_line : (heap : Heap) → IsHeap heap → heap_of (words_of (heap_line heap)) ≡ Some heap
+pub heap_of-heap_line : (heap : Heap) → IsHeap heap → heap_of (words_of (heap_line heap)) ≡ Some heap
 heap_of-heap_line heap h = rw (words_of-sentence (codes "heap") (heap_words heap) (heap_words-above heap h)) (heap_of-words heap h)
 
-same_heap : (one other : Heap) → IsHeap one → IsHeap other → heap_line one ≡ heap_line other → one ≡ other
+pub same_heap : (one other : Heap) → IsHeap one → IsHeap other → heap_line one ≡ heap_line other → one ≡ other
 same_heap one other f g e =
     let asked : Some one ≡ Some other = sym (heap_of-heap_line one f) ∙ ap (λ line. heap_of (words_of line)) e ∙ heap_of-heap_line other g in
     cc

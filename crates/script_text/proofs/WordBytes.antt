@@ -16,7 +16,7 @@ use Rattle.script_text.specs.Words.{command_words, turn_words, line_words, heap_
 use Rattle.script_text.proofs.Tokens.{IsAbove, IsAbove-decimal, IsAbove-from_test}
 
 -- each word of a command has bytes above the space alone
-command_words-above : (command : Command) → IsScripted command → AllByRecursion (IsAbove 32) (command_words command)
+pub command_words-above : (command : Command) → IsScripted command → AllByRecursion (IsAbove 32) (command_words command)
 command_words-above (New d fields) h = (IsAbove-from_test 32 (codes "new") refl, (IsAbove-decimal d (omega arith), (IsAbove-decimal fields (omega arith), tt)))
 command_words-above (Array d cells) h = (IsAbove-from_test 32 (codes "array") refl, (IsAbove-decimal d (omega arith), (IsAbove-decimal cells (omega arith), tt)))
 command_words-above (Get d r i) h = (IsAbove-from_test 32 (codes "get") refl, (IsAbove-decimal d (omega arith), (IsAbove-decimal r (omega arith), (IsAbove-decimal i (omega arith), tt))))
@@ -30,7 +30,7 @@ command_words-above Poll h = (IsAbove-from_test 32 (codes "poll") refl, tt)
 command_words-above Collect h = (IsAbove-from_test 32 (codes "collect") refl, tt)
 command_words-above Leave h = absurd h
 
-turn_words-above : (command : TurnCommand) → IsTurnCommand command → AllByRecursion (IsAbove 32) (turn_words command)
+pub turn_words-above : (command : TurnCommand) → IsTurnCommand command → AllByRecursion (IsAbove 32) (turn_words command)
 turn_words-above (turns.Turns n) h = (IsAbove-from_test 32 (codes "turns") refl, (IsAbove-decimal n (omega arith), tt))
 turn_words-above turns.Cycle h = (IsAbove-from_test 32 (codes "cycle") refl, tt)
 

@@ -1,4 +1,5 @@
-ghost use Rattle.std.specs.Prelude.{◌≡◌, [], ◌∷◌, ◌++◌, Some, IfOk, OnOk, IfErr};
+ghost use Rattle.std.specs.Prelude.{◌≡◌, ◌≢◌, [], ◌∷◌, ◌++◌, Some, IfOk, OnOk, IfErr};
+ghost use Rattle.script_text.specs.declared.cause.Cause.TheVariants.{TooManyWords};
 ghost use Rattle.script_text.specs.LineFaults.{command_fault};
 ghost use Rattle.script_text.specs.Grammar.{IsScripted};
 ghost use Rattle.script_text.specs.Names.{name_word};
@@ -12,13 +13,16 @@ use crate::words::Words;
 use heap_model::Command;
 
 /// The command of this name, with the next words as its operands.
-fn operands(name: Name, words: &mut Words<'_>) -> Result<Command, Cause>
+#[tactic(auto, using(crate::proofs::OperandCauses::after_operand_early))]
+pub fn operands(name: Name, words: &mut Words<'_>) -> Result<Command, Cause>
     ensures found { IfOk result (λ c. name_word name ∷ words.old ≡ command_words c ++ words.new) }
     ensures range { IfOk result IsScripted }
     ensures rest { OnOk result
         (command_fault commands (name_word name ∷ words.old) ≡ operands_fault [] words.new) }
     ensures fault { IfErr result
         (λ cause. command_fault commands (name_word name ∷ words.old) ≡ Some cause) }
+    // Words after the last operand are no fault here.
+    ensures early { IfErr result (λ cause. cause ≢ TooManyWords) }
 {
     match name {
         Name::New => {

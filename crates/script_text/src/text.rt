@@ -31,7 +31,7 @@ fn push_line(text: &mut Vec<u8>, line: &Line) -> Result<(), Memory>
 }
 
 /// Appends the heap line and its line feed.
-fn push_heap_line(text: &mut Vec<u8>, heap: &Heap) -> Result<(), Memory>
+pub fn push_heap_line(text: &mut Vec<u8>, heap: &Heap) -> Result<(), Memory>
     ensures { OnOk result (text.new.items ≡ text.old.items ++ (heap_line heap.now ++ 10 ∷ [])) }
 {
     text.extend_from_slice(b"heap")?;
