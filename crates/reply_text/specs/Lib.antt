@@ -1,1 +1,17 @@
 pub mod Entries
+pub mod Ranges
+pub mod Replies
+pub mod Written
+pub mod Tokens
+pub mod Parts
+pub mod Answers
+pub mod TurnAnswers
+pub mod Commands
+pub mod EntryWords
+pub mod Lines
+pub mod LineWords
+pub mod History
+pub mod Stages
+pub mod Faults
+pub mod Reading
+pub mod Body

@@ -14,7 +14,8 @@ fn push_seat(text: &mut Vec<u8>, seat: u8) -> Result<(), Memory>
 }
 
 fn push_gives_back(text: &mut Vec<u8>, count: u32) -> Result<(), Memory>
-    ensures { OnOk result (text.new.items ≡ text.old.items ++ spaced (codes "gives" ∷ codes "back" ∷ decimal count ∷ [])) }
+    ensures { OnOk result
+        (text.new.items ≡ text.old.items ++ spaced (codes "gives" ∷ codes "back" ∷ decimal count ∷ [])) }
 {
     push_word(text, b"gives")?;
     push_named(text, b"back", count.into())

@@ -2,11 +2,9 @@ ghost use Rattle.std.specs.Prelude.{◌≡◌, [], ◌∷◌, ◌++◌, decimal,
 ghost use Rattle.script_text.specs.Text.{spaced};
 ghost use Rattle.reply_text.specs.Entries.{id_word, stamp_word, value_words, waits_words, lack_words, reply_words, turn_reply_words};
 
+use crate::tokens::SETS;
 use heap_model::{Id, Memory, Reply, TurnReply, Value};
 use script_text::{push_digits, push_number, push_word};
-
-/// How many sets of one seat its stamps tell apart.
-const SETS: u32 = 1 << 26;
 
 /// Appends a space and the id.
 pub fn push_id(text: &mut Vec<u8>, id: Id) -> Result<(), Memory>
@@ -34,7 +32,8 @@ pub fn push_stamp(text: &mut Vec<u8>, stamp: u32) -> Result<(), Memory>
 
 /// Appends a space and the word, and a space and the number.
 pub fn push_named(text: &mut Vec<u8>, word: &[u8], number: u64) -> Result<(), Memory>
-    ensures { OnOk result (text.new.items ≡ text.old.items ++ spaced (word.now ∷ decimal number ∷ [])) }
+    ensures { OnOk result
+        (text.new.items ≡ text.old.items ++ spaced (word.now ∷ decimal number ∷ [])) }
 {
     push_word(text, word)?;
     push_number(text, number)
@@ -54,7 +53,8 @@ fn push_value(text: &mut Vec<u8>, value: Value) -> Result<(), Memory>
 }
 
 fn push_waits(text: &mut Vec<u8>, seat: u8, answered: u64, phase: u64) -> Result<(), Memory>
-    ensures { OnOk result (text.new.items ≡ text.old.items ++ spaced (waits_words seat answered phase)) }
+    ensures { OnOk result
+        (text.new.items ≡ text.old.items ++ spaced (waits_words seat answered phase)) }
 {
     push_named(text, b"waits", seat.into())?;
     push_named(text, b"answered", answered)?;
@@ -69,7 +69,8 @@ fn push_lack(
     shown: &[u8],
     number: u32,
 ) -> Result<(), Memory>
-    ensures { OnOk result (text.new.items ≡ text.old.items ++ spaced (lack_words kind.now need shown.now number)) }
+    ensures { OnOk result
+        (text.new.items ≡ text.old.items ++ spaced (lack_words kind.now need shown.now number)) }
 {
     push_word(text, kind)?;
     push_named(text, b"need", need.into())?;

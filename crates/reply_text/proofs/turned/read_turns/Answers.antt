@@ -1,0 +1,4 @@
+use Rattle.reply_text.proofs.turned.read_turns.Goals as goal
+
+pub returns-clause-range : goal.returns-clause-range
+returns-clause-range c = λ seats. (c.in_ok-n.ensures.range, c.in_ok-reply.ensures.range c.in_ok-n.field-0)

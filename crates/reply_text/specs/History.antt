@@ -1,0 +1,61 @@
+-- How a history is spelled, and which histories have a text.
+use Rattle.std.specs.Prelude.{◌≡◌, ℕ, ◌<◌, ◌≤◌, ◌^◌, List, [], ◌∷◌, ◌++◌, Option, Some, None, codes, drop, length, map, take}
+use Rattle.std.specs.List.{AllByRecursion}
+use Rattle.heap_model.specs.Heap.{IsHeap}
+use Rattle.heap_model.specs.declared.entry.Entry.{Entry}
+use Rattle.script_text.specs.declared.script.Form.{Form}
+use Rattle.script_text.specs.declared.script.Form.TheVariants.{Play, Run}
+use Rattle.script_text.specs.Text.{lines_of}
+use Rattle.script_text.specs.Words.{heap_line}
+use Rattle.reply_text.specs.declared.history.History.{History}
+use Rattle.reply_text.specs.declared.history.SpaceMark.{SpaceMark}
+use Rattle.reply_text.specs.declared.line.HistoryLine.{HistoryLine}
+use Rattle.reply_text.specs.declared.line.HistoryLine.TheVariants as lines
+use Rattle.reply_text.specs.Ranges.{IsSpace}
+use Rattle.reply_text.specs.Lines.{history_line}
+use Rattle.reply_text.specs.Written.{IsWritten}
+
+-- the first line
+abbrev pub form_line : Form → List ℕ
+form_line Play = codes "history 1 play"
+form_line Run = codes "history 1 run"
+
+-- the space line
+abbrev pub space_line : SpaceMark → HistoryLine
+space_line mark = lines.Space mark.used mark.total mark.spine mark.budget
+
+-- the lines of the entries, and the space line after those that stand before it
+abbrev pub marked : Option SpaceMark → List Entry → List HistoryLine
+marked None entries = map lines.Entry entries
+marked (Some mark) entries = map lines.Entry (take mark.before entries) ++ space_line mark ∷ map lines.Entry (drop mark.before entries)
+
+-- the lines after the heap line
+abbrev pub body : History → List HistoryLine
+body history = marked history.mark history.entries ++ lines.End history.end_used ∷ []
+
+-- the lines of a history
+abbrev pub history_lines : History → List (List ℕ)
+history_lines history = form_line history.form ∷ heap_line history.heap ∷ map history_line (body history)
+
+-- the number of the first line that a history does not have
+abbrev pub too_many : ℕ
+too_many = 4000000
+
+-- a play has a mark among its entries, and a run has none
+abbrev pub IsMarked : Form → ℕ → Option SpaceMark → Type 0
+IsMarked Play count (Some mark) = (mark.before ≤ count) × IsSpace mark.used mark.total mark.spine mark.budget
+IsMarked Run count None = Unit {0}
+IsMarked form count mark = ⊥
+
+-- the history has a text
+pub record IsSpellable (history : History) : Type 0 where
+  pub heap : IsHeap history.heap
+  pub entries : AllByRecursion (IsWritten history.form history.heap.seats) history.entries
+  pub mark : IsMarked history.form (length history.entries) history.mark
+  pub end_used : history.end_used < 2 ^ 64
+  pub short : length (history_lines history) < too_many
+
+-- the text is this history
+pub record IsHistory (text : List ℕ) (history : History) : Type 0 where
+  pub spelled : lines_of text ≡ history_lines history
+  pub value : IsSpellable history

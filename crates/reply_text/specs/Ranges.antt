@@ -1,0 +1,34 @@
+-- The numbers of ids, stamps and replies.
+use Rattle.std.specs.Prelude.{◌≡◌, ℕ, ◌<◌, ◌≤◌, ◌/◌, ◌%◌, ◌^◌, ◌⊎◌}
+use Rattle.heap_model.specs.Command.{IsWithin}
+use Rattle.heap_model.specs.declared.id.Id.{Id}
+use Rattle.heap_model.specs.declared.id.Id.TheVariants.{Board, Made}
+use Rattle.heap_model.specs.declared.id.Value.{Value}
+use Rattle.heap_model.specs.declared.id.Value.TheVariants as values
+
+-- an id: of a seat that some heap has, even if this one has fewer
+abbrev pub IsId : Id → Type 0
+IsId Board = Unit {0}
+IsId (Made seat count) = (seat ≤ 15) × (count < 2 ^ 32)
+
+-- a stamp: none, or of a set of such a seat, counted from 1 on
+abbrev pub IsStamp : ℕ → Type 0
+IsStamp stamp = (stamp ≡ 0) ⊎ (IsWithin 1 16 (stamp / 2 ^ 26) × (1 ≤ stamp % 2 ^ 26))
+
+-- a value
+abbrev pub IsValue : Value → Type 0
+IsValue values.Nil = Unit {0}
+IsValue (values.Number n) = n ≤ 1073741823
+IsValue (values.Object id) = IsId id
+
+-- a seat that is waited for, and what it answered
+abbrev pub IsWait : ℕ → ℕ → ℕ → Type 0
+IsWait seat answered phase = (seat ≤ 15) × (answered < 2 ^ 64) × (phase < 2 ^ 64)
+
+-- what is needed, and what was there instead
+abbrev pub IsLack : ℕ → ℕ → Type 0
+IsLack need number = (need < 2 ^ 32) × (number < 2 ^ 32)
+
+-- the numbers of a space line
+abbrev pub IsSpace : ℕ → ℕ → ℕ → ℕ → Type 0
+IsSpace used total spine budget = (used < 2 ^ 64) × (total < 2 ^ 64) × (spine < 2 ^ 64) × (budget < 2 ^ 64)

@@ -1,0 +1,66 @@
+-- The parts of a line that are read one after the other: each function answers what stands first, and the words after it.
+use Rattle.std.specs.Prelude.{ℕ, ◌+◌, ◌*◌, ◌^◌, ◌==◌, List, [], ◌∷◌, Option, Some, None, option_map, bytes_eq, codes, if◌then◌else◌}
+use Rattle.std.specs.List.{slice_split}
+use Rattle.heap_model.specs.declared.id.Id.{Id}
+use Rattle.heap_model.specs.declared.id.Id.TheVariants.{Board, Made}
+use Rattle.script_text.specs.Numbers.{number_below}
+
+-- one step after the other, if there is each
+infixl 10 ◌>>=◌
+abbrev pub ◌>>=◌ : {A B : Type 0} → Option A → (A → Option B) → Option B
+None >>= f = None
+(Some x) >>= f = f x
+
+-- the first word, as this reads it
+abbrev pub first_by : {A : Type 0} → (List ℕ → Option A) → List (List ℕ) → Option (A × List (List ℕ))
+first_by read [] = None
+first_by read (word ∷ rest) = option_map (λ x. (x, rest)) (read word)
+
+-- what the first word and those after it tell
+abbrev pub by_first : {A : Type 0} → (List ℕ → List (List ℕ) → Option A) → List (List ℕ) → Option A
+by_first read [] = None
+by_first read (word ∷ rest) = read word rest
+
+-- what follows this word
+abbrev pub after_word : List ℕ → List (List ℕ) → Option (List (List ℕ))
+after_word text [] = None
+after_word text (word ∷ rest) = if bytes_eq word text then Some rest else None
+
+-- a number below the limit
+abbrev pub number_at : ℕ → List (List ℕ) → Option (ℕ × List (List ℕ))
+number_at limit words = first_by (number_below limit) words
+
+-- the only two parts
+abbrev pub pair_of : List (List ℕ) → Option (List ℕ × List ℕ)
+pair_of (first ∷ second ∷ []) = Some (first, second)
+pair_of _ = None
+
+-- the parts of a word before and after its only mark
+abbrev pub parted : ℕ → List ℕ → Option (List ℕ × List ℕ)
+parted mark word = pair_of (slice_split (λ b. b == mark) word)
+
+-- an id of a seat, by its two parts
+abbrev pub made_of : List ℕ × List ℕ → Option Id
+made_of parts = do
+  seat ← number_below 16 parts.0
+  count ← number_below (2 ^ 32) parts.1
+  Some (Made seat count)
+
+-- the id that a word is
+abbrev pub id_of : List ℕ → Option Id
+id_of word = if bytes_eq word (codes "board") then Some Board else (parted 46 word >>= made_of)
+
+-- a count of sets, which begins at 1
+abbrev pub set_of : ℕ → ℕ → Option ℕ
+set_of seat count = if count == 0 then None else Some ((seat + 1) * 2 ^ 26 + count)
+
+-- a stamp of a set, by its two parts
+abbrev pub stamp_from : List ℕ × List ℕ → Option ℕ
+stamp_from parts = do
+  seat ← number_below 16 parts.0
+  count ← number_below (2 ^ 26) parts.1
+  set_of seat count
+
+-- the stamp that a word is
+abbrev pub stamp_of : List ℕ → Option ℕ
+stamp_of word = if bytes_eq word (codes "-") then Some 0 else (parted 58 word >>= stamp_from)
