@@ -20,10 +20,10 @@ AcceptsAll-more g [] entry legal accepts = (accepts, tt)
 AcceptsAll-more g (first ∷ history) entry legal accepts = (legal.0, AcceptsAll-more (after g first) history entry legal.1 accepts)
 
 -- an entry that keeps the rules of space may stand there
-pub KeepsSpaceAfter-more : (heap : Heap) (before history : List Entry) (entry : Entry) → KeepsSpaceAfter heap before history → KeepsSpace heap (before ++ history) entry → KeepsSpaceAfter heap before (history ++ entry ∷ [])
-KeepsSpaceAfter-more heap before [] entry kept keeps = (subst (λ b. KeepsSpace heap b entry) (append-nil before) keeps, tt)
-KeepsSpaceAfter-more heap before (first ∷ history) entry kept keeps =
-    (kept.0, KeepsSpaceAfter-more heap (before ++ first ∷ []) history entry kept.1 (subst (λ b. KeepsSpace heap b entry) (sym (append_assoc before (first ∷ []) history)) keeps))
+pub KeepsSpaceAfter-more : (heap : Heap) {play : Bool} (before history : List Entry) (entry : Entry) → KeepsSpaceAfter heap play before history → KeepsSpace heap play (before ++ history) entry → KeepsSpaceAfter heap play before (history ++ entry ∷ [])
+KeepsSpaceAfter-more heap {play} before [] entry kept keeps = (subst (λ b. KeepsSpace heap play b entry) (append-nil before) keeps, tt)
+KeepsSpaceAfter-more heap {play} before (first ∷ history) entry kept keeps =
+    (kept.0, KeepsSpaceAfter-more heap (before ++ first ∷ []) history entry kept.1 (subst (λ b. KeepsSpace heap play b entry) (sym (append_assoc before (first ∷ []) history)) keeps))
 
 -- the sums grow by what the entry does
 pub total-more : (part : Effect → ℕ) (history : List Entry) (entry : Entry) → total part (history ++ entry ∷ []) ≡ total part history + part (effect_of entry)

@@ -1,5 +1,5 @@
--- The rules of space that each entry of a play keeps. Sums are compared with sums, so that nothing is cut off at 0.
-use Rattle.std.specs.Prelude.{◌≡◌, ℕ, ◌+◌, ◌*◌, ◌<◌, ◌≤◌, List, [], ◌∷◌, ◌++◌}
+-- The rules of space and phases that each entry keeps. Sums are compared with sums, so that nothing is cut off at 0.
+use Rattle.std.specs.Prelude.{◌≡◌, ℕ, ◌+◌, ◌-◌, ◌*◌, ◌<◌, ◌≤◌, Bool, true, false, List, [], ◌∷◌, ◌++◌}
 use Rattle.heap_model.specs.declared.heap.Heap.{Heap}
 use Rattle.heap_model.specs.declared.command.Command.{Command}
 use Rattle.heap_model.specs.declared.command.Command.TheVariants as commands
@@ -7,7 +7,11 @@ use Rattle.heap_model.specs.declared.reply.Reply.{Reply}
 use Rattle.heap_model.specs.declared.reply.Reply.TheVariants as replies
 use Rattle.heap_model.specs.declared.entry.Entry.{Entry}
 use Rattle.heap_model.specs.declared.entry.Entry.TheVariants as entries
-use Rattle.heap_model.specs.Space.{need_of, made_by, gained, lost, taken_of, spent_of}
+use Rattle.heap_model.specs.Legal.{IsObjectLegal}
+use Rattle.heap_model.specs.Space.{need_of, spine_need_of, made_by, total, total_but, gained, lost, granted, returned, taken_of, spent_of}
+use Rattle.heap_model.specs.Windows.{since_reply}
+use Rattle.heap_model.specs.Phases.{AnswersPhase, BeginsPhase, ShowsRightly}
+use Rattle.heap_model.specs.Cycles.{Sweeps, EndsCycle}
 
 -- a seat takes what is there, and gives back what it has
 abbrev pub TakesAndGives : Heap → List Entry → Entry → Type 0
@@ -27,6 +31,10 @@ MakesOfOwn before (entries.Said s command reply) =
     × (taken_of s before ≤ spent_of s before + made_by command reply + most_kept command)
 MakesOfOwn before _ = Unit {0}
 
+-- what the seat may have missed: what was freed, and what others gave back
+abbrev pub given_up : ℕ → List Entry → ℕ
+given_up s history = total (λ e. e.freed) history + total_but s (λ e. e.given) history
+
 -- a refusal shows what the command needs and what was there, which is less: what is in no use, and the seat's own
 abbrev pub ShowsSpace : Heap → List Entry → ℕ → Command → Reply → Type 0
 ShowsSpace heap before s command (replies.Full need found) =
@@ -38,17 +46,57 @@ abbrev pub RefusesRightly : Heap → List Entry → Entry → Type 0
 RefusesRightly heap before (entries.Said s command reply) = ShowsSpace heap before s command reply
 RefusesRightly heap before _ = Unit {0}
 
--- the entry keeps the rules after those before it
-pub record KeepsSpace (heap : Heap) (before : List Entry) (entry : Entry) : Type 0 where
+-- in a run a refusal shows about that: what was given up since the seat's last reply may be missed, and what others took since
+-- may be counted
+abbrev pub ShowsAbout : Heap → List Entry → ℕ → Command → Reply → Type 0
+ShowsAbout heap before s command (replies.Full need found) =
+    (need ≡ need_of command) × (found < need)
+    × (16 * heap.groups + lost before + taken_of s before ≤ found + gained before + spent_of s before + given_up s (since_reply s before))
+    × (found + gained before + spent_of s before ≤ 16 * heap.groups + lost before + taken_of s before + total_but s (λ e. e.taken) (since_reply s before))
+ShowsAbout heap before s command _ = Unit {0}
+
+-- a refusal shows what it may, by whether this is a play
+abbrev pub Refuses : Heap → Bool → List Entry → Entry → Type 0
+Refuses heap true before entry = RefusesRightly heap before entry
+Refuses heap false before (entries.Said s command reply) = ShowsAbout heap before s command reply
+Refuses heap false before _ = Unit {0}
+
+-- in a play the spine words in use are shown; in a run those of arrays that others made since the seat's last reply may be
+-- missed, and those that were returned since may be counted, and what another seat asks for
+abbrev pub ShowsSpine : Heap → Bool → List Entry → ℕ → ℕ → Type 0
+ShowsSpine heap true before s shown = shown + returned before ≡ granted before
+ShowsSpine heap false before s shown =
+    (granted before ≤ shown + returned before + total_but s (λ e. e.words) (since_reply s before))
+    × (shown + returned before ≤ granted before + returned (since_reply s before) + 1024 * (heap.seats - 1))
+
+-- an array is refused where its spine words are too many beside those in use
+abbrev pub RefusesSpine : Heap → Bool → List Entry → Entry → Type 0
+RefusesSpine heap play before (entries.Said s command (replies.SpineFull need shown)) =
+    (need ≡ spine_need_of command) × (heap.spine < shown + need) × ShowsSpine heap play before s shown
+RefusesSpine heap play before _ = Unit {0}
+
+-- the entry keeps the rules after those before it, in a play or in a run
+pub record KeepsSpace (heap : Heap) (play : Bool) (before : List Entry) (entry : Entry) : Type 0 where
   pub takes : TakesAndGives heap before entry
   pub makes : MakesOfOwn before entry
-  pub refuses : RefusesRightly heap before entry
+  pub refuses : Refuses heap play before entry
+  pub refuses_spine : RefusesSpine heap play before entry
+  pub answers : AnswersPhase before entry
+  pub begins : BeginsPhase heap before entry
+  pub sweeps : Sweeps heap before entry
+  pub ends : EndsCycle heap before entry
+  pub shows : ShowsRightly heap play before entry
 
 -- each entry keeps the rules after those before it
-abbrev pub KeepsSpaceAfter : Heap → List Entry → List Entry → Type 0
-KeepsSpaceAfter heap before [] = Unit {0}
-KeepsSpaceAfter heap before (entry ∷ rest) = KeepsSpace heap before entry × KeepsSpaceAfter heap (before ++ entry ∷ []) rest
+abbrev pub KeepsSpaceAfter : Heap → Bool → List Entry → List Entry → Type 0
+KeepsSpaceAfter heap play before [] = Unit {0}
+KeepsSpaceAfter heap play before (entry ∷ rest) = KeepsSpace heap play before entry × KeepsSpaceAfter heap play (before ++ entry ∷ []) rest
 
--- the history keeps the rules of space as a play
-abbrev pub IsSpaceLegal : Heap → List Entry → Type 0
-IsSpaceLegal heap history = KeepsSpaceAfter heap [] history
+-- the history keeps the rules of space and phases, as a play or as a run
+abbrev pub IsSpaceLegal : Heap → Bool → List Entry → Type 0
+IsSpaceLegal heap play history = KeepsSpaceAfter heap play [] history
+
+-- the history is legal, as a play or as a run
+pub record IsLegal (heap : Heap) (play : Bool) (history : List Entry) : Type 0 where
+  pub objects : IsObjectLegal heap history
+  pub space : IsSpaceLegal heap play history

@@ -3,5 +3,10 @@ pub mod Command
 pub mod Objects
 pub mod Growth
 pub mod Legal
+pub mod Reach
+pub mod Sizes
 pub mod Space
+pub mod Windows
+pub mod Phases
+pub mod Cycles
 pub mod Account

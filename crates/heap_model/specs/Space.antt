@@ -1,4 +1,4 @@
--- What each entry does to the counts of fragments, and the counts after a history.
+-- What each entry does to the counts of the heap, and the counts after a history.
 use Rattle.std.specs.Prelude.{ℕ, ◌+◌, ◌-◌, ◌/◌, ◌==◌, Bool, false, if◌then◌else◌, List, sum_by}
 use Rattle.heap_model.specs.declared.command.Command.{Command}
 use Rattle.heap_model.specs.declared.command.Command.TheVariants as commands
@@ -15,33 +15,56 @@ record_fragments fields = 1 + (fields - 2 + 2) / 3
 abbrev pub array_fragments : ℕ → ℕ
 array_fragments cells = 1 + (cells + 3) / 4
 
+-- the spine words of an array: one for each fragment of cells
+abbrev pub array_words : ℕ → ℕ
+array_words cells = (cells + 3) / 4
+
 -- the fragments that a command asks for
 abbrev pub need_of : Command → ℕ
 need_of (commands.New d fields) = record_fragments fields
 need_of (commands.Array d cells) = array_fragments cells
 need_of _ = 0
 
+-- the spine words that a command asks for
+abbrev pub spine_need_of : Command → ℕ
+spine_need_of (commands.Array d cells) = array_words cells
+spine_need_of _ = 0
+
 -- the fragments of the object that a command made
 abbrev pub made_by : Command → Reply → ℕ
 made_by command (replies.Made id) = need_of command
 made_by command _ = 0
 
--- the fragments that an entry takes from the heap, gives back, makes into an object, or frees
+-- the spine words of the array that a command made
+abbrev pub words_by : Command → Reply → ℕ
+words_by command (replies.Made id) = spine_need_of command
+words_by command _ = 0
+
+-- the fragments that an entry takes from the heap, gives back, makes into an object, or frees;
+-- the spine words of the array that it makes, and those that it returns; the phases that it begins, and those that it answers
 pub record Effect : Type 0 where
   pub taken : ℕ
   pub given : ℕ
   pub born : ℕ
   pub freed : ℕ
+  pub words : ℕ
+  pub returned : ℕ
+  pub phases : ℕ
+  pub answers : ℕ
 
 abbrev pub no_effect : Effect
-no_effect = record { taken = 0; given = 0; born = 0; freed = 0 }
+no_effect = record { taken = 0; given = 0; born = 0; freed = 0; words = 0; returned = 0; phases = 0; answers = 0 }
 
 -- what an entry does
 abbrev pub effect_of : Entry → Effect
-effect_of (entries.Said s command reply) = record no_effect { born = made_by command reply }
+effect_of (entries.Said s command reply) = record no_effect { born = made_by command reply; words = words_by command reply }
 effect_of (entries.Takes s count) = record no_effect { taken = count }
 effect_of (entries.GivesBack s count) = record no_effect { given = count }
+effect_of (entries.Answers s phase) = record no_effect { answers = 1 }
+effect_of (entries.Advance phase) = record no_effect { phases = 1 }
 effect_of (entries.Frees count) = record no_effect { freed = count }
+effect_of (entries.Returns count) = record no_effect { returned = count }
+effect_of (entries.Ends cycle kept) = record no_effect { phases = 1 }
 effect_of _ = no_effect
 
 -- the entry is this seat's
@@ -60,6 +83,10 @@ total part history = sum_by (λ e. part (effect_of e)) history
 abbrev pub total_of : ℕ → (Effect → ℕ) → List Entry → ℕ
 total_of s part history = sum_by (λ e. if is_of s e then part (effect_of e) else 0) history
 
+-- a part of what the others' entries did, the collector's among them
+abbrev pub total_but : ℕ → (Effect → ℕ) → List Entry → ℕ
+total_but s part history = sum_by (λ e. if is_of s e then 0 else part (effect_of e)) history
+
 -- the board's fragments, and what was taken
 abbrev pub gained : List Entry → ℕ
 gained history = 11 + total (λ e. e.taken) history
@@ -71,6 +98,18 @@ lost history = total (λ e. e.given) history + total (λ e. e.freed) history
 -- the fragments in use
 abbrev pub used : List Entry → ℕ
 used history = gained history - lost history
+
+-- the spine words of the arrays that were made
+abbrev pub granted : List Entry → ℕ
+granted history = total (λ e. e.words) history
+
+-- the spine words that were returned
+abbrev pub returned : List Entry → ℕ
+returned history = total (λ e. e.returned) history
+
+-- the spine words in use
+abbrev pub spine : List Entry → ℕ
+spine history = granted history - returned history
 
 -- what the seat took
 abbrev pub taken_of : ℕ → List Entry → ℕ

@@ -1,0 +1,75 @@
+-- What the collector may free, return and swing, and what is left at the end of a cycle.
+use Rattle.std.specs.Prelude.{◌≡◌, ℕ, ◌+◌, ◌*◌, ◌%◌, ◌≤◌, ◌↔◌, Bool, true, List, AllPairs, Contains, sum_by}
+use Rattle.std.specs.List.{range_with_len}
+use Rattle.std.specs.Option.{IsSomeAnd}
+use Rattle.heap_model.specs.declared.heap.Heap.{Heap}
+use Rattle.heap_model.specs.declared.id.Id.{Id}
+use Rattle.heap_model.specs.declared.entry.Entry.{Entry}
+use Rattle.heap_model.specs.declared.entry.Entry.TheVariants as entries
+use Rattle.heap_model.specs.Objects.{State, opening, node}
+use Rattle.heap_model.specs.Growth.{graph_after}
+use Rattle.heap_model.specs.Reach.{Reaches, IsBefore, IsReach}
+use Rattle.heap_model.specs.Sizes.{frags_of, words_of}
+use Rattle.heap_model.specs.Space.{total, gained, lost, granted, returned, taken_of, unborn}
+use Rattle.heap_model.specs.Windows.{begins_phase, after_last, up_to_reply, since_reply, up_to_cycle, since_cycle}
+use Rattle.heap_model.specs.Phases.{phase, AllAnswered}
+
+-- the graph after a history from the opening on
+abbrev pub graph_of : Heap → List Entry → State
+graph_of heap history = graph_after (opening heap) history
+
+-- the object is an array
+abbrev pub IsArray : State → Id → Type 0
+IsArray g id = IsSomeAnd (node g id) (λ object. object.array ≡ true)
+
+-- the array has swung in this phase
+abbrev pub HasSwung : Id → List Entry → Type 0
+HasSwung id history = Contains (after_last begins_phase history) (entries.Swings id)
+
+-- fragments and spine words are given up in the phase of the sweep, as many as there are; an array swings in the phase before,
+-- and once
+abbrev pub Sweeps : Heap → List Entry → Entry → Type 0
+Sweeps heap before (entries.Frees count) = (phase before % 7 ≡ 5) × (1 ≤ count) × (lost before + count ≤ gained before)
+Sweeps heap before (entries.Returns count) = (phase before % 7 ≡ 5) × (1 ≤ count) × (returned before + count ≤ granted before)
+Sweeps heap before (entries.Swings id) = (phase before % 7 ≡ 4) × IsArray (graph_of heap before) id × ¬ HasSwung id before
+Sweeps heap before _ = Unit {0}
+
+-- what a seat brings into a cycle that begins here: what it had right after its last reply, and what it took since
+abbrev pub brings : ℕ → List Entry → ℕ
+brings s history = unborn s (up_to_reply s history) + taken_of s (since_reply s history)
+
+-- what all seats bring
+abbrev pub all_bring : Heap → List Entry → ℕ
+all_bring heap history = sum_by (λ s. brings s history) (range_with_len 0 heap.seats)
+
+-- a cycle leaves at most what was reached when it began, what the seats brought, and what was taken since
+abbrev pub bound : Heap → List Id → List Entry → ℕ
+bound heap reached history =
+    frags_of (graph_of heap (up_to_cycle history)) reached + all_bring heap (up_to_cycle history) + total (λ e. e.taken) (since_cycle history)
+
+-- and the spine words of what was reached, and of the arrays that were made since
+abbrev pub spine_bound : Heap → List Id → List Entry → ℕ
+spine_bound heap reached history = words_of (graph_of heap (up_to_cycle history)) reached + granted (since_cycle history)
+
+-- the list has exactly the ids that are reached in both graphs, in their order and so each once
+pub record IsReachOfBoth (g h : State) (ids : List Id) : Type 0 where
+  pub ordered : AllPairs IsBefore ids
+  pub reached : (id : Id) → Contains ids id ↔ Reaches g id × Reaches h id
+
+-- what is in use and what was kept are within the bounds, and what was reached all along was kept
+pub record IsLittle (heap : Heap) (before : List Entry) (kept : ℕ) (begun both : List Id) : Type 0 where
+  pub used : gained before ≤ lost before + bound heap begun before
+  pub spine : granted before ≤ returned before + spine_bound heap begun before
+  pub at_most : kept ≤ bound heap begun before
+  pub at_least : frags_of (graph_of heap before) both ≤ kept
+
+-- little is left, by what was reached when the cycle began, and what was reached both then and now
+abbrev pub LeavesLittle : Heap → List Entry → ℕ → Type 0
+LeavesLittle heap before kept =
+    (begun both : List Id) → IsReach (graph_of heap (up_to_cycle before)) begun
+    → IsReachOfBoth (graph_of heap (up_to_cycle before)) (graph_of heap before) both → IsLittle heap before kept begun both
+
+-- a cycle ends in its sixth phase, once all have answered that, and leaves little
+abbrev pub EndsCycle : Heap → List Entry → Entry → Type 0
+EndsCycle heap before (entries.Ends cycle kept) = (phase before ≡ 7 * cycle + 6) × AllAnswered heap before × LeavesLittle heap before kept
+EndsCycle heap before _ = Unit {0}
