@@ -5,8 +5,9 @@ use Rattle.heap_model.specs.declared.id.Id.{Id}
 use Rattle.heap_model.specs.declared.id.Id.TheVariants.{Board, Made}
 use Rattle.heap_model.specs.declared.id.Value.{Value}
 use Rattle.heap_model.specs.declared.id.Value.TheVariants as values
-use Rattle.heap_model.specs.declared.reply.Reply.TheVariants.{NoField}
-use Rattle.heap_model.specs.Objects.{Node, Party, node, cell_at}
+use Rattle.heap_model.specs.declared.command.Command.TheVariants.{Len}
+use Rattle.heap_model.specs.declared.reply.Reply.TheVariants.{Length, NoObject, NoField}
+use Rattle.heap_model.specs.Objects.{Node, Party, State, node, target, cell_at}
 use Rattle.heap_words.specs.Cell.{cell_word, IsCell, cell_of as cell_of_word}
 use Rattle.heap_words.specs.declared.cell.Cell.{Cell}
 use Rattle.heap_words.specs.declared.meta.Meta.{Meta}
@@ -14,7 +15,7 @@ use Rattle.heap_words.specs.Meta.{IsMeta, meta_word}
 use Rattle.schism_program.specs.declared.store.Store.{Store}
 use Rattle.schism_program.specs.Places.{head_of, head_in, meta_of, cell_with, value_word, IsSmall}
 use Rattle.schism_program.proofs.PlaceLemmas.{IsField}
-use Rattle.schism_program.specs.Stands.{alone, IsKept, HasSize, Shows, StandsFor}
+use Rattle.schism_program.specs.Stands.{alone, IsKept, HasSize, Shows, StandsFor, Answers}
 
 -- an object of the graph of one seat is the board, or the seat made it
 pub known_ids : (board : Node) (seat : Party) (id : Id) (object : Node) → node (alone board seat) id ≡ Some object → (id ≡ Board) ⊎ ((c : ℕ) × (id ≡ Made 0 c) × (c < length seat.objects))
@@ -103,3 +104,19 @@ refuses_field o i past = rw (o.refers, o.there, slice_get_past o.object.cells i 
 pub is_field : (id : Id) (object : Node) → HasSize id object → (i : ℕ) → i < length object.cells → IsField (head_of id) i
 is_field Board object size i lt = inl (refl, omega arith)
 is_field (Made seat count) object size i lt = inr (omega arith, omega arith)
+
+-- the length of what a register refers to
+pub len_answers : {store : Store} {board : Node} {seat : Party} {r head : ℕ} → StandsFor store board seat → (o : RefersTo store board seat r head) (n : ℕ) → n ≡ length o.object.cells → Answers store board seat (Len r) (Length n)
+len_answers {board = board} {seat = seat} s o n len = record { says = rw (o.refers, o.there, len) refl; board_after = board; seat_after = seat; grown = refl; stands = s }
+
+refers_to_none : (v : Value) (g : State) → head_of_value v ≡ None → target g v ≡ None
+refers_to_none values.Nil g e = refl
+refers_to_none (values.Number n) g e = refl
+refers_to_none (values.Object id) g e = absurd cc
+
+-- a register that refers to no object
+pub len_refused : (store : Store) (board : Node) (seat : Party) (r : ℕ) → StandsFor store board seat → r < 16 → head_in (cell_of_word (slice_index store.registers r)) ≡ None → Answers store board seat (Len r) NoObject
+len_refused store board seat r s lt e =
+    let v = slice_index_or seat.registers r values.Nil in
+    let none : head_of_value v ≡ None = sym (head_in-value_word v 0 (kept_small store board seat s v (s.kept r lt)) (lit< tt)) ∙ sym (ap (λ w. head_in (cell_of_word w)) (s.held r lt)) ∙ e in
+    record { says = rw (refers_to_none v (alone board seat) none) refl; board_after = board; seat_after = seat; grown = refl; stands = s }

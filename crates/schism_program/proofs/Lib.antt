@@ -8,6 +8,6 @@ pub mod OpeningLemmas
 pub mod PlaceLemmas
 pub mod PlayingLemmas
 pub mod Registers
-pub mod RenderLemmas
 pub mod Sets
 pub mod Writes
+pub mod LeavingLemmas

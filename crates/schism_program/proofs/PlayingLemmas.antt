@@ -1,12 +1,12 @@
 -- A play goes on by one entry.
-use Rattle.std.proofs.Common.{◌≡◌, true, ℕ, ◌+◌, ◌*◌, ◌<◌, ◌≤◌, List, [], ◌∷◌, ◌++◌, length, refl, ap, ◌∙◌, arith, add-zero}
+use Rattle.std.proofs.Common.{◌≡◌, true, ℕ, ◌+◌, ◌*◌, ◌<◌, ◌≤◌, List, [], ◌∷◌, ◌++◌, length, refl, sym, ap, ◌∙◌, arith, add-zero}
 use Rattle.std.proofs.lemmas.Bool.{leb-true}
 use Rattle.std.proofs.lemmas.List.{append-nil}
 use Rattle.std.proofs.lemmas.List.Concat.{flat_map-append}
 use Rattle.std.specs.List.{flat_map}
 use Rattle.heap_model.specs.declared.heap.Heap.{Heap}
 use Rattle.heap_model.specs.declared.command.Command.{Command}
-use Rattle.heap_model.specs.declared.command.Command.TheVariants.{New, Get, Set, Num, Leave}
+use Rattle.heap_model.specs.declared.command.Command.TheVariants.{New, Array, Poll, Collect, Leave}
 use Rattle.heap_model.specs.declared.reply.Reply.{Reply}
 use Rattle.heap_model.specs.declared.reply.Reply.TheVariants as replies
 use Rattle.heap_model.specs.declared.entry.Entry.{Entry}
@@ -15,16 +15,17 @@ use Rattle.heap_model.specs.Command.{IsCommand}
 use Rattle.heap_model.specs.Objects.{Node, Party, State, opening}
 use Rattle.heap_model.specs.Growth.{after_reply, graph_after}
 use Rattle.heap_model.specs.Legal.{IsPresent, Says}
-use Rattle.heap_model.specs.Space.{made_by}
-use Rattle.heap_model.specs.Account.{ShowsSpace, most_kept}
+use Rattle.heap_model.specs.Space.{made_by, words_by}
+use Rattle.heap_model.specs.Account.{RefusesSpine, ShowsSpace, most_kept}
+use Rattle.heap_model.specs.Phases.{ShowsPhases, answered, phase}
 use Rattle.heap_model.proofs.Histories.{graph_after-more, AcceptsAll-more, KeepsSpaceAfter-more, total-more, total_of-more}
 use Rattle.script_text.specs.declared.script.Line.{Line}
 use Rattle.script_text.specs.declared.script.Line.TheVariants as lines
 use Rattle.script_text.specs.Built.{is_built_command}
 use Rattle.schism_program.specs.declared.store.Store.{Store}
-use Rattle.schism_program.specs.Play.{answered}
+use Rattle.schism_program.specs.Play.{replied}
 use Rattle.schism_program.specs.Stands.{alone, StandsFor, Answers}
-use Rattle.schism_program.specs.Changes.{Claims, Replies, ShowsNothing}
+use Rattle.schism_program.specs.Changes.{Claims, Replies, ShowsNothing, ShowsNoPhase}
 use Rattle.schism_program.proofs.Answering.{one_fragment}
 use Rattle.schism_program.specs.Playing.{Counts, Playing, IsEnough, IsReady}
 
@@ -37,17 +38,25 @@ counts_takes history next end count c =
       lost = omega (arith, c.lost, total-more (λ e. e.given) history entry, total-more (λ e. e.freed) history entry);
       taken = omega (arith, c.taken, total_of-more 0 (λ e. e.taken) history entry);
       spent = omega (arith, c.spent, total_of-more 0 (λ e. e.given) history entry, total_of-more 0 (λ e. e.born) history entry);
+      granted = omega (arith, c.granted, total-more (λ e. e.words) history entry);
+      returned = omega (arith, c.returned, total-more (λ e. e.returned) history entry);
+      phase = omega (arith, c.phase, total-more (λ e. e.phases) history entry);
+      answered = omega (arith, c.answered, total_of-more 0 (λ e. e.answers) history entry);
     }
 
 -- an object is made, or none
-counts_said : (history : List Entry) (next end : ℕ) (command : Command) (reply : Reply) → Counts history next end → Counts (history ++ Said 0 command reply ∷ []) (next + made_by command reply) end
-counts_said history next end command reply c =
+counts_said : (history : List Entry) (next end : ℕ) (command : Command) (reply : Reply) → Counts history next end → words_by command reply ≡ 0 → Counts (history ++ Said 0 command reply ∷ []) (next + made_by command reply) end
+counts_said history next end command reply c none =
     let entry = Said 0 command reply in
     record {
       gained = omega (arith, c.gained, total-more (λ e. e.taken) history entry);
       lost = omega (arith, c.lost, total-more (λ e. e.given) history entry, total-more (λ e. e.freed) history entry);
       taken = omega (arith, c.taken, total_of-more 0 (λ e. e.taken) history entry);
       spent = omega (arith, c.spent, total_of-more 0 (λ e. e.given) history entry, total_of-more 0 (λ e. e.born) history entry);
+      granted = omega (arith, c.granted, total-more (λ e. e.words) history entry, none);
+      returned = omega (arith, c.returned, total-more (λ e. e.returned) history entry);
+      phase = omega (arith, c.phase, total-more (λ e. e.phases) history entry);
+      answered = omega (arith, c.answered, total_of-more 0 (λ e. e.answers) history entry);
     }
 
 -- the store with more fragments claimed stands for the same graph
@@ -66,7 +75,7 @@ stands_claimed old new board seat count s c = record {
 }
 
 -- the seat has not left
-present : {heap : Heap} {store : Store} {history : List Entry} {read : List Line} {most : ℕ} (p : Playing heap most store history read) → IsPresent (graph_after (opening heap) history) 0
+pub present : {heap : Heap} {store : Store} {history : List Entry} {read : List Line} {most : ℕ} (p : Playing heap most store history read) → IsPresent (graph_after (opening heap) history) 0
 present p = rw p.graph p.stands.present
 
 -- a play goes on by a claim
@@ -85,9 +94,15 @@ takes_plays heap old new history read count p c some =
         takes = (some, omega (arith, p.counts.gained, p.size, c.end));
         makes = tt;
         refuses = tt;
+        refuses_spine = tt;
+        answers = tt;
+        begins = tt;
+        sweeps = tt;
+        ends = tt;
+        shows = tt;
       });
       counts = rw (c.next, c.end) (counts_takes history old.next old.end count p.counts);
-      commands = flat_map-append answered history (entry ∷ []) ∙ append-nil (flat_map answered history) ∙ p.commands;
+      commands = flat_map-append replied history (entry ∷ []) ∙ append-nil (flat_map replied history) ∙ p.commands;
       size = ap length c.words ∙ p.size;
       reserve = omega (arith, c.next, c.end, c.few, c.needed some);
     }
@@ -117,10 +132,8 @@ shows_right : (heap : Heap) (store : Store) (history : List Entry) (command : Co
 shows_right heap store history (New d fields) (replies.Full need found) c size enough b s =
     let none = enough.0 s.3 in
     (s.0, omega (arith, s.1, s.2), omega (arith, c.gained, c.lost, c.taken, c.spent, s.2, s.3, none, size, store.room))
-shows_right heap store history (Get d r i) (replies.Full need found) c size enough b s = absurd (omega (arith, s.0, s.1))
-shows_right heap store history (Set r i v) (replies.Full need found) c size enough b s = absurd (omega (arith, s.0, s.1))
-shows_right heap store history (Num d n) (replies.Full need found) c size enough b s = absurd (omega (arith, s.0, s.1))
-shows_right heap store history command (replies.Full need found) c size enough b s = absurd cc
+shows_right heap store history (Array d cells) (replies.Full need found) c size enough b s = absurd cc
+shows_right heap store history command (replies.Full need found) c size enough b s = absurd (omega (arith, s.0, s.1))
 shows_right heap store history command _ c size enough b s = tt
 
 -- at most fifteen fragments are left over
@@ -128,10 +141,25 @@ reserve_left : (g : State) (old new : Store) (command : Command) (reply : Reply)
 reserve_left g old new (New d fields) (replies.Made id) says enough b r = omega (arith, r.next, r.end, enough.1, one_fragment fields (leb-true fields 2 b))
 reserve_left g old new (New d fields) (replies.Full need found) says enough b r = omega (arith, r.next, r.end, r.shows.3)
 reserve_left g old new (New d fields) _ says enough b r = absurd says
-reserve_left g old new (Get d i j) reply says enough b r = omega (arith, r.next, r.end, enough)
-reserve_left g old new (Set i j v) reply says enough b r = omega (arith, r.next, r.end, enough)
-reserve_left g old new (Num d n) reply says enough b r = omega (arith, r.next, r.end, enough)
-reserve_left g old new command reply says enough b r = absurd cc
+reserve_left g old new (Array d cells) reply says enough b r = absurd cc
+reserve_left g old new command reply says enough b r = omega (arith, r.next, r.end, enough)
+
+-- no reply is refused for want of spine words
+no_spine : (heap : Heap) (store : Store) (history : List Entry) (command : Command) (reply : Reply) → ShowsNothing store command reply → RefusesSpine heap true history (Said 0 command reply)
+no_spine heap store history command (replies.SpineFull need used) s = absurd s
+no_spine heap store history command _ s = tt
+
+-- what is shown of phases is right, since there is but the phase 0
+phase_right : (heap : Heap) (history : List Entry) (command : Command) (reply : Reply) → phase history ≡ 0 → answered 0 history ≡ 0 → is_built_command command ≡ true → ShowsNoPhase command reply → ShowsPhases heap true history 0 command reply
+phase_right heap history Poll (replies.Phase p) e f b s = (s ∙ sym e, s ∙ sym f)
+phase_right heap history Collect reply e f b s = absurd cc
+phase_right heap history command reply e f b s = tt
+
+-- no array is made
+no_words : (command : Command) (reply : Reply) → is_built_command command ≡ true → words_by command reply ≡ 0
+no_words (Array d cells) reply b = absurd cc
+no_words command (replies.Made id) b = refl
+no_words command reply b = refl
 
 -- a play goes on by a reply
 pub said_plays : (heap : Heap) (old new : Store) (history : List Entry) (read : List Line) (command : Command) (reply : Reply) → Playing heap 16 old history read → IsEnough old command → IsCommand command → is_built_command command ≡ true
@@ -152,9 +180,15 @@ said_plays heap old new history read command reply p enough fits built answers g
         takes = tt;
         makes = (omega (arith, p.counts.spent, p.counts.taken, r.next, r.end, new.claimed), omega (arith, p.counts.spent, p.counts.taken, r.next, r.end, left, keeps_fifteen command built));
         refuses = shows_right heap old history command reply p.counts p.size enough built r.shows;
+        refuses_spine = no_spine heap old history command reply r.shows;
+        answers = tt;
+        begins = tt;
+        sweeps = tt;
+        ends = tt;
+        shows = phase_right heap history command reply p.counts.phase p.counts.answered built r.phase;
       });
-      counts = rw (r.next, r.end) (counts_said history old.next old.end command reply p.counts);
-      commands = flat_map-append answered history (entry ∷ []) ∙ ap (λ ls. ls ++ lines.Seat 0 command ∷ []) p.commands;
+      counts = rw (r.next, r.end) (counts_said history old.next old.end command reply p.counts (no_words command reply built));
+      commands = flat_map-append replied history (entry ∷ []) ∙ ap (λ ls. ls ++ lines.Seat 0 command ∷ []) p.commands;
       size = r.size ∙ p.size;
       reserve = left;
     }

@@ -1,13 +1,15 @@
 -- A register is put.
-use Rattle.std.proofs.Common.{◌≡◌, ℕ, ◌<◌, inl, inr, List, length, slice_index, slice_index_or, slice_set, refl, sym, ap, ◌∙◌, arith}
+use Rattle.std.proofs.Common.{◌≡◌, ℕ, ◌<◌, inl, inr, List, length, slice_index, slice_index_or, slice_set, refl, sym, ap, subst, ◌∙◌, arith}
 use Rattle.std.proofs.lemmas.List.{get_or-set_same, get_or-set_other, length-set}
 use Rattle.std.proofs.lemmas.Bool.{cases_eq}
 use Rattle.heap_model.specs.declared.id.Value.{Value}
 use Rattle.heap_model.specs.declared.id.Value.TheVariants as values
+use Rattle.heap_model.specs.declared.command.Command.TheVariants.{Copy}
+use Rattle.heap_model.specs.declared.reply.Reply.TheVariants.{Done}
 use Rattle.heap_model.specs.Objects.{Node, Party, State}
 use Rattle.schism_program.specs.declared.store.Store.{Store}
 use Rattle.schism_program.specs.Places.{value_word}
-use Rattle.schism_program.specs.Stands.{alone, IsKept, StandsFor}
+use Rattle.schism_program.specs.Stands.{alone, IsKept, StandsFor, Answers}
 use Rattle.schism_program.specs.Changes.{PutsRegister}
 use Rattle.schism_program.proofs.Keeping.{kept_still, shows_still, node_same, still_same}
 
@@ -46,4 +48,16 @@ stands_put old new board seat d value s p k lt =
       kept = λ r l. kept_put (alone board (seat_with seat d value)) seat.registers d r value (omega (arith, s.registers)) (kept_still (alone board seat) (alone board (seat_with seat d value)) still value k) (kept_still (alone board seat) (alone board (seat_with seat d value)) still (slice_index_or seat.registers r values.Nil) (s.kept r l));
       objects = λ id object is. rw p.words (shows_still _ (alone board seat) (alone board (seat_with seat d value)) id object still (s.objects id object (sym (node_same board seat (seat_with seat d value) refl id) ∙ is)));
       free = λ j le. ap (λ ws. slice_index ws j) p.words ∙ s.free j (omega (arith, p.next));
+    }
+
+-- a copy puts what another register holds
+pub copy_answers : (old new : Store) (board : Node) (seat : Party) (d r : ℕ) → StandsFor old board seat → d < 16 → r < 16 → PutsRegister old new d (slice_index old.registers r) → Answers new board seat (Copy d r) Done
+copy_answers old new board seat d r s in_d in_r p =
+    let value = slice_index_or seat.registers r values.Nil in
+    record {
+      says = refl;
+      board_after = board;
+      seat_after = seat_with seat d value;
+      grown = refl;
+      stands = stands_put old new board seat d value s (subst (λ (w : ℕ). PutsRegister old new d w) (s.held r in_r) p) (s.kept r in_r) in_d;
     }

@@ -3,8 +3,9 @@ use Rattle.std.specs.Prelude.{◌≡◌, ℕ, ◌+◌, ◌*◌, ◌<◌, ◌≤�
 use Rattle.heap_model.specs.declared.id.Id.TheVariants.{Made}
 use Rattle.heap_model.specs.declared.id.Value.TheVariants.{Object}
 use Rattle.heap_model.specs.declared.command.Command.{Command}
+use Rattle.heap_model.specs.declared.command.Command.TheVariants.{Poll}
 use Rattle.heap_model.specs.declared.reply.Reply.{Reply}
-use Rattle.heap_model.specs.declared.reply.Reply.TheVariants.{Full}
+use Rattle.heap_model.specs.declared.reply.Reply.TheVariants.{Full, SpineFull, Phase}
 use Rattle.heap_model.specs.Space.{need_of, made_by}
 use Rattle.heap_words.specs.Meta.{meta_word}
 use Rattle.heap_words.specs.Name.{name_word}
@@ -56,7 +57,13 @@ pub record Claims (old new : Store) (count : ℕ) : Type 0 where
 -- a refusal shows what is needed, where nothing that was claimed is left
 abbrev pub ShowsNothing : Store → Command → Reply → Type 0
 ShowsNothing store command (Full need found) = (need ≡ need_of command) × (1 ≤ need) × (found ≡ 0) × (store.next ≡ store.end)
+ShowsNothing store command (SpineFull need used) = ⊥
 ShowsNothing store command _ = Unit {0}
+
+-- a poll shows the phase 0
+abbrev pub ShowsNoPhase : Command → Reply → Type 0
+ShowsNoPhase Poll (Phase p) = p ≡ 0
+ShowsNoPhase _ _ = Unit {0}
 
 -- a reply gives the fragments of the object that it makes
 pub record Replies (old new : Store) (command : Command) (reply : Reply) : Type 0 where
@@ -65,6 +72,7 @@ pub record Replies (old new : Store) (command : Command) (reply : Reply) : Type 
   pub size : length new.words.items ≡ length old.words.items
   pub sets : new.sets ≤ old.sets + 1
   pub shows : ShowsNothing old command reply
+  pub phase : ShowsNoPhase command reply
 
 -- one fragment that was claimed is given
 pub record Gives (old new : Store) : Type 0 where

@@ -6,3 +6,4 @@ pub mod Stands
 pub mod Changes
 pub mod Playing
 pub mod Opening
+pub mod Leaving

@@ -1,6 +1,5 @@
 -- What the program's statuses say of what it read and wrote.
 use Rattle.std.specs.Prelude.{◌≡◌, ℕ, ◌+◌, ◌≤◌, ◌⊎◌, List, [], ◌∷◌, length, codes, Option, None, Some}
-use Rattle.heap_model.specs.declared.entry.Entry.{Entry}
 use Rattle.script_text.specs.declared.cause.Cause.{Cause}
 use Rattle.script_text.specs.declared.cause.Cause.TheVariants.{Unbuilt}
 use Rattle.script_text.specs.declared.script.Form.TheVariants as forms
@@ -8,12 +7,15 @@ use Rattle.script_text.specs.declared.script.Script.{Script}
 use Rattle.script_text.specs.Grammar.{IsScript}
 use Rattle.script_text.specs.Built.{unbuilt_line}
 use Rattle.script_text.specs.Faults.{first_fault}
+use Rattle.script_text.specs.Text.{text_of}
+use Rattle.reply_text.specs.declared.history.History.{History}
+use Rattle.reply_text.specs.History.{history_lines}
 use Rattle.io_edge.specs.Left.{GivesAll}
 use Rattle.io_edge.specs.Taken.{Takes, TakesFront}
 use Rattle.schism_program.specs.declared.status.Status.{Status}
 use Rattle.schism_program.specs.declared.status.Status.TheVariants as statuses
 use Rattle.schism_program.specs.declared.top.TheConstants.{MOST_BYTES}
-use Rattle.schism_program.specs.Play.{IsPlay, play_text}
+use Rattle.schism_program.specs.Play.{IsPlay}
 
 -- the words after the program's name that are a form
 abbrev pub IsForm : List (List ℕ) → Type 0
@@ -28,10 +30,10 @@ pub record Serves (input : List ℕ) (script : Script) : Type 0 where
 -- the text is that of a play of the input's script
 pub record Plays (input text : List ℕ) : Type 0 where
   pub script : Script
-  pub history : List Entry
+  pub history : History
   pub serves : Serves input script
   pub played : IsPlay script history
-  pub rendered : text ≡ play_text script.heap history
+  pub rendered : text ≡ text_of (history_lines history)
 
 -- all that was left was read, and the text of its play was written
 pub record WritesPlay (left left' taken taken' : Option (List ℕ)) : Type 0 where

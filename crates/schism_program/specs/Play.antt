@@ -1,29 +1,54 @@
--- What a play is, and its text.
-use Rattle.std.specs.Prelude.{◌≡◌, ℕ, List, [], ◌∷◌, codes, map}
+-- What a play is.
+use Rattle.std.specs.Prelude.{◌≡◌, true, ℕ, ◌+◌, ◌*◌, ◌⊎◌, List, [], ◌∷◌, ◌++◌, drop, take, IsSomeAnd}
 use Rattle.std.specs.List.{flat_map}
 use Rattle.heap_model.specs.declared.heap.Heap.{Heap}
+use Rattle.heap_model.specs.declared.command.Command.{Command}
+use Rattle.heap_model.specs.declared.command.Command.TheVariants.{Leave}
+use Rattle.heap_model.specs.declared.reply.Reply.{Reply}
+use Rattle.heap_model.specs.declared.reply.Reply.TheVariants.{Done}
 use Rattle.heap_model.specs.declared.entry.Entry.{Entry}
-use Rattle.heap_model.specs.declared.entry.Entry.TheVariants.{Said}
-use Rattle.heap_model.specs.Legal.{IsObjectLegal}
-use Rattle.heap_model.specs.Account.{IsSpaceLegal}
+use Rattle.heap_model.specs.declared.entry.Entry.TheVariants.{Said, GivesBack}
+use Rattle.heap_model.specs.Space.{gained, lost, granted, returned}
+use Rattle.heap_model.specs.Account.{IsLegal}
+use Rattle.script_text.specs.declared.script.Form.TheVariants as forms
 use Rattle.script_text.specs.declared.script.Line.{Line}
 use Rattle.script_text.specs.declared.script.Line.TheVariants as lines
 use Rattle.script_text.specs.declared.script.Script.{Script}
-use Rattle.script_text.specs.Text.{text_of}
-use Rattle.script_text.specs.Words.{heap_line}
-use Rattle.reply_text.specs.Entries.{entry_text}
+use Rattle.reply_text.specs.declared.history.History.{History}
+use Rattle.reply_text.specs.declared.history.SpaceMark.{SpaceMark}
 
 -- the line of a script that an entry answers, if it answers one
-abbrev pub answered : Entry → List Line
-answered (Said seat command reply) = lines.Seat seat command ∷ []
-answered _ = []
+abbrev pub replied : Entry → List Line
+replied (Said seat command reply) = lines.Seat seat command ∷ []
+replied _ = []
 
--- the history is a play of the script: it is legal, and its replies are to the script's lines in order, each once
-pub record IsPlay (script : Script) (history : List Entry) : Type 0 where
-  pub objects : IsObjectLegal script.heap history
-  pub space : IsSpaceLegal script.heap history
-  pub commands : flat_map answered history ≡ script.lines
+-- the last entry is a reply, if there is any
+abbrev pub EndsInReply : List Entry → Type 0
+EndsInReply entries =
+    (entries ≡ []) ⊎ ((earlier : List Entry) × (seat : ℕ) × (command : Command) × (reply : Reply) × (entries ≡ earlier ++ Said seat command reply ∷ []))
 
--- the text of a play: two header lines, and the line of each entry
-abbrev pub play_text : Heap → List Entry → List ℕ
-play_text heap history = text_of (codes "history 1 play" ∷ heap_line heap ∷ map entry_text history)
+-- the mark shows the counts after these entries
+pub record ShowsCounts (heap : Heap) (entries : List Entry) (mark : SpaceMark) : Type 0 where
+  pub used : mark.used + lost entries ≡ gained entries
+  pub total : mark.total ≡ 16 * heap.groups
+  pub spine : mark.spine + returned entries ≡ granted entries
+  pub budget : mark.budget ≡ heap.spine
+
+-- a seat gives back what it has left over, if anything, and leaves
+abbrev pub IsLeave : ℕ → List Entry → Type 0
+IsLeave s entries = (entries ≡ Said s Leave Done ∷ []) ⊎ ((count : ℕ) × (entries ≡ GivesBack s count ∷ Said s Leave Done ∷ []))
+
+-- the entries before the mark answer the script's lines in order, each once, and those behind it are the seat's leave
+pub record IsParted (script : Script) (front leave : List Entry) (mark : SpaceMark) : Type 0 where
+  pub commands : flat_map replied front ≡ script.lines
+  pub last : EndsInReply front
+  pub shows : ShowsCounts script.heap front mark
+  pub leaves : IsLeave 0 leave
+
+-- the history is a play of the script: it is legal, parted by its mark, and its end shows what is in use
+pub record IsPlay (script : Script) (history : History) : Type 0 where
+  pub form : history.form ≡ forms.Play
+  pub heap : history.heap ≡ script.heap
+  pub legal : IsLegal script.heap true history.entries
+  pub parted : IsSomeAnd history.mark (λ mark. IsParted script (take mark.before history.entries) (drop mark.before history.entries) mark)
+  pub used : history.end_used + lost history.entries ≡ gained history.entries

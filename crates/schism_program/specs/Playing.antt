@@ -1,5 +1,5 @@
 -- A play so far: its history is legal, and the store stands for the graph after it.
-use Rattle.std.specs.Prelude.{◌≡◌, ℕ, ◌+◌, ◌*◌, ◌<◌, ◌≤◌, List, length}
+use Rattle.std.specs.Prelude.{◌≡◌, true, ℕ, ◌+◌, ◌*◌, ◌<◌, ◌≤◌, List, length}
 use Rattle.std.specs.List.{flat_map}
 use Rattle.heap_model.specs.declared.heap.Heap.{Heap}
 use Rattle.heap_model.specs.declared.command.Command.{Command}
@@ -8,11 +8,12 @@ use Rattle.heap_model.specs.declared.entry.Entry.{Entry}
 use Rattle.heap_model.specs.Objects.{Node, Party, opening}
 use Rattle.heap_model.specs.Growth.{graph_after}
 use Rattle.heap_model.specs.Legal.{IsObjectLegal}
-use Rattle.heap_model.specs.Space.{gained, lost, taken_of, spent_of}
+use Rattle.heap_model.specs.Space.{gained, lost, granted, returned, taken_of, spent_of}
+use Rattle.heap_model.specs.Phases.{phase, answered}
 use Rattle.heap_model.specs.Account.{IsSpaceLegal}
 use Rattle.script_text.specs.declared.script.Line.{Line}
 use Rattle.schism_program.specs.declared.store.Store.{Store}
-use Rattle.schism_program.specs.Play.{answered}
+use Rattle.schism_program.specs.Play.{replied}
 use Rattle.schism_program.specs.Stands.{alone, StandsFor}
 
 -- the fragments that were claimed and given are those of the history
@@ -21,6 +22,10 @@ pub record Counts (history : List Entry) (next end : ℕ) : Type 0 where
   pub lost : lost history ≡ 0
   pub taken : 11 + taken_of 0 history ≡ end
   pub spent : 11 + spent_of 0 history ≡ next
+  pub granted : granted history ≡ 0
+  pub returned : returned history ≡ 0
+  pub phase : phase history ≡ 0
+  pub answered : answered 0 history ≡ 0
 
 -- the history answers these lines, and most_kept claimed fragments may be left over
 pub record Playing (heap : Heap) (most_kept : ℕ) (store : Store) (history : List Entry) (lines : List Line) : Type 0 where
@@ -29,9 +34,9 @@ pub record Playing (heap : Heap) (most_kept : ℕ) (store : Store) (history : Li
   pub stands : StandsFor store board seat
   pub graph : graph_after (opening heap) history ≡ alone board seat
   pub objects : IsObjectLegal heap history
-  pub space : IsSpaceLegal heap history
+  pub space : IsSpaceLegal heap true history
   pub counts : Counts history store.next store.end
-  pub commands : flat_map answered history ≡ lines
+  pub commands : flat_map replied history ≡ lines
   pub size : length store.words.items ≡ 64 * heap.groups
   pub reserve : store.end ≤ store.next + most_kept
 

@@ -40,7 +40,7 @@ pub record Shows (words : List ℕ) (g : State) (id : Id) (object : Node) : Type
 -- the store stands for the graph of this board and this seat
 pub record StandsFor (store : Store) (board : Node) (seat : Party) : Type 0 where
   pub present : seat.left ≡ false
-  pub few : store.next ≤ 256
+  pub few : store.next ≤ 65536
   pub given : store.next ≡ 11 + length seat.objects
   pub sets : store.sets ≡ seat.sets
   pub slots : length store.registers ≡ 16

@@ -35,6 +35,58 @@ impl Store {
         Reply::Done
     }
 
+    /// Makes a register nil.
+    pub fn nil(&mut self, d: u8) -> Reply
+        requires target { IsTarget d }
+        ensures answers { (board : Node) (seat : Party) → StandsFor self.old board seat → Answers self.new board seat (commands.Nil d) result }
+        ensures fragments { SameFragments self.old self.new }
+    {
+        self.put(d, Value::Nil);
+        Reply::Done
+    }
+
+    /// Copies a register.
+    pub fn copy(&mut self, d: u8, r: u8) -> Reply
+        requires target { IsTarget d }
+        requires register { IsRegister r }
+        ensures answers { (board : Node) (seat : Party) → StandsFor self.old board seat → Answers self.new board seat (commands.Copy d r) result }
+        ensures fragments { SameFragments self.old self.new }
+    {
+        self.registers[d as usize] = self.registers[r as usize];
+        Reply::Done
+    }
+
+    /// Compares two registers.
+    pub fn same(&self, a: u8, b: u8) -> Reply
+        requires one { IsRegister a }
+        requires other { IsRegister b }
+        ensures answers { (board : Node) (seat : Party) → StandsFor self.now board seat → Answers self.now board seat (commands.Same a b) result }
+    {
+        if self.registers[a as usize] == self.registers[b as usize] {
+            Reply::Yes
+        } else {
+            Reply::No
+        }
+    }
+
+    /// The length of what a register refers to.
+    pub fn len(&self, r: u8) -> Reply
+        requires register { IsRegister r }
+        ensures answers { (board : Node) (seat : Party) → StandsFor self.now board seat → Answers self.now board seat (commands.Len r) result }
+    {
+        match self.head(r) {
+            Some(head) => Reply::Length(self.length_at(head)),
+            None => Reply::NoObject,
+        }
+    }
+
+    /// The phase, which stays 0 without a collector.
+    pub fn poll(&self) -> Reply
+        ensures { result ≡ replies.Phase 0 }
+    {
+        Reply::Phase(0)
+    }
+
     /// Puts what a field holds into a register.
     pub fn get(&mut self, d: u8, r: u8, i: u32) -> Reply
         requires target { IsTarget d }

@@ -41,7 +41,7 @@ impl Store {
     /// The store in which the board alone is made, and its first register refers to it.
     pub fn new(alloc: Global, groups: u16) -> Result<Store, Memory>
         requires some { 1 ≤ groups }
-        requires few { groups ≤ 16 }
+        requires few { groups ≤ 4096 }
         ensures stands { IfOk result (λ store. StandsFor store (fresh false 32) opening_party) }
         ensures open { IfOk result (IsOpen groups) }
     {

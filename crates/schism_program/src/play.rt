@@ -1,5 +1,5 @@
-ghost use Rattle.std.specs.Prelude.{true, ◌≡◌, ℕ, ◌+◌, ◌<◌, ◌≤◌, ◌^◌, List, [], ◌∷◌, ◌++◌, OnOk, IfOk};
-ghost use Rattle.heap_model.specs.declared.heap.Heap.{Heap};
+ghost use Rattle.std.specs.Prelude.{true, ◌≡◌, ℕ, ◌+◌, ◌<◌, ◌≤◌, ◌^◌, List, [], ◌∷◌, ◌++◌, length, OnOk, IfOk};
+ghost use Rattle.heap_model.specs.declared.heap.Heap.{Heap as AHeap};
 ghost use Rattle.heap_model.specs.Command.{IsCommand};
 ghost use Rattle.heap_model.specs.Objects.{Node, Party};
 ghost use Rattle.script_text.specs.declared.script.Form.TheVariants.{Play};
@@ -8,13 +8,15 @@ ghost use Rattle.script_text.specs.declared.script.Line.TheVariants as lines;
 ghost use Rattle.script_text.specs.Built.{IsBuilt, is_built_command};
 ghost use Rattle.script_text.specs.Writing.{IsOfForm};
 ghost use Rattle.schism_program.specs.Changes.{Replies};
-ghost use Rattle.schism_program.specs.Play.{IsPlay};
+ghost use Rattle.schism_program.specs.Play.{EndsInReply, IsPlay, ShowsCounts};
 ghost use Rattle.schism_program.specs.Playing.{IsReady, Playing};
 ghost use Rattle.schism_program.specs.Stands.{Answers, StandsFor};
 
+use crate::leaving::leave;
 use crate::store::Store;
-use heap_model::{Command, Entry, Memory, Reply};
-use script_text::{Line, Script};
+use heap_model::{Command, Entry, Heap, Memory, Reply};
+use reply_text::{Entries, History, SpaceMark};
+use script_text::{Form, Line, Script};
 use std::alloc::Global;
 
 /// The reply to a command, of fragments that were claimed before.
@@ -31,13 +33,18 @@ fn reply_to(store: &mut Store, command: Command) -> Reply
         Command::Num { d, n } => store.num(d, n),
         Command::Get { d, r, i } => store.get(d, r, i),
         Command::Set { r, i, v } => store.set(r, i, v),
-        _ => Reply::Done,
+        Command::Nil { d } => store.nil(d),
+        Command::Copy { d, r } => store.copy(d, r),
+        Command::Same { a, b } => store.same(a, b),
+        Command::Len { r } => store.len(r),
+        Command::Poll => store.poll(),
+        Command::Array { .. } | Command::Collect | Command::Leave => Reply::Done,
     }
 }
 
 /// Claims fragments if the command needs one and none is left, and notes how many.
 fn claim_for(store: &mut Store, history: &mut Vec<Entry>, command: Command) -> Result<(), Memory>
-    ensures ready { (heap : Heap) (read : List ALine) → Playing heap 15 store.old history.old.items read → OnOk result (IsReady heap store.new history.new.items read command) }
+    ensures ready { (heap : AHeap) (read : List ALine) → Playing heap 15 store.old history.old.items read → OnOk result (IsReady heap store.new history.new.items read command) }
     ensures sets { store.new.sets ≡ store.old.sets }
 {
     let Command::New { .. } = command else {
@@ -55,7 +62,8 @@ fn answer(store: &mut Store, history: &mut Vec<Entry>, command: Command) -> Resu
     requires command { IsCommand command }
     requires built { is_built_command command ≡ true }
     requires sets { store.old.sets + 1 < 2 ^ 26 }
-    ensures plays { (heap : Heap) (read : List ALine) → Playing heap 15 store.old history.old.items read → OnOk result (Playing heap 15 store.new history.new.items (read ++ lines.Seat 0 command ∷ [])) }
+    ensures plays { (heap : AHeap) (read : List ALine) → Playing heap 15 store.old history.old.items read → OnOk result (Playing heap 15 store.new history.new.items (read ++ lines.Seat 0 command ∷ [])) }
+    ensures last { OnOk result (EndsInReply history.new.items) }
     ensures few { store.new.sets ≤ store.old.sets + 1 }
 {
     claim_for(store, history, command)?;
@@ -68,11 +76,26 @@ fn answer(store: &mut Store, history: &mut Vec<Entry>, command: Command) -> Resu
     Ok(())
 }
 
+/// What is taken when the script is done.
+fn mark_of(store: &Store, history: &[Entry], heap: &Heap) -> SpaceMark
+    ensures before { result.before ≡ length history.now }
+    ensures shows { (read : List ALine) → Playing heap.now 15 store.now history.now read → heap.now.spine ≡ 0 →
+        ShowsCounts heap.now history.now result }
+{
+    SpaceMark {
+        before: history.len(),
+        used: store.end as u64,
+        total: 16 * u64::from(heap.groups),
+        spine: 0,
+        budget: 0,
+    }
+}
+
 /// The history of a play of the script.
-pub fn play(alloc: Global, script: &Script) -> Result<Vec<Entry>, Memory>
+pub fn play(alloc: Global, script: &Script) -> Result<History, Memory>
     requires form { IsOfForm Play script.now }
     requires built { IsBuilt script.now }
-    ensures { IfOk result (λ history. IsPlay script.now history.items) }
+    ensures { IfOk result (IsPlay script.now) }
 {
     let mut store = Store::new(alloc, script.heap.groups)?;
     let mut history = Vec::new(alloc);
@@ -82,5 +105,13 @@ pub fn play(alloc: Global, script: &Script) -> Result<Vec<Entry>, Memory>
         };
         answer(&mut store, &mut history, command)?;
     }
-    Ok(history)
+    let mark = mark_of(&store, &history, &script.heap);
+    leave(&store, &mut history)?;
+    Ok(History {
+        form: Form::Play,
+        heap: script.heap,
+        entries: Entries::from_vec(history),
+        mark: Some(mark),
+        end_used: store.next as u64,
+    })
 }

@@ -7,9 +7,9 @@ ghost use Rattle.schism_program.specs.Outcome.{FailsAt, Plays, Serves};
 ghost use Rattle.schism_program.specs.declared.serving.PlayFault.TheVariants as faults;
 
 use crate::play::play;
-use crate::rendering::render_play;
 use crate::top::MOST_BYTES;
 use heap_model::Memory;
+use reply_text::render_history;
 use script_text::{Cause, Form, LineFault, Script, ScriptFault, first_unbuilt, read_script};
 use std::alloc::Global;
 
@@ -57,6 +57,6 @@ pub fn played_text(alloc: Global, input: &[u8]) -> Result<Vec<u8>, PlayFault>
 {
     let script = served_script(alloc, input)?;
     let history = play(alloc, &script)?;
-    let text = render_play(alloc, &script.heap, &history)?;
+    let text = render_history(alloc, &history)?;
     Ok(text)
 }

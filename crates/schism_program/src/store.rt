@@ -25,7 +25,7 @@ pub struct Store {
     ghost behind_board: { 11 ≤ next },
     ghost claimed: { next ≤ end },
     ghost room: { 4 * end ≤ length words.items },
-    ghost few: { length words.items ≤ 1024 },
+    ghost few: { length words.items ≤ 262144 },
 }
 
 /// The word of a value under a stamp.
@@ -60,7 +60,7 @@ impl Store {
     ghost use Rattle.schism_program.specs.Stands.{alone, StandsFor, Finds};
 
     /// The head of what the register refers to, if it refers to an object.
-    fn head(&self, r: u8) -> Option<u32>
+    pub fn head(&self, r: u8) -> Option<u32>
         requires { r ≤ 15 }
         ensures { result ≡ head_in (cell_of (slice_index self.now.registers r)) }
     {
@@ -94,11 +94,11 @@ impl Store {
     }
 
     /// The length of the object at this head, by its meta.
-    fn length_at(&self, head: u32) -> u32
+    pub fn length_at(&self, head: u32) -> u16
         ensures { (meta : AMeta) → IsMeta meta → slice_index self.now.words.items (4 * head) ≡ meta_word meta → result ≡ meta.length }
     {
         match Meta::read(self.word(4 * head as usize)) {
-            Some(meta) => meta.length.into(),
+            Some(meta) => meta.length,
             None => 0,
         }
     }
@@ -139,7 +139,7 @@ impl Store {
         let Some(head) = self.head(r) else {
             return Err(Reply::NoObject);
         };
-        if i >= self.length_at(head) {
+        if i >= self.length_at(head).into() {
             return Err(Reply::NoField);
         }
         let place = place(head as usize, i as usize);

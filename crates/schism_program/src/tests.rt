@@ -8,7 +8,14 @@ use std::test::Fail;
 const FIRST: &str = "schism 1\nheap 1 0 1\n0 new 1 2\n0 num 2 9\n0 set 1 0 2\n0 get 3 1 0\n";
 
 const FIRST_PLAYED: &str =
-    "history 1 play\nheap 1 0 1\n0 takes 5\n0 new 1 2 = 0.0\n0 num 2 9 = ok\n0 set 1 0 2 = was -\n0 get 3 1 0 = number 9 at 0:1\n";
+    "history 1 play\nheap 1 0 1\n0 takes 5\n0 new 1 2 = 0.0\n0 num 2 9 = ok\n0 set 1 0 2 = was -\n0 get 3 1 0 = number 9 at 0:1\nspace used 16 of 16 spine 0 of 0\n0 gives back 4\n0 leave = ok\nend used 12\n";
+
+// The end of each play in which the first group was claimed for one fragment.
+const ONE_MADE: &str =
+    "space used 16 of 16 spine 0 of 0\n0 gives back 4\n0 leave = ok\nend used 12\n";
+
+// The end of a play in which nothing was claimed.
+const NONE_MADE: &str = "space used 11 of 16 spine 0 of 0\n0 leave = ok\nend used 11\n";
 
 fn refused(line: u32, cause: Cause) -> Status {
     Status::Refused { line, cause }
@@ -37,20 +44,30 @@ fn plays_scripts_and_refuses_others(rt: HostRuntime) -> Result<(), Fail> {
         (
             "schism 1\nheap 1 0 1\n",
             Status::Done,
-            "history 1 play\nheap 1 0 1\n",
+            "history 1 play\nheap 1 0 1\nspace used 11 of 16 spine 0 of 0\n0 leave = ok\nend used 11\n",
         ),
         (
             "schism 1\nheap 1 0 1\n0 new 1 1\n0 new 1 1\n0 new 1 1\n0 new 1 1\n0 new 1 1\n0 new 1 1\n",
             Status::Done,
-            "history 1 play\nheap 1 0 1\n0 takes 5\n0 new 1 1 = 0.0\n0 new 1 1 = 0.1\n0 new 1 1 = 0.2\n0 new 1 1 = 0.3\n0 new 1 1 = 0.4\n0 new 1 1 = full need 1 found 0\n",
+            "history 1 play\nheap 1 0 1\n0 takes 5\n0 new 1 1 = 0.0\n0 new 1 1 = 0.1\n0 new 1 1 = 0.2\n0 new 1 1 = 0.3\n0 new 1 1 = 0.4\n0 new 1 1 = full need 1 found 0\nspace used 16 of 16 spine 0 of 0\n0 leave = ok\nend used 16\n",
         ),
         (
-            "schism 1\nheap 1 0 1\n0 nil 1\n",
-            refused(3, Cause::Unbuilt),
+            "schism 1\nheap 1 0 1\n0 get 1 0 32\n0 get 1 5 0\n0 len 0\n0 len 5\n0 copy 2 0\n0 same 0 2\n0 same 0 3\n0 poll\n",
+            Status::Done,
+            "history 1 play\nheap 1 0 1\n0 get 1 0 32 = no field\n0 get 1 5 0 = no object\n0 len 0 = 32\n0 len 5 = no object\n0 copy 2 0 = ok\n0 same 0 2 = yes\n0 same 0 3 = no\n0 poll = 0\nspace used 11 of 16 spine 0 of 0\n0 leave = ok\nend used 11\n",
+        ),
+        (
+            "schism 1\nheap 17 0 1\n0 num 1 1073741823\n0 set 0 31 1\n0 nil 1\n0 get 2 0 31\n",
+            Status::Done,
+            "history 1 play\nheap 17 0 1\n0 num 1 1073741823 = ok\n0 set 0 31 1 = was -\n0 nil 1 = ok\n0 get 2 0 31 = number 1073741823 at 0:1\nspace used 11 of 272 spine 0 of 0\n0 leave = ok\nend used 11\n",
+        ),
+        (
+            "schism 1\nheap 1 0 1\n0 nil 1\n0 new 1 3\n",
+            refused(4, Cause::Unbuilt),
             "",
         ),
         (
-            "schism 1\nheap 17 0 1\n0 nil 1\n",
+            "schism 1\nheap 17 1 1\n0 nil 1\n",
             refused(2, Cause::Unbuilt),
             "",
         ),
@@ -74,14 +91,14 @@ fn plays_scripts_and_refuses_others(rt: HostRuntime) -> Result<(), Fail> {
     Ok(())
 }
 
-// The length of what is written of the first script, cut to this length.
-fn front_played(cut: usize) -> Option<usize> {
+// Where the first script is whole, cut to this length: how much of its play comes before the space line, and what follows.
+fn front_played(cut: usize) -> Option<(usize, &'static str)> {
     match cut {
-        19 | 20 => Some(26),
-        29 | 30 => Some(52),
-        39 | 40 => Some(67),
-        51 | 52 => Some(87),
-        63 | 64 => Some(117),
+        19 | 20 => Some((26, NONE_MADE)),
+        29 | 30 => Some((52, ONE_MADE)),
+        39 | 40 => Some((67, ONE_MADE)),
+        51 | 52 => Some((87, ONE_MADE)),
+        63 | 64 => Some((117, ONE_MADE)),
         _ => None,
     }
 }
@@ -115,10 +132,12 @@ fn plays_the_first_script_cut_at_the_end_of_a_line(rt: HostRuntime) -> Result<()
         let (ended, taken) = ended(rt.alloc(), &["play"], text, &[], &[])?;
         assert_eq!(rt; refused_line(ended), faulty_line(cut), "cut at {cut}");
         match front_played(cut) {
-            Some(front) => {
+            Some((front, last)) => {
                 assert_eq!(rt; ended, Status::Done, "cut at {cut}");
-                assert_eq!(rt; taken.len(), front, "cut at {cut}");
-                assert!(rt; FIRST_PLAYED.as_bytes().starts_with(&taken));
+                assert!(rt; taken.len() >= front, "cut at {cut}");
+                let (before, behind) = taken.split_at(front);
+                assert!(rt; FIRST_PLAYED.as_bytes().starts_with(before));
+                assert_eq!(rt; behind, last.as_bytes(), "cut at {cut}");
             }
             None => {
                 assert!(rt; refused_line(ended).is_some(), "cut at {cut}");
@@ -164,7 +183,7 @@ fn says_usage_of_other_words(rt: HostRuntime) -> Result<(), Fail> {
     Ok(())
 }
 
-// The first script is read in 14 calls, the last of which gives nothing, and its text is written in 15.
+// The first script is read in 14 calls, the last of which gives nothing, and its text is written in 24.
 #[test]
 fn says_which_side_failed(rt: HostRuntime) -> Result<(), Fail> {
     for (source_fail, sink_fail, status, front) in [
@@ -173,8 +192,8 @@ fn says_which_side_failed(rt: HostRuntime) -> Result<(), Fail> {
         (13, 99, Status::ReadFault, 0),
         (14, 0, Status::WriteFault, 0),
         (14, 1, Status::WriteFault, 8),
-        (14, 14, Status::WriteFault, 112),
-        (14, 15, Status::Done, 117),
+        (14, 23, Status::WriteFault, 184),
+        (14, 24, Status::Done, 190),
     ] {
         let (ended, taken) = ended(
             rt.alloc(),

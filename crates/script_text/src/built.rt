@@ -14,8 +14,8 @@ fn is_built(line: &Line) -> bool
     match *line {
         Line::Seat { command, .. } => match command {
             Command::New { fields, .. } => fields <= 2,
-            Command::Num { .. } | Command::Set { .. } | Command::Get { .. } => true,
-            _ => false,
+            Command::Array { .. } | Command::Collect | Command::Leave => false,
+            _ => true,
         },
         Line::Turns { .. } => false,
     }
@@ -24,7 +24,7 @@ fn is_built(line: &Line) -> bool
 fn has_built_heap(heap: &Heap) -> bool
     ensures { result ≡ is_built_heap heap.now }
 {
-    heap.groups <= 16 && heap.spine == 0 && heap.seats == 1
+    heap.spine == 0 && heap.seats == 1
 }
 
 fn unbuilt_index(lines: &[Line]) -> Option<usize>

@@ -229,19 +229,22 @@ fn most_lines(rt: HostRuntime) -> Result<(), Fail> {
 #[test]
 fn built(rt: HostRuntime) -> Result<(), Fail> {
     let scripts: [(&[u8], Option<u32>); 9] = [
-        (b"schism 1\nheap 16 0 1\n", None),
+        (b"schism 1\nheap 4096 0 1\n", None),
         (
             b"schism 1\nheap 16 0 1\n0 new 1 2\n0 num 2 9\n0 set 1 1 2\n0 get 3 1 0\n",
             None,
         ),
-        (b"schism 1\nheap 17 0 1\n", Some(2)),
-        (b"schism 1\nheap 16 1 1\n0 nil 1\n", Some(2)),
+        (
+            b"schism 1\nheap 16 0 1\n0 nil 1\n0 copy 2 1\n0 same 1 2\n0 len 0\n0 poll\n",
+            None,
+        ),
+        (b"schism 1\nheap 16 1 1\n0 collect\n", Some(2)),
         (b"schism 1\nheap 16 0 2\n", Some(2)),
-        (b"schism 1\nheap 16 0 1\n0 new 1 3\n0 poll\n", Some(3)),
-        (b"schism 1\nheap 16 0 1\n0 num 2 9\n0 poll\n", Some(4)),
+        (b"schism 1\nheap 16 0 1\n0 new 1 3\n0 collect\n", Some(3)),
+        (b"schism 1\nheap 16 0 1\n0 num 2 9\n0 collect\n", Some(4)),
         (b"schism 1\nheap 16 0 1\nc cycle\n0 num 2 9\n", Some(3)),
         (
-            b"schism 1\nheap 16 0 1\n0 num 2 9\n0 num 2 9\n0 array 1 4\n",
+            b"schism 1\nheap 16 0 1\n0 num 2 9\n0 poll\n0 array 1 4\n",
             Some(5),
         ),
     ];

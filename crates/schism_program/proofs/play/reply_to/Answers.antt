@@ -1,8 +1,9 @@
 use Rattle.std.proofs.Common.{◌≡◌, inl, inr, refl, sym, ap, ◌∙◌, arith}
 use Rattle.std.proofs.lemmas.Bool.{cases_lt, leb-true}
+use Rattle.heap_model.specs.declared.reply.Reply.TheVariants.{Phase}
 use Rattle.script_text.specs.Built.{is_built_command}
 use Rattle.schism_program.specs.Stands.{alone}
-use Rattle.schism_program.proofs.Answering.{full_answers, full_replies, made_replies, same_replies, got_shows, set_shows}
+use Rattle.schism_program.proofs.Answering.{full_answers, full_replies, made_replies, same_replies, unchanged, poll_answers}
 use Rattle.schism_program.proofs.play.reply_to.Goals as goal
 
 pub returns-in-New-clause-answers : goal.returns-in-New-clause-answers
@@ -34,18 +35,53 @@ returns-in-Num-clause-answers c board seat stands = rw c.in-Num.is (c.num.ensure
 
 pub returns-in-Num-clause-replies : goal.returns-in-Num-clause-replies
 returns-in-Num-clause-replies c board seat stands =
-    rw c.in-Num.is (same_replies c.args.store.now c.num.new.self _ c.num.result refl c.num.ensures.fragments (rw (c.num.ensures.answers board seat stands).says tt))
+    rw c.in-Num.is (same_replies (alone board seat) c.args.store.now c.num.new.self _ c.num.result refl c.num.ensures.fragments (c.num.ensures.answers board seat stands).says tt)
+
+pub returns-in-Nil-clause-answers : goal.returns-in-Nil-clause-answers
+returns-in-Nil-clause-answers c board seat stands = rw c.in-Nil.is (c.nil.ensures.answers board seat stands)
+
+pub returns-in-Nil-clause-replies : goal.returns-in-Nil-clause-replies
+returns-in-Nil-clause-replies c board seat stands =
+    rw c.in-Nil.is (same_replies (alone board seat) c.args.store.now c.nil.new.self _ c.nil.result refl c.nil.ensures.fragments (c.nil.ensures.answers board seat stands).says tt)
+
+pub returns-in-Copy-clause-answers : goal.returns-in-Copy-clause-answers
+returns-in-Copy-clause-answers c board seat stands = rw c.in-Copy.is (c.copy.ensures.answers board seat stands)
+
+pub returns-in-Copy-clause-replies : goal.returns-in-Copy-clause-replies
+returns-in-Copy-clause-replies c board seat stands =
+    rw c.in-Copy.is (same_replies (alone board seat) c.args.store.now c.copy.new.self _ c.copy.result refl c.copy.ensures.fragments (c.copy.ensures.answers board seat stands).says tt)
 
 pub returns-in-Get-clause-answers : goal.returns-in-Get-clause-answers
 returns-in-Get-clause-answers c board seat stands = rw c.in-Get.is (c.get.ensures.answers board seat stands)
 
 pub returns-in-Get-clause-replies : goal.returns-in-Get-clause-replies
 returns-in-Get-clause-replies c board seat stands =
-    rw c.in-Get.is (same_replies c.args.store.now c.get.new.self _ c.get.result refl c.get.ensures.fragments (got_shows (alone board seat) c.args.store.now c.in-Get.d c.in-Get.r c.in-Get.i c.get.result (c.get.ensures.answers board seat stands).says))
+    rw c.in-Get.is (same_replies (alone board seat) c.args.store.now c.get.new.self _ c.get.result refl c.get.ensures.fragments (c.get.ensures.answers board seat stands).says tt)
 
 pub returns-in-Set-clause-answers : goal.returns-in-Set-clause-answers
 returns-in-Set-clause-answers c board seat stands = rw c.in-Set.is (c.set.ensures.answers board seat stands)
 
 pub returns-in-Set-clause-replies : goal.returns-in-Set-clause-replies
 returns-in-Set-clause-replies c board seat stands =
-    rw c.in-Set.is (same_replies c.args.store.now c.set.new.self _ c.set.result refl c.set.ensures.fragments (set_shows (alone board seat) c.args.store.now c.in-Set.r c.in-Set.i c.in-Set.v c.set.result (c.set.ensures.answers board seat stands).says))
+    rw c.in-Set.is (same_replies (alone board seat) c.args.store.now c.set.new.self _ c.set.result refl c.set.ensures.fragments (c.set.ensures.answers board seat stands).says tt)
+
+pub returns-in-Same-clause-answers : goal.returns-in-Same-clause-answers
+returns-in-Same-clause-answers c board seat stands = rw c.in-Same.is (c.same.ensures.answers board seat stands)
+
+pub returns-in-Same-clause-replies : goal.returns-in-Same-clause-replies
+returns-in-Same-clause-replies c board seat stands =
+    rw c.in-Same.is (same_replies (alone board seat) c.args.store.now c.args.store.now _ c.same.result refl (unchanged c.args.store.now) (c.same.ensures.answers board seat stands).says tt)
+
+pub returns-in-Len-clause-answers : goal.returns-in-Len-clause-answers
+returns-in-Len-clause-answers c board seat stands = rw c.in-Len.is (c.len.ensures.answers board seat stands)
+
+pub returns-in-Len-clause-replies : goal.returns-in-Len-clause-replies
+returns-in-Len-clause-replies c board seat stands =
+    rw c.in-Len.is (same_replies (alone board seat) c.args.store.now c.args.store.now _ c.len.result refl (unchanged c.args.store.now) (c.len.ensures.answers board seat stands).says tt)
+
+pub returns-in-Poll-clause-answers : goal.returns-in-Poll-clause-answers
+returns-in-Poll-clause-answers c board seat stands = rw (c.in-Poll.is, c.poll.ensures) (poll_answers c.args.store.now board seat stands)
+
+pub returns-in-Poll-clause-replies : goal.returns-in-Poll-clause-replies
+returns-in-Poll-clause-replies c board seat stands =
+    rw (c.in-Poll.is, c.poll.ensures) (same_replies (alone board seat) c.args.store.now c.args.store.now _ (Phase 0) refl (unchanged c.args.store.now) tt refl)

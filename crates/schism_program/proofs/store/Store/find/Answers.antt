@@ -4,8 +4,8 @@ use Rattle.schism_program.proofs.Heads.{refers_to, length_read, refuses_field, i
 use Rattle.schism_program.proofs.PlaceLemmas.{place_at-below}
 use Rattle.schism_program.proofs.store.Store.find.Goals as goal
 
-pub returns-then-i-length_at-clause-finds : goal.returns-then-i-length_at-clause-finds
-returns-then-i-length_at-clause-finds c board seat stands =
+pub returns-then-i-into-clause-finds : goal.returns-then-i-into-clause-finds
+returns-then-i-into-clause-finds c board seat stands =
     let o = refers_to c.args.self.now board seat stands c.args.r c.in-Some.head (omega arith) (sym c.in-Some.ensures) in
     let len = length_read o c.length_at.result c.length_at.ensures in
     refuses_field o c.args.i (omega arith)
