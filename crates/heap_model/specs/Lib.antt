@@ -5,6 +5,7 @@ pub mod Growth
 pub mod Legal
 pub mod Reach
 pub mod Sizes
+pub mod Search
 pub mod Space
 pub mod Windows
 pub mod Phases

@@ -1,5 +1,5 @@
 -- Which objects can be reached from the registers of the seats.
-use Rattle.std.specs.Prelude.{◌≡◌, ℕ, ◌<◌, ◌↔◌, ◌⊎◌, List, Option, IsSome, IsSomeAnd, Any, AllPairs, Contains}
+use Rattle.std.specs.Prelude.{◌≡◌, ◌<◌, ◌↔◌, ◌⊎◌, List, IsSome, IsSomeAnd, Any, AllPairs, Contains}
 use Rattle.heap_model.specs.declared.id.Id.{Id}
 use Rattle.heap_model.specs.declared.id.Id.TheVariants.{Board, Made}
 use Rattle.heap_model.specs.declared.id.Value.TheVariants.{Object}
@@ -17,6 +17,10 @@ IsRegistered seat id = Contains seat.registers (Object id)
 abbrev pub PointsTo : Node → Id → Type 0
 PointsTo object id = Any (λ cell. cell.value ≡ Object id) object.cells
 
+-- there is an object of the first id, and a cell of it holds the second
+abbrev pub Points : State → Id → Id → Type 0
+Points g holder id = IsSomeAnd (node g holder) (λ object. PointsTo object id)
+
 -- a register of some seat holds the id
 abbrev pub IsRoot : State → Id → Type 0
 IsRoot g id = Any (λ seat. IsRegistered seat id) g.seats
@@ -24,9 +28,9 @@ IsRoot g id = Any (λ seat. IsRegistered seat id) g.seats
 -- the object was made, and a register of some seat or a cell of a reached object holds its id
 pub data Reaches (g : State) : Id → Type 0 where
   from_register : (id : Id) → IsMade g id → IsRoot g id → Reaches g id
-  from_cell : (id : Id) → IsMade g id → (holder : Id) → Reaches g holder → IsSomeAnd (node g holder) (λ object. PointsTo object id) → Reaches g id
+  from_cell : (id : Id) → IsMade g id → (holder : Id) → Reaches g holder → Points g holder id → Reaches g id
 
--- the board is before all others, which are in the order of their seats, and those of a seat in the order of their making
+-- the board is before all others; these go by their seats, and those of a seat by their counts
 abbrev pub IsBefore : Id → Id → Type 0
 IsBefore Board Board = ⊥
 IsBefore Board (Made t later) = Unit {0}

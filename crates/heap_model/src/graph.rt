@@ -13,6 +13,7 @@ use std::marker::Model;
 mod growth;
 mod legal;
 mod lookup;
+mod reach;
 #[cfg(test)]
 mod tests;
 

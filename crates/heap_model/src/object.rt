@@ -13,16 +13,20 @@ pub struct Object {
 }
 
 impl Model for Object {
+    ghost use Rattle.std.specs.Prelude.{◌<◌, ◌^◌, length};
     ghost use Rattle.heap_model.specs.Objects.{Node};
 
     ghost Value = { Node };
 
     ghost view = { λ o. record { array = o.array; cells = o.cells.items } };
+
+    ghost invariant = { λ o. length o.cells.items < 2 ^ 16 };
 }
 
 impl Object {
     ghost use Rattle.heap_model.specs.Objects.{fresh};
     ghost use Rattle.heap_model.specs.Growth.{with_cell};
+    ghost use Rattle.heap_model.specs.Sizes.{fragments_of};
 
     pub fn new(alloc: Global, array: bool, cells: u16) -> Result<Object, AllocError>
         ensures { IfOk result (λ object. object ≡ fresh array cells) }
@@ -41,6 +45,23 @@ impl Object {
         ensures { result ≡ length self.now.cells }
     {
         self.cells.len()
+    }
+
+    pub fn cells(&self) -> &[Cell]
+        ensures { result.now ≡ self.now.cells }
+    {
+        &self.cells
+    }
+
+    pub fn fragments(&self) -> u32
+        ensures { result ≡ fragments_of self.now }
+    {
+        let cells = self.cells.len() as u32;
+        if self.array {
+            1 + cells.div_ceil(4)
+        } else {
+            1 + cells.saturating_sub(2).div_ceil(3)
+        }
     }
 
     pub fn cell(&self, i: u32) -> Option<Cell>

@@ -18,11 +18,14 @@ pub struct Seat {
 }
 
 impl Model for Seat {
+    ghost use Rattle.std.specs.Prelude.{◌≤◌, ◌^◌, length};
     ghost use Rattle.heap_model.specs.Objects.{Party};
 
     ghost Value = { Party };
 
     ghost view = { λ s. record { registers = s.registers; objects = s.objects.items; sets = s.sets; left = s.left } };
+
+    ghost invariant = { λ s. length s.objects.items ≤ 2 ^ 32 };
 }
 
 impl Seat {
@@ -56,9 +59,16 @@ impl Seat {
 
     /// How many objects the seat made.
     pub fn made(&self) -> usize
-        ensures { result ≡ length self.now.objects }
+        ensures count { result ≡ length self.now.objects }
+        ensures few { result ≤ 2 ^ 32 }
     {
         self.objects.len()
+    }
+
+    pub fn registers(&self) -> &[Value]
+        ensures { result.now ≡ self.now.registers }
+    {
+        &self.registers
     }
 
     pub fn register(&self, r: u8) -> Value
@@ -86,7 +96,8 @@ impl Seat {
 
     /// Adds an object under this id, which the register then holds.
     pub fn add(&mut self, d: u8, id: Id, object: Object) -> Result<(), AllocFailed<Object>>
-        requires { d ≤ 15 }
+        requires target { d ≤ 15 }
+        requires few { length self.old.objects < 2 ^ 32 }
         ensures added { OnOk result (self.new ≡ record self.old {
           registers = slice_set self.old.registers d (Reference id);
           objects = self.old.objects ++ object ∷ [];

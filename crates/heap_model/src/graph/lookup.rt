@@ -1,4 +1,4 @@
-ghost use Rattle.std.specs.Prelude.{◌≡◌, ◌≤◌, ◌<◌, ◌↔◌, length, IsTrue};
+ghost use Rattle.std.specs.Prelude.{◌≡◌, ◌≤◌, ◌<◌, ◌^◌, ◌↔◌, length, IsTrue};
 ghost use Rattle.std.specs.Option.{option_copied};
 
 use crate::cell::Cell;
@@ -22,7 +22,8 @@ impl Graph {
 
     /// How many objects the seat made.
     pub(super) fn made(&self, seat: u8) -> usize
-        ensures { result ≡ length (party self.now seat).objects }
+        ensures count { result ≡ length (party self.now seat).objects }
+        ensures few { result ≤ 2 ^ 32 }
     {
         match self.seats.get(seat as usize) {
             Some(party) => party.made(),
