@@ -2,6 +2,7 @@
 #![tactic(auto)]
 
 mod cell;
+mod collector_calls;
 mod command;
 mod entry;
 mod fault;
@@ -12,8 +13,10 @@ mod object;
 mod refusal;
 mod reply;
 mod seat;
+mod seat_calls;
 
 pub use cell::Cell;
+pub use collector_calls::{CollectorCalls, Turn};
 pub use command::{Command, TurnCommand};
 pub use entry::Entry;
 pub use fault::{ApplyFault, Memory};
@@ -22,3 +25,4 @@ pub use heap::Heap;
 pub use id::{Id, Value};
 pub use refusal::{Full, NoObject, PlaceRefusal, SpaceRefusal};
 pub use reply::{Reply, TurnReply};
+pub use seat_calls::SeatCalls;
