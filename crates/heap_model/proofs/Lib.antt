@@ -3,3 +3,5 @@ pub mod MarkLemmas
 pub mod SearchLemmas
 pub mod NoteLemmas
 pub mod OrderLemmas
+pub mod SeatLemmas
+pub mod LoneLemmas

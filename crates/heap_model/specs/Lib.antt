@@ -5,6 +5,7 @@ pub mod Cycles
 pub mod Growth
 pub mod Heap
 pub mod Legal
+pub mod LoneSeat
 pub mod Objects
 pub mod Phases
 pub mod Reach

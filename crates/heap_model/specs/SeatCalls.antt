@@ -55,5 +55,5 @@ ComesBefore s _ reply before = before ≡ []
 pub record Adds (old new : SeatState) (command : Command) (reply : Reply) : Type 0 where
   pub heap : new.heap ≡ old.heap
   pub number : new.number ≡ old.number
-  pub entries : (before : List Entry) × ComesBefore old.number command reply before × (new.mine ≡ old.mine ++ before ++ Said old.number command reply ∷ [])
+  pub entries : (before : List Entry) × ComesBefore old.number command reply before × (new.mine ≡ old.mine ++ (before ++ Said old.number command reply ∷ []))
   pub spare : old.spare + length old.mine ≤ new.spare + length new.mine

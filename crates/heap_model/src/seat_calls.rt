@@ -10,6 +10,11 @@ use crate::fault::Memory;
 use crate::id::{Id, Value};
 use crate::refusal::{Full, NoObject, PlaceRefusal, SpaceRefusal};
 
+#[cfg(test)]
+mod lone;
+#[cfg(test)]
+mod tests;
+
 /// A seat of a heap, through which one mutator works. Registers are numbered 0 to 15, and register 0 is only read.
 /// No call but `room` takes memory.
 pub trait SeatCalls {
@@ -27,7 +32,7 @@ pub trait SeatCalls {
         ensures added { Adds (state self.old) (state self.new) (New d fields) (record_reply result) }
         ensures made { IfOk result (λ id. id ≡ next_id (state self.old)) }
         ensures full { IfErr result (λ full. LacksFragments (state self.old) (state self.new)
-          (record_fragments fields) full.need full.found) };
+            (record_fragments fields) full.need full.found) };
 
     /// Makes an array of nil cells, which register `d` then holds.
     fn new_array(&mut self, d: u8, cells: u16) -> Result<Id, SpaceRefusal>
@@ -42,7 +47,7 @@ pub trait SeatCalls {
         ensures added { Adds (state self.old) (state self.new) (Get d r i) (get_reply result) }
         ensures no_object { (result ≡ Err PlaceRefusal.NoObject) ↔ HoldsNoObject (state self.old) r }
         ensures no_field { IfSome (own_object (state self.old) r) (λ object.
-          (result ≡ Err PlaceRefusal.NoField) ↔ (length object.cells ≤ i)) };
+            (result ≡ Err PlaceRefusal.NoField) ↔ (length object.cells ≤ i)) };
 
     /// Sets the cell `i` of what register `r` holds to the value of register `v`, and answers the stamp before.
     fn set(&mut self, r: u8, i: u32, v: u8) -> Result<u32, PlaceRefusal>
@@ -50,7 +55,7 @@ pub trait SeatCalls {
         ensures added { Adds (state self.old) (state self.new) (Set r i v) (set_reply result) }
         ensures no_object { (result ≡ Err PlaceRefusal.NoObject) ↔ HoldsNoObject (state self.old) r }
         ensures no_field { IfSome (own_object (state self.old) r) (λ object.
-          (result ≡ Err PlaceRefusal.NoField) ↔ (length object.cells ≤ i)) };
+            (result ≡ Err PlaceRefusal.NoField) ↔ (length object.cells ≤ i)) };
 
     fn num(&mut self, d: u8, n: u32)
         requires { IsReady (state self.old) (Num d n) }
@@ -75,7 +80,7 @@ pub trait SeatCalls {
         ensures added { Adds (state self.old) (state self.new) (Len r) (len_reply result) }
         ensures no_object { IsErr result ↔ HoldsNoObject (state self.old) r }
         ensures own { IfSome (own_object (state self.old) r) (λ object.
-          result ≡ Ok (length object.cells)) };
+            result ≡ Ok (length object.cells)) };
 
     /// Gives back what the seat kept, and leaves for good: its registers are nil then.
     fn leave(&mut self)
