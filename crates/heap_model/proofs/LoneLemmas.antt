@@ -1,5 +1,5 @@
 -- What commands do to a seat that is alone on its heap.
-use Rattle.std.proofs.Common.{◌≡◌, ◌≢◌, ℕ, zero, suc, ◌+◌, ◌<◌, ◌≤◌, ◌^◌, ◌⊎◌, inl, inr, Bool, true, false, List, [], ◌∷◌, ◌++◌, length, get_or, set, map, replicate, slice_get, option_map, Option, Some, None, IfSome, refl, sym, ap, ◌∙◌, subst, arith, rules, length-set, append_assoc}
+use Rattle.std.proofs.Common.{◌≡◌, ◌≢◌, ℕ, zero, suc, ◌+◌, ◌<◌, ◌≤◌, ◌^◌, Bool, false, List, [], ◌∷◌, ◌++◌, length, get_or, set, map, slice_get, option_map, Option, Some, None, IfSome, refl, sym, ap, ◌∙◌, subst, arith, length-set, append_assoc}
 use Rattle.std.specs.Option.{unwrap_or}
 use Rattle.std.proofs.lemmas.List.{get_or-set_same, get_or-set_other, get_or_past}
 use Rattle.std.proofs.lemmas.Option.{slice_get-map}
@@ -15,7 +15,7 @@ use Rattle.heap_model.specs.declared.reply.Reply.TheVariants as replies
 use Rattle.heap_model.specs.declared.entry.Entry.{Entry}
 use Rattle.heap_model.specs.declared.entry.Entry.TheVariants.{Said, Takes}
 use Rattle.heap_model.specs.Objects.{State, Node, Party, opening, party, register, target, nobody, fresh}
-use Rattle.heap_model.specs.Growth.{with_party, put, add, write, with_cell, with_object_cell, count_set, set_cell, leave, after_reply, graph_after}
+use Rattle.heap_model.specs.Growth.{with_party, write, with_cell, with_object_cell, count_set, set_cell, after_reply}
 use Rattle.heap_model.specs.Space.{made_by, record_fragments, taken_of, spent_of}
 use Rattle.heap_model.specs.SeatState.{SeatState, own_graph}
 use Rattle.heap_model.specs.SeatCalls.{Adds, ComesBefore}

@@ -1,6 +1,5 @@
 -- What the entries that a seat's call adds do to the graph of the seat's own entries.
-use Rattle.std.proofs.Common.{◌≡◌, ℕ, ◌+◌, ◌<◌, ◌≤◌, ◌⊎◌, inl, inr, List, [], ◌∷◌, ◌++◌, length, All, refl, sym, ap, ◌∙◌, subst, append_assoc, arith}
-use Rattle.std.proofs.lemmas.List.{append-nil}
+use Rattle.std.proofs.Common.{◌≡◌, ℕ, inl, inr, List, [], ◌∷◌, ◌++◌, All, refl, ap, ◌∙◌}
 use Rattle.std.proofs.lemmas.List.Elements.{All-head, All-tail}
 use Rattle.std.proofs.lemmas.List.Sums.{fold-append}
 use Rattle.heap_model.specs.declared.command.Command.{Command}
@@ -8,7 +7,7 @@ use Rattle.heap_model.specs.declared.command.Command.TheVariants as commands
 use Rattle.heap_model.specs.declared.reply.Reply.{Reply}
 use Rattle.heap_model.specs.declared.reply.Reply.TheVariants as replies
 use Rattle.heap_model.specs.declared.entry.Entry.{Entry}
-use Rattle.heap_model.specs.declared.entry.Entry.TheVariants.{Said, Takes, GivesBack, Answers}
+use Rattle.heap_model.specs.declared.entry.Entry.TheVariants.{Said}
 use Rattle.heap_model.specs.Objects.{State, opening}
 use Rattle.heap_model.specs.Growth.{after, after_reply, graph_after}
 use Rattle.heap_model.specs.SeatState.{SeatState, own_graph}

@@ -1,5 +1,5 @@
 -- What the collector may free, return and swing, and what is left at the end of a cycle.
-use Rattle.std.specs.Prelude.{◌≡◌, ℕ, ◌+◌, ◌*◌, ◌%◌, ◌≤◌, ◌↔◌, Bool, true, List, AllPairs, Contains, sum_by}
+use Rattle.std.specs.Prelude.{◌≡◌, ℕ, ◌+◌, ◌*◌, ◌%◌, ◌≤◌, ◌↔◌, true, List, AllPairs, Contains, sum_by}
 use Rattle.std.specs.List.{range_with_len}
 use Rattle.std.specs.Option.{IsSomeAnd}
 use Rattle.heap_model.specs.declared.heap.Heap.{Heap}

@@ -1,7 +1,6 @@
 -- What contracts see of a seat, and what the seat's own entries tell.
 use Rattle.std.specs.Prelude.{ℕ, List, Option}
 use Rattle.heap_model.specs.declared.heap.Heap.{Heap}
-use Rattle.heap_model.specs.declared.id.Id.{Id}
 use Rattle.heap_model.specs.declared.id.Value.{Value}
 use Rattle.heap_model.specs.declared.id.Value.TheVariants.{Nil, Number, Object}
 use Rattle.heap_model.specs.declared.entry.Entry.{Entry}

@@ -1,5 +1,5 @@
 -- The scripts that the program serves so far.
-use Rattle.std.specs.Prelude.{◌≡◌, ℕ, ◌+◌, ◌≤◌, ◌==◌, ◌&&◌, Bool, true, false, not, nat_le, if◌then◌else◌, All, Option, Some, None, option_map, position}
+use Rattle.std.specs.Prelude.{◌≡◌, ℕ, ◌+◌, ◌==◌, ◌&&◌, Bool, true, false, not, nat_le, if◌then◌else◌, All, Option, Some, option_map, position}
 use Rattle.heap_model.specs.declared.command.Command.{Command}
 use Rattle.heap_model.specs.declared.command.Command.TheVariants.{New, Array, Collect, Leave}
 use Rattle.heap_model.specs.declared.heap.Heap.{Heap}

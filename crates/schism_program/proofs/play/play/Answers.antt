@@ -1,8 +1,7 @@
-use Rattle.std.proofs.Common.{◌≡◌, ℕ, List, length, take, Some, sym, ap, subst, ◌∙◌, arith}
+use Rattle.std.proofs.Common.{◌≡◌, List, length, take, Some, sym, ap, subst, ◌∙◌, arith}
 use Rattle.std.proofs.lemmas.Grind.{common_steps}
 use Rattle.heap_model.specs.declared.entry.Entry.{Entry}
 use Rattle.script_text.specs.declared.script.Form.TheVariants.{Play}
-use Rattle.reply_text.specs.declared.history.History.{History}
 use Rattle.schism_program.specs.Play.{ShowsCounts}
 use Rattle.schism_program.specs.Playing.{Playing}
 use Rattle.schism_program.proofs.LeavingLemmas.{whole_play}

@@ -1,5 +1,4 @@
-use Rattle.std.proofs.Common.{refl, ap, slice_set, slice_index_or, arith}
-use Rattle.heap_model.specs.declared.id.Value.TheVariants.{Nil}
+use Rattle.std.proofs.Common.{refl, arith}
 use Rattle.schism_program.proofs.Registers.{copy_answers}
 use Rattle.schism_program.proofs.store.Store.copy.Goals as goal
 
