@@ -10,7 +10,9 @@ use Rattle.heap_model.specs.Space.{need_of, made_by}
 use Rattle.heap_words.specs.Meta.{meta_word}
 use Rattle.heap_words.specs.Name.{name_word}
 use Rattle.schism_program.specs.declared.store.Store.{Store}
+use Rattle.heap_model.specs.Objects.{Node, Party}
 use Rattle.schism_program.specs.Places.{value_word}
+use Rattle.schism_program.specs.Stands.{StandsFor}
 
 -- a register has another word
 pub record PutsRegister (old new : Store) (d word : ℕ) : Type 0 where
@@ -80,3 +82,7 @@ pub record Gives (old new : Store) : Type 0 where
   pub end : new.end ≡ old.end
   pub size : length new.words.items ≡ length old.words.items
   pub sets : new.sets ≡ old.sets
+
+-- whatever graph the old store stands for, the reply gives and shows what it may
+abbrev pub RepliesFor : Store → Store → Command → Reply → Type 0
+RepliesFor old new command reply = (board : Node) (seat : Party) → StandsFor old board seat → Replies old new command reply

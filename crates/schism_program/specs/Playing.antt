@@ -49,3 +49,8 @@ IsEnough store command = store.end ≤ store.next + 15
 pub record IsReady (heap : Heap) (store : Store) (history : List Entry) (lines : List Line) (command : Command) : Type 0 where
   pub playing : Playing heap 16 store history lines
   pub enough : IsEnough store command
+
+-- a play that stood at the old store and history, whatever it read, stands ready for the command at the new ones
+abbrev pub ReadiesFor : Store → Store → List Entry → List Entry → Command → Type 0
+ReadiesFor old new before after command =
+    (heap : Heap) (lines : List Line) → Playing heap 15 old before lines → IsReady heap new after lines command

@@ -58,6 +58,11 @@ pub record Answers (store : Store) (board : Node) (seat : Party) (command : Comm
   pub grown : after_reply (alone board seat) 0 command reply ≡ alone board_after seat_after
   pub stands : StandsFor store board_after seat_after
 
+-- whatever graph the old store stands for, the reply is that graph's, and the new store stands for the graph after it
+abbrev pub AnswersFor : Store → Store → Command → Reply → Type 0
+AnswersFor old new command reply =
+    (board : Node) (seat : Party) → StandsFor old board seat → Answers new board seat command reply
+
 -- the field i of what the register refers to is there, and this is its place
 pub record IsFieldAt (g : State) (r i place : ℕ) : Type 0 where
   pub id : Id
@@ -70,3 +75,7 @@ pub record IsFieldAt (g : State) (r i place : ℕ) : Type 0 where
 -- the place of a field, or the graph's refusal
 abbrev pub Finds : State → ℕ → ℕ → Result ℕ Reply → Type 0
 Finds g r i found = MatchResult found (IsFieldAt g r i) (λ refusal. cell_at g 0 r i ≡ Err refusal)
+
+-- so it is in whatever graph the store stands for
+abbrev pub FindsFor : Store → ℕ → ℕ → Result ℕ Reply → Type 0
+FindsFor store r i found = (board : Node) (seat : Party) → StandsFor store board seat → Finds (alone board seat) r i found

@@ -3,9 +3,8 @@ ghost use Rattle.heap_model.specs.declared.command.Command.TheVariants as comman
 ghost use Rattle.heap_model.specs.declared.reply.Reply.TheVariants as replies;
 ghost use Rattle.heap_model.specs.declared.id.Id.TheVariants as ids;
 ghost use Rattle.heap_model.specs.Command.{IsTarget, IsRegister};
-ghost use Rattle.heap_model.specs.Objects.{Node, Party};
 ghost use Rattle.schism_program.specs.Places.{IsSmall, value_word};
-ghost use Rattle.schism_program.specs.Stands.{StandsFor, Answers};
+ghost use Rattle.schism_program.specs.Stands.{AnswersFor};
 ghost use Rattle.schism_program.specs.Changes.{Claims, Gives, PutsRegister, SameFragments};
 
 use crate::store::{Store, packed};
@@ -28,7 +27,7 @@ impl Store {
     pub fn num(&mut self, d: u8, n: u32) -> Reply
         requires target { IsTarget d }
         requires small { n < 2 ^ 30 }
-        ensures answers { (board : Node) (seat : Party) → StandsFor self.old board seat → Answers self.new board seat (commands.Num d n) result }
+        ensures answers { AnswersFor self.old self.new (commands.Num d n) result }
         ensures fragments { SameFragments self.old self.new }
     {
         self.put(d, Value::Number(n));
@@ -38,7 +37,7 @@ impl Store {
     /// Makes a register nil.
     pub fn nil(&mut self, d: u8) -> Reply
         requires target { IsTarget d }
-        ensures answers { (board : Node) (seat : Party) → StandsFor self.old board seat → Answers self.new board seat (commands.Nil d) result }
+        ensures answers { AnswersFor self.old self.new (commands.Nil d) result }
         ensures fragments { SameFragments self.old self.new }
     {
         self.put(d, Value::Nil);
@@ -49,7 +48,7 @@ impl Store {
     pub fn copy(&mut self, d: u8, r: u8) -> Reply
         requires target { IsTarget d }
         requires register { IsRegister r }
-        ensures answers { (board : Node) (seat : Party) → StandsFor self.old board seat → Answers self.new board seat (commands.Copy d r) result }
+        ensures answers { AnswersFor self.old self.new (commands.Copy d r) result }
         ensures fragments { SameFragments self.old self.new }
     {
         self.registers[d as usize] = self.registers[r as usize];
@@ -60,7 +59,7 @@ impl Store {
     pub fn same(&self, a: u8, b: u8) -> Reply
         requires one { IsRegister a }
         requires other { IsRegister b }
-        ensures answers { (board : Node) (seat : Party) → StandsFor self.now board seat → Answers self.now board seat (commands.Same a b) result }
+        ensures answers { AnswersFor self.now self.now (commands.Same a b) result }
     {
         if self.registers[a as usize] == self.registers[b as usize] {
             Reply::Yes
@@ -72,7 +71,7 @@ impl Store {
     /// The length of what a register refers to.
     pub fn len(&self, r: u8) -> Reply
         requires register { IsRegister r }
-        ensures answers { (board : Node) (seat : Party) → StandsFor self.now board seat → Answers self.now board seat (commands.Len r) result }
+        ensures answers { AnswersFor self.now self.now (commands.Len r) result }
     {
         match self.head(r) {
             Some(head) => Reply::Length(self.length_at(head)),
@@ -91,7 +90,7 @@ impl Store {
     pub fn get(&mut self, d: u8, r: u8, i: u32) -> Reply
         requires target { IsTarget d }
         requires register { IsRegister r }
-        ensures answers { (board : Node) (seat : Party) → StandsFor self.old board seat → Answers self.new board seat (commands.Get d r i) result }
+        ensures answers { AnswersFor self.old self.new (commands.Get d r i) result }
         ensures fragments { SameFragments self.old self.new }
     {
         let place = match self.find(r, i) {
@@ -112,7 +111,7 @@ impl Store {
         requires register { IsRegister r }
         requires value { IsRegister v }
         requires sets { self.old.sets + 1 < 2 ^ 26 }
-        ensures answers { (board : Node) (seat : Party) → StandsFor self.old board seat → Answers self.new board seat (commands.Set r i v) result }
+        ensures answers { AnswersFor self.old self.new (commands.Set r i v) result }
         ensures fragments { SameFragments self.old self.new }
     {
         let place = match self.find(r, i) {
@@ -133,7 +132,7 @@ impl Store {
         requires fields { fields ≤ 2 }
         ensures full { self.old.next ≡ self.old.end → (result ≡ replies.Full 1 0) × (self.new ≡ self.old) }
         ensures given { self.old.next < self.old.end → (result ≡ replies.Made (ids.Made 0 (self.old.next - 11))) × Gives self.old self.new }
-        ensures made { self.old.next < self.old.end → (board : Node) (seat : Party) → StandsFor self.old board seat → Answers self.new board seat (commands.New d fields) result }
+        ensures made { self.old.next < self.old.end → AnswersFor self.old self.new (commands.New d fields) result }
     {
         if self.next == self.end {
             return Reply::Full { need: 1, found: 0 };

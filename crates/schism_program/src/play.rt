@@ -1,16 +1,15 @@
 ghost use Rattle.std.specs.Prelude.{true, ◌≡◌, ℕ, ◌+◌, ◌<◌, ◌≤◌, ◌^◌, List, [], ◌∷◌, ◌++◌, length, OnOk, IfOk};
 ghost use Rattle.heap_model.specs.declared.heap.Heap.{Heap as AHeap};
 ghost use Rattle.heap_model.specs.Command.{IsCommand};
-ghost use Rattle.heap_model.specs.Objects.{Node, Party};
 ghost use Rattle.script_text.specs.declared.script.Form.TheVariants.{Play};
 ghost use Rattle.script_text.specs.declared.script.Line.{Line as ALine};
 ghost use Rattle.script_text.specs.declared.script.Line.TheVariants as lines;
 ghost use Rattle.script_text.specs.Built.{IsBuilt, is_built_command};
 ghost use Rattle.script_text.specs.Writing.{IsOfForm};
-ghost use Rattle.schism_program.specs.Changes.{Replies};
+ghost use Rattle.schism_program.specs.Changes.{RepliesFor};
 ghost use Rattle.schism_program.specs.Play.{EndsInReply, IsPlay, ShowsCounts};
-ghost use Rattle.schism_program.specs.Playing.{IsReady, Playing};
-ghost use Rattle.schism_program.specs.Stands.{Answers, StandsFor};
+ghost use Rattle.schism_program.specs.Playing.{Playing, ReadiesFor};
+ghost use Rattle.schism_program.specs.Stands.{AnswersFor};
 
 use crate::leaving::leave;
 use crate::store::Store;
@@ -24,8 +23,8 @@ fn reply_to(store: &mut Store, command: Command) -> Reply
     requires command { IsCommand command }
     requires built { is_built_command command ≡ true }
     requires sets { store.old.sets + 1 < 2 ^ 26 }
-    ensures answers { (board : Node) (seat : Party) → StandsFor store.old board seat → Answers store.new board seat command result }
-    ensures replies { (board : Node) (seat : Party) → StandsFor store.old board seat → Replies store.old store.new command result }
+    ensures answers { AnswersFor store.old store.new command result }
+    ensures replies { RepliesFor store.old store.new command result }
     ensures few { store.new.sets ≤ store.old.sets + 1 }
 {
     match command {
@@ -44,7 +43,7 @@ fn reply_to(store: &mut Store, command: Command) -> Reply
 
 /// Claims fragments if the command needs one and none is left, and notes how many.
 fn claim_for(store: &mut Store, history: &mut Vec<Entry>, command: Command) -> Result<(), Memory>
-    ensures ready { (heap : AHeap) (read : List ALine) → Playing heap 15 store.old history.old.items read → OnOk result (IsReady heap store.new history.new.items read command) }
+    ensures ready { OnOk result (ReadiesFor store.old store.new history.old.items history.new.items command) }
     ensures sets { store.new.sets ≡ store.old.sets }
 {
     let Command::New { .. } = command else {
@@ -62,7 +61,8 @@ fn answer(store: &mut Store, history: &mut Vec<Entry>, command: Command) -> Resu
     requires command { IsCommand command }
     requires built { is_built_command command ≡ true }
     requires sets { store.old.sets + 1 < 2 ^ 26 }
-    ensures plays { (heap : AHeap) (read : List ALine) → Playing heap 15 store.old history.old.items read → OnOk result (Playing heap 15 store.new history.new.items (read ++ lines.Seat 0 command ∷ [])) }
+    ensures plays { (heap : AHeap) (read : List ALine) → Playing heap 15 store.old history.old.items read →
+        OnOk result (Playing heap 15 store.new history.new.items (read ++ lines.Seat 0 command ∷ [])) }
     ensures last { OnOk result (EndsInReply history.new.items) }
     ensures few { store.new.sets ≤ store.old.sets + 1 }
 {
@@ -79,8 +79,8 @@ fn answer(store: &mut Store, history: &mut Vec<Entry>, command: Command) -> Resu
 /// What is taken when the script is done.
 fn mark_of(store: &Store, history: &[Entry], heap: &Heap) -> SpaceMark
     ensures before { result.before ≡ length history.now }
-    ensures shows { (read : List ALine) → Playing heap.now 15 store.now history.now read → heap.now.spine ≡ 0 →
-        ShowsCounts heap.now history.now result }
+    ensures shows { (read : List ALine) → Playing heap.now 15 store.now history.now read →
+        heap.now.spine ≡ 0 → ShowsCounts heap.now history.now result }
 {
     SpaceMark {
         before: history.len(),

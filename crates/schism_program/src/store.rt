@@ -56,8 +56,7 @@ fn place(head: usize, field: usize) -> usize
 }
 
 impl Store {
-    ghost use Rattle.heap_model.specs.Objects.{Node, Party};
-    ghost use Rattle.schism_program.specs.Stands.{alone, StandsFor, Finds};
+    ghost use Rattle.schism_program.specs.Stands.{FindsFor};
 
     /// The head of what the register refers to, if it refers to an object.
     pub fn head(&self, r: u8) -> Option<u32>
@@ -95,7 +94,8 @@ impl Store {
 
     /// The length of the object at this head, by its meta.
     pub fn length_at(&self, head: u32) -> u16
-        ensures { (meta : AMeta) → IsMeta meta → slice_index self.now.words.items (4 * head) ≡ meta_word meta → result ≡ meta.length }
+        ensures { (meta : AMeta) → IsMeta meta →
+            slice_index self.now.words.items (4 * head) ≡ meta_word meta → result ≡ meta.length }
     {
         match Meta::read(self.word(4 * head as usize)) {
             Some(meta) => meta.length,
@@ -105,7 +105,8 @@ impl Store {
 
     /// The id of the object at this head, by its name.
     fn id_at(&self, head: u32) -> Id
-        ensures { (id : AnId) → IsName (name_of id) → slice_index self.now.words.items (4 * head + 1) ≡ name_word (name_of id) → result ≡ id }
+        ensures { (id : AnId) → IsName (name_of id) →
+            slice_index self.now.words.items (4 * head + 1) ≡ name_word (name_of id) → result ≡ id }
     {
         let Some(name) = Name::read(self.word(4 * head as usize + 1)) else {
             return Id::Board;
@@ -121,7 +122,8 @@ impl Store {
 
     /// The value that a cell holds.
     pub fn value_in(&self, cell: Cell) -> Value
-        ensures { (value : AValue) (stamp : ℕ) → cell ≡ cell_with value stamp → IsNamed self.now.words.items value → result ≡ value }
+        ensures { (value : AValue) (stamp : ℕ) → cell ≡ cell_with value stamp →
+            IsNamed self.now.words.items value → result ≡ value }
     {
         match cell.kind {
             Kind::Number => Value::Number(cell.value),
@@ -134,7 +136,7 @@ impl Store {
     pub fn find(&self, r: u8, i: u32) -> Result<usize, Reply>
         requires register { r ≤ 15 }
         ensures within { IfOk result (λ place. place < length self.now.words.items) }
-        ensures finds { (board : Node) (seat : Party) → StandsFor self.now board seat → Finds (alone board seat) r i result }
+        ensures finds { FindsFor self.now r i result }
     {
         let Some(head) = self.head(r) else {
             return Err(Reply::NoObject);
