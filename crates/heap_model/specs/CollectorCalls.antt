@@ -27,15 +27,15 @@ abbrev pub AddsNone : CollectorState → CollectorState → Type 0
 AddsNone old new = (new.log ≡ old.log) × (new.phase ≡ old.phase)
 
 -- the turn made a step, or found a seat that is one phase behind, or ended a cycle
-abbrev pub Makes : CollectorState → CollectorState → Turn → Type 0
-Makes old new turns.Stepped = AddsNone old new ⊎ ((entry : Entry) × StepsTo old.phase entry new.phase × (new.log ≡ old.log ++ entry ∷ []))
-Makes old new (turns.Waits seat answered phase) = AddsNone old new × (phase ≡ old.phase) × (answered + 1 ≡ phase)
-Makes old new (turns.Ended cycle kept) =
+abbrev pub ComesTo : CollectorState → CollectorState → Turn → Type 0
+ComesTo old new turns.Stepped = AddsNone old new ⊎ ((entry : Entry) × StepsTo old.phase entry new.phase × (new.log ≡ old.log ++ entry ∷ []))
+ComesTo old new (turns.Waits seat answered phase) = AddsNone old new × (phase ≡ old.phase) × (answered + 1 ≡ phase)
+ComesTo old new (turns.Ended cycle kept) =
     (new.log ≡ old.log ++ entries.Ends cycle kept ∷ []) × (old.phase ≡ 7 * cycle + 6) × (new.phase ≡ 7 * cycle + 7)
 
 -- one turn was made, and is the last one
 pub record Turns (old new : CollectorState) (turn : Turn) : Type 0 where
-  pub makes : Makes old new turn
+  pub comes_to : ComesTo old new turn
   pub spare : old.spare + length old.log ≤ new.spare + length new.log
   pub counted : new.turns ≡ min (old.turns + 1) (2 ^ 64 - 1)
   pub last : new.last_turn ≡ Some turn

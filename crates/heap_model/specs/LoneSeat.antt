@@ -9,9 +9,11 @@ use Rattle.heap_model.specs.Objects.{State, opening, party}
 use Rattle.heap_model.specs.Growth.{graph_after}
 use Rattle.heap_model.specs.Space.{taken_of, spent_of}
 
+-- one group, no spine words and one seat
 abbrev pub lone_heap : Heap
 lone_heap = record { groups = 1; spine = 0; seats = 1 }
 
+-- the graph after the seat's entries
 abbrev pub lone_graph : List Entry → State
 lone_graph mine = graph_after (opening lone_heap) mine
 

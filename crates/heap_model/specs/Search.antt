@@ -22,6 +22,7 @@ abbrev pub mark : Marking → Id → Option Bool
 mark m Board = Some m.board
 mark m (Made s count) = slice_get (marks_of m s) count
 
+-- there is an object of this id, and it is marked
 abbrev pub IsMarked : Marking → Id → Type 0
 IsMarked m id = mark m id ≡ Some true
 

@@ -24,10 +24,11 @@ pub record IsReady (seat : SeatState) (command : Command) : Type 0 where
   pub room : 2 * need_of command + 4 ≤ seat.spare
   pub numbered : HasNumber seat command
 
--- the seat takes some fragments, or gives some back
+-- the seat takes some fragments
 abbrev pub IsTake : ℕ → Entry → Type 0
 IsTake s entry = (count : ℕ) × (entry ≡ Takes s count)
 
+-- the seat gives some back
 abbrev pub IsGiveBack : ℕ → Entry → Type 0
 IsGiveBack s entry = (count : ℕ) × (entry ≡ GivesBack s count)
 

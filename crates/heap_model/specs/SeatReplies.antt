@@ -54,7 +54,7 @@ len_reply (Err none) = replies.NoObject
 abbrev pub next_id : SeatState → Id
 next_id seat = Made seat.number (length (own_party seat).objects)
 
--- too few fragments: those of the seat and those that it claimed were fewer than were needed, and it gave back what it claimed
+-- the seat's fragments and those that it claimed were too few, and what it claimed is given back
 pub record LacksFragments (old new : SeatState) (wanted need found : ℕ) : Type 0 where
   pub needed : need ≡ wanted
   pub too_few : found < need

@@ -1,6 +1,5 @@
-use Rattle.std.proofs.Common.{◌≡◌, ap, sym, ◌∙◌, ℕ, Result, Ok, rules}
+use Rattle.std.proofs.Common.{◌≡◌, ap, ◌∙◌, ℕ, Result, Ok, rules}
 use Rattle.heap_model.specs.declared.refusal.NoObject.{NoObject}
-use Rattle.std.specs.Option.{unwrap_or}
 use Rattle.std.proofs.lemmas.Option.{IfSome_then}
 use Rattle.heap_model.specs.SeatState.{held}
 use Rattle.heap_model.specs.LoneSeat.{lone_length}

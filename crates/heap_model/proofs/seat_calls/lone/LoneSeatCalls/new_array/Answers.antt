@@ -1,4 +1,4 @@
-use Rattle.std.proofs.Common.{◌≡◌, ℕ, ◌+◌, ◌/◌, arith, ap, sym, rules}
+use Rattle.std.proofs.Common.{◌≡◌, ◌+◌, ◌/◌, arith, ap, sym, rules}
 use Rattle.heap_model.specs.SeatState.{SeatState}
 use Rattle.heap_model.proofs.seat_calls.lone.LoneSeatCalls.new_array.Goals as goal
 

@@ -1,4 +1,4 @@
-use Rattle.std.proofs.Common.{◌≡◌, ◌+◌, [], ap, sym, refl, rules, arith}
+use Rattle.std.proofs.Common.{◌≡◌, ◌+◌, [], ap, sym, refl, rules}
 use Rattle.std.proofs.lemmas.List.Elements.{All-cons, All-nil}
 use Rattle.heap_model.specs.declared.entry.Entry.TheVariants.{Takes}
 use Rattle.heap_model.specs.SeatState.{SeatState}

@@ -1,4 +1,4 @@
-use Rattle.std.proofs.Common.{◌≡◌, rules}
+use Rattle.std.proofs.Common.{rules}
 use Rattle.heap_model.proofs.seat_calls.lone.LoneSeatCalls.same.Goals as goal
 
 pub returns-clause-same : goal.returns-clause-same

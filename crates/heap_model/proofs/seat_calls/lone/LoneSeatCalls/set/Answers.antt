@@ -1,4 +1,4 @@
-use Rattle.std.proofs.Common.{◌≡◌, ◌<◌, ◌+◌, ◌^◌, refl, rules, arith}
+use Rattle.std.proofs.Common.{◌<◌, ◌+◌, ◌^◌, refl, rules}
 use Rattle.heap_model.specs.declared.command.Command.TheVariants.{Set}
 use Rattle.heap_model.specs.declared.reply.Reply.TheVariants.{Was}
 use Rattle.heap_model.specs.LoneSeat.{lone_graph}
