@@ -7,7 +7,8 @@ use Rattle.heap_model.specs.declared.entry.Entry.{Entry}
 use Rattle.heap_model.specs.Objects.{State}
 use Rattle.heap_model.specs.Growth.{after, graph_after}
 use Rattle.heap_model.specs.Legal.{Accepts, AcceptsAll}
-use Rattle.heap_model.specs.Space.{Effect, effect_of, is_of, total, total_of}
+use Rattle.heap_model.specs.declared.effect.Effect.{Effect}
+use Rattle.heap_model.specs.Space.{effect_of, is_of, total, total_of}
 use Rattle.heap_model.specs.Account.{KeepsSpace, KeepsSpaceAfter}
 
 -- the graph grows by the entry

@@ -35,51 +35,46 @@ MakesOfOwn before _ = Unit {0}
 abbrev pub given_up : ℕ → List Entry → ℕ
 given_up s history = total (λ e. e.freed) history + total_but s (λ e. e.given) history
 
--- a refusal shows what the command needs and what was there, which is less: what is in no use, and the seat's own
-abbrev pub ShowsSpace : Heap → List Entry → ℕ → Command → Reply → Type 0
-ShowsSpace heap before s command (replies.Full need found) =
-    (need ≡ need_of command) × (found < need)
-    × (found + gained before + spent_of s before ≡ 16 * heap.groups + lost before + taken_of s before)
-ShowsSpace heap before s command _ = Unit {0}
-
-abbrev pub RefusesRightly : Heap → List Entry → Entry → Type 0
-RefusesRightly heap before (entries.Said s command reply) = ShowsSpace heap before s command reply
-RefusesRightly heap before _ = Unit {0}
-
--- in a run a refusal shows about that: what was given up since the seat's last reply may be missed, and what others took since
--- may be counted
-abbrev pub ShowsAbout : Heap → List Entry → ℕ → Command → Reply → Type 0
-ShowsAbout heap before s command (replies.Full need found) =
-    (need ≡ need_of command) × (found < need)
-    × (16 * heap.groups + lost before + taken_of s before ≤ found + gained before + spent_of s before + given_up s (since_reply s before))
+-- in a play what is in no use is found, and the seat's own; in a run what was given up since the seat's last reply may be missed,
+-- and what others took since may be counted
+abbrev pub FindsSpace : Heap → Bool → List Entry → ℕ → ℕ → Type 0
+FindsSpace heap true before s found = found + gained before + spent_of s before ≡ 16 * heap.groups + lost before + taken_of s before
+FindsSpace heap false before s found =
+    (16 * heap.groups + lost before + taken_of s before ≤ found + gained before + spent_of s before + given_up s (since_reply s before))
     × (found + gained before + spent_of s before ≤ 16 * heap.groups + lost before + taken_of s before + total_but s (λ e. e.taken) (since_reply s before))
-ShowsAbout heap before s command _ = Unit {0}
 
--- a refusal shows what it may, by whether this is a play
-abbrev pub Refuses : Heap → Bool → List Entry → Entry → Type 0
-Refuses heap true before entry = RefusesRightly heap before entry
-Refuses heap false before (entries.Said s command reply) = ShowsAbout heap before s command reply
-Refuses heap false before _ = Unit {0}
+-- a refusal shows what the command needs, and what was found, which is less
+abbrev pub ShowsSpace : Heap → Bool → List Entry → ℕ → Command → Reply → Type 0
+ShowsSpace heap play before s command (replies.Full need found) = (need ≡ need_of command) × (found < need) × FindsSpace heap play before s found
+ShowsSpace heap play before s command _ = Unit {0}
 
--- in a play the spine words in use are shown; in a run those of arrays that others made since the seat's last reply may be
+abbrev pub RefusesRightly : Heap → Bool → List Entry → Entry → Type 0
+RefusesRightly heap play before (entries.Said s command reply) = ShowsSpace heap play before s command reply
+RefusesRightly heap play before _ = Unit {0}
+
+-- in a play the spine words in use are found; in a run those of arrays that others made since the seat's last reply may be
 -- missed, and those that were returned since may be counted, and what another seat asks for
-abbrev pub ShowsSpine : Heap → Bool → List Entry → ℕ → ℕ → Type 0
-ShowsSpine heap true before s shown = shown + returned before ≡ granted before
-ShowsSpine heap false before s shown =
+abbrev pub FindsSpine : Heap → Bool → List Entry → ℕ → ℕ → Type 0
+FindsSpine heap true before s shown = shown + returned before ≡ granted before
+FindsSpine heap false before s shown =
     (granted before ≤ shown + returned before + total_but s (λ e. e.words) (since_reply s before))
     × (shown + returned before ≤ granted before + returned (since_reply s before) + 1024 * (heap.seats - 1))
 
 -- an array is refused where its spine words are too many beside those in use
+abbrev pub ShowsSpine : Heap → Bool → List Entry → ℕ → Command → Reply → Type 0
+ShowsSpine heap play before s command (replies.SpineFull need shown) =
+    (need ≡ spine_need_of command) × (heap.spine < shown + need) × FindsSpine heap play before s shown
+ShowsSpine heap play before s command _ = Unit {0}
+
 abbrev pub RefusesSpine : Heap → Bool → List Entry → Entry → Type 0
-RefusesSpine heap play before (entries.Said s command (replies.SpineFull need shown)) =
-    (need ≡ spine_need_of command) × (heap.spine < shown + need) × ShowsSpine heap play before s shown
+RefusesSpine heap play before (entries.Said s command reply) = ShowsSpine heap play before s command reply
 RefusesSpine heap play before _ = Unit {0}
 
 -- the entry keeps the rules after those before it, in a play or in a run
 pub record KeepsSpace (heap : Heap) (play : Bool) (before : List Entry) (entry : Entry) : Type 0 where
   pub takes : TakesAndGives heap before entry
   pub makes : MakesOfOwn before entry
-  pub refuses : Refuses heap play before entry
+  pub refuses : RefusesRightly heap play before entry
   pub refuses_spine : RefusesSpine heap play before entry
   pub answers : AnswersPhase before entry
   pub begins : BeginsPhase heap before entry

@@ -1,4 +1,5 @@
 pub mod Account
+pub mod Books
 pub mod CollectorCalls
 pub mod Command
 pub mod Cycles
@@ -6,6 +7,7 @@ pub mod Growth
 pub mod Heap
 pub mod Legal
 pub mod LoneSeat
+pub mod Noting
 pub mod Objects
 pub mod Phases
 pub mod Reach
@@ -15,4 +17,5 @@ pub mod SeatReplies
 pub mod SeatState
 pub mod Sizes
 pub mod Space
+pub mod Sums
 pub mod Windows

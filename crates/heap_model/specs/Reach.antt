@@ -41,3 +41,8 @@ IsBefore (Made s count) (Made t later) = (s < t) ⊎ ((s ≡ t) × (count < late
 pub record IsReach (g : State) (ids : List Id) : Type 0 where
   pub ordered : AllPairs IsBefore ids
   pub reached : (id : Id) → Contains ids id ↔ Reaches g id
+
+-- the list has exactly the reached ones of the ids, in their order
+pub record IsReachAmong (g : State) (ids both : List Id) : Type 0 where
+  pub ordered : AllPairs IsBefore ids → AllPairs IsBefore both
+  pub reached : (id : Id) → Contains both id ↔ Contains ids id × Reaches g id

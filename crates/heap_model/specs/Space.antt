@@ -6,6 +6,7 @@ use Rattle.heap_model.specs.declared.reply.Reply.{Reply}
 use Rattle.heap_model.specs.declared.reply.Reply.TheVariants as replies
 use Rattle.heap_model.specs.declared.entry.Entry.{Entry}
 use Rattle.heap_model.specs.declared.entry.Entry.TheVariants as entries
+use Rattle.heap_model.specs.declared.effect.Effect.{Effect}
 
 -- the fragments of a record: a head with two fields, and three fields in each further fragment
 abbrev pub record_fragments : ℕ → ℕ
@@ -40,18 +41,7 @@ abbrev pub words_by : Command → Reply → ℕ
 words_by command (replies.Made id) = spine_need_of command
 words_by command _ = 0
 
--- the fragments that an entry takes from the heap, gives back, makes into an object, or frees;
--- the spine words of the array that it makes, and those that it returns; the phases that it begins, and those that it answers
-pub record Effect : Type 0 where
-  pub taken : ℕ
-  pub given : ℕ
-  pub born : ℕ
-  pub freed : ℕ
-  pub words : ℕ
-  pub returned : ℕ
-  pub phases : ℕ
-  pub answers : ℕ
-
+-- nothing
 abbrev pub no_effect : Effect
 no_effect = record { taken = 0; given = 0; born = 0; freed = 0; words = 0; returned = 0; phases = 0; answers = 0 }
 

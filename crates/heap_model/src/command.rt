@@ -1,5 +1,6 @@
-ghost use Rattle.std.specs.Prelude.{◌↔◌, IsTrue};
+ghost use Rattle.std.specs.Prelude.{◌≡◌, ◌<◌, ◌^◌, ◌↔◌, IsTrue};
 ghost use Rattle.heap_model.specs.Command.{IsTarget, IsCommand};
+ghost use Rattle.heap_model.specs.Space.{need_of, spine_need_of};
 
 /// What a seat asks of the heap. `d` is the register that the answer goes to, `r`, `v`, `a` and `b` are registers
 /// that are read, and `i` is the index of a field or a cell.
@@ -35,6 +36,27 @@ impl Command {
             Command::Same { a, b } => a <= 15 && b <= 15,
             Command::Len { r } => r <= 15,
             Command::Poll | Command::Collect | Command::Leave => true,
+        }
+    }
+
+    /// The fragments that the command asks for.
+    pub fn need(&self) -> u32
+        ensures { result ≡ need_of self.now }
+    {
+        match *self {
+            Command::New { fields, .. } => 1 + (fields.saturating_sub(2) as u32 + 2) / 3,
+            Command::Array { cells, .. } => 1 + (cells as u32 + 3) / 4,
+            _ => 0,
+        }
+    }
+
+    /// The spine words that the command asks for.
+    pub fn spine_need(&self) -> u32
+        ensures { result ≡ spine_need_of self.now }
+    {
+        match *self {
+            Command::Array { cells, .. } => (cells as u32 + 3) / 4,
+            _ => 0,
         }
     }
 }

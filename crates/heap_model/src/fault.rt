@@ -30,6 +30,14 @@ pub enum ApplyFault {
     Memory,
 }
 
+impl From<Memory> for ApplyFault {
+    ghost from_gives = { λ _ e. e ≡ faults.Memory };
+
+    fn from(_e: Memory) -> ApplyFault {
+        ApplyFault::Memory
+    }
+}
+
 impl From<AllocError> for ApplyFault {
     ghost from_gives = { λ _ e. e ≡ faults.Memory };
 

@@ -14,6 +14,7 @@ mod growth;
 mod legal;
 mod lookup;
 mod reach;
+mod sizes;
 #[cfg(test)]
 mod tests;
 

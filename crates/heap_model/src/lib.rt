@@ -1,9 +1,11 @@
-//! The heap that never collects: ids, commands, entries, and the graph that only grows.
+//! The heap that never collects: ids, commands, entries, the graph that only grows, and the account of space and phases.
 #![tactic(auto)]
 
+mod account;
 mod cell;
 mod collector_calls;
 mod command;
+mod effect;
 mod entry;
 mod fault;
 mod graph;
@@ -15,6 +17,7 @@ mod reply;
 mod seat;
 mod seat_calls;
 
+pub use account::Account;
 pub use cell::Cell;
 pub use collector_calls::{CollectorCalls, Turn};
 pub use command::{Command, TurnCommand};

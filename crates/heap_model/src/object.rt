@@ -26,7 +26,7 @@ impl Model for Object {
 impl Object {
     ghost use Rattle.heap_model.specs.Objects.{fresh};
     ghost use Rattle.heap_model.specs.Growth.{with_cell};
-    ghost use Rattle.heap_model.specs.Sizes.{fragments_of};
+    ghost use Rattle.heap_model.specs.Sizes.{fragments_of, spine_words_of};
 
     pub fn new(alloc: Global, array: bool, cells: u16) -> Result<Object, AllocError>
         ensures { IfOk result (λ object. object ≡ fresh array cells) }
@@ -61,6 +61,22 @@ impl Object {
             1 + cells.div_ceil(4)
         } else {
             1 + cells.saturating_sub(2).div_ceil(3)
+        }
+    }
+
+    pub fn is_array(&self) -> bool
+        ensures { result ≡ self.now.array }
+    {
+        self.array
+    }
+
+    pub fn spine_words(&self) -> u32
+        ensures { result ≡ spine_words_of self.now }
+    {
+        if self.array {
+            (self.cells.len() as u32).div_ceil(4)
+        } else {
+            0
         }
     }
 

@@ -1,4 +1,4 @@
-ghost use Rattle.std.specs.Prelude.{◌≡◌, ◌+◌, length, IfOk, OnOk, IfSome};
+ghost use Rattle.std.specs.Prelude.{◌≡◌, ◌+◌, [], length, IfOk, OnOk, IfSome};
 ghost use Rattle.heap_model.specs.declared.id.Id.TheVariants.{Board, Made};
 
 use crate::fault::Memory;
@@ -15,7 +15,7 @@ mod tests;
 
 impl Graph {
     ghost use Rattle.heap_model.specs.Objects.{node};
-    ghost use Rattle.heap_model.specs.Reach.{IsReach, Points};
+    ghost use Rattle.heap_model.specs.Reach.{IsReach, IsReachAmong, Points};
     ghost use Rattle.heap_model.specs.Sizes.{frags as frags_at};
     ghost use Rattle.heap_model.specs.Search.{HasMarks, IsSearch, GoesOn, FoundFromObject, IsListed};
 
@@ -23,12 +23,34 @@ impl Graph {
     pub fn reach(&self) -> Result<Vec<Id>, Memory>
         ensures { IfOk result (λ ids. IsReach self.now ids.items) }
     {
+        let marks = self.reached_marks()?;
+        let ids = self.list(&marks)?;
+        Ok(ids)
+    }
+
+    /// Those of the ids to which a path leads from some register.
+    pub(crate) fn reached_among(&self, ids: &[Id]) -> Result<Vec<Id>, Memory>
+        ensures { IfOk result (λ both. IsReachAmong self.now ids.now both.items) }
+    {
+        let marks = self.reached_marks()?;
+        let mut both = Vec::new(self.alloc);
+        for id in ids {
+            if marks.is_marked(*id) {
+                both.push(*id)?;
+            }
+        }
+        Ok(both)
+    }
+
+    /// The marks of a search that is through.
+    fn reached_marks(&self) -> Result<Marks, AllocError>
+        ensures { IfOk result (λ marks. IsSearch self.now (record { marks = marks; waiting = [] })) }
+    {
         let mut search = self.search_from_seats()?;
         while let Some(id) = search.next() {
             self.look_at(id, &mut search)?;
         }
-        let ids = self.list(&search.into_marks())?;
-        Ok(ids)
+        Ok(search.into_marks())
     }
 
     /// How many fragments the object has, and 0 where there is no such object.

@@ -1,0 +1,6 @@
+use Rattle.std.proofs.Common.{ℕ, ◌<◌}
+use Rattle.heap_model.specs.Books.{HasAnswered}
+use Rattle.heap_model.proofs.account.Account.all_answered.Given as goal
+
+abbrev pub invariant-loop-seat : goal.invariant-loop-seat
+invariant-loop-seat l = (s : ℕ) → s < l.seat → HasAnswered l.self s

@@ -1,0 +1,94 @@
+-- What the account keeps once an entry is counted.
+use Rattle.std.specs.Prelude.{◌≡◌, ℕ, ◌+◌, ◌-◌, ◌<◌, ◌≤◌, ◌↔◌, ◌⊎◌, Contains, Bool, true, false, if◌then◌else◌, nat_lt, List, [], slice_index_or, Option, Some, None, is_some, sum_by}
+use Rattle.std.specs.List.{range_with_len}
+use Rattle.heap_model.specs.declared.id.Id.{Id}
+use Rattle.heap_model.specs.declared.entry.Entry.{Entry}
+use Rattle.heap_model.specs.declared.entry.Entry.TheVariants as entries
+use Rattle.heap_model.specs.declared.heap.Heap.{Heap}
+use Rattle.heap_model.specs.declared.effect.Effect.{Effect}
+use Rattle.heap_model.specs.declared.account.seat.SeatAccount.{SeatAccount}
+use Rattle.heap_model.specs.declared.account.cycle.Cycle.{Cycle}
+use Rattle.heap_model.specs.Objects.{State}
+use Rattle.heap_model.specs.Reach.{IsReach}
+use Rattle.heap_model.specs.Sizes.{frags_of, words_of}
+use Rattle.heap_model.specs.Space.{effect_of, is_of}
+use Rattle.heap_model.specs.Sums.{plus}
+use Rattle.heap_model.specs.Windows.{is_reply_to, begins_phase, begins_cycle}
+use Rattle.heap_model.specs.Phases.{is_leave_of}
+use Rattle.heap_model.specs.Books.{Books, CycleFits, seat_at, last_phase}
+
+-- the seat of the entry, where it has one, is one of these
+abbrev pub IsSeatBelow : ℕ → Entry → Type 0
+IsSeatBelow seats (entries.Said s command reply) = s < seats
+IsSeatBelow seats (entries.Takes s count) = s < seats
+IsSeatBelow seats (entries.GivesBack s count) = s < seats
+IsSeatBelow seats (entries.Answers s phase) = s < seats
+IsSeatBelow seats _ = Unit {0}
+
+-- the seat of the entry
+abbrev pub seat_of : Entry → Option ℕ
+seat_of (entries.Said s command reply) = Some s
+seat_of (entries.Takes s count) = Some s
+seat_of (entries.GivesBack s count) = Some s
+seat_of (entries.Answers s phase) = Some s
+seat_of _ = None
+
+-- the seat has not left, and has yet to answer the phase
+abbrev pub is_behind_now : Effect → List SeatAccount → ℕ → Bool
+is_behind_now all seats s = if is_some (seat_at seats s).left then false else nat_lt (seat_at seats s).own.answers all.phases
+
+-- what is kept of a seat
+pub record IsNotedSeat (heap : Heap) (all : Effect) (seats : List SeatAccount) (s : ℕ) (entry : Entry) (old new : SeatAccount) : Type 0 where
+  pub own : new.own ≡ (if is_of s entry then plus old.own (effect_of entry) else old.own)
+  pub own_then : new.own_then ≡ (if is_reply_to s entry then new.own else old.own_then)
+  pub all_then : new.all_then ≡ (if is_reply_to s entry then plus all (effect_of entry) else old.all_then)
+  pub behind_then : (other : ℕ) → other < heap.seats
+      → slice_index_or new.behind_then other false ≡ (if is_reply_to s entry then is_behind_now all seats other else slice_index_or old.behind_then other false)
+  pub left : new.left ≡ (if is_leave_of s entry then Some (last_phase old all.phases) else old.left)
+
+-- the cycle that the entry ends
+abbrev pub ended_by : Entry → Option ℕ
+ended_by (entries.Ends cycle kept) = Some cycle
+ended_by _ = None
+
+-- what is kept of all, but for what swung and the cycle
+pub record IsCounted (old : Books) (entry : Entry) (new : Books) : Type 0 where
+  pub heap : new.heap ≡ old.heap
+  pub entries : new.entries ≡ old.entries + 1
+  pub all : new.all ≡ plus old.all (effect_of entry)
+  pub seats : (s : ℕ) → s < old.heap.seats → IsNotedSeat old.heap old.all old.seats s entry (seat_at old.seats s) (seat_at new.seats s)
+  pub ended : new.ended ≡ ended_by entry
+
+-- what is kept of all
+pub record IsNoted (old : Books) (entry : Entry) (new : Books) : Type 0 where
+  pub counted : IsCounted old entry new
+  pub swung : new.swung ≡ (if begins_phase entry then [] else old.swung)
+  pub cycle : new.cycle ≡ old.cycle
+
+-- what a seat brings into a cycle, by what is kept of it
+abbrev pub brought_by : SeatAccount → ℕ
+brought_by seat = seat.own.taken - (seat.own_then.given + seat.own_then.born)
+
+-- what is kept of a cycle that begins here
+pub record IsBegun (books : Books) (g : State) (cycle : Cycle) : Type 0 where
+  pub reached : IsReach g cycle.reached.items
+  pub frags : cycle.frags ≡ frags_of g cycle.reached.items
+  pub words : cycle.words ≡ words_of g cycle.reached.items
+  pub brought : cycle.brought ≡ sum_by (λ s. brought_by (seat_at books.seats s)) (range_with_len 0 books.heap.seats)
+  pub taken : cycle.taken_then ≡ books.all.taken
+  pub granted : cycle.words_then ≡ books.all.words
+  pub fits : CycleFits cycle
+
+-- little is left, by what is kept, where `both` fragments are reached that were when the cycle began
+abbrev pub IsLittleBy : Books → ℕ → ℕ → Type 0
+IsLittleBy books kept both =
+    (11 + books.all.taken ≤ books.all.given + books.all.freed + (books.cycle.frags + books.cycle.brought + (books.all.taken - books.cycle.taken_then)))
+    × (books.all.words ≤ books.all.returned + books.cycle.words + (books.all.words - books.cycle.words_then))
+    × (kept ≤ books.cycle.frags + books.cycle.brought + (books.all.taken - books.cycle.taken_then)) × (both ≤ kept)
+
+-- what the entry needs memory for is kept: an array that swings, and a cycle that begins
+pub record IsPrepared (old : Books) (g : State) (entry : Entry) (new : Books) : Type 0 where
+  pub rest : new ≡ record old { cycle = new.cycle; swung = new.swung }
+  pub swung : (id : Id) → Contains new.swung id ↔ Contains old.swung id ⊎ (entry ≡ entries.Swings id)
+  pub begun : begins_cycle entry ≡ true → IsBegun old g new.cycle
+  pub same : begins_cycle entry ≡ false → new.cycle ≡ old.cycle

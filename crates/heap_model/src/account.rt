@@ -1,0 +1,129 @@
+ghost use Rattle.std.specs.Prelude.{◌≡◌, ◌<◌, ◌≤◌, ◌^◌, ◌+◌, [], ◌++◌, ◌∷◌, ◌↔◌, List, Err, IsTrue, IfOk, OnOk, OnErr};
+ghost use Rattle.heap_model.specs.declared.entry.Entry.{Entry as Entries};
+ghost use Rattle.heap_model.specs.Heap.{IsHeap};
+
+use crate::account::cycle::Cycle;
+use crate::account::seat::SeatAccount;
+use crate::account::swung::Swung;
+use crate::effect::Effect;
+use crate::entry::Entry;
+use crate::fault::{ApplyFault, Memory};
+use crate::graph::Graph;
+use crate::heap::Heap;
+use std::alloc::Global;
+use std::marker::Model;
+
+mod applying;
+mod counts;
+mod cycle;
+mod noting;
+mod phases;
+mod seat;
+mod sweep;
+mod swung;
+
+/// The counts of fragments, spine words and phases of a history, by which the next entry is judged.
+#[derive(Debug, Drop)]
+pub struct Account {
+    heap: Heap,
+    entries: u64,
+    all: Effect,
+    seats: [SeatAccount; 16],
+    cycle: Cycle,
+    swung: Swung,
+    ended: Option<u64>,
+}
+
+impl Model for Account {
+    ghost use Rattle.heap_model.specs.Books.{Books, AreBooks};
+
+    ghost Value = { Books };
+
+    ghost view = { λ a. record { heap = a.heap; entries = a.entries; all = a.all; seats = a.seats; cycle = a.cycle; swung = a.swung; ended = a.ended } };
+
+    ghost invariant = { λ a. AreBooks a.heap a.entries a.all a.seats a.cycle };
+}
+
+impl Account {
+    ghost use Rattle.heap_model.specs.Space.{gained, lost, used, spine};
+    ghost use Rattle.heap_model.specs.Phases.{phase};
+    ghost use Rattle.heap_model.specs.Cycles.{graph_of};
+    ghost use Rattle.heap_model.specs.Account.{KeepsSpace};
+    ghost use Rattle.heap_model.specs.Books.{Tells};
+    ghost use Rattle.heap_model.specs.Noting.{IsSeatBelow};
+
+    /// The account of a heap in which nothing was done yet.
+    pub fn new(alloc: Global, heap: Heap) -> Result<Account, Memory>
+        requires { IsHeap heap }
+        ensures heap { IfOk result (λ account. account.heap ≡ heap) }
+        ensures tells { IfOk result (λ account. Tells account []) }
+    {
+        Ok(Account {
+            heap,
+            entries: 0,
+            all: Effect::NONE,
+            seats: [SeatAccount::OPENING; 16],
+            cycle: Cycle {
+                reached: Vec::new(alloc),
+                frags: 0,
+                words: 0,
+                brought: 0,
+                taken_then: 0,
+                words_then: 0,
+            },
+            swung: Swung::new(alloc),
+            ended: None,
+        })
+    }
+
+    /// Counts the entry, where it keeps the rules of space and phases after the history that the account tells, in a play
+    /// or in a run. The graph is the one before the entry.
+    pub fn apply(&mut self, graph: &Graph, entry: &Entry, play: bool) -> Result<(), ApplyFault>
+        requires few { self.old.entries < 2 ^ 32 }
+        requires seat { IsSeatBelow self.old.heap.seats entry.now }
+        ensures keeps { OnOk result ((history : List Entries) → Tells self.old history → graph.now ≡ graph_of self.old.heap history → KeepsSpace self.old.heap play history entry.now) }
+        ensures tells { OnOk result ((history : List Entries) → Tells self.old history → graph.now ≡ graph_of self.old.heap history → Tells self.new (history ++ entry.now ∷ [])) }
+        ensures not_legal { result ≡ Err ApplyFault.NotLegal → (history : List Entries) → Tells self.old history → graph.now ≡ graph_of self.old.heap history → ¬ KeepsSpace self.old.heap play history entry.now }
+        ensures counted { OnOk result (self.new.entries ≡ self.old.entries + 1) }
+        ensures heap { self.new.heap ≡ self.old.heap }
+        ensures unchanged { OnErr result (self.new ≡ self.old) }
+    {
+        if !self.keeps(graph, entry, play)? {
+            return Err(ApplyFault::NotLegal);
+        }
+        self.prepare(graph, entry)?;
+        self.note(entry);
+        Ok(())
+    }
+
+    /// The fragments in use; 0 where the account is overdrawn.
+    pub fn used(&self) -> u64
+        ensures { (history : List Entries) → Tells self.now history → result ≡ used history }
+    {
+        let gained = 11 + self.all.taken;
+        gained
+            .saturating_sub(self.all.given)
+            .saturating_sub(self.all.freed)
+    }
+
+    /// Whether more fragments were given back and freed than the board has and were taken, so that no count is right.
+    pub fn is_overdrawn(&self) -> bool
+        ensures { (history : List Entries) → Tells self.now history → (IsTrue result ↔ (gained history < lost history)) }
+    {
+        self.gained() < self.lost()
+    }
+
+    /// The spine words in use.
+    pub fn spine(&self) -> u64
+        ensures { (history : List Entries) → Tells self.now history → result ≡ spine history }
+    {
+        self.all.words.saturating_sub(self.all.returned)
+    }
+
+    /// The phase, how many were begun.
+    pub fn phase(&self) -> u64
+        ensures { (history : List Entries) → Tells self.now history → result ≡ phase history }
+    {
+        self.all.phases
+    }
+}

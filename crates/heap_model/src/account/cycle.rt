@@ -1,0 +1,89 @@
+ghost use Rattle.std.specs.Prelude.{◌≡◌, ◌<◌, ◌≤◌, ◌+◌, ◌^◌, ◌↔◌, ℕ, List, IsTrue, IfOk, sum_by};
+ghost use Rattle.std.specs.List.{range_with_len};
+ghost use Rattle.heap_model.specs.declared.entry.Entry.{Entry as Entries};
+
+use crate::account::Account;
+use crate::fault::Memory;
+use crate::graph::Graph;
+use crate::id::Id;
+
+/// What the account keeps of the last cycle that began: what was reached then and how many fragments and spine words
+/// that had, what the seats brought, and how many fragments had been taken and spine words granted.
+#[derive(Debug, Drop)]
+pub struct Cycle {
+    pub reached: Vec<Id>,
+    pub frags: u128,
+    pub words: u128,
+    pub brought: u128,
+    pub taken_then: u64,
+    pub words_then: u64,
+}
+
+impl Account {
+    ghost use Rattle.heap_model.specs.Cycles.{graph_of, LeavesLittle};
+    ghost use Rattle.heap_model.specs.Books.{Tells, seat_at};
+    ghost use Rattle.heap_model.specs.Noting.{IsBegun, brought_by, IsLittleBy};
+
+    /// What is kept of a cycle that begins here.
+    pub(super) fn begun_cycle(&self, graph: &Graph) -> Result<Cycle, Memory>
+        ensures { IfOk result (IsBegun self.now graph.now) }
+    {
+        let reached = graph.reach()?;
+        let frags = graph.frags_of(&reached);
+        let words = graph.words_of(&reached);
+        Ok(Cycle {
+            reached,
+            frags,
+            words,
+            brought: self.brought(),
+            taken_then: self.all.taken,
+            words_then: self.all.words,
+        })
+    }
+
+    /// What the seats bring into a cycle that begins here.
+    fn brought(&self) -> u128
+        ensures sum { result ≡ sum_by (λ s. brought_by (seat_at self.now.seats s)) (range_with_len 0 self.now.heap.seats) }
+        ensures fits { result < 2 ^ 100 }
+    {
+        let mut sum = 0;
+        for seat in 0..self.heap.seats {
+            sum += self.brought_by(seat);
+        }
+        sum
+    }
+
+    fn brought_by(&self, seat: u8) -> u128
+        requires { seat < self.now.heap.seats }
+        ensures number { result ≡ brought_by (seat_at self.now.seats seat) }
+        ensures fits { result < 2 ^ 64 }
+    {
+        let own = self.seat(seat);
+        (own.own.taken as u128).saturating_sub(
+            own.own_then.given as u128 + own.own_then.born as u128,
+        )
+    }
+
+    /// Whether little is left where the cycle ends here.
+    pub(super) fn leaves_little(&self, graph: &Graph, kept: u64) -> Result<bool, Memory>
+        requires { 1 ≤ self.now.all.phases }
+        ensures { (history : List Entries) → Tells self.now history → graph.now ≡ graph_of self.now.heap history → IfOk result (λ little. IsTrue little ↔ LeavesLittle self.now.heap history kept) }
+    {
+        let both = graph.reached_among(&self.cycle.reached)?;
+        let frags = graph.frags_of(&both);
+        Ok(self.is_little(kept, frags))
+    }
+
+    /// Whether little is left, where `both` fragments are reached that were when the cycle began.
+    fn is_little(&self, kept: u64, both: u128) -> bool
+        ensures { IsTrue result ↔ IsLittleBy self.now kept both }
+    {
+        let taken = (self.all.taken as u128).saturating_sub(self.cycle.taken_then as u128);
+        let bound = self.cycle.frags + self.cycle.brought + taken;
+        let granted = (self.all.words as u128).saturating_sub(self.cycle.words_then as u128);
+        self.gained() <= self.lost() + bound
+            && self.all.words as u128 <= self.all.returned as u128 + self.cycle.words + granted
+            && kept as u128 <= bound
+            && both <= kept as u128
+    }
+}

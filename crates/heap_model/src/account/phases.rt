@@ -1,0 +1,161 @@
+ghost use Rattle.std.specs.Prelude.{◌≡◌, ◌≢◌, ◌<◌, ◌≤◌, ◌+◌, ◌*◌, ◌^◌, ◌↔◌, false, List, IsTrue, is_some};
+ghost use Rattle.heap_model.specs.declared.entry.Entry.{Entry as Entries};
+ghost use Rattle.heap_model.specs.declared.entry.Entry.TheVariants as entries;
+
+use crate::account::Account;
+use crate::command::Command;
+use crate::reply::{Reply, TurnReply};
+
+impl Account {
+    ghost use Rattle.heap_model.specs.Books.{Tells, seat_at, HasAnswered, first_behind, last_phase};
+    ghost use Rattle.heap_model.specs.Phases.{AllAnswered, AnswersPhase, BeginsPhase, HasEnded, BeganSince, IsBehind, WasBehind, SawBehind, ShowsPhases, TurnShows};
+
+    pub(super) fn may_answer(&self, seat: u8, phase: u64) -> bool
+        requires { seat < self.now.heap.seats }
+        ensures { (history : List Entries) → Tells self.now history → (IsTrue result ↔ AnswersPhase history (entries.Answers seat phase)) }
+    {
+        let own = self.seat(seat);
+        phase == self.all.phases && phase > 0 && own.own.answers == phase - 1
+    }
+
+    pub(super) fn may_begin(&self, phase: u64) -> bool
+        ensures { (history : List Entries) → Tells self.now history → (IsTrue result ↔ BeginsPhase self.now.heap history (entries.Advance phase)) }
+    {
+        phase > 0 && phase - 1 == self.all.phases && phase % 7 != 0 && self.all_answered()
+    }
+
+    pub(super) fn all_answered(&self) -> bool
+        ensures { (history : List Entries) → Tells self.now history → (IsTrue result ↔ AllAnswered self.now.heap history) }
+    {
+        for seat in 0..self.heap.seats {
+            if !self.has_answered(seat) {
+                return false;
+            }
+        }
+        true
+    }
+
+    /// Whether the seat has answered the phase or left.
+    fn has_answered(&self, seat: u8) -> bool
+        requires { seat < self.now.heap.seats }
+        ensures { IsTrue result ↔ HasAnswered self.now seat }
+    {
+        let own = self.seat(seat);
+        own.left.is_some() || own.own.answers == self.all.phases
+    }
+
+    pub(super) fn shows_phases(&self, play: bool, seat: u8, command: Command, reply: Reply) -> bool
+        requires { seat < self.now.heap.seats }
+        ensures { (history : List Entries) → Tells self.now history → (IsTrue result ↔ ShowsPhases self.now.heap play history seat command reply) }
+    {
+        match (command, reply) {
+            (Command::Poll, Reply::Phase(phase)) => {
+                phase == self.all.phases && phase == self.seat(seat).own.answers
+            }
+            (Command::Collect, Reply::Cycle(cycle)) => {
+                self.has_ended(cycle) && self.began_since(seat, cycle)
+            }
+            (
+                Command::Collect,
+                Reply::Waits {
+                    seat: other,
+                    answered,
+                    phase,
+                },
+            ) => {
+                other < self.heap.seats
+                    && other != seat
+                    && answered < phase
+                    && self.saw_behind(play, seat, other, answered, phase)
+            }
+            _ => true,
+        }
+    }
+
+    pub(super) fn turn_shows(&self, reply: TurnReply) -> bool
+        ensures { (history : List Entries) → Tells self.now history → (IsTrue result ↔ TurnShows self.now.heap history reply) }
+    {
+        match reply {
+            TurnReply::Done => true,
+            TurnReply::Cycle(cycle) => self.ended == Some(cycle),
+            TurnReply::Waits {
+                seat,
+                answered,
+                phase,
+            } => {
+                seat < self.heap.seats && answered < phase && self.is_behind(seat, answered, phase)
+            }
+        }
+    }
+
+    fn has_ended(&self, cycle: u64) -> bool
+        ensures { (history : List Entries) → Tells self.now history → (IsTrue result ↔ HasEnded cycle history) }
+    {
+        cycle < self.all.phases / 7
+    }
+
+    fn began_since(&self, seat: u8, cycle: u64) -> bool
+        requires { seat < self.now.heap.seats }
+        ensures { (history : List Entries) → Tells self.now history → (IsTrue result ↔ BeganSince seat cycle history) }
+    {
+        let begin = 7 * cycle as u128 + 1;
+        let then = self.seat(seat);
+        (then.all_then.phases as u128) < begin && begin <= self.all.phases as u128
+    }
+
+    fn is_behind(&self, seat: u8, answered: u64, phase: u64) -> bool
+        requires { seat < self.now.heap.seats }
+        ensures { (history : List Entries) → Tells self.now history → (IsTrue result ↔ IsBehind seat answered phase history) }
+    {
+        let own = self.seat(seat);
+        own.left.is_none() && own.own.answers == answered && self.all.phases == phase
+    }
+
+    fn saw_behind(&self, play: bool, seat: u8, other: u8, answered: u64, phase: u64) -> bool
+        requires seat { seat < self.now.heap.seats }
+        requires other { other < self.now.heap.seats }
+        requires not_own { other ≢ seat }
+        requires behind { answered < phase }
+        ensures { (history : List Entries) → Tells self.now history → (IsTrue result ↔ SawBehind play history seat other answered phase) }
+    {
+        if play {
+            self.is_behind(other, answered, phase)
+        } else {
+            phase - 1 == answered && self.was_behind(seat, other, answered)
+        }
+    }
+
+    /// Whether the other seat was one phase behind at some place since the seat's last reply.
+    fn was_behind(&self, seat: u8, other: u8, answered: u64) -> bool
+        requires seat { seat < self.now.heap.seats }
+        requires other { other < self.now.heap.seats }
+        requires not_own { other ≢ seat }
+        ensures { (history : List Entries) → Tells self.now history → (IsTrue result ↔ WasBehind seat other answered (answered + 1) history) }
+    {
+        let phase = answered as u128 + 1;
+        self.first_behind(seat, other) <= phase && phase <= self.last_phase(other) as u128
+    }
+
+    fn first_behind(&self, seat: u8, other: u8) -> u128
+        requires seat { seat < self.now.heap.seats }
+        requires other { other < self.now.heap.seats }
+        ensures first { result ≡ first_behind (seat_at self.now.seats seat) other }
+        ensures fits { result < 2 ^ 66 }
+    {
+        let _ = &self.heap;
+        let then = self.seat(seat);
+        if then.behind_then[other as usize] {
+            then.all_then.phases as u128
+        } else {
+            then.all_then.phases as u128 + 1
+        }
+    }
+
+    pub(super) fn last_phase(&self, seat: u8) -> u64
+        requires { seat < self.now.heap.seats }
+        ensures { result ≡ last_phase (seat_at self.now.seats seat) self.now.all.phases }
+    {
+        let own = self.seat(seat);
+        own.left.unwrap_or(self.all.phases)
+    }
+}

@@ -1,0 +1,52 @@
+ghost use Rattle.std.specs.Prelude.{◌≡◌, ◌<◌, ◌^◌, ◌↔◌, IsTrue};
+
+use crate::graph::Graph;
+use crate::id::{Id, Value};
+
+impl Graph {
+    ghost use Rattle.heap_model.specs.Sizes.{words as words_at, frags_of, words_of};
+    ghost use Rattle.heap_model.specs.Cycles.{IsArray};
+
+    pub(crate) fn is_array(&self, id: Id) -> bool
+        ensures { IsTrue result ↔ IsArray self.now id }
+    {
+        match self.target(Value::Object(id)) {
+            Some(object) => object.is_array(),
+            None => false,
+        }
+    }
+
+    /// The spine words of the object, and 0 where there is no such object.
+    pub(crate) fn words(&self, id: Id) -> u32
+        ensures { result ≡ words_at self.now id }
+    {
+        match self.target(Value::Object(id)) {
+            Some(object) => object.spine_words(),
+            None => 0,
+        }
+    }
+
+    /// The fragments of all these objects.
+    pub(crate) fn frags_of(&self, ids: &[Id]) -> u128
+        ensures sum { result ≡ frags_of self.now ids.now }
+        ensures fits { result < 2 ^ 100 }
+    {
+        let mut sum = 0;
+        for id in ids {
+            sum += self.frags(*id) as u128;
+        }
+        sum
+    }
+
+    /// The spine words of all these objects.
+    pub(crate) fn words_of(&self, ids: &[Id]) -> u128
+        ensures sum { result ≡ words_of self.now ids.now }
+        ensures fits { result < 2 ^ 100 }
+    {
+        let mut sum = 0;
+        for id in ids {
+            sum += self.words(*id) as u128;
+        }
+        sum
+    }
+}
