@@ -128,7 +128,7 @@ keeps_fifteen Leave b = absurd cc
 keeps_fifteen command b = refl
 
 -- what a refusal shows is right
-shows_right : (heap : Heap) (store : Store) (history : List Entry) (command : Command) (reply : Reply) → Counts history store.next store.end → length store.words.items ≡ 64 * heap.groups → IsEnough store command → is_built_command command ≡ true → ShowsNothing store command reply → ShowsSpace heap history 0 command reply
+shows_right : (heap : Heap) (store : Store) (history : List Entry) (command : Command) (reply : Reply) → Counts history store.next store.end → length store.words.items ≡ 64 * heap.groups → IsEnough store command → is_built_command command ≡ true → ShowsNothing store command reply → ShowsSpace heap true history 0 command reply
 shows_right heap store history (New d fields) (replies.Full need found) c size enough b s =
     let none = enough.0 s.3 in
     (s.0, omega (arith, s.1, s.2), omega (arith, c.gained, c.lost, c.taken, c.spent, s.2, s.3, none, size, store.room))
