@@ -6,8 +6,9 @@ use Rattle.std.proofs.lemmas.List.Elements.{Contains-append_left, Contains-appen
 use Rattle.std.proofs.lemmas.List.Quantifiers.{all_pairs_push}
 use Rattle.heap_model.specs.declared.id.Id.{Id}
 use Rattle.heap_model.specs.declared.id.Id.TheVariants.{Board, Made}
-use Rattle.heap_model.specs.Objects.{State}
-use Rattle.heap_model.specs.Search.{Marking, IsMarked, IsSearch}
+use Rattle.heap_model.specs.State.{State}
+use Rattle.heap_model.specs.Search.{IsSearch}
+use Rattle.heap_model.specs.Marking.{Marking, IsMarked}
 use Rattle.heap_model.proofs.SearchLemmas.{IsMarked-reached}
 use Rattle.heap_model.specs.Reach.{Reaches, IsBefore, IsReachAmong}
 

@@ -11,15 +11,19 @@ use Rattle.heap_model.specs.declared.entry.Entry.TheVariants as entries
 use Rattle.heap_model.specs.declared.effect.Effect.{Effect}
 use Rattle.heap_model.specs.declared.account.seat.SeatAccount.{SeatAccount}
 use Rattle.heap_model.specs.declared.account.cycle.Cycle.{Cycle}
-use Rattle.heap_model.specs.Objects.{opening}
+use Rattle.heap_model.specs.State.{opening}
 use Rattle.heap_model.specs.Reach.{IsReach}
 use Rattle.heap_model.specs.Sizes.{frags_of, words_of}
-use Rattle.heap_model.specs.Space.{effect_of, is_of, total, granted}
+use Rattle.heap_model.specs.Space.{total, granted}
+use Rattle.heap_model.specs.Effects.{effect_of, is_of}
 use Rattle.heap_model.specs.Windows.{begins_phase, begins_cycle, after_last, is_reply_to, up_to_cycle}
-use Rattle.heap_model.specs.Cycles.{graph_of, HasSwung, brings, all_bring}
+use Rattle.heap_model.specs.Cycles.{graph_of, brings, all_bring}
+use Rattle.heap_model.specs.Sweep.{HasSwung}
 use Rattle.heap_model.specs.Account.{KeepsSpace}
-use Rattle.heap_model.specs.Books.{Books, seat_at, Tells, TellsSeat, TellsCycle}
-use Rattle.heap_model.specs.Noting.{IsCounted, IsNoted, IsPrepared, IsBegun, brought_by}
+use Rattle.heap_model.specs.Books.{Books, Tells, TellsCycle}
+use Rattle.heap_model.specs.SeatBooks.{seat_at, TellsSeat}
+use Rattle.heap_model.specs.Noting.{IsCounted, IsNoted}
+use Rattle.heap_model.specs.Preparing.{IsPrepared, IsBegun, brought_by}
 use Rattle.heap_model.proofs.Histories.{graph_after-more, total-more}
 use Rattle.heap_model.proofs.Windows.{up_to_last-yes, up_to_last-no, after_last-yes, after_last-no, sum-parts}
 use Rattle.heap_model.proofs.Turns.{turn}

@@ -6,10 +6,10 @@ use Rattle.heap_model.specs.declared.heap.Heap.{Heap}
 use Rattle.heap_model.specs.declared.command.Command.TheVariants as commands
 use Rattle.heap_model.specs.declared.entry.Entry.{Entry}
 use Rattle.heap_model.specs.declared.entry.Entry.TheVariants as entries
-use Rattle.heap_model.specs.Space.{effect_of, is_of}
-use Rattle.heap_model.specs.Phases.{phase, answered, has_left, is_leave_of}
+use Rattle.heap_model.specs.Effects.{effect_of, is_of}
+use Rattle.heap_model.specs.PhaseCounts.{phase, answered, has_left, is_leave_of}
 use Rattle.heap_model.specs.Account.{KeepsSpace}
-use Rattle.heap_model.specs.Books.{IsFrom}
+use Rattle.heap_model.specs.SeatBooks.{IsFrom}
 
 -- what an entry does to a seat: the phase in which it left, its answers, and the phase
 pub data SeatStep (left : Option ℕ) (answers now : ℕ) (left_then : Option ℕ) (answers_then then : ℕ) : Type 0 where

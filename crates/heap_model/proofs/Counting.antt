@@ -7,13 +7,16 @@ use Rattle.heap_model.specs.declared.id.Id.{Id}
 use Rattle.heap_model.specs.declared.entry.Entry.{Entry}
 use Rattle.heap_model.specs.declared.entry.Entry.TheVariants as entries
 use Rattle.heap_model.specs.declared.effect.Effect.{Effect}
-use Rattle.heap_model.specs.Space.{effect_of, is_of, total, total_of}
+use Rattle.heap_model.specs.Space.{total, total_of}
+use Rattle.heap_model.specs.Effects.{effect_of, is_of}
 use Rattle.heap_model.specs.Sums.{plus, IsMeasured}
 use Rattle.heap_model.specs.Windows.{is_reply_to}
-use Rattle.heap_model.specs.Phases.{phase, answered, has_left, is_leave_of, JustEnded, IsBehind, WasBehind}
-use Rattle.heap_model.specs.Cycles.{HasSwung}
+use Rattle.heap_model.specs.Phases.{IsBehind, WasBehind}
+use Rattle.heap_model.specs.PhaseCounts.{phase, answered, has_left, is_leave_of, JustEnded}
+use Rattle.heap_model.specs.Sweep.{HasSwung}
 use Rattle.heap_model.specs.Account.{KeepsSpace}
-use Rattle.heap_model.specs.Books.{Books, seat_at, first_behind, last_phase, IsFrom, Tells, TellsSeat, TellsCycle}
+use Rattle.heap_model.specs.Books.{Books, Tells, TellsCycle}
+use Rattle.heap_model.specs.SeatBooks.{seat_at, first_behind, last_phase, IsFrom, TellsSeat}
 use Rattle.heap_model.specs.Noting.{IsNotedSeat, IsCounted, is_behind_now, seat_of}
 use Rattle.heap_model.proofs.Windows.{any-more, sum-parts, all_since}
 use Rattle.heap_model.proofs.Noting.{of_other}

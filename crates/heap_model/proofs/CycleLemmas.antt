@@ -4,14 +4,15 @@ use Rattle.std.proofs.lemmas.List.Sums.{sum_by-cons}
 use Rattle.std.specs.List.{range_with_len}
 use Rattle.heap_model.specs.declared.id.Id.{Id}
 use Rattle.heap_model.specs.declared.entry.Entry.{Entry}
-use Rattle.heap_model.specs.Objects.{State}
+use Rattle.heap_model.specs.State.{State}
 use Rattle.heap_model.specs.Reach.{IsReach, IsReachAmong}
 use Rattle.heap_model.specs.Sizes.{frags_of}
-use Rattle.heap_model.specs.Space.{effect_of, total, granted}
+use Rattle.heap_model.specs.Space.{total, granted}
+use Rattle.heap_model.specs.Effects.{effect_of}
 use Rattle.heap_model.specs.Windows.{begins_cycle, up_to_cycle, since_cycle}
 use Rattle.heap_model.specs.Cycles.{graph_of, IsReachOfBoth, IsLittle, LeavesLittle}
 use Rattle.heap_model.specs.Books.{Books, Tells, TellsCycle}
-use Rattle.heap_model.specs.Noting.{IsLittleBy}
+use Rattle.heap_model.specs.Preparing.{IsLittleBy}
 use Rattle.heap_model.proofs.Windows.{sum-parts}
 use Rattle.heap_model.proofs.Among.{same_ids}
 

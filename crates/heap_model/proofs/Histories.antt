@@ -4,11 +4,12 @@ use Rattle.std.proofs.lemmas.List.Sums.{sum_by-append, fold-append}
 use Rattle.std.proofs.lemmas.List.{append-nil}
 use Rattle.heap_model.specs.declared.heap.Heap.{Heap}
 use Rattle.heap_model.specs.declared.entry.Entry.{Entry}
-use Rattle.heap_model.specs.Objects.{State}
+use Rattle.heap_model.specs.State.{State}
 use Rattle.heap_model.specs.Growth.{after, graph_after}
 use Rattle.heap_model.specs.Legal.{Accepts, AcceptsAll}
 use Rattle.heap_model.specs.declared.effect.Effect.{Effect}
-use Rattle.heap_model.specs.Space.{effect_of, is_of, total, total_of}
+use Rattle.heap_model.specs.Space.{total, total_of}
+use Rattle.heap_model.specs.Effects.{effect_of, is_of}
 use Rattle.heap_model.specs.Account.{KeepsSpace, KeepsSpaceAfter}
 
 -- the graph grows by the entry

@@ -11,10 +11,12 @@ pub mod NoteLemmas
 pub mod Noting
 pub mod Opening
 pub mod OrderLemmas
+pub mod Refusals
 pub mod SearchLemmas
 pub mod SeatLemmas
 pub mod SeatsMore
 pub mod Snoc
+pub mod SwungLemmas
 pub mod Telling
 pub mod TellsMore
 pub mod Turns

@@ -14,9 +14,12 @@ use Rattle.heap_model.specs.declared.reply.Reply.{Reply}
 use Rattle.heap_model.specs.declared.reply.Reply.TheVariants as replies
 use Rattle.heap_model.specs.declared.entry.Entry.{Entry}
 use Rattle.heap_model.specs.declared.entry.Entry.TheVariants.{Said, Takes}
-use Rattle.heap_model.specs.Objects.{State, Node, Party, opening, party, register, target, nobody, fresh}
-use Rattle.heap_model.specs.Growth.{with_party, write, with_cell, with_object_cell, count_set, set_cell, after_reply}
-use Rattle.heap_model.specs.Space.{made_by, record_fragments, taken_of, spent_of}
+use Rattle.heap_model.specs.Objects.{party, register, target, nobody}
+use Rattle.heap_model.specs.State.{State, Node, Party, opening, fresh}
+use Rattle.heap_model.specs.Growth.{after_reply}
+use Rattle.heap_model.specs.Changes.{with_party, write, with_cell, with_object_cell, count_set, set_cell}
+use Rattle.heap_model.specs.Space.{taken_of, spent_of}
+use Rattle.heap_model.specs.Needs.{made_by, record_fragments}
 use Rattle.heap_model.specs.SeatState.{SeatState, own_graph}
 use Rattle.heap_model.specs.SeatCalls.{Adds, ComesBefore}
 use Rattle.heap_model.specs.SeatReplies.{LacksFragments}

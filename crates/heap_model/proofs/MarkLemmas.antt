@@ -6,8 +6,9 @@ use Rattle.std.proofs.lemmas.List.{get_or-set_same, get_or-set_other, get_or_pas
 use Rattle.std.proofs.lemmas.List.Sums.{sum_by-set}
 use Rattle.heap_model.specs.declared.id.Id.{Id}
 use Rattle.heap_model.specs.declared.id.Id.TheVariants.{Board, Made}
-use Rattle.heap_model.specs.Objects.{State, Party, party, nobody}
-use Rattle.heap_model.specs.Search.{Marking, marks_of, mark, with_mark, unmarked, IsMarked, no_marks, HasMarks}
+use Rattle.heap_model.specs.Objects.{party, nobody}
+use Rattle.heap_model.specs.State.{State, Party}
+use Rattle.heap_model.specs.Marking.{Marking, marks_of, mark, with_mark, unmarked, IsMarked, no_marks, HasMarks}
 
 -- an element that is put in place of another is found there
 slice_get-set_same : {A : Type 0} (xs : List A) (i : ℕ) (x : A) → i < length xs → slice_get (set xs i x) i ≡ Some x

@@ -5,9 +5,10 @@ use Rattle.heap_model.specs.declared.id.Id.{Id}
 use Rattle.heap_model.specs.declared.id.Value.{Value}
 use Rattle.heap_model.specs.declared.id.Value.TheVariants.{Object}
 use Rattle.heap_model.specs.declared.cell.Cell.{Cell}
-use Rattle.heap_model.specs.Objects.{State, Node, Party}
+use Rattle.heap_model.specs.State.{State, Node, Party}
 use Rattle.heap_model.specs.Reach.{IsRoot, IsRegistered, PointsTo}
-use Rattle.heap_model.specs.Search.{Search, GoesOn, IsFound, FoundFromSeat}
+use Rattle.heap_model.specs.Search.{Search, GoesOn, FoundFromSeat}
+use Rattle.heap_model.specs.Marking.{IsFound}
 use Rattle.heap_model.proofs.SearchLemmas.{GoesOn-trans, GoesOn-weaker, IsFound-stays, FoundFromSeat-stays}
 
 Any-get_or : {A : Type 0} (P : A → Type 0) (xs : List A) (i : ℕ) (d : A) → i < length xs → P (get_or xs i d) → Any P xs

@@ -10,10 +10,11 @@ use Rattle.heap_model.specs.declared.entry.Entry.TheVariants as entries
 use Rattle.heap_model.specs.declared.effect.Effect.{Effect}
 use Rattle.heap_model.specs.Sums.{plus}
 use Rattle.heap_model.specs.declared.account.seat.SeatAccount.{SeatAccount}
-use Rattle.heap_model.specs.Space.{effect_of, is_of}
+use Rattle.heap_model.specs.Effects.{effect_of, is_of}
 use Rattle.heap_model.specs.Windows.{is_reply_to, begins_phase}
-use Rattle.heap_model.specs.Phases.{is_leave_of}
-use Rattle.heap_model.specs.Books.{Books, seat_at, no_seat}
+use Rattle.heap_model.specs.PhaseCounts.{is_leave_of}
+use Rattle.heap_model.specs.Books.{Books}
+use Rattle.heap_model.specs.SeatBooks.{seat_at, no_seat}
 use Rattle.heap_model.specs.Noting.{IsNotedSeat, IsNoted, seat_of, ended_by}
 
 -- the entry is neither a reply to the seat nor its leave where it isn't of the seat

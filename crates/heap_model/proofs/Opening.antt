@@ -7,9 +7,11 @@ use Rattle.heap_model.specs.declared.entry.Entry.TheVariants as entries
 use Rattle.heap_model.specs.declared.account.seat.SeatAccount.{SeatAccount}
 use Rattle.heap_model.specs.declared.account.cycle.Cycle.{Cycle}
 use Rattle.heap_model.specs.Heap.{IsHeap}
-use Rattle.heap_model.specs.Space.{no_effect}
-use Rattle.heap_model.specs.Phases.{phase, WasBehind}
-use Rattle.heap_model.specs.Books.{seat_at, no_seat, IsFrom, first_behind, last_phase, Tells, TellsSeat}
+use Rattle.heap_model.specs.Effects.{no_effect}
+use Rattle.heap_model.specs.Phases.{WasBehind}
+use Rattle.heap_model.specs.PhaseCounts.{phase}
+use Rattle.heap_model.specs.Books.{Tells}
+use Rattle.heap_model.specs.SeatBooks.{seat_at, no_seat, IsFrom, first_behind, last_phase, TellsSeat}
 
 -- a seat that did nothing yet
 abbrev pub opening_seat : SeatAccount

@@ -6,9 +6,10 @@ use Rattle.std.proofs.lemmas.List.Quantifiers.{all_pairs_push}
 use Rattle.std.proofs.lemmas.Option.{slice_get_past}
 use Rattle.heap_model.specs.declared.id.Id.{Id}
 use Rattle.heap_model.specs.declared.id.Id.TheVariants.{Board, Made}
-use Rattle.heap_model.specs.Objects.{State, party}
+use Rattle.heap_model.specs.Objects.{party}
+use Rattle.heap_model.specs.State.{State}
 use Rattle.heap_model.specs.Reach.{IsBefore}
-use Rattle.heap_model.specs.Search.{Marking, IsMarked, HasMarks, IsListed}
+use Rattle.heap_model.specs.Marking.{Marking, IsMarked, HasMarks, IsListed}
 
 -- the next place after this one, in its seat
 abbrev pub next_place : Id → Id
@@ -41,17 +42,6 @@ IsBefore-cases (Made s count) (Made t later) before = elim before [
         inr (ap (λ x. Made x later) (sym same.0) ∙ ap (λ x. Made s x) equal))
   ]
 ]
-
-pub IsListed-none : (m : Marking) → IsListed m Board []
-IsListed-none m = record {
-  ordered = λ i j d below within. absurd (omega (arith, within));
-  marked = λ id held. absurd (omega (arith, held.1));
-  whole = λ id marked before. absurd (nothing_before id before);
-}
-  where
-    nothing_before : (id : Id) → IsBefore id Board → ⊥
-    nothing_before Board before = before
-    nothing_before (Made s count) before = before
 
 -- a marked object is listed after those before it
 pub IsListed-push : (m : Marking) (place : Id) (ids : List Id) → IsListed m place ids → IsMarked m place → IsListed m (next_place place) (ids ++ place ∷ [])

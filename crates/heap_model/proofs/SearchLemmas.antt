@@ -1,5 +1,5 @@
 -- How a search goes on, and what it has found at its end.
-use Rattle.std.proofs.Common.{◌≡◌, ◌<◌, inl, inr, false, List, [], ◌∷◌, ◌++◌, length, slice_get, Option, Some, None, is_some, IsSome, IfSome, IsSomeAnd, All, Any, Contains, refl, sym, ap, ◌∙◌, subst, arith, length-append}
+use Rattle.std.proofs.Common.{◌≡◌, ◌<◌, inl, inr, false, List, [], ◌∷◌, ◌++◌, length, slice_get, Option, Some, None, is_some, IsSome, IfSome, IsSomeAnd, All, Any, Contains, sym, ap, ◌∙◌, subst, arith, length-append}
 use Rattle.std.proofs.lemmas.Bool.{cases_lt}
 use Rattle.std.proofs.lemmas.List.{get_or_past}
 use Rattle.std.proofs.lemmas.List.Elements.{All-weaker, Contains-append_left, Contains-push, Contains-push_cases}
@@ -8,20 +8,12 @@ use Rattle.heap_model.specs.declared.id.Id.{Id}
 use Rattle.heap_model.specs.declared.id.Id.TheVariants.{Board, Made}
 use Rattle.heap_model.specs.declared.id.Value.{Value}
 use Rattle.heap_model.specs.declared.id.Value.TheVariants.{Nil, Number, Object}
-use Rattle.heap_model.specs.Objects.{State, Node, Party, node, nobody}
+use Rattle.heap_model.specs.Objects.{node, nobody}
+use Rattle.heap_model.specs.State.{State, Node, Party}
 use Rattle.heap_model.specs.Reach.{IsRoot, IsRegistered, PointsTo, Points, Reaches, from_register, from_cell, IsBefore, IsReach}
-use Rattle.heap_model.specs.Search.{Marking, mark, with_mark, IsMarked, IsFound, Search, GoesOn, FoundFromSeat, FoundFromObject, HasMarks, IsSearch, IsListed, no_marks}
+use Rattle.heap_model.specs.Search.{Search, GoesOn, FoundFromSeat, FoundFromObject, IsSearch}
+use Rattle.heap_model.specs.Marking.{Marking, mark, with_mark, IsMarked, IsFound, HasMarks, IsListed, no_marks}
 use Rattle.heap_model.proofs.MarkLemmas.{with_mark-here, with_mark-other, unmarked-with_mark, HasMarks-no_marks, IsMarked-no_marks}
-
-pub GoesOn-refl : (P : Id → Type 0) (walk : Search) → GoesOn P walk walk
-GoesOn-refl P walk = record {
-  marked_stay = λ id marked. marked;
-  objects_stay = λ id. refl;
-  waiting_stay = λ id waits. waits;
-  marked_more = λ id marked. inl marked;
-  waiting_more = λ id waits. inl waits;
-  work_stays = refl;
-}
 
 pub GoesOn-trans : {P : Id → Type 0} {a b c : Search} → GoesOn P a b → GoesOn P b c → GoesOn P a c
 GoesOn-trans {P} {a} {b} {c} first then = record {

@@ -8,7 +8,7 @@ use Rattle.heap_model.specs.declared.reply.Reply.{Reply}
 use Rattle.heap_model.specs.declared.reply.Reply.TheVariants as replies
 use Rattle.heap_model.specs.declared.entry.Entry.{Entry}
 use Rattle.heap_model.specs.declared.entry.Entry.TheVariants.{Said}
-use Rattle.heap_model.specs.Objects.{State, opening}
+use Rattle.heap_model.specs.State.{State, opening}
 use Rattle.heap_model.specs.Growth.{after, after_reply, graph_after}
 use Rattle.heap_model.specs.SeatState.{SeatState, own_graph}
 use Rattle.heap_model.specs.SeatCalls.{IsTake, IsGiveBack, ClaimsBefore, AnswersBefore, ComesBefore, Adds}

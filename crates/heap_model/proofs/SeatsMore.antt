@@ -7,9 +7,12 @@ use Rattle.std.specs.Option.{unwrap_or}
 use Rattle.heap_model.specs.declared.heap.Heap.{Heap}
 use Rattle.heap_model.specs.declared.entry.Entry.{Entry}
 use Rattle.heap_model.specs.declared.entry.Entry.TheVariants as entries
-use Rattle.heap_model.specs.Space.{effect_of, is_of, total_of, taken_of, spent_of, made_by}
+use Rattle.heap_model.specs.Space.{total_of, taken_of, spent_of}
+use Rattle.heap_model.specs.Effects.{effect_of, is_of}
+use Rattle.heap_model.specs.Needs.{made_by}
 use Rattle.heap_model.specs.Windows.{is_reply_to, up_to_reply, since_reply}
-use Rattle.heap_model.specs.Phases.{phase, IsBehind, WasBehind}
+use Rattle.heap_model.specs.Phases.{IsBehind, WasBehind}
+use Rattle.heap_model.specs.PhaseCounts.{phase}
 use Rattle.heap_model.specs.Account.{MakesOfOwn}
 use Rattle.heap_model.proofs.Histories.{total_of-more}
 use Rattle.heap_model.proofs.Windows.{parts, up_to_last-yes, up_to_last-no, after_last-yes, after_last-no}
@@ -22,11 +25,6 @@ left_by true true old new now e h = ap is_some e
 left_by true false old new now e h = ap is_some e
 left_by false true old new now e h = ap is_some e ∙ h
 left_by false false old new now e h = ap is_some e ∙ h
-
--- a seat that is there was there before
-pub there_before : (leaves : Bool) (old new : Option ℕ) (now : ℕ) → new ≡ cond leaves (Some (unwrap_or old now)) old → is_some new ≡ false → new ≡ old
-there_before true old new now e there = absurd (cc (e, there))
-there_before false old new now e there = e
 
 -- its last phase stays at most the phase
 pub gone_by : (leaves : Bool) (old new : Option ℕ) (now then : ℕ) → new ≡ cond leaves (Some (unwrap_or old now)) old → now ≤ then → unwrap_or old now ≤ now → unwrap_or new then ≤ then

@@ -1,7 +1,7 @@
 -- What an account tells of its history.
 use Rattle.std.proofs.Common.{◌≡◌, ℕ, ◌<◌, false, List, sym, ◌∙◌}
 use Rattle.heap_model.specs.declared.entry.Entry.{Entry}
-use Rattle.heap_model.specs.Phases.{phase, answered, has_left}
+use Rattle.heap_model.specs.PhaseCounts.{phase, answered, has_left}
 use Rattle.heap_model.specs.Books.{Books, Tells, HasAnswered}
 
 -- a seat that has answered in the books has in the history

@@ -1,38 +1,37 @@
 -- What an account that counted one more entry tells.
-use Rattle.std.proofs.Common.{◌≡◌, ℕ, ◌+◌, List, [], ◌∷◌, ◌++◌, inl, inr, sym, ap, ◌∙◌, subst, arith, Bool, true, false, cond}
+use Rattle.std.proofs.Common.{◌≡◌, ℕ, ◌+◌, List, [], ◌∷◌, ◌++◌, inl, inr, refl, sym, ap, ◌∙◌, subst, arith, Bool, true, false, cond}
 use Rattle.std.proofs.lemmas.Bool.{cases_Bool, cond-true, cond-false}
 use Rattle.heap_model.specs.declared.entry.Entry.{Entry}
 use Rattle.heap_model.specs.declared.effect.Effect.{Effect}
 use Rattle.heap_model.specs.declared.account.seat.SeatAccount.{SeatAccount}
-use Rattle.heap_model.specs.Space.{effect_of, is_of, total, total_of}
+use Rattle.heap_model.specs.Space.{total, total_of}
+use Rattle.heap_model.specs.Effects.{effect_of, is_of}
 use Rattle.heap_model.specs.Sums.{plus, IsMeasured}
 use Rattle.heap_model.specs.Windows.{is_reply_to, up_to_reply}
-use Rattle.heap_model.specs.Books.{TellsSince}
+use Rattle.heap_model.specs.SeatBooks.{TellsSince}
 use Rattle.heap_model.proofs.Histories.{total-more, total_of-more}
 use Rattle.heap_model.proofs.Windows.{up_to_last-yes, up_to_last-no, others_since, all_since}
 
+-- a part that grows as its measure does
+part_grows : (b : Bool) (part : Effect → ℕ) (sums effect : Effect) (was is : ℕ) → part (plus sums effect) ≡ part sums + part effect → is ≡ was + cond b (part effect) 0 → part sums ≡ was → part (cond b (plus sums effect) sums) ≡ is
+part_grows true part sums effect was is adds more told = omega (arith, adds, more, told)
+part_grows false part sums effect was is adds more told = omega (arith, more, told)
+
 -- sums that grow as the measure does
-pub measured_by : (b : Bool) (sums new effect : Effect) (f g : (Effect → ℕ) → ℕ) → new ≡ cond b (plus sums effect) sums → ((part : Effect → ℕ) → g part ≡ f part + cond b (part effect) 0) → IsMeasured sums f → IsMeasured new g
-measured_by true sums new effect f g e more m = record {
-  taken = omega (arith, ap (λ (x : Effect). x.taken) e, more (λ x. x.taken), m.taken);
-  given = omega (arith, ap (λ (x : Effect). x.given) e, more (λ x. x.given), m.given);
-  born = omega (arith, ap (λ (x : Effect). x.born) e, more (λ x. x.born), m.born);
-  freed = omega (arith, ap (λ (x : Effect). x.freed) e, more (λ x. x.freed), m.freed);
-  words = omega (arith, ap (λ (x : Effect). x.words) e, more (λ x. x.words), m.words);
-  returned = omega (arith, ap (λ (x : Effect). x.returned) e, more (λ x. x.returned), m.returned);
-  phases = omega (arith, ap (λ (x : Effect). x.phases) e, more (λ x. x.phases), m.phases);
-  answers = omega (arith, ap (λ (x : Effect). x.answers) e, more (λ x. x.answers), m.answers);
+measured_by : (b : Bool) (sums new effect : Effect) (f g : (Effect → ℕ) → ℕ) → new ≡ cond b (plus sums effect) sums → ((part : Effect → ℕ) → g part ≡ f part + cond b (part effect) 0) → IsMeasured sums f → IsMeasured new g
+measured_by b sums new effect f g e more m = record {
+  taken = grows (λ x. x.taken) refl m.taken;
+  given = grows (λ x. x.given) refl m.given;
+  born = grows (λ x. x.born) refl m.born;
+  freed = grows (λ x. x.freed) refl m.freed;
+  words = grows (λ x. x.words) refl m.words;
+  returned = grows (λ x. x.returned) refl m.returned;
+  phases = grows (λ x. x.phases) refl m.phases;
+  answers = grows (λ x. x.answers) refl m.answers;
 }
-measured_by false sums new effect f g e more m = record {
-  taken = omega (arith, ap (λ (x : Effect). x.taken) e, more (λ x. x.taken), m.taken);
-  given = omega (arith, ap (λ (x : Effect). x.given) e, more (λ x. x.given), m.given);
-  born = omega (arith, ap (λ (x : Effect). x.born) e, more (λ x. x.born), m.born);
-  freed = omega (arith, ap (λ (x : Effect). x.freed) e, more (λ x. x.freed), m.freed);
-  words = omega (arith, ap (λ (x : Effect). x.words) e, more (λ x. x.words), m.words);
-  returned = omega (arith, ap (λ (x : Effect). x.returned) e, more (λ x. x.returned), m.returned);
-  phases = omega (arith, ap (λ (x : Effect). x.phases) e, more (λ x. x.phases), m.phases);
-  answers = omega (arith, ap (λ (x : Effect). x.answers) e, more (λ x. x.answers), m.answers);
-}
+  where
+    grows : (part : Effect → ℕ) → part (plus sums effect) ≡ part sums + part effect → part sums ≡ f part → part new ≡ g part
+    grows part adds told = ap part e ∙ part_grows b part sums effect (f part) (g part) adds (more part) told
 
 -- what all did
 pub all-more : (old new : Effect) (history : List Entry) (entry : Entry) → new ≡ plus old (effect_of entry) → IsMeasured old (λ part. total part history) → IsMeasured new (λ part. total part (history ++ entry ∷ []))

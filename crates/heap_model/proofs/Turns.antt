@@ -5,8 +5,8 @@ use Rattle.std.proofs.lemmas.List.Elements.{Contains-append_left, Contains-push,
 use Rattle.heap_model.specs.declared.heap.Heap.{Heap}
 use Rattle.heap_model.specs.declared.entry.Entry.{Entry}
 use Rattle.heap_model.specs.declared.entry.Entry.TheVariants as entries
-use Rattle.heap_model.specs.Space.{effect_of}
-use Rattle.heap_model.specs.Phases.{phase, AllAnswered, HasEnded, JustEnded}
+use Rattle.heap_model.specs.Effects.{effect_of}
+use Rattle.heap_model.specs.PhaseCounts.{phase, AllAnswered, HasEnded, JustEnded}
 use Rattle.heap_model.specs.Account.{KeepsSpace}
 use Rattle.heap_model.specs.Noting.{ended_by}
 use Rattle.heap_model.proofs.Snoc.{same_last}

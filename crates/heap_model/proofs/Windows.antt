@@ -6,7 +6,8 @@ use Rattle.std.proofs.lemmas.Bool.{cond-true, cond-false, or_right}
 use Rattle.std.proofs.lemmas.List.Folds.{list_any-append}
 use Rattle.heap_model.specs.declared.entry.Entry.{Entry}
 use Rattle.heap_model.specs.declared.effect.Effect.{Effect}
-use Rattle.heap_model.specs.Space.{effect_of, is_of, total, total_of, total_but}
+use Rattle.heap_model.specs.Space.{total, total_of, total_but}
+use Rattle.heap_model.specs.Effects.{effect_of, is_of}
 use Rattle.heap_model.specs.Windows.{is_reply_to, up_to_last, after_last, up_to_reply, since_reply}
 
 -- the two parts are the history

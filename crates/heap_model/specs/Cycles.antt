@@ -1,38 +1,21 @@
--- What the collector may free, return and swing, and what is left at the end of a cycle.
-use Rattle.std.specs.Prelude.{◌≡◌, ℕ, ◌+◌, ◌*◌, ◌%◌, ◌≤◌, ◌↔◌, true, List, AllPairs, Contains, sum_by}
+-- The graph of a history, and what is left at the end of a cycle.
+use Rattle.std.specs.Prelude.{◌≡◌, ℕ, ◌+◌, ◌*◌, ◌≤◌, ◌↔◌, List, AllPairs, Contains, sum_by}
 use Rattle.std.specs.List.{range_with_len}
-use Rattle.std.specs.Option.{IsSomeAnd}
 use Rattle.heap_model.specs.declared.heap.Heap.{Heap}
 use Rattle.heap_model.specs.declared.id.Id.{Id}
 use Rattle.heap_model.specs.declared.entry.Entry.{Entry}
 use Rattle.heap_model.specs.declared.entry.Entry.TheVariants as entries
-use Rattle.heap_model.specs.Objects.{State, opening, node}
+use Rattle.heap_model.specs.State.{State, opening}
 use Rattle.heap_model.specs.Growth.{graph_after}
 use Rattle.heap_model.specs.Reach.{Reaches, IsBefore, IsReach}
 use Rattle.heap_model.specs.Sizes.{frags_of, words_of}
 use Rattle.heap_model.specs.Space.{total, gained, lost, granted, returned, taken_of, unborn}
-use Rattle.heap_model.specs.Windows.{begins_phase, after_last, up_to_reply, since_reply, up_to_cycle, since_cycle}
-use Rattle.heap_model.specs.Phases.{phase, AllAnswered}
+use Rattle.heap_model.specs.Windows.{up_to_reply, since_reply, up_to_cycle, since_cycle}
+use Rattle.heap_model.specs.PhaseCounts.{phase, AllAnswered}
 
 -- the graph after a history from the opening on
 abbrev pub graph_of : Heap → List Entry → State
 graph_of heap history = graph_after (opening heap) history
-
--- the object is an array
-abbrev pub IsArray : State → Id → Type 0
-IsArray g id = IsSomeAnd (node g id) (λ object. object.array ≡ true)
-
--- the array has swung in this phase
-abbrev pub HasSwung : Id → List Entry → Type 0
-HasSwung id history = Contains (after_last begins_phase history) (entries.Swings id)
-
--- fragments and spine words are given up in the phase of the sweep, as many as there are; an array swings in the phase before,
--- and once
-abbrev pub Sweeps : Heap → List Entry → Entry → Type 0
-Sweeps heap before (entries.Frees count) = (phase before % 7 ≡ 5) × (1 ≤ count) × (lost before + count ≤ gained before)
-Sweeps heap before (entries.Returns count) = (phase before % 7 ≡ 5) × (1 ≤ count) × (returned before + count ≤ granted before)
-Sweeps heap before (entries.Swings id) = (phase before % 7 ≡ 4) × IsArray (graph_of heap before) id × ¬ HasSwung id before
-Sweeps heap before _ = Unit {0}
 
 -- what a seat brings into a cycle that begins here: what it had right after its last reply, and what it took since
 abbrev pub brings : ℕ → List Entry → ℕ

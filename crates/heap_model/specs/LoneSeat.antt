@@ -5,7 +5,8 @@ use Rattle.heap_model.specs.declared.id.Id.TheVariants.{Board, Made}
 use Rattle.heap_model.specs.declared.id.Value.{Value}
 use Rattle.heap_model.specs.declared.id.Value.TheVariants.{Nil, Number, Object}
 use Rattle.heap_model.specs.declared.entry.Entry.{Entry}
-use Rattle.heap_model.specs.Objects.{State, opening, party}
+use Rattle.heap_model.specs.Objects.{party}
+use Rattle.heap_model.specs.State.{State, opening}
 use Rattle.heap_model.specs.Growth.{graph_after}
 use Rattle.heap_model.specs.Space.{taken_of, spent_of}
 

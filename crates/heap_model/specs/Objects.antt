@@ -1,6 +1,5 @@
--- Objects, seats and the graph as contracts see them.
-use Rattle.std.specs.Prelude.{ℕ, Bool, true, false, List, [], ◌∷◌, replicate, slice_get, slice_index_or, Option, Some, None, Result, Ok, Err}
-use Rattle.heap_model.specs.declared.heap.Heap.{Heap}
+-- What the seats, registers, ids and values of a graph stand for.
+use Rattle.std.specs.Prelude.{ℕ, true, [], slice_get, slice_index_or, Option, Some, None, Result, Ok, Err}
 use Rattle.heap_model.specs.declared.id.Id.{Id}
 use Rattle.heap_model.specs.declared.id.Id.TheVariants.{Board, Made}
 use Rattle.heap_model.specs.declared.id.Value.{Value}
@@ -8,39 +7,7 @@ use Rattle.heap_model.specs.declared.id.Value.TheVariants.{Nil, Number, Object}
 use Rattle.heap_model.specs.declared.cell.Cell.{Cell}
 use Rattle.heap_model.specs.declared.reply.Reply.{Reply}
 use Rattle.heap_model.specs.declared.reply.Reply.TheVariants.{NoObject, NoField}
-
--- an object: a record or an array of cells
-pub record Node : Type 0 where
-  pub array : Bool
-  pub cells : List Cell
-
--- a seat: its registers, the objects that it made in their order, the number of its sets, and whether it left
-pub record Party : Type 0 where
-  pub registers : List Value
-  pub objects : List Node
-  pub sets : ℕ
-  pub left : Bool
-
--- the board, and the seats in their order
-pub record State : Type 0 where
-  pub board : Node
-  pub seats : List Party
-
--- a cell that was never set
-abbrev pub unset : Cell
-unset = record { value = Nil; stamp = 0 }
-
--- an object of cells that were never set
-abbrev pub fresh : Bool → ℕ → Node
-fresh array cells = record { array = array; cells = replicate cells unset }
-
--- a seat at the opening: register 0 is the board, and the others are nil
-abbrev pub opening_party : Party
-opening_party = record { registers = Object Board ∷ replicate 15 Nil; objects = []; sets = 0; left = false }
-
--- the graph at the opening
-abbrev pub opening : Heap → State
-opening heap = record { board = fresh false 32; seats = replicate heap.seats opening_party }
+pub use Rattle.heap_model.specs.State.{Node, Party, State, unset, fresh, opening_party, opening}
 
 -- what stands for a seat that isn't there: it has left
 abbrev pub nobody : Party

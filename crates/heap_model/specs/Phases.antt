@@ -1,6 +1,5 @@
--- Phases, and what the seats and the collector may do and show of them.
-use Rattle.std.specs.Prelude.{◌≡◌, ◌≢◌, ℕ, ◌+◌, ◌*◌, ◌%◌, ◌==◌, ◌<◌, Bool, true, false, List, [], ◌∷◌, ◌++◌, Contains}
-use Rattle.std.specs.List.{list_any}
+-- What the seats and the collector may do and show of phases.
+use Rattle.std.specs.Prelude.{◌≡◌, ◌≢◌, ℕ, ◌+◌, ◌%◌, ◌<◌, Bool, true, false, List, ◌++◌}
 use Rattle.heap_model.specs.declared.heap.Heap.{Heap}
 use Rattle.heap_model.specs.declared.command.Command.{Command}
 use Rattle.heap_model.specs.declared.command.Command.TheVariants as commands
@@ -10,28 +9,9 @@ use Rattle.heap_model.specs.declared.reply.TurnReply.{TurnReply}
 use Rattle.heap_model.specs.declared.reply.TurnReply.TheVariants as turns
 use Rattle.heap_model.specs.declared.entry.Entry.{Entry}
 use Rattle.heap_model.specs.declared.entry.Entry.TheVariants as entries
-use Rattle.heap_model.specs.Space.{total, total_of}
 use Rattle.heap_model.specs.Windows.{up_to_reply, since_reply}
-
--- the phase: how many were begun, since the opening has phase 0
-abbrev pub phase : List Entry → ℕ
-phase history = total (λ e. e.phases) history
-
--- the seat's last answer: how many it gave, since it answers every phase once
-abbrev pub answered : ℕ → List Entry → ℕ
-answered s history = total_of s (λ e. e.answers) history
-
--- the entry is the seat's leave
-abbrev pub is_leave_of : ℕ → Entry → Bool
-is_leave_of s (entries.Said q commands.Leave reply) = q == s
-is_leave_of s _ = false
-
-abbrev pub has_left : ℕ → List Entry → Bool
-has_left s history = list_any (is_leave_of s) history
-
--- the seats that have not left have answered the phase
-abbrev pub AllAnswered : Heap → List Entry → Type 0
-AllAnswered heap history = (s : ℕ) → s < heap.seats → has_left s history ≡ false → answered s history ≡ phase history
+use Rattle.heap_model.specs.PhaseCounts.{has_left, AllAnswered, HasEnded, JustEnded, BeganSince}
+pub use Rattle.heap_model.specs.PhaseCounts.{phase, answered}
 
 -- a seat answers the phase, which is the next one for it
 abbrev pub AnswersPhase : List Entry → Entry → Type 0
@@ -42,18 +22,6 @@ AnswersPhase before _ = Unit {0}
 abbrev pub BeginsPhase : Heap → List Entry → Entry → Type 0
 BeginsPhase heap before (entries.Advance p) = (p ≡ phase before + 1) × (p % 7 ≢ 0) × AllAnswered heap before
 BeginsPhase heap before _ = Unit {0}
-
--- the cycle has ended
-abbrev pub HasEnded : ℕ → List Entry → Type 0
-HasEnded cycle history = (kept : ℕ) × Contains history (entries.Ends cycle kept)
-
--- the last entry ended the cycle
-abbrev pub JustEnded : ℕ → List Entry → Type 0
-JustEnded cycle history = (earlier : List Entry) × (kept : ℕ) × (history ≡ earlier ++ entries.Ends cycle kept ∷ [])
-
--- the cycle has begun since the seat's last reply
-abbrev pub BeganSince : ℕ → ℕ → List Entry → Type 0
-BeganSince s cycle history = Contains (since_reply s history) (entries.Advance (7 * cycle + 1))
 
 -- the seat is there, and this is its last answer, while this is the phase
 pub record IsBehind (s answer p : ℕ) (history : List Entry) : Type 0 where

@@ -3,7 +3,8 @@ use Rattle.std.specs.Prelude.{◌≡◌, ◌<◌, ◌↔◌, ◌⊎◌, List, Is
 use Rattle.heap_model.specs.declared.id.Id.{Id}
 use Rattle.heap_model.specs.declared.id.Id.TheVariants.{Board, Made}
 use Rattle.heap_model.specs.declared.id.Value.TheVariants.{Object}
-use Rattle.heap_model.specs.Objects.{Node, Party, State, node}
+use Rattle.heap_model.specs.Objects.{node}
+use Rattle.heap_model.specs.State.{Node, Party, State}
 
 -- the object was made
 abbrev pub IsMade : State → Id → Type 0

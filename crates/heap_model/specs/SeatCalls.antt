@@ -7,7 +7,7 @@ use Rattle.heap_model.specs.declared.reply.Reply.TheVariants as replies
 use Rattle.heap_model.specs.declared.entry.Entry.{Entry}
 use Rattle.heap_model.specs.declared.entry.Entry.TheVariants.{Said, Takes, GivesBack, Answers}
 use Rattle.heap_model.specs.Command.{IsCommand}
-use Rattle.heap_model.specs.Space.{need_of}
+use Rattle.heap_model.specs.Needs.{need_of}
 use Rattle.heap_model.specs.SeatState.{SeatState, own_party}
 
 -- a name is left for an object that the command makes, or a stamp for a set that it does

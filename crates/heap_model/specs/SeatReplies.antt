@@ -11,7 +11,8 @@ use Rattle.heap_model.specs.declared.refusal.PlaceRefusal.{PlaceRefusal}
 use Rattle.heap_model.specs.declared.refusal.PlaceRefusal.TheVariants as places
 use Rattle.heap_model.specs.declared.refusal.SpaceRefusal.{SpaceRefusal}
 use Rattle.heap_model.specs.declared.refusal.SpaceRefusal.TheVariants as spaces
-use Rattle.heap_model.specs.Space.{array_fragments, taken_of, spent_of}
+use Rattle.heap_model.specs.Space.{taken_of, spent_of}
+use Rattle.heap_model.specs.Needs.{array_fragments}
 use Rattle.heap_model.specs.SeatState.{SeatState, own_party}
 
 -- the reply to `new`

@@ -4,7 +4,8 @@ use Rattle.heap_model.specs.declared.heap.Heap.{Heap}
 use Rattle.heap_model.specs.declared.id.Value.{Value}
 use Rattle.heap_model.specs.declared.id.Value.TheVariants.{Nil, Number, Object}
 use Rattle.heap_model.specs.declared.entry.Entry.{Entry}
-use Rattle.heap_model.specs.Objects.{Node, Party, State, opening, party, register, target}
+use Rattle.heap_model.specs.Objects.{party, register, target}
+use Rattle.heap_model.specs.State.{Node, Party, State, opening}
 use Rattle.heap_model.specs.Growth.{graph_after}
 
 -- the heap, the seat's number, its entries in their order, and for how many more there is room

@@ -2,8 +2,9 @@
 use Rattle.std.specs.Prelude.{ℕ, ◌+◌, ◌/◌, if◌then◌else◌, List, length, sum_by}
 use Rattle.std.specs.Option.{option_map_or}
 use Rattle.heap_model.specs.declared.id.Id.{Id}
-use Rattle.heap_model.specs.Objects.{Node, State, node}
-use Rattle.heap_model.specs.Space.{record_fragments, array_fragments}
+use Rattle.heap_model.specs.Objects.{node}
+use Rattle.heap_model.specs.State.{Node, State}
+use Rattle.heap_model.specs.Needs.{record_fragments, array_fragments}
 
 -- the fragments of an object
 abbrev pub fragments_of : Node → ℕ

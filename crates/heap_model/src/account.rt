@@ -21,6 +21,8 @@ mod phases;
 mod seat;
 mod sweep;
 mod swung;
+#[cfg(test)]
+mod tests;
 
 /// The counts of fragments, spine words and phases of a history, by which the next entry is judged.
 #[derive(Debug, Drop)]
@@ -46,7 +48,7 @@ impl Model for Account {
 
 impl Account {
     ghost use Rattle.heap_model.specs.Space.{gained, lost, used, spine};
-    ghost use Rattle.heap_model.specs.Phases.{phase};
+    ghost use Rattle.heap_model.specs.PhaseCounts.{phase};
     ghost use Rattle.heap_model.specs.Cycles.{graph_of};
     ghost use Rattle.heap_model.specs.Account.{KeepsSpace};
     ghost use Rattle.heap_model.specs.Books.{Tells};
@@ -94,6 +96,26 @@ impl Account {
         self.prepare(graph, entry)?;
         self.note(entry);
         Ok(())
+    }
+
+    /// How many entries were counted.
+    pub fn entries(&self) -> u64
+        ensures { result ≡ self.now.entries }
+    {
+        self.entries
+    }
+
+    /// Whether the entry is of no seat or of one that the heap has.
+    pub fn has_seat(&self, entry: &Entry) -> bool
+        ensures { IsTrue result ↔ IsSeatBelow self.now.heap.seats entry.now }
+    {
+        match *entry {
+            Entry::Said { seat, .. }
+            | Entry::Takes { seat, .. }
+            | Entry::GivesBack { seat, .. }
+            | Entry::Answers { seat, .. } => seat < self.heap.seats,
+            _ => true,
+        }
     }
 
     /// The fragments in use; 0 where the account is overdrawn.

@@ -1,6 +1,6 @@
 ghost use Rattle.std.specs.Prelude.{◌≡◌, ◌<◌, ◌^◌, ◌↔◌, IsTrue};
 ghost use Rattle.heap_model.specs.Command.{IsTarget, IsCommand};
-ghost use Rattle.heap_model.specs.Space.{need_of, spine_need_of};
+ghost use Rattle.heap_model.specs.Needs.{need_of, spine_need_of};
 
 /// What a seat asks of the heap. `d` is the register that the answer goes to, `r`, `v`, `a` and `b` are registers
 /// that are read, and `i` is the index of a field or a cell.

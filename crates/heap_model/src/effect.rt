@@ -20,7 +20,8 @@ pub struct Effect {
 }
 
 impl Effect {
-    ghost use Rattle.heap_model.specs.Space.{no_effect, effect_of, made_by, words_by};
+    ghost use Rattle.heap_model.specs.Effects.{no_effect, effect_of};
+    ghost use Rattle.heap_model.specs.Needs.{made_by, words_by};
     ghost use Rattle.heap_model.specs.Sums.{IsFew, plus};
 
     pub const NONE: Effect = Effect {

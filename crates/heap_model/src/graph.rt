@@ -28,7 +28,7 @@ pub struct Graph {
 
 impl Model for Graph {
     ghost use Rattle.std.specs.Prelude.{◌≤◌, length};
-    ghost use Rattle.heap_model.specs.Objects.{State};
+    ghost use Rattle.heap_model.specs.State.{State};
 
     ghost Value = { State };
 
@@ -38,7 +38,8 @@ impl Model for Graph {
 }
 
 impl Graph {
-    ghost use Rattle.heap_model.specs.Objects.{opening, register as value_of};
+    ghost use Rattle.heap_model.specs.Objects.{register as value_of};
+    ghost use Rattle.heap_model.specs.State.{opening};
     ghost use Rattle.heap_model.specs.Growth.{after};
     ghost use Rattle.heap_model.specs.Legal.{Accepts};
 

@@ -1,5 +1,5 @@
 /// The identity of an object: the board, or the seat that made it and its place among that seat's objects.
-#[derive(Clone, Copy, Debug, PartialEq, Eq)]
+#[derive(Clone, Copy, Debug, PartialEq, Eq, PartialOrd, Ord)]
 pub enum Id {
     Board,
     Made { seat: u8, count: u32 },

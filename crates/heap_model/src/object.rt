@@ -14,7 +14,7 @@ pub struct Object {
 
 impl Model for Object {
     ghost use Rattle.std.specs.Prelude.{◌<◌, ◌^◌, length};
-    ghost use Rattle.heap_model.specs.Objects.{Node};
+    ghost use Rattle.heap_model.specs.State.{Node};
 
     ghost Value = { Node };
 
@@ -24,8 +24,8 @@ impl Model for Object {
 }
 
 impl Object {
-    ghost use Rattle.heap_model.specs.Objects.{fresh};
-    ghost use Rattle.heap_model.specs.Growth.{with_cell};
+    ghost use Rattle.heap_model.specs.State.{fresh};
+    ghost use Rattle.heap_model.specs.Changes.{with_cell};
     ghost use Rattle.heap_model.specs.Sizes.{fragments_of, spine_words_of};
 
     pub fn new(alloc: Global, array: bool, cells: u16) -> Result<Object, AllocError>

@@ -19,7 +19,7 @@ pub struct Seat {
 
 impl Model for Seat {
     ghost use Rattle.std.specs.Prelude.{◌≤◌, ◌^◌, length};
-    ghost use Rattle.heap_model.specs.Objects.{Party};
+    ghost use Rattle.heap_model.specs.State.{Party};
 
     ghost Value = { Party };
 
@@ -29,8 +29,8 @@ impl Model for Seat {
 }
 
 impl Seat {
-    ghost use Rattle.heap_model.specs.Objects.{opening_party};
-    ghost use Rattle.heap_model.specs.Growth.{with_object_cell};
+    ghost use Rattle.heap_model.specs.State.{opening_party};
+    ghost use Rattle.heap_model.specs.Changes.{with_object_cell};
 
     pub fn new(alloc: Global) -> Seat
         ensures { result ≡ opening_party }

@@ -1,7 +1,7 @@
 ghost use Rattle.std.specs.Prelude.{◌≡◌, ℕ, ◌+◌, ◌-◌, ◌≤◌, ◌^◌, ◌↔◌, length, IsTrue, IsErr, IfOk, IfErr, OnOk, OnErr, IfSome};
 ghost use Rattle.heap_model.specs.declared.command.Command.TheVariants.{New, Array, Get, Set, Num, Nil, Copy, Same, Len, Poll, Leave};
 ghost use Rattle.heap_model.specs.declared.reply.Reply.TheVariants.{Phase, Done};
-ghost use Rattle.heap_model.specs.Space.{record_fragments};
+ghost use Rattle.heap_model.specs.Needs.{record_fragments};
 ghost use Rattle.heap_model.specs.SeatState.{SeatState, own_party, held, HoldsNoObject, own_object};
 ghost use Rattle.heap_model.specs.SeatCalls.{IsReady, Adds};
 ghost use Rattle.heap_model.specs.SeatReplies.{record_reply, array_reply, get_reply, set_reply, same_reply, len_reply, next_id, LacksFragments, LacksSpace, KeepsNothing};

@@ -13,7 +13,8 @@ impl Account {
     ghost use Rattle.heap_model.specs.Cycles.{graph_of};
     ghost use Rattle.heap_model.specs.Account.{KeepsSpace};
     ghost use Rattle.heap_model.specs.Books.{Tells};
-    ghost use Rattle.heap_model.specs.Noting.{IsSeatBelow, IsPrepared};
+    ghost use Rattle.heap_model.specs.Noting.{IsSeatBelow};
+    ghost use Rattle.heap_model.specs.Preparing.{IsPrepared};
 
     pub(super) fn keeps(&self, graph: &Graph, entry: &Entry, play: bool) -> Result<bool, Memory>
         requires { IsSeatBelow self.now.heap.seats entry.now }

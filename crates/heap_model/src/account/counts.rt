@@ -10,11 +10,13 @@ use crate::effect::Effect;
 use crate::reply::Reply;
 
 impl Account {
-    ghost use Rattle.heap_model.specs.Books.{Tells, seat_at};
+    ghost use Rattle.heap_model.specs.Books.{Tells};
+    ghost use Rattle.heap_model.specs.SeatBooks.{seat_at};
     ghost use Rattle.heap_model.specs.Space.{total_but, returned};
     ghost use Rattle.heap_model.specs.Sums.{IsFew};
     ghost use Rattle.heap_model.specs.Windows.{since_reply};
-    ghost use Rattle.heap_model.specs.Account.{given_up, TakesAndGives, MakesOfOwn, ShowsSpace, ShowsSpine, FindsSpace, FindsSpine};
+    ghost use Rattle.heap_model.specs.Account.{TakesAndGives, MakesOfOwn};
+    ghost use Rattle.heap_model.specs.Refusals.{given_up, ShowsSpace, ShowsSpine, FindsSpace, FindsSpine};
 
     pub(super) fn may_take(&self, seat: u8, count: u32) -> bool
         requires { seat < self.now.heap.seats }

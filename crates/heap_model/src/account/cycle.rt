@@ -21,8 +21,9 @@ pub struct Cycle {
 
 impl Account {
     ghost use Rattle.heap_model.specs.Cycles.{graph_of, LeavesLittle};
-    ghost use Rattle.heap_model.specs.Books.{Tells, seat_at};
-    ghost use Rattle.heap_model.specs.Noting.{IsBegun, brought_by, IsLittleBy};
+    ghost use Rattle.heap_model.specs.Books.{Tells};
+    ghost use Rattle.heap_model.specs.SeatBooks.{seat_at};
+    ghost use Rattle.heap_model.specs.Preparing.{IsBegun, brought_by, IsLittleBy};
 
     /// What is kept of a cycle that begins here.
     pub(super) fn begun_cycle(&self, graph: &Graph) -> Result<Cycle, Memory>

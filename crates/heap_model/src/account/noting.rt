@@ -9,9 +9,9 @@ use crate::effect::Effect;
 use crate::entry::Entry;
 
 impl Account {
-    ghost use Rattle.heap_model.specs.Space.{effect_of};
+    ghost use Rattle.heap_model.specs.Effects.{effect_of};
     ghost use Rattle.heap_model.specs.Sums.{plus, IsFew};
-    ghost use Rattle.heap_model.specs.Books.{seat_at};
+    ghost use Rattle.heap_model.specs.SeatBooks.{seat_at};
     ghost use Rattle.heap_model.specs.Noting.{IsNoted, IsNotedSeat, IsSeatBelow, is_behind_now};
 
     /// Counts an entry that was judged.

@@ -9,7 +9,8 @@ use crate::id::Id;
 
 impl Account {
     ghost use Rattle.heap_model.specs.Books.{Tells};
-    ghost use Rattle.heap_model.specs.Cycles.{graph_of, Sweeps, EndsCycle};
+    ghost use Rattle.heap_model.specs.Cycles.{graph_of, EndsCycle};
+    ghost use Rattle.heap_model.specs.Sweep.{Sweeps};
 
     pub(super) fn may_free(&self, count: u32) -> bool
         ensures { (history : List Entries) → Tells self.now history → (IsTrue result ↔ Sweeps self.now.heap history (entries.Frees count)) }

@@ -3,12 +3,13 @@ ghost use Rattle.heap_model.specs.declared.id.Id.{Id as Ids};
 
 use crate::id::Id;
 use std::alloc::{AllocError, Global};
+use std::collections::BTreeSet;
 use std::marker::Model;
 
 /// The arrays that have swung in the phase.
 #[derive(Debug, Drop)]
 pub struct Swung {
-    ids: Vec<Id>,
+    ids: BTreeSet<Id>,
 }
 
 impl Model for Swung {
@@ -17,7 +18,7 @@ impl Model for Swung {
 
     ghost Value = { List Ids };
 
-    ghost view = { λ s. s.ids.items };
+    ghost view = { λ s. s.ids.keys };
 }
 
 impl Swung {
@@ -25,7 +26,7 @@ impl Swung {
         ensures { result ≡ [] }
     {
         Swung {
-            ids: Vec::new(alloc),
+            ids: BTreeSet::new(alloc),
         }
     }
 
@@ -39,7 +40,7 @@ impl Swung {
         ensures added { OnOk result ((other : Ids) → Contains self.new other ↔ Contains self.old other ⊎ (other ≡ id)) }
         ensures unchanged { OnErr result (self.new ≡ self.old) }
     {
-        self.ids.push(id)?;
+        self.ids.insert(id)?;
         Ok(())
     }
 

@@ -12,10 +12,13 @@ use crate::reply::Reply;
 use std::alloc::AllocError;
 
 impl Graph {
-    ghost use Rattle.heap_model.specs.Objects.{party, fresh};
-    ghost use Rattle.heap_model.specs.Growth.{after, after_reply, add, put, write, set_cell, leave};
+    ghost use Rattle.heap_model.specs.Objects.{party};
+    ghost use Rattle.heap_model.specs.State.{fresh};
+    ghost use Rattle.heap_model.specs.Growth.{after, after_reply};
+    ghost use Rattle.heap_model.specs.Changes.{add, put, write, set_cell, leave};
     ghost use Rattle.heap_model.specs.Command.{IsCommand};
-    ghost use Rattle.heap_model.specs.Legal.{Accepts, IsPresent, Says};
+    ghost use Rattle.heap_model.specs.Legal.{Accepts, IsPresent};
+    ghost use Rattle.heap_model.specs.Replies.{Says};
 
     pub(super) fn grow(&mut self, entry: &Entry) -> Result<(), AllocError>
         requires { Accepts self.old entry.now }

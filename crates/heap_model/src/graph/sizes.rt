@@ -5,7 +5,7 @@ use crate::id::{Id, Value};
 
 impl Graph {
     ghost use Rattle.heap_model.specs.Sizes.{words as words_at, frags_of, words_of};
-    ghost use Rattle.heap_model.specs.Cycles.{IsArray};
+    ghost use Rattle.heap_model.specs.Sweep.{IsArray};
 
     pub(crate) fn is_array(&self, id: Id) -> bool
         ensures { IsTrue result ↔ IsArray self.now id }

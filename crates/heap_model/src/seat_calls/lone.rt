@@ -1,6 +1,6 @@
 ghost use Rattle.std.specs.Prelude.{◌≡◌, ◌+◌, ◌<◌, ◌≤◌, ◌↔◌, [], ◌∷◌, ◌++◌, length, vec_len, vec_capacity, IfOk, IfSome};
 ghost use Rattle.heap_model.specs.declared.entry.Entry.TheVariants.{Said};
-ghost use Rattle.heap_model.specs.Space.{made_by};
+ghost use Rattle.heap_model.specs.Needs.{made_by};
 ghost use Rattle.heap_model.specs.SeatState.{IsNoObject, HoldsNoObject};
 ghost use Rattle.heap_model.specs.SeatCalls.{ComesBefore, Adds};
 ghost use Rattle.heap_model.specs.SeatReplies.{refusal_reply};
@@ -119,7 +119,8 @@ fn length_of(lengths: &[u16], value: Value) -> Option<u16>
 
 impl Lone {
     ghost use Rattle.heap_model.specs.Objects.{register};
-    ghost use Rattle.heap_model.specs.Growth.{after_reply, put};
+    ghost use Rattle.heap_model.specs.Growth.{after_reply};
+    ghost use Rattle.heap_model.specs.Changes.{put};
     ghost use Rattle.heap_model.specs.SeatState.{own_graph, own_object, held};
 
     fn value(&self, r: u8) -> Value

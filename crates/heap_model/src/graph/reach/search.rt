@@ -25,7 +25,8 @@ impl Model for Search {
 
 impl Search {
     ghost use Rattle.heap_model.specs.Reach.{IsRegistered, PointsTo};
-    ghost use Rattle.heap_model.specs.Search.{GoesOn, IsFound, FoundFromSeat, FoundFromObject};
+    ghost use Rattle.heap_model.specs.Search.{GoesOn, FoundFromSeat, FoundFromObject};
+    ghost use Rattle.heap_model.specs.Marking.{IsFound};
 
     pub fn new(alloc: Global, marks: Marks) -> Search
         ensures { result ≡ record { marks = marks; waiting = [] } }

@@ -1,5 +1,5 @@
 use Rattle.std.proofs.Common.{subst, rules}
-use Rattle.heap_model.specs.Noting.{IsPrepared}
+use Rattle.heap_model.specs.Preparing.{IsPrepared}
 use Rattle.heap_model.proofs.Applying.{applied}
 use Rattle.heap_model.proofs.account.Account.apply.Goals as goal
 

@@ -3,7 +3,7 @@ use Rattle.heap_model.specs.Reach.{IsReachAmong}
 use Rattle.heap_model.specs.Sizes.{frags_of}
 use Rattle.heap_model.specs.Cycles.{graph_of}
 use Rattle.heap_model.specs.Books.{Books}
-use Rattle.heap_model.specs.Noting.{IsLittleBy}
+use Rattle.heap_model.specs.Preparing.{IsLittleBy}
 use Rattle.heap_model.proofs.CycleLemmas.{little_by}
 use Rattle.heap_model.proofs.account.Account.leaves_little.Goals as goal
 

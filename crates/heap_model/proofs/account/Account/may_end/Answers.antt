@@ -1,6 +1,6 @@
 use Rattle.std.proofs.Common.{◌≡◌, ◌+◌, ◌*◌, ◌∙◌, sym, ap, arith, rules}
 use Rattle.heap_model.specs.Books.{Books}
-use Rattle.heap_model.specs.Phases.{phase, AllAnswered}
+use Rattle.heap_model.specs.PhaseCounts.{phase, AllAnswered}
 use Rattle.heap_model.specs.Cycles.{LeavesLittle}
 use Rattle.heap_model.proofs.Judging.{ok_says}
 use Rattle.heap_model.proofs.account.Account.may_end.Goals as goal

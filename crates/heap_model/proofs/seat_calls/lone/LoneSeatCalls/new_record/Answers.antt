@@ -3,7 +3,8 @@ use Rattle.std.proofs.lemmas.List.Elements.{All-cons, All-nil}
 use Rattle.heap_model.specs.declared.entry.Entry.TheVariants.{Takes}
 use Rattle.heap_model.specs.SeatState.{SeatState}
 use Rattle.heap_model.specs.SeatCalls.{IsTake}
-use Rattle.heap_model.specs.Space.{record_fragments, taken_of, spent_of}
+use Rattle.heap_model.specs.Space.{taken_of, spent_of}
+use Rattle.heap_model.specs.Needs.{record_fragments}
 use Rattle.heap_model.proofs.LoneLemmas.{LacksFragments-none, Adds-taken}
 use Rattle.heap_model.proofs.seat_calls.lone.LoneSeatCalls.new_record.Goals as goal
 

@@ -1,4 +1,4 @@
-use Rattle.heap_model.specs.Search.{IsFound}
+use Rattle.heap_model.specs.Marking.{IsFound}
 use Rattle.heap_model.proofs.NoteLemmas.{GoesOn-cell, found_cell, All-taken}
 use Rattle.heap_model.proofs.graph.reach.search.Search.note_object.Goals as goal
 

@@ -1,4 +1,4 @@
-use Rattle.heap_model.specs.Search.{IsFound}
+use Rattle.heap_model.specs.Marking.{IsFound}
 use Rattle.heap_model.proofs.NoteLemmas.{GoesOn-register, found_register, All-taken}
 use Rattle.heap_model.proofs.graph.reach.search.Search.note_seat.Goals as goal
 
