@@ -1,0 +1,66 @@
+-- A call that a seat makes from its begin to its reply, with no step of others between.
+use Rattle.std.specs.Prelude.{◌≡◌, ℕ, ◌+◌, ◌≤◌, ◌<◌, ◌-◌, List, [], ◌∷◌, ◌++◌, length, replicate, slice_get, Option, Some, None, option_and_then}
+use Rattle.heap_model.specs.declared.heap.Heap.{Heap}
+use Rattle.heap_model.specs.declared.command.Command.{Command}
+use Rattle.heap_model.specs.declared.entry.Entry.{Entry}
+use Rattle.heap_model.specs.declared.entry.Entry.TheVariants.{Said}
+use Rattle.heap_model.specs.declared.reply.Reply.{Reply}
+use Rattle.heap_model.specs.declared.reply.Reply.TheVariants.{Made, Full}
+use Rattle.heap_model.specs.Space.{need_of}
+use Rattle.core_machine.specs.declared.address.Address.TheVariants.{Control}
+use Rattle.core_machine.specs.declared.place.Place.TheVariants.{Idle}
+use Rattle.core_machine.specs.Fragments.{clear_in}
+use Rattle.core_machine.specs.Layout.{at, SameTable}
+use Rattle.core_machine.specs.Machine.{State, seat_at, Event, Begins, Steps, Run, after_all, history}
+use Rattle.core_machine.specs.Making.{next_id}
+use Rattle.core_machine.specs.Seat.{Seat}
+use Rattle.core_machine.specs.Sums.{sum_upto}
+
+-- a command is begun, and the seat makes this many steps
+abbrev pub call_events : ℕ → Command → ℕ → List Event
+call_events number command steps = Begins number command ∷ replicate steps (Steps number)
+
+-- the second state is the first after the call's steps; its entries, the reply last, are the seat's and the history's
+pub record PlaysCall (heap : Heap) (old new : State) (number : ℕ) (command : Command) (reply : Reply) : Type 0 where
+  pub steps : ℕ
+  pub can : Run heap old (call_events number command steps)
+  pub ends : new ≡ after_all heap old (call_events number command steps)
+  pub idle : (seat_at new number).place ≡ Idle
+  pub before : List Entry
+  pub shown : history heap old (call_events number command steps) ≡ before ++ Said number command reply ∷ []
+  pub mine : (seat_at new number).mine ≡ (seat_at old number).mine ++ (before ++ Said number command reply ∷ [])
+
+-- the fragments whose taken bit isn't set
+abbrev pub free_fragments : Heap → List ℕ → ℕ
+free_fragments heap words = sum_upto heap.groups (λ group. length (clear_in group (at heap words (Control group))))
+
+-- what a seat can have: its reserve, and the fragments that are free
+abbrev pub within_reach : Heap → State → ℕ → ℕ
+within_reach heap state number = length (seat_at state number).reserve + free_fragments heap state.words
+
+-- registers, reserve and cursor are as before
+pub record KeepsOwn (old new : Seat) : Type 0 where
+  pub registers_stay : new.registers ≡ old.registers
+  pub reserve_stays : new.reserve ≡ old.reserve
+  pub cursor_stays : new.cursor ≡ old.cursor
+  pub made_stays : new.made ≡ old.made
+
+-- the call was refused: the refusal shows what is needed and what is within reach, and nothing was changed
+pub record IsRefused (heap : Heap) (old new : State) (number : ℕ) (command : Command) (reply : Reply) : Type 0 where
+  pub shows : reply ≡ Full (need_of command) (within_reach heap old number)
+  pub own_stays : KeepsOwn (seat_at old number) (seat_at new number)
+  pub table_stays : SameTable heap old.words new.words
+
+-- a record is made exactly where enough is within reach, and else the call is refused
+pub record AnswersNew (heap : Heap) (old new : State) (number : ℕ) (command : Command) (reply : Reply) : Type 0 where
+  pub made : need_of command ≤ within_reach heap old number → reply ≡ Made (next_id number (seat_at old number))
+  pub refused : within_reach heap old number < need_of command → IsRefused heap old new number command reply
+
+-- the reply that an entry tells
+abbrev pub reply_of : Entry → Option Reply
+reply_of (Said number command reply) = Some reply
+reply_of _ = None
+
+-- the reply that the last of the entries tells
+abbrev pub last_reply : List Entry → Option Reply
+last_reply entries = option_and_then reply_of (slice_get entries (length entries - 1))

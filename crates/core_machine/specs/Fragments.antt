@@ -1,0 +1,41 @@
+-- Lists of fragments, and their bits in the control words of the groups.
+use Rattle.std.specs.Prelude.{ℕ, ◌+◌, ◌*◌, ◌/◌, ◌%◌, ◌^◌, ◌==◌, Bool, not, if◌then◌else◌, List, [], ◌∷◌, fold, filter, bit_or}
+use Rattle.std.specs.List.{range_with_len}
+use Rattle.std.specs.Int.{bit_at}
+
+-- the fragment is one of the group's sixteen
+abbrev pub in_group : ℕ → ℕ → Bool
+in_group group fragment = fragment / 16 == group
+
+-- the fragment is of another group
+abbrev pub out_of_group : ℕ → ℕ → Bool
+out_of_group group fragment = not (in_group group fragment)
+
+-- the fragments of the list that are in the group
+abbrev pub part_in : ℕ → List ℕ → List ℕ
+part_in group fragments = filter (in_group group) fragments
+
+-- the others
+abbrev pub part_out : ℕ → List ℕ → List ℕ
+part_out group fragments = filter (out_of_group group) fragments
+
+-- the bits of these fragments, each by its place in its group
+unfoldable pub mask : List ℕ → ℕ
+mask fragments = fold (λ bits fragment. bit_or bits (2 ^ (fragment % 16))) 0 fragments
+
+-- the fragment's taken bit isn't set in the control word
+abbrev pub is_clear : ℕ → ℕ → Bool
+is_clear word fragment = bit_at word (fragment % 16) == 0
+
+-- of the first fragments of a group those whose taken bit isn't set, the lowest first
+unfoldable pub clear_among : ℕ → ℕ → ℕ → List ℕ
+clear_among group word count = filter (is_clear word) (range_with_len (16 * group) count)
+
+-- the fragments of a group whose taken bit isn't set
+abbrev pub clear_in : ℕ → ℕ → List ℕ
+clear_in group word = clear_among group word 16
+
+-- how often a fragment stands in a list
+abbrev pub tally : ℕ → List ℕ → ℕ
+tally fragment [] = 0
+tally fragment (x ∷ xs) = (if x == fragment then 1 else 0) + tally fragment xs

@@ -1,0 +1,14 @@
+pub mod Calls
+pub mod Commands
+pub mod Fits
+pub mod Fragments
+pub mod Layout
+pub mod Machine
+pub mod Making
+pub mod Moves
+pub mod Newborn
+pub mod Opening
+pub mod Operation
+pub mod Seat
+pub mod Sums
+pub mod Value

@@ -1,0 +1,30 @@
+-- The words of a record whose fields were never set.
+use Rattle.std.specs.Prelude.{ℕ, ◌+◌, ◌==◌, nat_lt, false, if◌then◌else◌, List, length, slice_index_or}
+use Rattle.heap_words.specs.declared.kind.Kind.TheVariants.{Reference}
+use Rattle.heap_words.specs.declared.name.Name.{Name}
+use Rattle.heap_words.specs.Cell.{cell_word}
+use Rattle.heap_words.specs.Meta.{meta_word}
+use Rattle.heap_words.specs.Name.{name_word}
+
+-- a link to a fragment
+abbrev pub link_word : ℕ → ℕ
+link_word fragment = cell_word (record { kind = Reference; value = fragment; stamp = 0 })
+
+-- the link in fragment k of a record: to the one after it, and 0 in the last
+abbrev pub link_after : List ℕ → ℕ → ℕ
+link_after fragments k =
+    if nat_lt (k + 1) (length fragments) then link_word (slice_index_or fragments (k + 1) 0) else 0
+
+-- the meta of a record: its fields, and its second fragment, or 0 where it has one alone
+abbrev pub record_meta : ℕ → List ℕ → ℕ
+record_meta fields fragments = meta_word (record { array = false; length = fields; next = slice_index_or fragments 1 0 })
+
+-- the words of its first fragment
+abbrev pub head_word : Name → ℕ → List ℕ → ℕ → ℕ
+head_word name fields fragments part =
+    if part == 0 then record_meta fields fragments else if part == 1 then name_word name else 0
+
+-- word `part` of fragment k of a record whose fields were never set
+abbrev pub record_word : Name → ℕ → List ℕ → ℕ → ℕ → ℕ
+record_word name fields fragments k part =
+    if k == 0 then head_word name fields fragments part else if part == 0 then link_after fragments k else 0

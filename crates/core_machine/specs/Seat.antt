@@ -1,0 +1,63 @@
+-- What the machine keeps of a seat. The seat's number is its place among the seats, and stands nowhere in it.
+use Rattle.std.specs.Prelude.{ℕ, List, [], ◌++◌}
+use Rattle.heap_model.specs.declared.entry.Entry.{Entry}
+use Rattle.heap_model.specs.declared.command.Command.{Command}
+use Rattle.heap_model.specs.declared.command.Command.TheVariants as commands
+use Rattle.heap_model.specs.Space.{need_of}
+use Rattle.core_machine.specs.declared.place.Place.{Place}
+use Rattle.core_machine.specs.declared.place.Place.TheVariants.{Idle}
+use Rattle.core_machine.specs.declared.register.Register.{Register}
+
+pub record Seat : Type 0 where
+  -- the sixteen registers
+  pub registers : List Register
+  -- own fragments that no call uses, all of the cursor's group
+  pub reserve : List ℕ
+  -- the group at which the next gather begins
+  pub cursor : ℕ
+  -- the fragments of the call in flight that aren't born
+  pub hand : List ℕ
+  -- the fragments of the object that is being made, born ones among them
+  pub body : List ℕ
+  -- how many words of these have been stored
+  pub stored : ℕ
+  -- how many groups the call in flight has claimed
+  pub tried : ℕ
+  -- how many fragments it has given back
+  pub given : ℕ
+  -- the call in flight, or the last one
+  pub command : Command
+  -- where the seat stands in it
+  pub place : Place
+  -- the phase that it answered last
+  pub answered : ℕ
+  -- how many objects it made
+  pub made : ℕ
+  -- its entries, in their order
+  pub mine : List Entry
+
+-- what stands for a seat that isn't there: one without anything, that does nothing
+abbrev pub nobody : Seat
+nobody = record {
+  registers = [];
+  reserve = [];
+  cursor = 0;
+  hand = [];
+  body = [];
+  stored = 0;
+  tried = 0;
+  given = 0;
+  command = commands.Poll;
+  place = Idle;
+  answered = 0;
+  made = 0;
+  mine = [];
+}
+
+-- the fragments that its call needs
+abbrev pub need : Seat → ℕ
+need seat = need_of seat.command
+
+-- the seat with more entries
+abbrev pub with_entries : Seat → List Entry → Seat
+with_entries seat entries = record seat { mine = seat.mine ++ entries }

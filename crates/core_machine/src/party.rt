@@ -1,0 +1,120 @@
+ghost use Rattle.std.specs.Prelude.{◌≡◌, ℕ, ◌+◌, ◌-◌, ◌*◌, ◌<◌, ◌≤◌, ◌^◌, ◌∷◌, [], OnOk, OnErr, IfOk};
+ghost use Rattle.heap_model.specs.Heap.{IsHeap};
+ghost use Rattle.core_machine.specs.Seat.{with_entries};
+ghost use Rattle.core_machine.specs.Opening.{opening_seat};
+
+use crate::fragments::{Hand, Reserve};
+use crate::place::Place;
+use crate::register::Register;
+use heap_model::{Command, Entry, Heap, Id, Memory};
+use std::alloc::Global;
+use std::marker::Model;
+
+/// What is kept of a seat: its registers, its fragments, its call in flight and its entries.
+#[derive(Drop)]
+pub struct SeatParty {
+    pub(crate) registers: [Register; 16],
+    pub(crate) reserve: Reserve,
+    pub(crate) cursor: u16,
+    pub(crate) hand: Hand,
+    pub(crate) body: Hand,
+    pub(crate) stored: u16,
+    pub(crate) tried: u16,
+    pub(crate) given: u16,
+    pub(crate) command: Command,
+    pub(crate) place: Place,
+    pub(crate) answered: u64,
+    pub(crate) made: u32,
+    pub(crate) mine: Vec<Entry>,
+}
+
+impl Model for SeatParty {
+    ghost use Rattle.std.specs.Prelude.{◌-◌, vec_capacity, vec_len};
+    ghost use Rattle.core_machine.specs.Value.{SeatWithRoom};
+
+    ghost Value = { SeatWithRoom };
+
+    ghost view = { λ party. record {
+      seat = record {
+        registers = party.registers;
+        reserve = party.reserve.items;
+        cursor = party.cursor;
+        hand = party.hand.items;
+        body = party.body.items;
+        stored = party.stored;
+        tried = party.tried;
+        given = party.given;
+        command = party.command;
+        place = party.place;
+        answered = party.answered;
+        made = party.made;
+        mine = party.mine.items;
+      };
+      spare = vec_capacity party.mine - vec_len party.mine;
+    } };
+}
+
+impl SeatParty {
+    /// The seat of this number at the opening.
+    pub fn opening(alloc: Global, heap: &Heap, number: u8) -> SeatParty
+        requires { IsHeap heap.now }
+        ensures { result.seat ≡ opening_seat heap.now number }
+    {
+        let mut registers = [Register::Nil; 16];
+        registers[0] = Register::Object {
+            head: 0,
+            id: Id::Board,
+        };
+        SeatParty {
+            registers,
+            reserve: Reserve::new(),
+            cursor: u16::from(number) % heap.groups,
+            hand: Hand::new(),
+            body: Hand::new(),
+            stored: 0,
+            tried: 0,
+            given: 0,
+            command: Command::Poll,
+            place: Place::Idle,
+            answered: 0,
+            made: 0,
+            mine: Vec::new(alloc),
+        }
+    }
+
+    /// The seat's entries, in their order.
+    pub fn log(&self) -> &[Entry]
+        ensures { result.now ≡ self.now.seat.mine }
+    {
+        self.mine.as_slice()
+    }
+
+    /// For how many more entries there is room.
+    pub fn spare(&self) -> usize
+        ensures { result ≡ self.now.spare }
+    {
+        self.mine.capacity() - self.mine.len()
+    }
+
+    /// Makes room for at least `n` more entries.
+    pub fn room(&mut self, n: usize) -> Result<(), Memory>
+        ensures same { self.new.seat ≡ self.old.seat }
+        ensures more { self.old.spare ≤ self.new.spare }
+        ensures room { OnOk result (n ≤ self.new.spare) }
+        ensures memory { OnErr result (self.new ≡ self.old) }
+    {
+        self.mine.reserve(n).map_err(|_| Memory)
+    }
+
+    /// Adds an entry, for which there is room.
+    pub(crate) fn note(&mut self, entry: Entry)
+        requires { 0 < self.old.spare }
+        ensures seat { self.new.seat ≡ with_entries self.old.seat (entry ∷ []) }
+        ensures spare { self.old.spare ≤ self.new.spare + 1 }
+    {
+        match self.mine.push(entry) {
+            Ok(()) => (),
+            Err(_) => unreachable!(),
+        }
+    }
+}

@@ -1,0 +1,41 @@
+ghost use Rattle.std.specs.Prelude.{◌≡◌, ℕ, ◌+◌, ◌*◌, ◌<◌, ◌≤◌, Some};
+ghost use Rattle.heap_model.specs.Space.{need_of};
+ghost use Rattle.core_machine.specs.Machine.{Begins, Can};
+ghost use Rattle.core_machine.specs.Calls.{PlaysCall, AnswersNew, last_reply as last_reply_of};
+ghost use Rattle.core_machine.specs.Value.{spare_of, SpendsRoom};
+
+use crate::machine::Machine;
+use heap_model::{Command, Entry, Reply};
+
+impl Machine {
+    /// Makes a whole call of the seat, with no step of others between, and answers its reply.
+    pub fn play_call(&mut self, seat: u8, command: &Command) -> Reply
+        requires can { Can self.old.heap self.old.state (Begins seat command.now) }
+        requires room { 2 * need_of command.now + 4 ≤ spare_of self.old seat }
+        ensures heap { self.new.heap ≡ self.old.heap }
+        ensures steps { PlaysCall self.old.heap self.old.state self.new.state seat command.now result }
+        ensures answer { AnswersNew self.old.heap self.old.state self.new.state seat command.now result }
+        ensures spent { SpendsRoom self.old self.new seat }
+    {
+        // What is true of every machine is known from here on.
+        let _ = &self.words;
+        self.begin(seat, *command);
+        while let Some(step) = self.due(seat) {
+            self.step(seat, &step);
+        }
+        match last_reply(self.log(seat)) {
+            Some(reply) => reply,
+            None => unreachable!(),
+        }
+    }
+}
+
+/// The reply that the last of the entries tells.
+fn last_reply(entries: &[Entry]) -> Option<Reply>
+    ensures { result ≡ last_reply_of entries.now }
+{
+    match entries.last()? {
+        Entry::Said { reply, .. } => Some(*reply),
+        _ => None,
+    }
+}

@@ -1,0 +1,40 @@
+-- Words that are read after another one was written.
+use Rattle.std.proofs.Common.{◌≡◌, ◌≢◌, ℕ, ◌*◌, ◌<◌, List, length, arith}
+use Rattle.std.proofs.lemmas.List.{get_or-set_other}
+use Rattle.heap_model.specs.declared.heap.Heap.{Heap}
+use Rattle.core_machine.specs.declared.address.Address.{Address}
+use Rattle.core_machine.specs.declared.address.Address.TheVariants.{Control, Word}
+use Rattle.core_machine.specs.Layout.{table_length, index_of, at, put}
+use Rattle.core_machine.proofs.Addresses.{at-put_same}
+
+-- a word with another index is as before
+at-put_apart : (heap : Heap) (words : List ℕ) (a b : Address) (n : ℕ) → index_of heap b ≢ index_of heap a → at heap (put heap words a n) b ≡ at heap words b
+unfolding at put
+at-put_apart heap words a b n apart = get_or-set_other words (index_of heap a) (index_of heap b) n 0 apart
+
+module _ (heap : Heap) (words : List ℕ) (n : ℕ) where
+  -- the word that was written
+  pub control_same : (g : ℕ) → length words ≡ table_length heap → g < heap.groups → at heap (put heap words (Control g) n) (Control g) ≡ n
+  control_same g whole below = at-put_same heap words (Control g) n whole below
+
+  pub word_same : (f j : ℕ) → length words ≡ table_length heap → f < 16 * heap.groups → j < 4 → at heap (put heap words (Word f j) n) (Word f j) ≡ n
+  word_same f j whole below part = at-put_same heap words (Word f j) n whole (below, part)
+
+  -- other words
+  pub control_other : (g h : ℕ) → h ≢ g → at heap (put heap words (Control g) n) (Control h) ≡ at heap words (Control h)
+  control_other g h apart = at-put_apart heap words (Control g) (Control h) n (λ e. apart (omega (arith, e)))
+
+  -- a step on a control word leaves the fragments' words, and one on these the control words
+  pub word_after_control : (g f j : ℕ) → g < heap.groups → at heap (put heap words (Control g) n) (Word f j) ≡ at heap words (Word f j)
+  word_after_control g f j below = at-put_apart heap words (Control g) (Word f j) n (λ e. omega (arith, e, below))
+
+  pub control_after_word : (f j g : ℕ) → g < heap.groups → at heap (put heap words (Word f j) n) (Control g) ≡ at heap words (Control g)
+  control_after_word f j g below = at-put_apart heap words (Word f j) (Control g) n (λ e. omega (arith, e, below))
+
+  -- another fragment's word
+  pub fragment_other : (f j g i : ℕ) → j < 4 → i < 4 → g ≢ f → at heap (put heap words (Word f j) n) (Word g i) ≡ at heap words (Word g i)
+  fragment_other f j g i p q apart = at-put_apart heap words (Word f j) (Word g i) n (λ e. apart (omega (arith, e, p, q)))
+
+  -- another part of the same
+  pub part_other : (f j g i : ℕ) → i ≢ j → g ≡ f → at heap (put heap words (Word f j) n) (Word g i) ≡ at heap words (Word g i)
+  part_other f j g i apart same = at-put_apart heap words (Word f j) (Word g i) n (λ e. apart (omega (arith, e, same)))

@@ -1,0 +1,93 @@
+-- A birth of some fragments of an object keeps the rule.
+use Rattle.std.proofs.Common.{◌≡◌, ◌≢◌, ℕ, ◌-◌, ◌*◌, ◌<◌, ◌≤◌, false, List, [], length, drop, bit_or, refl, sym, ◌∙◌, arith}
+use Rattle.std.proofs.lemmas.List.{append-nil}
+use Rattle.heap_model.specs.declared.heap.Heap.{Heap}
+use Rattle.heap_model.specs.Cycles.{graph_of}
+use Rattle.core_machine.proofs.FittingMoves.{fits_born, fits_entries}
+use Rattle.core_machine.proofs.Owned.{group_within}
+use Rattle.core_machine.specs.declared.address.Address.TheVariants.{Control}
+use Rattle.core_machine.specs.declared.place.Place.TheVariants as places
+use Rattle.core_machine.specs.declared.place.Making.TheVariants.{Bearing}
+use Rattle.core_machine.specs.Fits.{Fits, HasBody}
+use Rattle.core_machine.specs.Fragments.{part_in, part_out, mask, tally}
+use Rattle.core_machine.specs.Layout.{at, put}
+use Rattle.core_machine.specs.Machine.{State, seat_at, stepped, found_by}
+use Rattle.core_machine.specs.Making.{last_group, born}
+use Rattle.core_machine.specs.Moves.{birth_move, bears_black, is_last_birth, seat_after}
+use Rattle.core_machine.specs.Operation.{birth_bits}
+use Rattle.core_machine.specs.Seat.{Seat}
+use Rattle.core_rule.specs.Book.{Book}
+use Rattle.core_rule.specs.Owners.{Owner, Bears, Holds, Keeps as KeepsPart, handed}
+use Rattle.core_rule.specs.Rule.{Rule}
+use Rattle.core_rule.proofs.Assemble.{Keeps, seat_steps}
+use Rattle.core_rule.proofs.ControlSteps.{birth_bits_after}
+use Rattle.core_rule.proofs.CountMoves.{birth_used, birth_frees}
+use Rattle.core_rule.proofs.GatherMoves.{gathers_same}
+use Rattle.core_rule.proofs.HandMoves.{hand_held, hand_once, part_held, part_once, holding_bears, holding_born, held_within}
+use Rattle.core_rule.proofs.ObjectFrames.{SameKept, handed_kept, bears_keeps_none, holds_keeps_none, objects_control, objects_owners, registers_owners}
+use Rattle.core_rule.proofs.StoredFrames.{stored_control}
+use Rattle.core_machine.proofs.Addresses.{length-put}
+use Rattle.core_rule.proofs.Bodies.{whole_full}
+use Rattle.core_rule.proofs.OwnEntries.{counts_same}
+
+-- the same fragments are kept
+pub part_kept : (owner : ℕ → Owner) (q : ℕ) (fs : List ℕ) (o : Owner) → ((i k : ℕ) → o ≢ KeepsPart i k) → ((f : ℕ) → 1 ≤ tally f fs → owner f ≡ Holds q) → SameKept owner (handed o owner fs)
+part_kept owner q fs o none held = handed_kept o owner fs none (λ f i k there is. holds_keeps_none q i k (sym (held f there) ∙ is))
+
+last_within : (heap : Heap) (seat : Seat) → Fits heap seat → 0 < length seat.hand → last_group seat.hand < heap.groups
+last_within heap seat fits some = group_within heap seat.hand (length seat.hand - 1) (omega (arith, some)) fits.hand_within
+
+-- a birth keeps the rule
+pub birth_keeps : (heap : Heap) (state : State) (book : Book) (q : ℕ) → Rule heap state book → q < heap.seats
+    → (seat_at state q).place ≡ places.Making Bearing
+    → is_last_birth (seat_at state q) ≡ false
+    → Keeps heap (stepped heap state q (birth_move (seat_at state q))) book book.begun
+    ((birth_move (seat_at state q)).shows state.words (found_by heap state (birth_move (seat_at state q)).step))
+birth_keeps heap state book q rule here place more =
+    let seat : Seat = seat_at state q in
+    let stands = rule.seats_stand q here in
+    let heap_stands = rule.heap_stands in
+    let g : ℕ = last_group seat.hand in
+    let part : List ℕ = part_in g seat.hand in
+    let found : ℕ = at heap state.words (Control g) in
+    let word : ℕ = bit_or found (birth_bits (bears_black seat) (mask part)) in
+    let owner : ℕ → Owner = handed (Bears q) book.owner part in
+    let at_place : HasBody seat × (0 < length seat.hand) × (length seat.hand ≤ length seat.body) × (seat.stored ≡ 4 * length seat.body) = rw place at stands.fits.at_place in
+    let below = last_within heap seat stands.fits at_place.1 in
+    let some : 1 ≤ length seat.body = omega (arith, at_place.1, at_place.2) in
+    let held = part_held book.owner q seat.reserve seat.hand seat.body stands.holding g in
+    let once = part_once book.owner q seat.reserve seat.hand seat.body stands.holding g in
+    let inside = held_within heap state.words book.owner heap_stands.control_words q part held in
+    let kept = part_kept book.owner q part (Bears q) (bears_keeps_none q) held in
+    let frees = birth_frees heap book.owner book.history q part once inside heap_stands.used held in
+    seat_steps heap state book q (put heap state.words (Control g) word) (seat_after (birth_move seat) found) (record book { owner = owner }) []
+    rule here (sym (append-nil book.history)) refl
+    record {
+      table = length-put heap state.words (Control g) word ∙ heap_stands.table;
+      control_words = birth_bits_after heap state.words book.owner g heap_stands.table below heap_stands.control_words seat.hand q
+          (hand_once book.owner q seat.reserve seat.hand seat.body stands.holding) (hand_held book.owner q seat.reserve seat.hand seat.body stands.holding) (bears_black seat);
+      ids = heap_stands.ids;
+      objects = objects_owners book.owner owner kept book.made book.fragments heap (put heap state.words (Control g) word) (graph_of heap book.history)
+          (objects_control heap state.words (graph_of heap book.history) book.made book.owner book.fragments g word below heap_stands.objects);
+      used = birth_used heap book.owner book.history q part once inside heap_stands.used held;
+      legal = heap_stands.legal;
+    }
+    record {
+      fits = fits_entries heap (born seat) [] (fits_born heap seat stands.fits at_place.0 at_place.2 at_place.3 place more);
+      holding = holding_bears book.owner q seat.reserve seat.hand seat.body stands.holding g some;
+      stored = stored_control heap state.words q seat g word below stands.stored;
+      registers = registers_owners book.owner owner kept book.made book.fragments (graph_of heap book.history) q seat.registers stands.registers;
+      counts = counts_same (graph_of heap book.history) book.history q seat (seat_after (birth_move seat) found) refl refl
+          (rw (whole_full (part_out g seat.hand) seat.hand seat.body some) refl) stands.counts;
+      began = stands.began;
+      gathers = gathers_same heap book.owner owner q (drop (book.begun q) book.history) seat.cursor seat.tried seat.given frees stands.gathers;
+    }
+    (λ r under apart other. record {
+      fits = other.fits;
+      holding = holding_born book.owner r (seat_at state r).reserve (seat_at state r).hand (seat_at state r).body other.holding part q apart held;
+      stored = stored_control heap state.words r (seat_at state r) g word below other.stored;
+      registers = registers_owners book.owner owner kept book.made book.fragments (graph_of heap book.history) r (seat_at state r).registers other.registers;
+      counts = other.counts;
+      began = other.began;
+      gathers = gathers_same heap book.owner owner r (drop (book.begun r) book.history) (seat_at state r).cursor (seat_at state r).tried (seat_at state r).given frees other.gathers;
+    })

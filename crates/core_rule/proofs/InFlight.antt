@@ -1,0 +1,59 @@
+-- A call in flight: its place, and where it began.
+use Rattle.std.proofs.Common.{◌≡◌, ◌≢◌, ℕ, ◌*◌, ◌≤◌, false, List, [], ◌∷◌, ◌++◌, length, drop, refl, arith}
+use Rattle.std.proofs.lemmas.List.{drop-append-le, length-append}
+use Rattle.heap_model.specs.declared.heap.Heap.{Heap}
+use Rattle.heap_model.specs.declared.entry.Entry.{Entry}
+use Rattle.heap_model.specs.Windows.{is_reply_to}
+use Rattle.heap_model.proofs.Windows.{any-more}
+use Rattle.core_machine.specs.declared.place.Place.{Place}
+use Rattle.core_machine.specs.declared.place.Place.TheVariants as places
+use Rattle.core_machine.specs.declared.place.Making.{Making}
+use Rattle.core_machine.specs.declared.place.Making.TheVariants.{Gathering, Returning, Refusing, Storing, Bearing}
+use Rattle.core_machine.specs.Fits.{FitsPlace}
+use Rattle.core_machine.specs.Seat.{Seat}
+use Rattle.core_rule.specs.Gathers.{Began}
+
+-- whoever makes an object isn't idle
+pub is_busy : (making : Making) (place : Place) → place ≡ places.Making making → place ≢ places.Idle
+is_busy making place is idle = cc
+
+-- no more groups are tried than there are
+pub tried_within : (heap : Heap) (seat : Seat) (place : Place) → FitsPlace heap seat place → seat.tried ≤ heap.groups
+tried_within heap seat places.Idle fits = omega (arith, fits.none_tried)
+tried_within heap seat (places.Making Gathering) fits = omega (arith, fits.groups_left)
+tried_within heap seat (places.Making Returning) fits = omega (arith, fits.0.all_tried)
+tried_within heap seat (places.Making Refusing) fits = omega (arith, fits.0.all_tried)
+tried_within heap seat (places.Making Storing) fits = omega (arith, fits.0.none_tried)
+tried_within heap seat (places.Making Bearing) fits = omega (arith, fits.0.none_tried)
+
+-- no more is stored than the object has
+pub stored_within : (heap : Heap) (seat : Seat) (place : Place) → FitsPlace heap seat place → seat.stored ≤ 4 * length seat.body
+stored_within heap seat places.Idle fits = omega (arith, fits.none_stored)
+stored_within heap seat (places.Making Gathering) fits = omega (arith, fits.none_stored)
+stored_within heap seat (places.Making Returning) fits = omega (arith, fits.0.none_stored)
+stored_within heap seat (places.Making Refusing) fits = omega (arith, fits.0.none_stored)
+stored_within heap seat (places.Making Storing) fits = omega (arith, fits.2)
+stored_within heap seat (places.Making Bearing) fits = omega (arith, fits.3)
+
+-- the window of a call grows by the entry
+pub window_more : (history : List Entry) (begun : ℕ) (entry : Entry) → begun ≤ length history → drop begun (history ++ entry ∷ []) ≡ drop begun history ++ entry ∷ []
+window_more history begun entry earlier = drop-append-le begun history (entry ∷ []) earlier
+
+-- a call goes on past an entry that is no reply to it
+pub began_past : (history : List Entry) (entry : Entry) (q begun : ℕ) (place now : Place) → is_reply_to q entry ≡ false → (now ≢ places.Idle → place ≢ places.Idle)
+    → Began history q begun place → Began (history ++ entry ∷ []) q begun now
+began_past history entry q begun place now no_reply busy began = record {
+  earlier = rw (length-append history (entry ∷ [])) (omega (arith, began.earlier));
+  unanswered = λ still. rw (window_more history begun entry began.earlier, any-more (is_reply_to q) (drop begun history) entry, began.unanswered (busy still), no_reply) refl;
+}
+
+-- and where no entry is added
+pub began_on : (history : List Entry) (q begun : ℕ) (place now : Place) → place ≢ places.Idle → Began history q begun place → Began history q begun now
+began_on history q begun place now busy began = record { earlier = began.earlier; unanswered = λ still. began.unanswered busy }
+
+-- a seat that is told stands idle
+pub began_idle : (history : List Entry) (entry : Entry) (q begun : ℕ) (place : Place) → Began history q begun place → Began (history ++ entry ∷ []) q begun places.Idle
+began_idle history entry q begun place began = record {
+  earlier = rw (length-append history (entry ∷ [])) (omega (arith, began.earlier));
+  unanswered = λ busy. absurd (busy refl);
+}

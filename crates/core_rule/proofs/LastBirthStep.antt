@@ -1,0 +1,137 @@
+-- The last birth of an object keeps the rule.
+use Rattle.std.proofs.Common.{◌≡◌, ℕ, ◌-◌, ◌*◌, ◌<◌, ◌≤◌, false, List, [], ◌∷◌, ◌++◌, length, drop, bit_or, refl, sym, ap, ◌∙◌, subst, arith, true}
+use Rattle.heap_model.specs.declared.heap.Heap.{Heap}
+use Rattle.heap_model.specs.declared.id.Id.{Id}
+use Rattle.heap_model.specs.declared.id.Id.TheVariants.{Made}
+use Rattle.heap_model.specs.declared.entry.Entry.{Entry}
+use Rattle.heap_model.specs.State.{State as Graph, fresh}
+use Rattle.heap_model.specs.Cycles.{graph_of}
+use Rattle.heap_model.specs.Changes.{add}
+use Rattle.core_machine.specs.declared.place.Place.TheVariants as places
+use Rattle.core_machine.specs.declared.place.Making.TheVariants.{Bearing}
+use Rattle.core_machine.specs.declared.address.Address.TheVariants.{Control}
+use Rattle.core_machine.specs.Commands.{target_of, fields_of}
+use Rattle.core_machine.specs.Fits.{HasBody}
+use Rattle.core_machine.specs.Fragments.{mask, tally}
+use Rattle.core_machine.specs.Layout.{at, put}
+use Rattle.core_machine.specs.Machine.{State, seat_at, stepped, found_by}
+use Rattle.core_machine.specs.Making.{last_group, made_last, next_id, newborn_word}
+use Rattle.core_machine.specs.Moves.{bears_black, last_birth_move, last_part, made_entry, seat_after, is_last_birth}
+use Rattle.core_machine.specs.Operation.{birth_bits}
+use Rattle.core_machine.specs.Seat.{Seat}
+use Rattle.core_machine.proofs.FittingMoves.{fits_made, fits_entries}
+use Rattle.core_machine.proofs.Owned.{group_within}
+use Rattle.core_rule.specs.Book.{Book}
+use Rattle.core_rule.specs.Objects.{AreMade}
+use Rattle.core_rule.specs.Gathers.{GathersRight}
+use Rattle.core_rule.specs.Rule.{Rule}
+use Rattle.core_rule.proofs.Assemble.{Keeps, seat_steps}
+use Rattle.core_rule.proofs.GraphGrowth.{party_other}
+use Rattle.core_rule.proofs.GraphRegisters.{registers_length}
+use Rattle.core_rule.proofs.IdsGrowth.{OneMore, ids_grown, number_new}
+use Rattle.core_rule.proofs.Keeping.{kept_by, with_object}
+use Rattle.core_rule.proofs.KeptOwners.{kept_free, kept_taken, kept_holding, kept_others, kept_bits}
+use Rattle.core_rule.proofs.LastBirth.{one_more, all_stored, registers_own, registers_others}
+use Rattle.core_rule.proofs.MadeEntry.{graph_grown, used_made, counts_made, made_legal}
+use Rattle.core_rule.proofs.ObjectFrames.{objects_control}
+use Rattle.core_rule.proofs.ObjectsGrowth.{NewBody, objects_grown}
+use Rattle.core_rule.proofs.Others.{counts_stay, began_stays, gathers_stay, of_other}
+use Rattle.core_rule.proofs.RecordCommands.{need_made, ranges_made}
+use Rattle.core_rule.proofs.StoredFrames.{stored_control}
+use Rattle.core_rule.proofs.OwnerLemmas.{own_keeps_none}
+use Rattle.core_rule.proofs.GatherMoves.{nothing_tried, gathers_same}
+use Rattle.core_rule.proofs.CountMoves.{used_same}
+use Rattle.core_machine.proofs.Addresses.{length-put}
+use Rattle.core_rule.proofs.Bodies.{body_once, body_own}
+use Rattle.core_rule.proofs.InFlight.{began_idle}
+
+-- the words after it
+abbrev words_born : Heap → List ℕ → Seat → List ℕ
+words_born heap words seat =
+    put heap words (Control (last_group seat.hand)) (bit_or (at heap words (Control (last_group seat.hand))) (birth_bits (bears_black seat) (mask (last_part seat))))
+
+-- the book after it: the object keeps its fragments, and has a number
+abbrev book_born : Book → ℕ → Seat → Book
+book_born book q seat = record book {
+  history = book.history ++ made_entry q seat ∷ [];
+  made = book.made ++ next_id q seat ∷ [];
+  owner = kept_by (length book.made) seat.body book.owner;
+  fragments = with_object book.fragments (length book.made) seat.body;
+}
+
+-- the last birth keeps the rule
+pub last_birth_keeps : (heap : Heap) (state : State) (book : Book) (q : ℕ) → Rule heap state book → q < heap.seats
+    → (seat_at state q).place ≡ places.Making Bearing
+    → is_last_birth (seat_at state q) ≡ true
+    → Keeps heap (stepped heap state q (last_birth_move q (seat_at state q))) book book.begun
+    ((last_birth_move q (seat_at state q)).shows state.words (found_by heap state (last_birth_move q (seat_at state q)).step))
+last_birth_keeps heap state book q rule here place last =
+    let seat : Seat = seat_at state q in
+    let body : List ℕ = seat.body in
+    let group : ℕ = last_group seat.hand in
+    let found : ℕ = at heap state.words (Control group) in
+    let word : ℕ = bit_or found (birth_bits (bears_black seat) (mask (last_part seat))) in
+    let words : List ℕ = words_born heap state.words seat in
+    let entry : Entry = made_entry q seat in
+    let id : Id = next_id q seat in
+    let now : Book = book_born book q seat in
+    let stands = rule.seats_stand q here in
+    let at_place : HasBody seat × (0 < length seat.hand) × (length seat.hand ≤ length body) × (seat.stored ≡ 4 * length body) = rw place at stands.fits.at_place in
+    let has = at_place.0 in
+    let below : group < heap.groups = group_within heap seat.hand (length seat.hand - 1) (omega (arith, at_place.1)) stands.fits.hand_within in
+    let some : 1 ≤ length body = omega (arith, at_place.1, at_place.2) in
+    let d : ℕ = target_of seat.command in
+    let fields : ℕ = fields_of seat.command in
+    let ranges = ranges_made seat.command has.makes.a_record has.makes.in_range in
+    let g : Graph = graph_of heap book.history in
+    let grown : Graph = add g q d (fresh false fields) in
+    let graph : graph_of heap now.history ≡ grown = graph_grown heap book.history q seat has.makes.a_record in
+    let ids : AreMade g book.made = rule.heap_stands.ids in
+    let more : OneMore g grown id (fresh false fields) = one_more g q d (fresh false fields) seat.made stands.counts.present stands.counts.numbered in
+    let once = body_once book.owner q seat.reserve seat.hand body stands.holding some in
+    let unkept = λ (f i k : ℕ) (there : 1 ≤ tally f body). own_keeps_none q i k (book.owner f) (body_own book.owner q seat.reserve seat.hand body stands.holding f there) in
+    let new : NewBody heap state.words book.owner id fields body = record {
+      sized = (ranges.2, ranges.3);
+      whole = has.whole ∙ need_made seat.command has.makes.a_record;
+      once = once;
+      unkept = unkept;
+      newborn = all_stored heap state.words body (newborn_word q seat) seat.stored at_place.3 stands.stored;
+    } in
+    seat_steps heap state book q words (seat_after (last_birth_move q seat) found) now (entry ∷ []) rule here refl refl
+    record {
+      table = length-put heap state.words (Control group) word ∙ rule.heap_stands.table;
+      control_words = kept_bits heap state.words book.owner q seat.reserve seat.hand body group (length book.made) (bears_black seat) rule.heap_stands.table below
+          rule.heap_stands.control_words stands.holding some last;
+      ids = rw graph (ids_grown g grown book.made id (fresh false fields) ids more);
+      objects = rw graph (objects_control heap state.words grown now.made now.owner now.fragments group word below
+          (objects_grown heap state.words g grown book.made id book.owner book.fragments fields body ids more new rule.heap_stands.objects));
+      used = used_made heap now.owner book.history q seat (used_same heap book.owner now.owner book.history
+          (kept_taken book.owner q seat.reserve seat.hand body stands.holding some (length book.made)) rule.heap_stands.used);
+      legal = made_legal g book.history q seat stands.counts has.whole some heap refl has.makes.a_record has.makes.in_range stands.fits.small_reserve rule.heap_stands.legal;
+    }
+    record {
+      fits = fits_entries heap (made_last q seat) (entry ∷ []) (fits_made heap q seat stands.fits has);
+      holding = kept_holding book.owner q seat.reserve seat.hand body stands.holding some (length book.made);
+      stored = λ u none. absurd (omega (arith, none));
+      registers = rw graph (registers_own g q d (fresh false fields) stands.counts.present book.made id book.owner book.fragments body unkept once some
+          (number_new g grown book.made id (fresh false fields) ids more) seat.registers (omega (arith, stands.fits.registers_whole, ranges.1))
+          (omega (arith, registers_length heap book.history q stands.counts.present, ranges.1)) (ap (Made q) stands.counts.numbered) stands.registers);
+      counts = rw graph (counts_made g book.history q seat stands.counts has.whole some d (fresh false fields) found);
+      began = began_idle book.history entry q (book.begun q) seat.place stands.began;
+      gathers = subst (λ n. GathersRight heap now.owner q (drop (book.begun q) now.history) seat.cursor n seat.given) (sym has.none_tried)
+          (subst (λ n. GathersRight heap now.owner q (drop (book.begun q) now.history) seat.cursor 0 n) (sym has.none_given)
+          (nothing_tried heap now.owner q (drop (book.begun q) now.history) seat.cursor));
+    }
+    (λ r less apart other. record {
+      fits = other.fits;
+      holding = kept_others book.owner q seat.reserve seat.hand body stands.holding some (length book.made) r
+          (seat_at state r).reserve (seat_at state r).hand (seat_at state r).body apart other.holding;
+      stored = stored_control heap state.words r (seat_at state r) group word below other.stored;
+      registers = rw graph (registers_others g q d (fresh false fields) stands.counts.present book.made id book.owner book.fragments body unkept r (seat_at state r).registers apart other.registers);
+      counts = rw graph (counts_stay g grown book.history entry r (seat_at state r) (of_other q r apart)
+          (party_other g q d (fresh false fields) stands.counts.present r apart) other.counts);
+      began = began_stays book.history entry r (book.begun r) (seat_at state r).place (of_other q r apart) other.began;
+      gathers = gathers_stay heap now.owner r book.history (book.begun r) entry (seat_at state r).cursor (seat_at state r).tried (seat_at state r).given other.began.earlier
+          (gathers_same heap book.owner now.owner r (drop (book.begun r) book.history) (seat_at state r).cursor (seat_at state r).tried (seat_at state r).given
+          (kept_free book.owner q seat.reserve seat.hand body stands.holding some (length book.made)) other.gathers);
+    })

@@ -1,0 +1,85 @@
+-- Which entries of the machine may stand after a legal history.
+use Rattle.std.proofs.Common.{ℕ, ◌+◌, ◌*◌, ◌<◌, ◌≤◌, Bool, List, [], ◌∷◌, ◌++◌, refl, arith}
+use Rattle.heap_model.specs.declared.heap.Heap.{Heap}
+use Rattle.heap_model.specs.declared.id.Id.{Id}
+use Rattle.heap_model.specs.declared.command.Command.TheVariants as commands
+use Rattle.heap_model.specs.declared.reply.Reply.TheVariants as replies
+use Rattle.heap_model.specs.declared.entry.Entry.{Entry}
+use Rattle.heap_model.specs.declared.entry.Entry.TheVariants as entries
+use Rattle.heap_model.specs.State.{opening}
+use Rattle.heap_model.specs.Legal.{Accepts}
+use Rattle.heap_model.specs.Cycles.{graph_of}
+use Rattle.heap_model.specs.Space.{gained, lost, taken_of, spent_of}
+use Rattle.heap_model.specs.Needs.{record_fragments}
+use Rattle.heap_model.specs.Account.{KeepsSpace, IsLegal}
+use Rattle.heap_model.specs.Refusals.{FindsSpace}
+use Rattle.heap_model.proofs.Histories.{AcceptsAll-more, KeepsSpaceAfter-more}
+
+-- a legal history with one more entry that keeps the rules
+pub legal_more : (heap : Heap) (play : Bool) (history : List Entry) (entry : Entry) → IsLegal heap play history
+    → Accepts (graph_of heap history) entry → KeepsSpace heap play history entry → IsLegal heap play (history ++ entry ∷ [])
+legal_more heap play history entry legal accepts keeps = record {
+  objects = AcceptsAll-more (opening heap) history entry legal.objects accepts;
+  space = KeepsSpaceAfter-more heap {play = play} [] history entry legal.space keeps;
+}
+
+module _ (heap : Heap) (play : Bool) (before : List Entry) (q : ℕ) where
+  -- a seat takes what is in no use
+  pub keeps_takes : (count : ℕ) → 1 ≤ count → gained before + count ≤ 16 * heap.groups + lost before → KeepsSpace heap play before (entries.Takes q count)
+  keeps_takes count some room = record {
+    takes = (some, room);
+    makes = tt;
+    refuses = tt;
+    refuses_spine = tt;
+    answers = tt;
+    begins = tt;
+    sweeps = tt;
+    ends = tt;
+    shows = tt;
+  }
+
+  -- it gives back what it has
+  pub keeps_gives : (count : ℕ) → 1 ≤ count → spent_of q before + count ≤ taken_of q before → KeepsSpace heap play before (entries.GivesBack q count)
+  keeps_gives count some own = record {
+    takes = (some, own);
+    makes = tt;
+    refuses = tt;
+    refuses_spine = tt;
+    answers = tt;
+    begins = tt;
+    sweeps = tt;
+    ends = tt;
+    shows = tt;
+  }
+
+  -- it makes a record of what it has, and keeps little
+  pub keeps_made : (d fields : ℕ) (id : Id) → spent_of q before + record_fragments fields ≤ taken_of q before
+      → taken_of q before ≤ spent_of q before + record_fragments fields + 15
+      → KeepsSpace heap play before (entries.Said q (commands.New d fields) (replies.Made id))
+  keeps_made d fields id enough little = record {
+    takes = tt;
+    makes = (enough, little);
+    refuses = tt;
+    refuses_spine = tt;
+    answers = tt;
+    begins = tt;
+    sweeps = tt;
+    ends = tt;
+    shows = tt;
+  }
+
+  -- it is refused, where it shows what was found
+  pub keeps_full : (d fields found : ℕ) → spent_of q before ≤ taken_of q before → taken_of q before ≤ spent_of q before + 15
+      → found < record_fragments fields → FindsSpace heap play before q found
+      → KeepsSpace heap play before (entries.Said q (commands.New d fields) (replies.Full (record_fragments fields) found))
+  keeps_full d fields found own little less finds = record {
+    takes = tt;
+    makes = (omega (arith, own), omega (arith, little));
+    refuses = (refl, less, finds);
+    refuses_spine = tt;
+    answers = tt;
+    begins = tt;
+    sweeps = tt;
+    ends = tt;
+    shows = tt;
+  }

@@ -1,0 +1,68 @@
+-- The numbers of ids in the order of making.
+use Rattle.std.proofs.Common.{◌≡◌, ◌≢◌, ℕ, zero, suc, ◌+◌, ◌<◌, ◌≤◌, ◌==◌, true, false, ◌⊎◌, inl, inr, List, [], ◌∷◌, ◌++◌, length, slice_get, Some, refl, ap, arith}
+use Rattle.std.proofs.lemmas.Bool.Decides.{eqb_tells}
+use Rattle.heap_model.specs.declared.id.Id.{Id}
+use Rattle.heap_model.specs.declared.id.Id.TheVariants.{Board, Made}
+use Rattle.core_rule.specs.Book.{is_same_id, number_of, id_at}
+
+-- the test tells whether two ids are the same
+pub id_tells : (a b : Id) → ((is_same_id a b ≡ true) × (a ≡ b)) ⊎ ((is_same_id a b ≡ false) × (a ≢ b))
+id_tells Board Board = inl (refl, refl)
+id_tells Board (Made t n) = inr (refl, λ e. cc)
+id_tells (Made s m) Board = inr (refl, λ e. cc)
+id_tells (Made s m) (Made t n) = elim (eqb_tells s t) as (λ _. ((is_same_id (Made s m) (Made t n) ≡ true) × (Made s m ≡ Made t n)) ⊎ ((is_same_id (Made s m) (Made t n) ≡ false) × (Made s m ≢ Made t n))) [
+  | inl seat ↦ rw seat.0 (elim (eqb_tells m n) as (λ _. (((m == n) ≡ true) × (Made s m ≡ Made t n)) ⊎ (((m == n) ≡ false) × (Made s m ≢ Made t n))) [
+    | inl count ↦ inl (count.0, cc (seat.1, count.1))
+    | inr count ↦ inr (count.0, λ e. count.1 (cc))
+  ])
+  | inr seat ↦ rw seat.0 (inr (refl, λ e. seat.1 (cc)))
+]
+
+-- a number is at most how many there are
+pub number_of-le : (made : List Id) (id : Id) → number_of made id ≤ length made
+number_of-le [] id = omega arith
+number_of-le (x ∷ made) id = elim (id_tells x id) as (λ _. number_of (x ∷ made) id ≤ length (x ∷ made)) [
+  | inl e ↦ rw e.0 (omega arith)
+  | inr e ↦ rw e.0 (omega (arith, number_of-le made id))
+]
+
+-- an id that has a number stands there
+pub id_at-number_of : (made : List Id) (id : Id) → number_of made id < length made → id_at made (number_of made id) ≡ id
+id_at-number_of [] id = λ below. absurd (omega (arith, below))
+id_at-number_of (x ∷ made) id = elim (id_tells x id) as (λ _. number_of (x ∷ made) id < length (x ∷ made) → id_at (x ∷ made) (number_of (x ∷ made) id) ≡ id) [
+  | inl e ↦ rw e.0 (λ below. e.1)
+  | inr e ↦ rw e.0 (λ below. let one : number_of made id + 1 ≡ suc (number_of made id) = omega arith in rw one (id_at-number_of made id (omega (arith, below))))
+]
+
+-- what was made keeps its number when one more is made
+pub number_of-append : (made : List Id) (new id : Id) → number_of made id < length made → number_of (made ++ new ∷ []) id ≡ number_of made id
+number_of-append [] new id = λ below. absurd (omega (arith, below))
+number_of-append (x ∷ made) new id = elim (id_tells x id) as (λ _. number_of (x ∷ made) id < length (x ∷ made) → number_of ((x ∷ made) ++ new ∷ []) id ≡ number_of (x ∷ made) id) [
+  | inl e ↦ rw e.0 (λ below. refl)
+  | inr e ↦ rw e.0 (λ below. ap (λ n. n + 1) (number_of-append made new id (omega (arith, below))))
+]
+
+-- a new one gets the next
+pub number_of-new : (made : List Id) (id : Id) → number_of made id ≡ length made → number_of (made ++ id ∷ []) id ≡ length made
+number_of-new [] id = λ none. elim (id_tells id id) as (λ _. number_of (id ∷ []) id ≡ 0) [
+  | inl e ↦ rw e.0 refl
+  | inr e ↦ absurd (e.1 refl)
+]
+number_of-new (x ∷ made) id = elim (id_tells x id) as (λ _. number_of (x ∷ made) id ≡ length (x ∷ made) → number_of ((x ∷ made) ++ id ∷ []) id ≡ length (x ∷ made)) [
+  | inl e ↦ rw e.0 (λ none. absurd (omega (arith, none)))
+  | inr e ↦ rw e.0 (λ none. omega (arith, number_of-new made id (omega (arith, none))))
+]
+
+-- the ids stand where they stood, the new one last
+pub id_at-append : (made : List Id) (new : Id) (i : ℕ) → i < length made → id_at (made ++ new ∷ []) i ≡ id_at made i
+id_at-append [] new i below = absurd (omega arith)
+id_at-append (x ∷ made) new zero below = refl
+id_at-append (x ∷ made) new (suc i) below = id_at-append made new i (omega arith)
+
+pub id_at-new : (made : List Id) (new : Id) → id_at (made ++ new ∷ []) (length made) ≡ new
+id_at-new [] new = refl
+id_at-new (x ∷ made) new = id_at-new made new
+
+pub slice_get-append : (made : List Id) (new : Id) (x : Id) → slice_get made 0 ≡ Some x → slice_get (made ++ new ∷ []) 0 ≡ Some x
+slice_get-append [] new x there = absurd (cc)
+slice_get-append (y ∷ made) new x there = there

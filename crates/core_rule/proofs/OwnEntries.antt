@@ -1,0 +1,55 @@
+-- A seat's counts when the history grows by an entry of its own.
+use Rattle.std.proofs.Common.{◌≡◌, ℕ, ◌+◌, List, [], ◌∷◌, ◌++◌, filter, refl, ◌∙◌, true, false, arith, length, append-nil}
+use Rattle.std.proofs.lemmas.List.Elements.{filter-append}
+use Rattle.heap_model.specs.declared.effect.Effect.{Effect}
+use Rattle.heap_model.specs.declared.entry.Entry.{Entry}
+use Rattle.heap_model.specs.Space.{total_of}
+use Rattle.heap_model.specs.Effects.{effect_of, is_of}
+use Rattle.heap_model.proofs.Histories.{total_of-more}
+use Rattle.heap_model.specs.State.{State}
+use Rattle.heap_model.specs.Objects.{party}
+use Rattle.core_machine.specs.Seat.{Seat}
+use Rattle.core_rule.specs.Counts.{OwnCounts}
+use Rattle.core_rule.specs.Holding.{whole_hand}
+
+-- its own entries, and sums of what they did
+pub own_entries : (q : ℕ) (history : List Entry) (entry : Entry) → is_of q entry ≡ true → filter (is_of q) (history ++ entry ∷ []) ≡ filter (is_of q) history ++ entry ∷ []
+own_entries q history entry own = rw (filter-append (is_of q) history (entry ∷ []), own) refl
+
+-- its own list grows as the history's part does
+pub own_grows : (q : ℕ) (history mine : List Entry) (entry : Entry) → is_of q entry ≡ true → mine ≡ filter (is_of q) history
+    → mine ++ entry ∷ [] ≡ filter (is_of q) (history ++ entry ∷ [])
+own_grows q history mine entry own was = rw (own_entries q history entry own, was) refl
+
+pub total_of-own : (q : ℕ) (part : Effect → ℕ) (history : List Entry) (entry : Entry) → is_of q entry ≡ true
+    → total_of q part (history ++ entry ∷ []) ≡ total_of q part history + part (effect_of entry)
+total_of-own q part history entry own = rw (total_of-more q part history entry, own) refl
+
+-- what a seat has at hand
+abbrev pub at_hand : Seat → ℕ
+at_hand seat = length seat.reserve + length (whole_hand seat.hand seat.body)
+
+module _ (g grown : State) (history : List Entry) (q : ℕ) (seat now : Seat) (counts : OwnCounts g history q seat) where
+  -- its counts once an entry of its own is added, by what that gave, made and took
+  pub counts_own : (entry : Entry) → is_of q entry ≡ true → now.mine ≡ seat.mine ++ entry ∷ [] → now.made ≡ length (party grown q).objects → (party grown q).left ≡ false
+      → at_hand now + (effect_of entry).given + (effect_of entry).born ≡ at_hand seat + (effect_of entry).taken → OwnCounts grown (history ++ entry ∷ []) q now
+  counts_own entry own mine numbered present sum = record {
+    own = mine ∙ own_grows q history seat.mine entry own counts.own;
+    numbered = numbered;
+    present = present;
+    unborn = rw (
+      total_of-own q (λ e. e.given) history entry own,
+      total_of-own q (λ e. e.born) history entry own,
+      total_of-own q (λ e. e.taken) history entry own,
+    ) (omega (arith, counts.unborn, sum));
+  }
+
+-- no entry is added
+pub counts_same : (g : State) (history : List Entry) (q : ℕ) (seat now : Seat) → now.mine ≡ seat.mine ++ [] → now.made ≡ seat.made → at_hand now ≡ at_hand seat
+    → OwnCounts g history q seat → OwnCounts g history q now
+counts_same g history q seat now mine made sum counts = record {
+  own = mine ∙ append-nil seat.mine ∙ counts.own;
+  numbered = made ∙ counts.numbered;
+  present = counts.present;
+  unborn = rw sum counts.unborn;
+}

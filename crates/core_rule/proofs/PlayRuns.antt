@@ -1,0 +1,149 @@
+-- A run of whole calls, one after another, has a history that is legal as a play.
+use Rattle.std.proofs.Common.{◌≡◌, ◌≢◌, ℕ, zero, suc, ◌<◌, ◌≤◌, true, false, inl, inr, List, [], ◌∷◌, ◌++◌, length, drop, refl, sym, ap, ◌∙◌, subst, append_assoc}
+use Rattle.std.specs.Prelude.{Option, None, Some, IsSome}
+use Rattle.std.specs.List.{list_all}
+use Rattle.std.proofs.lemmas.Bool.{eq-eqb}
+use Rattle.std.proofs.lemmas.Bool.Decides.{eqb_tells}
+use Rattle.std.proofs.lemmas.List.{append-nil, get_or-set_other, drop-append-le}
+use Rattle.std.proofs.lemmas.List.Folds.{list_all-append}
+use Rattle.heap_model.specs.declared.heap.Heap.{Heap}
+use Rattle.heap_model.specs.declared.command.Command.{Command}
+use Rattle.heap_model.specs.declared.entry.Entry.{Entry}
+use Rattle.heap_model.specs.Heap.{IsHeap}
+use Rattle.heap_model.specs.Account.{IsLegal}
+use Rattle.heap_model.specs.State.{opening}
+use Rattle.heap_model.specs.Effects.{is_of}
+use Rattle.heap_model.proofs.Histories.{KeepsSpaceAfter-more}
+use Rattle.core_machine.specs.declared.place.Place.TheVariants as places
+use Rattle.core_machine.specs.Machine.{State, seat_at, moved, Event, Begins, Steps, Can, after, entries, Run, history}
+use Rattle.core_machine.specs.Moves.{Move, move_at, next_move}
+use Rattle.core_machine.specs.Opening.{IsOpening}
+use Rattle.core_machine.specs.Seat.{Seat, nobody}
+use Rattle.core_rule.specs.Book.{Book}
+use Rattle.core_rule.specs.Rule.{Rule}
+use Rattle.core_rule.specs.Laws.{StandsFor, IsAlone, OneCallAtATime, WholeCallsPlay, seat_of_event}
+use Rattle.core_rule.proofs.BeginStep.{begins}
+use Rattle.core_rule.proofs.Runs.{EachStepKeeps, EachBeginKeeps, seat_of_step}
+use Rattle.core_rule.proofs.Plays.{last_keeps}
+use Rattle.core_rule.proofs.PlayEntries.{AddsPlay, nothing, one, adds_play}
+
+-- the history is a play's, and since the call of a seat began all entries are its own
+pub record PlaysOn (heap : Heap) (state : State) (book : Book) : Type 0 where
+  pub rule : Rule heap state book
+  pub legal : IsLegal heap true book.history
+  pub own : (q : ℕ) → q < heap.seats → (seat_at state q).place ≢ places.Idle → list_all (is_of q) (drop (book.begun q) book.history) ≡ true
+
+-- a play's history with what a step adds
+play_more : (heap : Heap) (q : ℕ) (before added : List Entry) → AddsPlay heap before q added → IsLegal heap true before → IsLegal heap false (before ++ added)
+    → IsLegal heap true (before ++ added)
+play_more heap q before _ nothing play run = subst (IsLegal heap true) (sym (append-nil before)) play
+play_more heap q before _ (one entry may) play run = record {
+  objects = run.objects;
+  space = KeepsSpaceAfter-more heap {play = true} [] before entry play.space (may.keeps (last_keeps heap false [] before entry run.space));
+}
+
+-- they are all the seat's
+own_added : (heap : Heap) (q : ℕ) (before added : List Entry) → AddsPlay heap before q added → list_all (is_of q) added ≡ true
+own_added heap q before _ nothing = refl
+own_added heap q before _ (one entry may) = rw may.own refl
+
+own_more : (q begun : ℕ) (before added : List Entry) → begun ≤ length before → list_all (is_of q) (drop begun before) ≡ true → list_all (is_of q) added ≡ true
+    → list_all (is_of q) (drop begun (before ++ added)) ≡ true
+own_more q begun before added earlier own more = rw (drop-append-le begun before added earlier, list_all-append (is_of q) (drop begun before) added, own, more) refl
+
+moved_other : (heap : Heap) (state : State) (q r : ℕ) (move : Option Move) → r ≢ q → seat_at (moved heap state q move) r ≡ seat_at state r
+moved_other heap state q r None apart = refl
+moved_other heap state q r (Some move) apart = get_or-set_other state.seats q r _ nobody apart
+
+busy : (heap : Heap) (q : ℕ) (seat : Seat) → IsSome (next_move heap q seat) → seat.place ≢ places.Idle
+busy heap q seat due idle = nothing_due (subst (λ place. IsSome (move_at heap q seat place)) idle due)
+  where
+    nothing_due : IsSome (move_at heap q seat places.Idle) → ⊥
+    nothing_due none = cc
+
+-- some book stands for the state with this history, which plays on
+pub record PlaysNext (heap : Heap) (state : State) (before added : List Entry) : Type 0 where
+  pub now : Book
+  pub grown : now.history ≡ before ++ added
+  pub plays : PlaysOn heap state now
+
+step_plays : EachStepKeeps → (heap : Heap) (state : State) (book : Book) (q : ℕ) → PlaysOn heap state book → IsAlone state q → Can heap state (Steps q)
+    → PlaysNext heap (after heap state (Steps q)) book.history (entries heap state (Steps q))
+step_plays steps heap state book q plays alone can =
+    let here : q < heap.seats = seat_of_step heap state book q plays.rule can in
+    let active : (seat_at state q).place ≢ places.Idle = busy heap q (seat_at state q) can in
+    let keeps = steps heap state book q plays.rule here in
+    let adds : AddsPlay heap book.history q (entries heap state (Steps q))
+    = adds_play heap state book q (seat_at state q).place plays.rule here refl (plays.own q here active) in
+    let earlier : book.begun q ≤ length book.history = (plays.rule.seats_stand q here).began.earlier in
+    let own_now : list_all (is_of q) (drop (keeps.now.begun q) keeps.now.history) ≡ true
+    = rw (keeps.calls, keeps.grown) (own_more q (book.begun q) book.history (entries heap state (Steps q)) earlier (plays.own q here active) (own_added heap q book.history (entries heap state (Steps q)) adds)) in
+    record {
+      now = keeps.now;
+      grown = keeps.grown;
+      plays = record {
+        rule = keeps.rule;
+        legal = subst (IsLegal heap true) (sym keeps.grown)
+            (play_more heap q book.history (entries heap state (Steps q)) adds plays.legal (subst (IsLegal heap false) keeps.grown keeps.rule.heap_stands.legal));
+        own = λ r below active_now. elim (eqb_tells r q) as (λ _. list_all (is_of r) (drop (keeps.now.begun r) keeps.now.history) ≡ true) [
+          | inl same ↦ subst (λ n. list_all (is_of n) (drop (keeps.now.begun n) keeps.now.history) ≡ true) (sym same.1) own_now
+          | inr apart ↦ absurd (active_now (ap (λ s. s.place) (moved_other heap state q r (next_move heap q (seat_at state q)) apart.1) ∙ alone r (rw plays.rule.all_seats below) apart.1))
+        ];
+      };
+    }
+
+nothing_since : (q : ℕ) (history : List Entry) → list_all (is_of q) (drop (length history) history) ≡ true
+nothing_since q [] = refl
+nothing_since q (entry ∷ history) = nothing_since q history
+
+begin_plays : EachBeginKeeps → (heap : Heap) (state : State) (book : Book) (q : ℕ) (command : Command) → PlaysOn heap state book → IsAlone state q
+    → Can heap state (Begins q command) → PlaysNext heap (after heap state (Begins q command)) book.history []
+begin_plays begin heap state book q command plays alone can =
+    let keeps = begin heap state book q command plays.rule can in
+    let same : keeps.now.history ≡ book.history = keeps.grown ∙ append-nil book.history in
+    let first : begins q (length book.history) book.begun q ≡ length book.history = rw (eq-eqb q q refl) refl in
+    let own_now : list_all (is_of q) (drop (keeps.now.begun q) keeps.now.history) ≡ true
+    = rw (keeps.calls, same, first) (nothing_since q book.history) in
+    record {
+      now = keeps.now;
+      grown = keeps.grown;
+      plays = record {
+        rule = keeps.rule;
+        legal = subst (IsLegal heap true) (sym same) plays.legal;
+        own = λ r below active_now. elim (eqb_tells r q) as (λ _. list_all (is_of r) (drop (keeps.now.begun r) keeps.now.history) ≡ true) [
+          | inl at_q ↦ subst (λ n. list_all (is_of n) (drop (keeps.now.begun n) keeps.now.history) ≡ true) (sym at_q.1) own_now
+          | inr apart ↦ absurd (active_now (ap (λ s. s.place) (get_or-set_other state.seats q r _ nobody apart.1) ∙ alone r (rw plays.rule.all_seats below) apart.1))
+        ];
+      };
+    }
+
+module _ (steps : EachStepKeeps) (begin : EachBeginKeeps) where
+  event_plays : (heap : Heap) (state : State) (book : Book) (event : Event) → PlaysOn heap state book → IsAlone state (seat_of_event event) → Can heap state event
+      → PlaysNext heap (after heap state event) book.history (entries heap state event)
+  event_plays heap state book (Begins q command) plays alone can = begin_plays begin heap state book q command plays alone can
+  event_plays heap state book (Steps q) plays alone can = step_plays steps heap state book q plays alone can
+
+  run_plays : (heap : Heap) (state : State) (book : Book) (events : List Event) → PlaysOn heap state book → Run heap state events → OneCallAtATime heap state events
+      → IsLegal heap true (book.history ++ history heap state events)
+  run_plays heap state book [] plays run alone = subst (IsLegal heap true) (sym (append-nil book.history)) plays.legal
+  run_plays heap state book (event ∷ events) plays run alone =
+      let next = event_plays heap state book event plays alone.0 run.0 in
+      let rest = run_plays heap (after heap state event) next.now events next.plays run.1 alone.1 in
+      subst (IsLegal heap true) (ap (λ es. es ++ history heap (after heap state event) events) next.grown
+      ∙ append_assoc book.history (entries heap state event) (history heap (after heap state event) events)) rest
+
+  -- so does the whole run, from the opening on
+  pub whole_calls_play : ((heap : Heap) (state : State) → IsHeap heap → IsOpening heap state → StandsFor heap state [] []) → WholeCallsPlay
+  whole_calls_play opens heap state events limits opening run alone =
+      let first = opens heap state limits opening in
+      subst (λ before. IsLegal heap true (before ++ history heap state events)) first.grown
+      (run_plays heap state first.book events
+      record {
+        rule = first.rule;
+        legal = subst (IsLegal heap true) (sym first.grown) record { objects = tt; space = tt };
+        own = λ q below active. rw first.grown (own_of_none q (first.book.begun q));
+      } run alone)
+    where
+      own_of_none : (q begun : ℕ) → list_all (is_of q) (drop {A = Entry} begun []) ≡ true
+      own_of_none q zero = refl
+      own_of_none q (suc begun) = refl

@@ -1,0 +1,100 @@
+-- What may stand in a play: the entries by which nothing is refused, and what a gather finds while no other makes a step.
+use Rattle.std.proofs.Common.{◌≡◌, ℕ, ◌+◌, ◌*◌, ◌<◌, Bool, true, false, ◌&&◌, List, [], ◌∷◌, ◌++◌, drop, refl, sym, subst, cond, append_assoc, arith}
+use Rattle.std.proofs.lemmas.List.{append-nil}
+use Rattle.std.specs.List.{list_all}
+use Rattle.std.proofs.lemmas.List.Sums.{sum_by-cons}
+use Rattle.heap_model.specs.declared.heap.Heap.{Heap}
+use Rattle.heap_model.specs.declared.id.Id.{Id}
+use Rattle.heap_model.specs.declared.effect.Effect.{Effect}
+use Rattle.heap_model.specs.declared.command.Command.TheVariants as commands
+use Rattle.heap_model.specs.declared.reply.Reply.TheVariants as replies
+use Rattle.heap_model.specs.declared.entry.Entry.{Entry}
+use Rattle.heap_model.specs.declared.entry.Entry.TheVariants as entries
+use Rattle.heap_model.specs.Account.{KeepsSpace, KeepsSpaceAfter}
+use Rattle.heap_model.specs.Refusals.{FindsSpace, RefusesRightly, RefusesSpine}
+use Rattle.heap_model.specs.Phases.{ShowsRightly}
+use Rattle.heap_model.specs.Space.{taken_of, spent_of, total, total_but}
+use Rattle.heap_model.specs.Effects.{effect_of, is_of}
+use Rattle.core_rule.specs.Owners.{Owner}
+use Rattle.core_rule.specs.Counts.{AreUsed}
+use Rattle.core_rule.specs.Gathers.{GathersRight}
+use Rattle.core_rule.proofs.FreeSums.{taken_and_free, passed_all}
+
+-- an entry by which nothing is refused
+pub data IsPlain : Entry → Type 0 where
+  taking : (q count : ℕ) → IsPlain (entries.Takes q count)
+  giving : (q count : ℕ) → IsPlain (entries.GivesBack q count)
+  making : (q d fields : ℕ) (id : Id) → IsPlain (entries.Said q (commands.New d fields) (replies.Made id))
+
+refuses_nothing : (heap : Heap) (before : List Entry) (entry : Entry) → IsPlain entry
+    → RefusesRightly heap true before entry × RefusesSpine heap true before entry × ShowsRightly heap true before entry
+refuses_nothing heap before _ (taking q count) = (tt, tt, tt)
+refuses_nothing heap before _ (giving q count) = (tt, tt, tt)
+refuses_nothing heap before _ (making q d fields id) = (tt, tt, tt)
+
+-- the rules for it are those of a run
+pub plain_keeps : (heap : Heap) (before : List Entry) (entry : Entry) → IsPlain entry → KeepsSpace heap false before entry → KeepsSpace heap true before entry
+plain_keeps heap before entry plain keeps =
+    let nothing = refuses_nothing heap before entry plain in
+    record {
+      takes = keeps.takes;
+      makes = keeps.makes;
+      refuses = nothing.0;
+      refuses_spine = nothing.1;
+      answers = keeps.answers;
+      begins = keeps.begins;
+      sweeps = keeps.sweeps;
+      ends = keeps.ends;
+      shows = nothing.2;
+    }
+
+-- the last entry of a legal history keeps the rules after those before it
+pub last_keeps : (heap : Heap) (play : Bool) (before history : List Entry) (entry : Entry) → KeepsSpaceAfter heap play before (history ++ entry ∷ [])
+    → KeepsSpace heap play (before ++ history) entry
+last_keeps heap play before [] entry kept = subst (λ es. KeepsSpace heap play es entry) (sym (append-nil before)) kept.0
+last_keeps heap play before (first ∷ history) entry kept =
+    subst (λ es. KeepsSpace heap play es entry) (append_assoc before (first ∷ []) history) (last_keeps heap play (before ++ first ∷ []) history entry kept.1)
+
+-- where all entries are the seat's, the others did nothing, and nothing was freed
+others_nothing : (q : ℕ) (part : Effect → ℕ) (since : List Entry) → list_all (is_of q) since ≡ true → total_but q part since ≡ 0
+others_nothing q part [] own = refl
+others_nothing q part (entry ∷ since) own = rw (sum_by-cons (λ e. cond (is_of q e) 0 (part (effect_of e))) entry since) (by_test (is_of q entry) (list_all (is_of q) since) own (others_nothing q part since))
+  where
+    by_test : (b rest : Bool) → (b && rest) ≡ true → (rest ≡ true → total_but q part since ≡ 0) → cond b 0 (part (effect_of entry)) + total_but q part since ≡ 0
+    by_test true rest both more = omega (arith, more both)
+    by_test false rest both more = cc
+
+-- a seat's own entry frees nothing
+own_frees : (q : ℕ) (entry : Entry) → is_of q entry ≡ true → (effect_of entry).freed ≡ 0
+own_frees q (entries.Said r command reply) own = refl
+own_frees q (entries.Takes r count) own = refl
+own_frees q (entries.GivesBack r count) own = refl
+own_frees q (entries.Answers r phase) own = refl
+own_frees q (entries.Advance phase) own = refl
+own_frees q (entries.Frees count) own = cc
+own_frees q (entries.Returns count) own = refl
+own_frees q (entries.Swings id) own = refl
+own_frees q (entries.Ends cycle kept) own = refl
+own_frees q (entries.Turned command reply) own = refl
+
+none_freed : (q : ℕ) (since : List Entry) → list_all (is_of q) since ≡ true → total (λ e. e.freed) since ≡ 0
+none_freed q [] own = refl
+none_freed q (entry ∷ since) own = rw (sum_by-cons (λ e. (effect_of e).freed) entry since) (by_test (is_of q entry) (list_all (is_of q) since) own (own_frees q entry) (none_freed q since))
+  where
+    by_test : (b rest : Bool) → (b && rest) ≡ true → (b ≡ true → (effect_of entry).freed ≡ 0) → (rest ≡ true → total (λ e. e.freed) since ≡ 0) → (effect_of entry).freed + total (λ e. e.freed) since ≡ 0
+    by_test true rest both first more = omega (arith, first refl, more both)
+    by_test false rest both first more = cc
+
+-- after a gather over all groups that found too little, with no step of others since, what was found is what is there
+pub finds_in_play : (heap : Heap) (owner : ℕ → Owner) (history : List Entry) (q begun cursor given reserve : ℕ) → cursor < heap.groups
+    → AreUsed heap owner history → reserve + spent_of q history ≡ taken_of q history
+    → list_all (is_of q) (drop begun history) ≡ true
+    → GathersRight heap owner q (drop begun history) cursor heap.groups given
+    → FindsSpace heap true history q (reserve + given)
+finds_in_play heap owner history q begun cursor given reserve within used own alone gathers =
+    let all = taken_and_free (16 * heap.groups) owner in
+    let passed = passed_all heap owner cursor within in
+    let freed = none_freed q (drop begun history) alone in
+    let gave = others_nothing q (λ e. e.given) (drop begun history) alone in
+    let took = others_nothing q (λ e. e.taken) (drop begun history) alone in
+    omega (arith, all, passed, freed, gave, took, used, own, gathers.passed, gathers.returned)

@@ -1,0 +1,74 @@
+-- A store into a seat's new object keeps the rule.
+use Rattle.std.proofs.Common.{◌≡◌, ℕ, ◌*◌, ◌/◌, ◌%◌, ◌<◌, List, [], length, refl, sym, ◌∙◌, arith}
+use Rattle.std.proofs.lemmas.List.{append-nil}
+use Rattle.heap_model.specs.declared.heap.Heap.{Heap}
+use Rattle.heap_model.specs.Cycles.{graph_of}
+use Rattle.core_machine.specs.declared.place.Place.TheVariants as places
+use Rattle.core_machine.specs.declared.place.Making.TheVariants.{Storing}
+use Rattle.core_machine.specs.declared.address.Address.TheVariants.{Word}
+use Rattle.core_machine.specs.Fits.{HasBody}
+use Rattle.core_machine.specs.Layout.{at, put}
+use Rattle.core_machine.specs.Machine.{State, seat_at, stepped, found_by}
+use Rattle.core_machine.specs.Making.{newborn_word, stored_more}
+use Rattle.core_machine.specs.Moves.{store_move, seat_after}
+use Rattle.core_machine.specs.Seat.{Seat}
+use Rattle.core_machine.proofs.FittingMoves.{fits_stored, fits_entries}
+use Rattle.core_rule.specs.Book.{Book, fragment_at}
+use Rattle.core_rule.specs.Rule.{Rule}
+use Rattle.core_rule.proofs.Assemble.{Keeps, seat_steps}
+use Rattle.core_rule.proofs.ObjectFrames.{objects_store}
+use Rattle.core_rule.proofs.StoreLemmas.{bits_store, store_next}
+use Rattle.core_rule.proofs.StoredFrames.{stored_store}
+use Rattle.core_rule.proofs.OwnerLemmas.{IsOwn, own_keeps_none, own_not_others}
+use Rattle.core_machine.proofs.Addresses.{length-put}
+use Rattle.core_rule.proofs.Bodies.{body_once, body_at-own}
+use Rattle.core_rule.proofs.InFlight.{stored_within, began_on, is_busy}
+use Rattle.core_rule.proofs.OwnEntries.{counts_same}
+
+-- a store keeps the rule
+pub store_keeps : (heap : Heap) (state : State) (book : Book) (q : ℕ) → Rule heap state book → q < heap.seats
+    → (seat_at state q).place ≡ places.Making Storing
+    → Keeps heap (stepped heap state q (store_move q (seat_at state q))) book book.begun
+    ((store_move q (seat_at state q)).shows state.words (found_by heap state (store_move q (seat_at state q)).step))
+store_keeps heap state book q rule here place =
+    let seat : Seat = seat_at state q in
+    let f : ℕ = fragment_at seat.body (seat.stored / 4) in
+    let part : ℕ = seat.stored % 4 in
+    let word : ℕ = newborn_word q seat (seat.stored / 4) part in
+    let found : ℕ = at heap state.words (Word f part) in
+    let words : List ℕ = put heap state.words (Word f part) word in
+    let stands = rule.seats_stand q here in
+    let at_place : HasBody seat × (seat.hand ≡ seat.body) × (seat.stored < 4 * length seat.body) = rw place at stands.fits.at_place in
+    let row : seat.stored / 4 < length seat.body = omega (arith, at_place.2) in
+    let fits_part : part < 4 = omega arith in
+    let own : IsOwn q (book.owner f) = body_at-own book.owner q seat.reserve seat.hand seat.body stands.holding (seat.stored / 4) row in
+    let once = body_once book.owner q seat.reserve seat.hand seat.body stands.holding (omega (arith, row)) in
+    seat_steps heap state book q words (seat_after (store_move q seat) found) book [] rule here (sym (append-nil book.history)) refl
+    record {
+      table = length-put heap state.words (Word f part) word ∙ rule.heap_stands.table;
+      control_words = bits_store heap state.words book.owner f part word rule.heap_stands.control_words;
+      ids = rule.heap_stands.ids;
+      objects = objects_store heap state.words (graph_of heap book.history) book.made book.owner book.fragments f part word fits_part
+          (λ i k. own_keeps_none q i k (book.owner f) own) rule.heap_stands.objects;
+      used = rule.heap_stands.used;
+      legal = rule.heap_stands.legal;
+    }
+    record {
+      fits = fits_entries heap (stored_more seat) [] (fits_stored heap seat stands.fits at_place.0 at_place.1 at_place.2);
+      holding = stands.holding;
+      stored = store_next heap seat.body (newborn_word q seat) state.words seat.stored once stands.fits.body_within at_place.2 rule.heap_stands.table stands.stored;
+      registers = stands.registers;
+      counts = counts_same (graph_of heap book.history) book.history q seat (seat_after (store_move q seat) found) refl refl refl stands.counts;
+      began = began_on book.history q (book.begun q) seat.place (seat_after (store_move q seat) found).place (is_busy Storing seat.place place) stands.began;
+      gathers = stands.gathers;
+    }
+    (λ r below apart other. record {
+      fits = other.fits;
+      holding = other.holding;
+      stored = stored_store heap state.words book.owner r (seat_at state r) f part word other.holding
+          (stored_within heap (seat_at state r) (seat_at state r).place other.fits.at_place) fits_part (λ o. apart (own_not_others r q (book.owner f) o own)) other.stored;
+      registers = other.registers;
+      counts = other.counts;
+      began = other.began;
+      gathers = other.gathers;
+    })

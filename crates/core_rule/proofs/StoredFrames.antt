@@ -1,0 +1,26 @@
+-- The words that a seat has stored into its new object stand as before.
+use Rattle.std.proofs.Common.{ℕ, ◌*◌, ◌/◌, ◌%◌, ◌<◌, ◌≤◌, List, length, ◌∙◌, subst, arith}
+use Rattle.heap_model.specs.declared.heap.Heap.{Heap}
+use Rattle.core_machine.specs.declared.address.Address.TheVariants.{Word, Control}
+use Rattle.core_machine.specs.Layout.{put}
+use Rattle.core_machine.specs.Seat.{Seat}
+use Rattle.core_rule.specs.Owners.{Owner}
+use Rattle.core_rule.specs.Book.{fragment_at}
+use Rattle.core_rule.specs.Holding.{Holding, IsStored}
+use Rattle.core_rule.proofs.Addresses.{word_after_control, fragment_other}
+use Rattle.core_rule.proofs.OwnerLemmas.{IsOwn}
+use Rattle.core_rule.proofs.Bodies.{body_at-own}
+
+-- a control word changes
+pub stored_control : (heap : Heap) (words : List ℕ) (q : ℕ) (seat : Seat) (group n : ℕ) → group < heap.groups → IsStored heap words q seat → IsStored heap (put heap words (Control group) n) q seat
+stored_control heap words q seat group n below old = λ u less. word_after_control heap words n group _ _ below ∙ old u less
+
+-- a word of a fragment changes that isn't the seat's
+pub stored_store : (heap : Heap) (words : List ℕ) (owner : ℕ → Owner) (q : ℕ) (seat : Seat) (f part n : ℕ)
+    → Holding owner q seat.reserve seat.hand seat.body → seat.stored ≤ 4 * length seat.body → part < 4 → (IsOwn q (owner f) → ⊥)
+    → IsStored heap words q seat → IsStored heap (put heap words (Word f part) n) q seat
+stored_store heap words owner q seat f part n holding within fits other old = λ u less.
+    let row : u / 4 < length seat.body = omega (arith, less, within) in
+    fragment_other heap words n f part (fragment_at seat.body (u / 4)) (u % 4) fits (omega arith)
+    (λ e. other (subst (λ x. IsOwn q (owner x)) e (body_at-own owner q seat.reserve seat.hand seat.body holding (u / 4) row)))
+    ∙ old u less

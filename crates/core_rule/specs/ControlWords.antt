@@ -1,0 +1,16 @@
+-- The taken and the born bits of the control words are those of the fragments' owners.
+use Rattle.std.specs.Prelude.{◌≡◌, ℕ, ◌+◌, ◌*◌, ◌/◌, ◌%◌, ◌<◌, ◌≤◌, List}
+use Rattle.std.specs.Int.{bit_at}
+use Rattle.heap_model.specs.declared.heap.Heap.{Heap}
+use Rattle.core_machine.specs.declared.address.Address.TheVariants.{Control}
+use Rattle.core_machine.specs.Layout.{at}
+use Rattle.core_rule.specs.Owners.{Owner, Free, taken_bit, born_bit}
+
+-- the control word of the fragment's group
+abbrev pub control_of : Heap → List ℕ → ℕ → ℕ
+control_of heap words f = at heap words (Control (f / 16))
+
+pub record Bits (heap : Heap) (words : List ℕ) (owner : ℕ → Owner) : Type 0 where
+  pub taken : (f : ℕ) → f < 16 * heap.groups → bit_at (control_of heap words f) (f % 16) ≡ taken_bit (owner f)
+  pub born : (f : ℕ) → f < 16 * heap.groups → bit_at (control_of heap words f) (16 + f % 16) ≡ born_bit (owner f)
+  pub outside : (f : ℕ) → 16 * heap.groups ≤ f → owner f ≡ Free

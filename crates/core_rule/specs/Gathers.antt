@@ -1,0 +1,35 @@
+-- What a gather knows of the groups that it has passed, though other parties take and give back meanwhile.
+use Rattle.std.specs.Prelude.{◌≡◌, ◌≢◌, ℕ, ◌+◌, ◌*◌, ◌%◌, ◌≤◌, false, List, length, drop}
+use Rattle.std.specs.List.{list_any}
+use Rattle.heap_model.specs.declared.heap.Heap.{Heap}
+use Rattle.heap_model.specs.declared.entry.Entry.{Entry}
+use Rattle.heap_model.specs.Refusals.{given_up}
+use Rattle.heap_model.specs.Space.{total_but}
+use Rattle.heap_model.specs.Windows.{is_reply_to}
+use Rattle.core_machine.specs.declared.place.Place.{Place}
+use Rattle.core_machine.specs.declared.place.Place.TheVariants.{Idle}
+use Rattle.core_machine.specs.Sums.{sum_upto}
+use Rattle.core_rule.specs.Owners.{Owner, free_bit}
+
+-- the free fragments of a group
+abbrev pub free_in : (ℕ → Owner) → ℕ → ℕ
+free_in owner group = sum_upto 16 (λ j. free_bit (owner (16 * group + j)))
+
+-- the free fragments of all groups
+abbrev pub free_in_all : Heap → (ℕ → Owner) → ℕ
+free_in_all heap owner = sum_upto (16 * heap.groups) (λ f. free_bit (owner f))
+
+-- the free fragments of the groups that a gather from the cursor on has passed
+abbrev pub free_in_passed : Heap → (ℕ → Owner) → ℕ → ℕ → ℕ
+free_in_passed heap owner cursor tried = sum_upto tried (λ j. free_in owner ((cursor + j) % heap.groups))
+
+-- since the call began: what is free in the groups passed was freed or given back since, by others or by this call; and what this call
+-- gave back is free, or others took it since
+pub record GathersRight (heap : Heap) (owner : ℕ → Owner) (q : ℕ) (since : List Entry) (cursor tried given : ℕ) : Type 0 where
+  pub passed : free_in_passed heap owner cursor tried ≤ given_up q since + given
+  pub returned : given ≤ free_in_all heap owner + total_but q (λ e. e.taken) since
+
+-- the call in flight began when the history had this length, and wasn't answered since
+pub record Began (history : List Entry) (q begun : ℕ) (place : Place) : Type 0 where
+  pub earlier : begun ≤ length history
+  pub unanswered : place ≢ Idle → list_any (is_reply_to q) (drop begun history) ≡ false

@@ -1,0 +1,54 @@
+-- The laws over every list of events.
+use Rattle.std.specs.Prelude.{◌≡◌, ◌≢◌, ℕ, ◌+◌, ◌*◌, ◌<◌, true, List, [], ◌∷◌, ◌++◌, length}
+use Rattle.heap_model.specs.declared.heap.Heap.{Heap}
+use Rattle.heap_model.specs.declared.entry.Entry.{Entry}
+use Rattle.heap_model.specs.Heap.{IsHeap}
+use Rattle.heap_model.specs.Account.{IsLegal}
+use Rattle.heap_model.specs.Space.{gained, lost}
+use Rattle.core_machine.specs.declared.place.Place.TheVariants.{Idle}
+use Rattle.core_machine.specs.Calls.{free_fragments}
+use Rattle.core_machine.specs.Machine.{State, seat_at, Event, Begins, Steps, Can, after, entries, Run, after_all, history}
+use Rattle.core_machine.specs.Opening.{IsOpening}
+use Rattle.core_rule.specs.Book.{Book}
+use Rattle.core_rule.specs.Rule.{Rule}
+
+-- some book stands for the state, with this history
+pub record StandsFor (heap : Heap) (state : State) (before added : List Entry) : Type 0 where
+  pub book : Book
+  pub grown : book.history ≡ before ++ added
+  pub rule : Rule heap state book
+
+-- from any state and book that meet the rule, whatever led to them, each event that may happen gives a state that some book stands for,
+-- whose history is the old one and then the event's entries
+abbrev pub EachEventKeeps : Type 0
+EachEventKeeps = (heap : Heap) (state : State) (book : Book) (event : Event) → Rule heap state book → Can heap state event
+    → StandsFor heap (after heap state event) book.history (entries heap state event)
+
+-- so does every run from the opening
+abbrev pub EveryRunKeeps : Type 0
+EveryRunKeeps = (heap : Heap) (state : State) (events : List Event) → IsHeap heap → IsOpening heap state → Run heap state events
+    → StandsFor heap (after_all heap state events) [] (history heap state events)
+
+-- the seat of an event
+abbrev pub seat_of_event : Event → ℕ
+seat_of_event (Begins number command) = number
+seat_of_event (Steps number) = number
+
+-- no other seat has a call in flight
+abbrev pub IsAlone : State → ℕ → Type 0
+IsAlone state number = (other : ℕ) → other < length state.seats → other ≢ number → (seat_at state other).place ≡ Idle
+
+-- whole calls, one after another
+abbrev pub OneCallAtATime : Heap → State → List Event → Type 0
+OneCallAtATime heap state [] = Unit {0}
+OneCallAtATime heap state (event ∷ events) = IsAlone state (seat_of_event event) × OneCallAtATime heap (after heap state event) events
+
+-- a run of whole calls, one after another, has a history that is legal as a play
+abbrev pub WholeCallsPlay : Type 0
+WholeCallsPlay = (heap : Heap) (state : State) (events : List Event) → IsHeap heap → IsOpening heap state → Run heap state events
+    → OneCallAtATime heap state events → IsLegal heap true (history heap state events)
+
+-- the fragments whose taken bit isn't set are those that are in no use
+abbrev pub FreeIsUnused : Type 0
+FreeIsUnused = (heap : Heap) (state : State) (book : Book) → Rule heap state book
+    → free_fragments heap state.words + gained book.history ≡ 16 * heap.groups + lost book.history

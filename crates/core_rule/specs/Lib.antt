@@ -1,0 +1,10 @@
+pub mod Owners
+pub mod Book
+pub mod ControlWords
+pub mod Objects
+pub mod Registers
+pub mod Holding
+pub mod Counts
+pub mod Gathers
+pub mod Rule
+pub mod Laws

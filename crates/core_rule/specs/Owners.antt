@@ -1,0 +1,60 @@
+-- Whose each fragment is.
+use Rattle.std.specs.Prelude.{ℕ, ◌==◌, if◌then◌else◌, nat_lt, List}
+use Rattle.core_machine.specs.Fragments.{tally}
+
+-- one where the two are the same
+abbrev pub one_at : ℕ → ℕ → ℕ
+one_at x f = if x == f then 1 else 0
+
+-- a fragment is nobody's; or a seat's that has taken it, and has borne it or not; or a part of an object that is kept, or of one
+-- that is to be freed, by the object's number in the order of making
+pub data Owner : Type 0 where
+  Free : Owner
+  Holds : (seat : ℕ) → Owner
+  Bears : (seat : ℕ) → Owner
+  Keeps : (object part : ℕ) → Owner
+  Dead : (object part : ℕ) → Owner
+
+-- whether the fragment is taken
+abbrev pub taken_bit : Owner → ℕ
+taken_bit Free = 0
+taken_bit (Holds q) = 1
+taken_bit (Bears q) = 1
+taken_bit (Keeps i k) = 1
+taken_bit (Dead i k) = 1
+
+-- whether it is nobody's
+abbrev pub free_bit : Owner → ℕ
+free_bit Free = 1
+free_bit (Holds q) = 0
+free_bit (Bears q) = 0
+free_bit (Keeps i k) = 0
+free_bit (Dead i k) = 0
+
+-- whether it is born
+abbrev pub born_bit : Owner → ℕ
+born_bit Free = 0
+born_bit (Holds q) = 0
+born_bit (Bears q) = 1
+born_bit (Keeps i k) = 1
+born_bit (Dead i k) = 1
+
+-- whether the seat has it, unborn
+abbrev pub holds_bit : ℕ → Owner → ℕ
+holds_bit q Free = 0
+holds_bit q (Holds r) = one_at r q
+holds_bit q (Bears r) = 0
+holds_bit q (Keeps i k) = 0
+holds_bit q (Dead i k) = 0
+
+-- whether the seat has it, born but not yet an object's
+abbrev pub bears_bit : ℕ → Owner → ℕ
+bears_bit q Free = 0
+bears_bit q (Holds r) = 0
+bears_bit q (Bears r) = one_at r q
+bears_bit q (Keeps i k) = 0
+bears_bit q (Dead i k) = 0
+
+-- the fragments of the list are this one's, the others their owners'
+abbrev pub handed : Owner → (ℕ → Owner) → List ℕ → ℕ → Owner
+handed o owner fs f = if nat_lt 0 (tally f fs) then o else owner f

@@ -1,0 +1,43 @@
+-- The rule: a book stands for a state.
+use Rattle.std.specs.Prelude.{◌≡◌, ℕ, ◌<◌, false, List, length, drop, filter}
+use Rattle.heap_model.specs.declared.heap.Heap.{Heap}
+use Rattle.heap_model.specs.Heap.{IsHeap}
+use Rattle.heap_model.specs.Account.{IsLegal}
+use Rattle.heap_model.specs.Cycles.{graph_of}
+use Rattle.core_machine.specs.Fits.{Fits}
+use Rattle.core_machine.specs.Layout.{table_length}
+use Rattle.core_machine.specs.Machine.{State, seat_at}
+use Rattle.core_machine.specs.Seat.{Seat}
+use Rattle.core_rule.specs.Book.{Book}
+use Rattle.core_rule.specs.ControlWords.{Bits}
+use Rattle.core_rule.specs.Objects.{AreMade, Objects}
+use Rattle.core_rule.specs.Registers.{Registers}
+use Rattle.core_rule.specs.Holding.{Holding, IsStored}
+use Rattle.core_rule.specs.Counts.{OwnCounts, AreUsed, is_collectors}
+use Rattle.core_rule.specs.Gathers.{GathersRight, Began}
+
+-- what is true of the heap
+pub record HeapStands (heap : Heap) (words : List ℕ) (book : Book) : Type 0 where
+  pub table : length words ≡ table_length heap
+  pub control_words : Bits heap words book.owner
+  pub ids : AreMade (graph_of heap book.history) book.made
+  pub objects : Objects heap words (graph_of heap book.history) book.made book.owner book.fragments
+  pub used : AreUsed heap book.owner book.history
+  pub legal : IsLegal heap false book.history
+
+-- what is true of a seat
+pub record SeatStands (heap : Heap) (words : List ℕ) (book : Book) (q : ℕ) (seat : Seat) : Type 0 where
+  pub fits : Fits heap seat
+  pub holding : Holding book.owner q seat.reserve seat.hand seat.body
+  pub stored : IsStored heap words q seat
+  pub registers : Registers (graph_of heap book.history) book.made book.owner book.fragments q seat.registers
+  pub counts : OwnCounts (graph_of heap book.history) book.history q seat
+  pub began : Began book.history q (book.begun q) seat.place
+  pub gathers : GathersRight heap book.owner q (drop (book.begun q) book.history) seat.cursor seat.tried seat.given
+
+pub record Rule (heap : Heap) (state : State) (book : Book) : Type 0 where
+  pub limits : IsHeap heap
+  pub all_seats : length state.seats ≡ heap.seats
+  pub heap_stands : HeapStands heap state.words book
+  pub seats_stand : (q : ℕ) → q < heap.seats → SeatStands heap state.words book q (seat_at state q)
+  pub collector_log : state.collector.log ≡ filter is_collectors book.history

@@ -1,0 +1,9 @@
+ghost use Rattle.core_rule.specs.Laws.{EachEventKeeps, EveryRunKeeps, WholeCallsPlay, FreeIsUnused};
+
+/// The rule holds after every list of begins and steps, over every heap.
+pub fn law_every_run()
+    ensures step { EachEventKeeps }
+    ensures run { EveryRunKeeps }
+    ensures play { WholeCallsPlay }
+    ensures free { FreeIsUnused }
+{}
