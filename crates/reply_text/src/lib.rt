@@ -20,6 +20,7 @@ mod turned;
 
 pub use entries::Entries;
 pub use history::{History, SpaceMark};
+pub use line::HistoryLine;
 pub use reading::read_history;
 pub use rendering::{push_entry, render_entry};
 pub use text::render_history;

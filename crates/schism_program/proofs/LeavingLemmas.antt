@@ -18,7 +18,8 @@ use Rattle.script_text.specs.declared.script.Script.{Script}
 use Rattle.script_text.specs.declared.script.Form.TheVariants as forms
 use Rattle.reply_text.specs.declared.history.History.{History}
 use Rattle.reply_text.specs.declared.history.SpaceMark.{SpaceMark}
-use Rattle.schism_program.specs.Play.{replied, EndsInReply, ShowsCounts, IsParted, IsPlay}
+use Rattle.log_merge.specs.Legal.{ShowsCounts}
+use Rattle.schism_program.specs.Play.{replied, EndsInReply, IsParted, IsPlay}
 use Rattle.schism_program.specs.declared.store.Store.{Store}
 use Rattle.schism_program.specs.Playing.{Playing}
 use Rattle.schism_program.specs.Leaving.{IsOver}
@@ -95,12 +96,18 @@ over_used heap store history after read p none e =
     rw e (record { legal = l.0; leave = Said 0 Leave Done ∷ []; ends = refl; leaves = inl refl; in_use = l.1 })
 
 -- the mark parts the entries into the replies to the script and the leave
-pub parted_over : (script : Script) (front entries : List Entry) (used : ℕ) (mark : SpaceMark) → mark.before ≡ length front → IsOver script.heap front entries used → flat_map replied front ≡ script.lines → EndsInReply front → ShowsCounts script.heap front mark
-    → IsParted script (take mark.before entries) (drop mark.before entries) mark
-parted_over script front entries used mark before over commands last shows =
+pub parted_over : (script : Script) (front entries : List Entry) (used : ℕ) (mark : SpaceMark) → mark.before ≡ length front → IsOver script.heap front entries used → flat_map replied front ≡ script.lines → EndsInReply front
+    → IsParted script (take mark.before entries) (drop mark.before entries)
+parted_over script front entries used mark before over commands last =
     let front_is : take mark.before entries ≡ front = rw over.ends (take_at front over.leave mark.before (sym before)) in
     let leave_is : drop mark.before entries ≡ over.leave = rw over.ends (drop_at front over.leave mark.before (sym before)) in
-    rw (front_is, leave_is) (record { commands = commands; last = last; shows = shows; leaves = over.leaves })
+    rw (front_is, leave_is) (record { commands = commands; last = last; leaves = over.leaves })
+
+-- and shows the counts where it stands
+shows_over : (heap : Heap) (front entries : List Entry) (used : ℕ) (mark : SpaceMark) → mark.before ≡ length front → IsOver heap front entries used → ShowsCounts heap front mark → ShowsCounts heap (take mark.before entries) mark
+shows_over heap front entries used mark before over shows =
+    let front_is : take mark.before entries ≡ front = rw over.ends (take_at front over.leave mark.before (sym before)) in
+    rw front_is shows
 
 -- a play that answered all lines is over, and is a play of the script
 pub whole_play : (script : Script) (front : List Entry) (entries : List Entry) (read all : List Line) (store : Store) (mark : SpaceMark) (history : History) → Playing script.heap 15 store front read → EndsInReply front → read ≡ all → all ≡ script.lines
@@ -109,7 +116,6 @@ pub whole_play : (script : Script) (front : List Entry) (entries : List Entry) (
 whole_play script front entries read all store mark history p last is_all is_script over before shows is = rw is (record {
   form = refl;
   heap = refl;
-  legal = over.legal;
-  parted = parted_over script front entries store.next mark before over (p.commands ∙ is_all ∙ is_script) last shows;
-  used = over.in_use;
+  legal = record { entries = over.legal; mark = shows_over script.heap front entries store.next mark before over shows; end_used = over.in_use };
+  parted = parted_over script front entries store.next mark before over (p.commands ∙ is_all ∙ is_script) last;
 })

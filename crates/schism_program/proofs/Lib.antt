@@ -1,6 +1,5 @@
 pub mod Answering
 pub mod Fields
-pub mod FormLemmas
 pub mod Heads
 pub mod Keeping
 pub mod Makes

@@ -1,5 +1,8 @@
 pub mod Status
 pub mod Play
+pub mod Serving
+pub mod Verdict
+pub mod Works
 pub mod Outcome
 pub mod Places
 pub mod Stands

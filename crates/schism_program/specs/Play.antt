@@ -1,21 +1,18 @@
 -- What a play is.
-use Rattle.std.specs.Prelude.{◌≡◌, true, ℕ, ◌+◌, ◌*◌, ◌⊎◌, List, [], ◌∷◌, ◌++◌, drop, take, IsSomeAnd}
+use Rattle.std.specs.Prelude.{◌≡◌, ℕ, ◌⊎◌, List, [], ◌∷◌, ◌++◌, drop, take, IsSomeAnd}
 use Rattle.std.specs.List.{flat_map}
-use Rattle.heap_model.specs.declared.heap.Heap.{Heap}
 use Rattle.heap_model.specs.declared.command.Command.{Command}
 use Rattle.heap_model.specs.declared.command.Command.TheVariants.{Leave}
 use Rattle.heap_model.specs.declared.reply.Reply.{Reply}
 use Rattle.heap_model.specs.declared.reply.Reply.TheVariants.{Done}
 use Rattle.heap_model.specs.declared.entry.Entry.{Entry}
 use Rattle.heap_model.specs.declared.entry.Entry.TheVariants.{Said, GivesBack}
-use Rattle.heap_model.specs.Space.{gained, lost, granted, returned}
-use Rattle.heap_model.specs.Account.{IsLegal}
 use Rattle.script_text.specs.declared.script.Form.TheVariants as forms
 use Rattle.script_text.specs.declared.script.Line.{Line}
 use Rattle.script_text.specs.declared.script.Line.TheVariants as lines
 use Rattle.script_text.specs.declared.script.Script.{Script}
 use Rattle.reply_text.specs.declared.history.History.{History}
-use Rattle.reply_text.specs.declared.history.SpaceMark.{SpaceMark}
+use Rattle.log_merge.specs.Legal.{IsLegalHistory}
 
 -- the line of a script that an entry answers, if it answers one
 abbrev pub replied : Entry → List Line
@@ -27,28 +24,19 @@ abbrev pub EndsInReply : List Entry → Type 0
 EndsInReply entries =
     (entries ≡ []) ⊎ ((earlier : List Entry) × (seat : ℕ) × (command : Command) × (reply : Reply) × (entries ≡ earlier ++ Said seat command reply ∷ []))
 
--- the mark shows the counts after these entries
-pub record ShowsCounts (heap : Heap) (entries : List Entry) (mark : SpaceMark) : Type 0 where
-  pub used : mark.used + lost entries ≡ gained entries
-  pub total : mark.total ≡ 16 * heap.groups
-  pub spine : mark.spine + returned entries ≡ granted entries
-  pub budget : mark.budget ≡ heap.spine
-
 -- a seat gives back what it has left over, if anything, and leaves
 abbrev pub IsLeave : ℕ → List Entry → Type 0
 IsLeave s entries = (entries ≡ Said s Leave Done ∷ []) ⊎ ((count : ℕ) × (entries ≡ GivesBack s count ∷ Said s Leave Done ∷ []))
 
 -- the entries before the mark answer the script's lines in order, each once, and those behind it are the seat's leave
-pub record IsParted (script : Script) (front leave : List Entry) (mark : SpaceMark) : Type 0 where
+pub record IsParted (script : Script) (front leave : List Entry) : Type 0 where
   pub commands : flat_map replied front ≡ script.lines
   pub last : EndsInReply front
-  pub shows : ShowsCounts script.heap front mark
   pub leaves : IsLeave 0 leave
 
--- the history is a play of the script: it is legal, parted by its mark, and its end shows what is in use
+-- the history is a play of the script: it is legal, in full, and parted by its mark
 pub record IsPlay (script : Script) (history : History) : Type 0 where
   pub form : history.form ≡ forms.Play
   pub heap : history.heap ≡ script.heap
-  pub legal : IsLegal script.heap true history.entries
-  pub parted : IsSomeAnd history.mark (λ mark. IsParted script (take mark.before history.entries) (drop mark.before history.entries) mark)
-  pub used : history.end_used + lost history.entries ≡ gained history.entries
+  pub legal : IsLegalHistory history
+  pub parted : IsSomeAnd history.mark (λ mark. IsParted script (take mark.before history.entries) (drop mark.before history.entries))

@@ -3,7 +3,7 @@ use Rattle.std.specs.Prelude.{ℕ, List, [], ◌++◌, codes, decimal}
 use Rattle.script_text.specs.declared.cause.Cause.{Cause}
 use Rattle.script_text.specs.declared.cause.Cause.TheVariants.{NoHeader, BadHeap, NoSeat, NoCommand, BadNumber, OutOfRange, TooManyWords, TooManyLines, BadEntry, NoEnd, HistoryLines, Unbuilt}
 use Rattle.schism_program.specs.declared.status.Status.{Status}
-use Rattle.schism_program.specs.declared.status.Status.TheVariants.{Done, Refused, Usage, ReadFault, WriteFault, Memory, TooLong}
+use Rattle.schism_program.specs.declared.status.Status.TheVariants.{Done, Refused, Usage, ReadFault, WriteFault, Memory, TooLong, NotLegal}
 
 -- the exit status of the process
 abbrev pub number_of : Status → ℕ
@@ -14,6 +14,7 @@ number_of ReadFault = 3
 number_of WriteFault = 4
 number_of Memory = 5
 number_of TooLong = 6
+number_of (NotLegal line) = 7
 
 -- the name of a cause
 abbrev pub cause_name : Cause → List ℕ
@@ -39,3 +40,4 @@ status_words ReadFault = codes "read fault"
 status_words WriteFault = codes "write fault"
 status_words Memory = codes "memory"
 status_words TooLong = codes "too long"
+status_words (NotLegal line) = codes "not legal at line " ++ decimal line

@@ -6,8 +6,9 @@ ghost use Rattle.script_text.specs.declared.script.Line.{Line as ALine};
 ghost use Rattle.script_text.specs.declared.script.Line.TheVariants as lines;
 ghost use Rattle.script_text.specs.Built.{IsBuilt, is_built_command};
 ghost use Rattle.script_text.specs.Writing.{IsOfForm};
+ghost use Rattle.log_merge.specs.Legal.{ShowsCounts};
 ghost use Rattle.schism_program.specs.Changes.{RepliesFor};
-ghost use Rattle.schism_program.specs.Play.{EndsInReply, IsPlay, ShowsCounts};
+ghost use Rattle.schism_program.specs.Play.{EndsInReply, IsPlay};
 ghost use Rattle.schism_program.specs.Playing.{Playing, ReadiesFor};
 ghost use Rattle.schism_program.specs.Stands.{AnswersFor};
 

@@ -1,62 +1,61 @@
-ghost use Rattle.std.specs.Prelude.{◌≡◌, ◌≤◌, length, IfOk};
+ghost use Rattle.std.specs.Prelude.{◌≡◌, ◌≤◌, ℕ, length, Err, IfOk};
 ghost use Rattle.script_text.specs.declared.cause.LineFault.{LineFault as ALineFault};
 ghost use Rattle.script_text.specs.declared.script.Form.TheVariants.{Play};
 ghost use Rattle.script_text.specs.Built.{IsBuilt};
 ghost use Rattle.script_text.specs.Writing.{IsOfForm};
-ghost use Rattle.schism_program.specs.Outcome.{FailsAt, Plays, Serves};
-ghost use Rattle.schism_program.specs.declared.serving.PlayFault.TheVariants as faults;
+ghost use Rattle.schism_program.specs.Serving.{FailsToPlay, Plays, Serves};
+ghost use Rattle.schism_program.specs.Works.{FailsAt, IsIllegalAt, Makes};
 
+use crate::fault::WorkFault;
 use crate::play::play;
-use crate::top::MOST_BYTES;
-use heap_model::Memory;
+use crate::verdict::verdict;
+use crate::work::Work;
 use reply_text::render_history;
-use script_text::{Cause, Form, LineFault, Script, ScriptFault, first_unbuilt, read_script};
+use script_text::{Cause, Form, Script, ScriptFault, first_unbuilt, read_script};
 use std::alloc::Global;
 
-/// Why there is no play of an input.
-#[derive(Clone, Copy, Debug, PartialEq, Eq)]
-pub enum PlayFault {
-    /// The first line that is faulty, or that the program doesn't serve.
-    Refused(LineFault),
-    Memory,
-}
-
-impl From<Memory> for PlayFault {
-    ghost from_gives = { λ _ e. e ≡ faults.Memory };
-
-    fn from(_e: Memory) -> PlayFault {
-        PlayFault::Memory
-    }
-}
-
-fn served_script(alloc: Global, input: &[u8]) -> Result<Script, PlayFault>
-    requires { length input.now ≤ MOST_BYTES }
+fn served_script(alloc: Global, input: &[u8]) -> Result<Script, WorkFault>
     ensures ok { IfOk result (λ script. Serves input.now script) }
     ensures form { IfOk result (IsOfForm Play) }
     ensures built { IfOk result IsBuilt }
-    ensures refused { (fault : ALineFault) → result ≡ Err (PlayFault.Refused fault) →
-        FailsAt input.now fault.line fault.cause }
+    ensures refused { (fault : ALineFault) → result ≡ Err (WorkFault.Refused fault) →
+        FailsToPlay input.now fault.line fault.cause }
+    ensures legal { (line : ℕ) → result ≡ Err (WorkFault.NotLegal line) → ⊥ }
 {
     let script = match read_script(alloc, input, Form::Play) {
         Ok(script) => script,
-        Err(ScriptFault::Line(fault)) => return Err(PlayFault::Refused(fault)),
-        Err(ScriptFault::Memory) => return Err(PlayFault::Memory),
+        Err(ScriptFault::Line(fault)) => return Err(WorkFault::Refused(fault)),
+        Err(ScriptFault::Memory) => return Err(WorkFault::Memory),
     };
     if let Some(line) = first_unbuilt(&script) {
-        return Err(PlayFault::Refused(Cause::Unbuilt.at(line)));
+        return Err(WorkFault::Refused(Cause::Unbuilt.at(line)));
     }
     Ok(script)
 }
 
 /// The text of the play of the script that the input is.
-pub fn played_text(alloc: Global, input: &[u8]) -> Result<Vec<u8>, PlayFault>
-    requires { length input.now ≤ MOST_BYTES }
+fn played_text(alloc: Global, input: &[u8]) -> Result<Vec<u8>, WorkFault>
     ensures ok { IfOk result (λ text. Plays input.now text.items) }
-    ensures refused { (fault : ALineFault) → result ≡ Err (PlayFault.Refused fault) →
-        FailsAt input.now fault.line fault.cause }
+    ensures refused { (fault : ALineFault) → result ≡ Err (WorkFault.Refused fault) →
+        FailsToPlay input.now fault.line fault.cause }
+    ensures legal { (line : ℕ) → result ≡ Err (WorkFault.NotLegal line) → ⊥ }
 {
     let script = served_script(alloc, input)?;
     let history = play(alloc, &script)?;
     let text = render_history(alloc, &history)?;
     Ok(text)
+}
+
+/// The text that the work makes of the input.
+pub fn made_text(alloc: Global, work: Work, input: &[u8]) -> Result<Vec<u8>, WorkFault>
+    ensures ok { IfOk result (λ text. Makes work input.now text.items) }
+    ensures refused { (fault : ALineFault) → result ≡ Err (WorkFault.Refused fault) →
+        FailsAt work input.now fault.line fault.cause }
+    ensures not_legal { (line : ℕ) → result ≡ Err (WorkFault.NotLegal line) →
+        IsIllegalAt work input.now line }
+{
+    match work {
+        Work::Play => played_text(alloc, input),
+        Work::Check => verdict(alloc, input),
+    }
 }

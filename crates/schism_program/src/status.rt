@@ -15,6 +15,8 @@ pub enum Status {
     WriteFault,
     Memory,
     TooLong,
+    /// The first line of a history that isn't legal.
+    NotLegal { line: u32 },
 }
 
 impl Status {
@@ -30,6 +32,7 @@ impl Status {
             Status::WriteFault => 4,
             Status::Memory => 5,
             Status::TooLong => 6,
+            Status::NotLegal { .. } => 7,
         }
     }
 }
@@ -71,6 +74,10 @@ pub fn status_text(status: &Status) -> ArrayString<64>
         Status::WriteFault => text.push_str("write fault"),
         Status::Memory => text.push_str("memory"),
         Status::TooLong => text.push_str("too long"),
+        Status::NotLegal { line } => {
+            text.push_str("not legal at line ");
+            text.push_str(Buffer::new().format(line));
+        }
     }
     text
 }

@@ -1,3 +1,5 @@
+mod judged;
+
 use crate::status::{Status, status_text};
 use crate::top::schism;
 use io_edge::{MemSink, MemSource};
@@ -10,6 +12,22 @@ const FIRST: &str = "schism 1\nheap 1 0 1\n0 new 1 2\n0 num 2 9\n0 set 1 0 2\n0 
 const FIRST_PLAYED: &str =
     "history 1 play\nheap 1 0 1\n0 takes 5\n0 new 1 2 = 0.0\n0 num 2 9 = ok\n0 set 1 0 2 = was -\n0 get 3 1 0 = number 9 at 0:1\nspace used 16 of 16 spine 0 of 0\n0 gives back 4\n0 leave = ok\nend used 12\n";
 
+// The history of a seat that made one record and left, and of the cycle that then freed it with the board. The reply in the
+// fourth line says which object was made.
+fn one_made(alloc: Global, id: &str) -> Result<String, AllocError> {
+    format!(in alloc;
+        "history 1 play\nheap 1 0 1\n0 takes 5\n0 new 1 2 = {id}\nspace used 16 of 16 spine 0 of 0\n0 gives back 4\n0 leave = ok\nc phase 1\nc phase 2\nc phase 3\nc phase 4\nc phase 5\nc frees 12\nc phase 6\nc ends 0 kept 0\nend used 0\n"
+    )
+}
+
+// The history of a seat that dropped its record, collected it while four fragments were its own, and left, and of the cycle
+// that freed the board. The twentieth line says how much the first cycle kept.
+fn one_dropped(alloc: Global, kept: u64) -> Result<String, AllocError> {
+    format!(in alloc;
+        "history 1 play\nheap 1 0 1\n0 takes 5\n0 new 1 2 = 0.0\n0 new 2 47 = full need 16 found 4\n0 nil 1 = ok\nc phase 1\n0 answers 1\nc phase 2\n0 answers 2\nc phase 3\n0 answers 3\nc phase 4\n0 answers 4\nc phase 5\n0 answers 5\nc frees 1\nc phase 6\n0 answers 6\nc ends 0 kept {kept}\n0 collect = cycle 0\nspace used 15 of 16 spine 0 of 0\n0 gives back 4\n0 leave = ok\nc phase 8\nc phase 9\nc phase 10\nc phase 11\nc phase 12\nc frees 11\nc phase 13\nc ends 1 kept 0\nend used 0\n"
+    )
+}
+
 // The end of each play in which the first group was claimed for one fragment.
 const ONE_MADE: &str =
     "space used 16 of 16 spine 0 of 0\n0 gives back 4\n0 leave = ok\nend used 12\n";
@@ -19,6 +37,10 @@ const NONE_MADE: &str = "space used 11 of 16 spine 0 of 0\n0 leave = ok\nend use
 
 fn refused(line: u32, cause: Cause) -> Status {
     Status::Refused { line, cause }
+}
+
+fn illegal(line: u32) -> Status {
+    Status::NotLegal { line }
 }
 
 // What comes of it, and what was written; reads give 5 bytes a call and writes take 8.
@@ -38,55 +60,109 @@ fn ended(
 }
 
 #[test]
-fn plays_scripts_and_refuses_others(rt: HostRuntime) -> Result<(), Fail> {
-    for (text, status, written) in [
-        (FIRST, Status::Done, FIRST_PLAYED),
+fn plays_scripts_and_checks_the_plays(rt: HostRuntime) -> Result<(), Fail> {
+    for (text, status, written, verdict) in [
+        (FIRST, Status::Done, FIRST_PLAYED, "legal 7\n"),
         (
             "schism 1\nheap 1 0 1\n",
             Status::Done,
             "history 1 play\nheap 1 0 1\nspace used 11 of 16 spine 0 of 0\n0 leave = ok\nend used 11\n",
+            "legal 1\n",
         ),
         (
             "schism 1\nheap 1 0 1\n0 new 1 1\n0 new 1 1\n0 new 1 1\n0 new 1 1\n0 new 1 1\n0 new 1 1\n",
             Status::Done,
             "history 1 play\nheap 1 0 1\n0 takes 5\n0 new 1 1 = 0.0\n0 new 1 1 = 0.1\n0 new 1 1 = 0.2\n0 new 1 1 = 0.3\n0 new 1 1 = 0.4\n0 new 1 1 = full need 1 found 0\nspace used 16 of 16 spine 0 of 0\n0 leave = ok\nend used 16\n",
+            "legal 8\n",
         ),
         (
             "schism 1\nheap 1 0 1\n0 get 1 0 32\n0 get 1 5 0\n0 len 0\n0 len 5\n0 copy 2 0\n0 same 0 2\n0 same 0 3\n0 poll\n",
             Status::Done,
             "history 1 play\nheap 1 0 1\n0 get 1 0 32 = no field\n0 get 1 5 0 = no object\n0 len 0 = 32\n0 len 5 = no object\n0 copy 2 0 = ok\n0 same 0 2 = yes\n0 same 0 3 = no\n0 poll = 0\nspace used 11 of 16 spine 0 of 0\n0 leave = ok\nend used 11\n",
+            "legal 9\n",
         ),
         (
             "schism 1\nheap 17 0 1\n0 num 1 1073741823\n0 set 0 31 1\n0 nil 1\n0 get 2 0 31\n",
             Status::Done,
             "history 1 play\nheap 17 0 1\n0 num 1 1073741823 = ok\n0 set 0 31 1 = was -\n0 nil 1 = ok\n0 get 2 0 31 = number 1073741823 at 0:1\nspace used 11 of 272 spine 0 of 0\n0 leave = ok\nend used 11\n",
+            "legal 5\n",
         ),
+    ] {
+        let alloc = rt.alloc();
+        let (end, taken) = ended(alloc, &["play"], text.as_bytes(), &[], &[])?;
+        assert_eq!(rt; end, status, "{text}");
+        assert_eq!(rt; taken.as_slice(), written.as_bytes(), "{text}");
+        let (again, told) = ended(alloc, &["check"], written.as_bytes(), &[], &[])?;
+        assert_eq!(rt; again, Status::Done, "{text}");
+        assert_eq!(rt; told.as_slice(), verdict.as_bytes(), "{text}");
+    }
+    Ok(())
+}
+
+#[test]
+fn refuses_scripts(rt: HostRuntime) -> Result<(), Fail> {
+    for (text, line, cause) in [
         (
             "schism 1\nheap 1 0 1\n0 nil 1\n0 new 1 3\n",
-            refused(4, Cause::Unbuilt),
-            "",
+            4,
+            Cause::Unbuilt,
         ),
-        (
-            "schism 1\nheap 17 1 1\n0 nil 1\n",
-            refused(2, Cause::Unbuilt),
-            "",
-        ),
+        ("schism 1\nheap 17 1 1\n0 nil 1\n", 2, Cause::Unbuilt),
         (
             "schism 1\nheap 1 0 1\n0 poll\n0 num 1 01\n",
-            refused(4, Cause::BadNumber),
-            "",
+            4,
+            Cause::BadNumber,
         ),
         (
             "schism 1\nheap 1 0 1\n0 num 1 1073741824\n",
-            refused(3, Cause::OutOfRange),
-            "",
+            3,
+            Cause::OutOfRange,
         ),
-        ("schism 1\n", refused(2, Cause::BadHeap), ""),
-        ("", refused(1, Cause::NoHeader), ""),
+        ("schism 1\n", 2, Cause::BadHeap),
+        ("schism 1", 2, Cause::BadHeap),
+        ("", 1, Cause::NoHeader),
     ] {
-        let (ended, taken) = ended(rt.alloc(), &["play"], text.as_bytes(), &[], &[])?;
-        assert_eq!(rt; ended, status, "{text}");
-        assert_eq!(rt; taken.as_slice(), written.as_bytes(), "{text}");
+        let (end, taken) = ended(rt.alloc(), &["play"], text.as_bytes(), &[], &[])?;
+        assert_eq!(rt; end, refused(line, cause), "{text}");
+        assert!(rt; taken.is_empty());
+    }
+    Ok(())
+}
+
+#[test]
+fn checks_histories_of_collections(rt: HostRuntime) -> Result<(), Fail> {
+    let alloc = rt.alloc();
+    for (history, status, verdict) in [
+        (one_made(alloc, "0.0")?, Status::Done, "legal 12\n"),
+        (one_made(alloc, "0.1")?, illegal(4), ""),
+        (one_dropped(alloc, 15)?, Status::Done, "legal 29\n"),
+        (one_dropped(alloc, 11)?, Status::Done, "legal 29\n"),
+        (one_dropped(alloc, 10)?, illegal(20), ""),
+        (one_dropped(alloc, 16)?, illegal(20), ""),
+    ] {
+        let (end, told) = ended(alloc, &["check"], history.as_bytes(), &[], &[])?;
+        assert_eq!(rt; end, status, "{history}");
+        assert_eq!(rt; told.as_slice(), verdict.as_bytes(), "{history}");
+    }
+    Ok(())
+}
+
+#[test]
+fn checks_no_other_texts(rt: HostRuntime) -> Result<(), Fail> {
+    for (text, line, cause) in [
+        ("history 1 play\nheap 1 0 1\n", 3, Cause::NoEnd),
+        (
+            "history 1 play\nheap 1 0 1\nend used 11\n",
+            3,
+            Cause::BadEntry,
+        ),
+        ("history 1 play\nheap 0 0 1\n", 2, Cause::BadHeap),
+        (FIRST, 1, Cause::NoHeader),
+        ("", 1, Cause::NoHeader),
+    ] {
+        let (end, told) = ended(rt.alloc(), &["check"], text.as_bytes(), &[], &[])?;
+        assert_eq!(rt; end, refused(line, cause), "{text}");
+        assert!(rt; told.is_empty());
     }
     Ok(())
 }
@@ -167,6 +243,21 @@ fn reads_no_more_than_the_limit(rt: HostRuntime) -> Result<(), Fail> {
     Ok(())
 }
 
+#[test]
+fn reads_no_more_of_a_history_than_the_limit(rt: HostRuntime) -> Result<(), Fail> {
+    let alloc = rt.alloc();
+    for (count, status) in [
+        (16_777_216, refused(1, Cause::NoHeader)),
+        (16_777_217, Status::TooLong),
+    ] {
+        let text = vec![in alloc; b' '; count]?;
+        let mut source = MemSource::new(text, 4096, Vec::new(alloc));
+        let mut sink = MemSink::new(Vec::new(alloc), 8, Vec::new(alloc));
+        assert_eq!(rt; schism(alloc, &["check"], &mut source, &mut sink), status);
+    }
+    Ok(())
+}
+
 // Neither side is touched, since the first call of each would fail.
 fn ended_by(alloc: Global, words: &[&str]) -> Result<Status, AllocError> {
     Ok(ended(alloc, words, FIRST.as_bytes(), &[0], &[0])?.0)
@@ -176,10 +267,17 @@ fn ended_by(alloc: Global, words: &[&str]) -> Result<Status, AllocError> {
 fn says_usage_of_other_words(rt: HostRuntime) -> Result<(), Fail> {
     let alloc = rt.alloc();
     assert_eq!(rt; ended_by(alloc, &[])?, Status::Usage);
-    assert_eq!(rt; ended_by(alloc, &["run"])?, Status::Usage);
     assert_eq!(rt; ended_by(alloc, &["plays"])?, Status::Usage);
+    assert_eq!(rt; ended_by(alloc, &["Check"])?, Status::Usage);
     assert_eq!(rt; ended_by(alloc, &["play", "extra"])?, Status::Usage);
+    assert_eq!(rt; ended_by(alloc, &["check", "play"])?, Status::Usage);
+    assert_eq!(rt;
+        ended_by(alloc, &["run", "--patience", "0"])?,
+        Status::Usage
+    );
+    assert_eq!(rt; ended_by(alloc, &["make", "7", "17", "1"])?, Status::Usage);
     assert_eq!(rt; ended_by(alloc, &["play"])?, Status::ReadFault);
+    assert_eq!(rt; ended_by(alloc, &["check"])?, Status::ReadFault);
     Ok(())
 }
 
@@ -209,6 +307,24 @@ fn says_which_side_failed(rt: HostRuntime) -> Result<(), Fail> {
     Ok(())
 }
 
+// The history of the first script's play is read in 39 calls, and what is found is written in one.
+#[test]
+fn says_which_side_failed_in_a_check(rt: HostRuntime) -> Result<(), Fail> {
+    let text = FIRST_PLAYED.as_bytes();
+    assert_eq!(rt; text.len(), 190);
+    for (source_fail, sink_fail, status, front) in [
+        (0, 99, Status::ReadFault, ""),
+        (38, 99, Status::ReadFault, ""),
+        (39, 0, Status::WriteFault, ""),
+        (39, 1, Status::Done, "legal 7\n"),
+    ] {
+        let (end, told) = ended(rt.alloc(), &["check"], text, &[source_fail], &[sink_fail])?;
+        assert_eq!(rt; end, status, "read {source_fail}, write {sink_fail}");
+        assert_eq!(rt; told.as_slice(), front.as_bytes());
+    }
+    Ok(())
+}
+
 #[test]
 fn names_each_status(rt: HostRuntime) {
     let bad_heap = refused(2, Cause::BadHeap);
@@ -223,6 +339,7 @@ fn names_each_status(rt: HostRuntime) {
         (Status::WriteFault, 4, "write fault"),
         (Status::Memory, 5, "memory"),
         (Status::TooLong, 6, "too long"),
+        (illegal(4), 7, "not legal at line 4"),
     ] {
         assert_eq!(rt; status.number(), number, "{text}");
         assert_eq!(rt; status_text(&status).as_str(), text);

@@ -2,7 +2,7 @@ use Rattle.std.proofs.Common.{◌≡◌, List, length, take, Some, sym, ap, subs
 use Rattle.std.proofs.lemmas.Grind.{common_steps}
 use Rattle.heap_model.specs.declared.entry.Entry.{Entry}
 use Rattle.script_text.specs.declared.script.Form.TheVariants.{Play}
-use Rattle.schism_program.specs.Play.{ShowsCounts}
+use Rattle.log_merge.specs.Legal.{ShowsCounts}
 use Rattle.schism_program.specs.Playing.{Playing}
 use Rattle.schism_program.proofs.LeavingLemmas.{whole_play}
 use Rattle.schism_program.proofs.play.play.Goals as goal

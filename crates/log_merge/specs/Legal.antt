@@ -1,0 +1,38 @@
+-- Which histories are legal.
+use Rattle.std.specs.Prelude.{◌≡◌, ℕ, ◌+◌, ◌*◌, true, List, Option, Some, None, take}
+use Rattle.heap_model.specs.declared.heap.Heap.{Heap}
+use Rattle.heap_model.specs.declared.entry.Entry.{Entry}
+use Rattle.heap_model.specs.Legal.{IsObjectLegal}
+use Rattle.heap_model.specs.Account.{IsLegal}
+use Rattle.heap_model.specs.Space.{gained, lost, granted, returned}
+use Rattle.script_text.specs.declared.script.Form.{Form}
+use Rattle.script_text.specs.declared.script.Form.TheVariants.{Play, Run}
+use Rattle.reply_text.specs.declared.history.History.{History}
+use Rattle.reply_text.specs.declared.history.SpaceMark.{SpaceMark}
+
+-- the entries are legal: those of a play in full, those of a run for their objects
+abbrev pub AreLegal : Form → Heap → List Entry → Type 0
+AreLegal Play heap entries = IsLegal heap true entries
+AreLegal Run heap entries = IsObjectLegal heap entries
+
+-- so many fragments are in use after these entries; there is no such number where more were lost than gained
+abbrev pub ShowsUse : List Entry → ℕ → Type 0
+ShowsUse entries used = used + lost entries ≡ gained entries
+
+-- the mark shows the counts after these entries
+pub record ShowsCounts (heap : Heap) (entries : List Entry) (mark : SpaceMark) : Type 0 where
+  pub used : ShowsUse entries mark.used
+  pub total : mark.total ≡ 16 * heap.groups
+  pub spine : mark.spine + returned entries ≡ granted entries
+  pub budget : mark.budget ≡ heap.spine
+
+-- the mark, if there is one, shows the counts at its place
+abbrev pub ShowsAtMark : Heap → List Entry → Option SpaceMark → Type 0
+ShowsAtMark heap entries None = Unit {0}
+ShowsAtMark heap entries (Some mark) = ShowsCounts heap (take mark.before entries) mark
+
+-- the history is legal
+pub record IsLegalHistory (history : History) : Type 0 where
+  pub entries : AreLegal history.form history.heap history.entries
+  pub mark : ShowsAtMark history.heap history.entries history.mark
+  pub end_used : ShowsUse history.entries history.end_used

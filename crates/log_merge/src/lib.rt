@@ -1,0 +1,13 @@
+//! The checking of histories: whether each line is legal after those before it.
+#![tactic(auto)]
+
+mod checker;
+mod checking;
+mod fault;
+mod totals;
+
+pub use checking::check;
+pub use fault::CheckFault;
+
+#[cfg(test)]
+mod tests;
