@@ -15,6 +15,7 @@ use Rattle.core_machine.specs.Commands.{IsRecord}
 use Rattle.core_machine.specs.Seat.{Seat, need}
 use Rattle.core_machine.specs.Making.{gathered, settled, refused, returning, goes_on, last_claimed}
 use Rattle.core_machine.specs.Fits.{AreFragments, MakesRecord, Refuses, FitsMaking, Fits}
+use Rattle.core_machine.proofs.Aside.{IsAside, gone_aside}
 use Rattle.core_machine.proofs.Owned.{within_group}
 
 -- a record has at least one fragment and at most sixteen
@@ -54,6 +55,7 @@ pub record IsGathered (heap : Heap) (seat : Seat) : Type 0 where
   pub tried_within : seat.tried ≤ heap.groups
   pub few : length seat.reserve + length seat.hand ≤ need seat + 15
   pub rest_of_last : All (λ fragment. fragment / 16 ≡ last_claimed heap seat) (drop (need seat) (gathered seat))
+  pub aside : IsAside heap seat
 
 pub last_claimed_within : (heap : Heap) (seat : Seat) → seat.cursor < heap.groups → last_claimed heap seat < heap.groups
 last_claimed_within heap seat within =
@@ -76,6 +78,13 @@ fits_settled heap seat is enough =
       reserve_of_cursor = is.rest_of_last;
       hand_within = used;
       body_within = used;
+      registers_fit = is.aside.registers_fit;
+      reached_within = is.aside.reached_within;
+      loaded_within = is.aside.loaded_within;
+      asked_small = is.aside.asked_small;
+      way_at_place = is.aside.nowhere;
+      answer_at_place = is.aside.silent;
+      gone = gone_aside is.aside.present;
       at_place = (record { makes = is.makes; whole = whole; none_tried = refl; none_given = is.none_given }, refl, omega (arith, is.none_stored));
     }
 
@@ -94,6 +103,13 @@ fits_gathering heap seat is left few = record {
   reserve_of_cursor = is.reserve_of_cursor;
   hand_within = is.hand_within;
   body_within = rw is.no_body (All-nil (λ fragment. fragment < 16 * heap.groups));
+  registers_fit = is.aside.registers_fit;
+  reached_within = is.aside.reached_within;
+  loaded_within = is.aside.loaded_within;
+  asked_small = is.aside.asked_small;
+  way_at_place = is.aside.nowhere;
+  answer_at_place = is.aside.silent;
+  gone = gone_aside is.aside.present;
   at_place = record { makes = is.makes; no_body = is.no_body; none_stored = is.none_stored; none_given = is.none_given; groups_left = left; too_few = few };
 }
 
@@ -106,6 +122,13 @@ fits_refused heap seat is all few = record {
   reserve_of_cursor = is.reserve_of_cursor;
   hand_within = is.hand_within;
   body_within = rw is.no_body (All-nil (λ fragment. fragment < 16 * heap.groups));
+  registers_fit = is.aside.registers_fit;
+  reached_within = is.aside.reached_within;
+  loaded_within = is.aside.loaded_within;
+  asked_small = is.aside.asked_small;
+  way_at_place = is.aside.nowhere;
+  answer_at_place = is.aside.silent;
+  gone = gone_aside is.aside.present;
   at_place = fits_returning heap (refused seat) seat.hand (record { makes = is.makes; no_body = is.no_body; none_stored = is.none_stored; all_tried = all; too_few = omega (arith, is.none_given) }) refl;
 }
 

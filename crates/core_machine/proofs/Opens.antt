@@ -1,5 +1,5 @@
 -- The words of a table that opens.
-use Rattle.std.proofs.Common.{suc, ◌≡◌, ◌≢◌, ℕ, ◌+◌, ◌*◌, ◌/◌, ◌%◌, ◌<◌, ◌≤◌, ◌^◌, List, map, length, replicate, get_or, ltb, true, false, refl, sym, ap, ◌∙◌, subst, inl, inr, arith}
+use Rattle.std.proofs.Common.{◌∷◌, replicate, suc, ◌≡◌, ◌≢◌, ℕ, ◌+◌, ◌*◌, ◌/◌, ◌%◌, ◌<◌, ◌≤◌, ◌^◌, List, map, length, replicate, get_or, ltb, true, false, refl, sym, ap, ◌∙◌, subst, inl, inr, arith}
 use Rattle.std.proofs.lemmas.Bool.{lt-ltb, le-ltb}
 use Rattle.std.proofs.lemmas.Bool.Decides.{eqb_tells, leb_tells}
 use Rattle.std.proofs.lemmas.List.{get_or-replicate}
@@ -7,9 +7,8 @@ use Rattle.heap_words.specs.declared.phase.TheConstants.{LEFT}
 use Rattle.heap_words.specs.Spot.{spot_word}
 use Rattle.std.specs.List.{range_with_len, All}
 use Rattle.std.proofs.lemmas.List.FromFn.{get_or-map-range_with_len, length-map-range_with_len}
-use Rattle.std.proofs.lemmas.List.Elements.{All-nil}
+use Rattle.std.proofs.lemmas.List.Elements.{All-nil, All-cons, All-replicate}
 use Rattle.heap_model.specs.declared.heap.Heap.{Heap}
-use Rattle.heap_model.specs.declared.entry.Entry.{Entry}
 use Rattle.heap_model.specs.Heap.{IsHeap}
 use Rattle.core_machine.specs.declared.address.Address.{Address}
 use Rattle.core_machine.specs.declared.address.Address.TheVariants.{Phase, Answer, Budget, Spot, Control, Word, Spine}
@@ -17,7 +16,13 @@ use Rattle.core_machine.specs.Layout.{table_length, index_of, InTable, at, put}
 use Rattle.core_machine.specs.Newborn.{record_word}
 use Rattle.core_machine.specs.Opening.{board, board_name, board_group, opening_word, opening_seat, with_left, with_board}
 use Rattle.core_machine.specs.Seat.{Seat, nobody}
-use Rattle.core_machine.specs.Fits.{Fits}
+use Rattle.core_machine.specs.declared.register.Register.TheVariants.{Nil, Object}
+use Rattle.heap_model.specs.declared.id.Id.TheVariants.{Board}
+use Rattle.core_machine.specs.Collector.{Collector, opening_collector}
+use Rattle.core_machine.specs.Loaded.{lead_of, IsWithinHeap, LeadWithin}
+use Rattle.core_machine.specs.Fits.{AreFragments, FitsRegister, CollectorFits, Fits}
+use Rattle.core_machine.proofs.Aside.{gone_aside}
+use Rattle.core_machine.proofs.Leading.{record_leads, zero_leads}
 use Rattle.core_machine.specs.Value.{IsMachine}
 use Rattle.core_machine.proofs.Addresses.{index_within, length-put, at-put_same, at-put_other}
 
@@ -146,30 +151,64 @@ module _ (heap : Heap) (zeros left words : List ℕ) (some : 1 ≤ heap.groups) 
         | inr past ↦ rw past.0 (is ∙ rw (le-ltb (4 * fragment + part) 44 (omega arith)) rest)
       ]
 
+-- the board's fragments are the heap's
+board_within : (heap : Heap) → 1 ≤ heap.groups → AreFragments heap board
+board_within heap some = list 11 0 (omega arith) where
+  list : (n from : ℕ) → from + n ≤ 11 → All (λ fragment. fragment < 16 * heap.groups) (range_with_len from n)
+  list Prim.Native.Nat.zero from few = All-nil (λ fragment. fragment < 16 * heap.groups)
+  list (suc n) from few = All-cons (λ fragment. fragment < 16 * heap.groups) from (range_with_len (from + 1) n) (omega arith) (list n (from + 1) (omega arith))
+
+-- every word of the opening leads within the heap
+opening_leads : (heap : Heap) (words : List ℕ) → IsHeap heap → ((a : Address) → InTable heap a → at heap words a ≡ opening_word heap a) → LeadWithin heap words
+opening_leads heap words limits opens f part within few =
+    subst (λ (w : ℕ). IsWithinHeap heap (lead_of part w)) (sym (opens (Word f part) (within, few)))
+    (elim (leb_tells (suc f) 11) as (λ _. IsWithinHeap heap (lead_of part (opening_word heap (Word f part)))) [
+      | inl board_ ↦ rw board_.0 (record_leads heap board_name 32 board f part (omega arith) (omega arith) (omega arith) (omega (arith, limits.some_group)) (omega (arith, limits.groups_fit)) (board_within heap limits.some_group))
+      | inr past ↦ rw past.0 (zero_leads heap part)
+    ])
+
+-- a register at the opening
+opening_registers : (heap : Heap) → 1 ≤ heap.groups → All (FitsRegister heap) (Object 0 Board ∷ replicate 15 Nil)
+opening_registers heap some = All-cons (FitsRegister heap) (Object 0 Board) (replicate 15 Nil) (omega arith) (All-replicate (FitsRegister heap) 15 Nil tt)
+
 -- a seat's data fit together at the opening
 pub fits_open : (heap : Heap) (number : ℕ) → IsHeap heap → Fits heap (opening_seat heap number)
 fits_open heap number limits = record {
   registers_whole = refl;
+  registers_fit = opening_registers heap limits.some_group;
   cursor_within = omega (arith, limits.some_group);
   small_reserve = omega arith;
   reserve_of_cursor = All-nil (λ fragment. fragment / 16 ≡ number % heap.groups);
   hand_within = All-nil (λ fragment. fragment < 16 * heap.groups);
   body_within = All-nil (λ fragment. fragment < 16 * heap.groups);
+  reached_within = omega (arith, limits.some_group);
+  loaded_within = tt;
+  asked_small = omega arith;
   at_place = record { empty_hand = refl; no_body = refl; none_stored = refl; none_tried = refl; none_given = refl };
+  way_at_place = record { none_reached = refl; no_links = refl; none_loaded = refl };
+  answer_at_place = record { none_asked = refl; none_shaded = refl };
+  gone = gone_aside refl;
 }
 
+-- so do the collector's
+collector_opens : (heap : Heap) → IsHeap heap → CollectorFits heap opening_collector
+collector_opens heap limits = record { phase_within = omega arith; phase_told = omega arith; at_stage = omega (arith, limits.some_seat) }
+
 -- a machine that opens is one
-pub machine_opens : (heap : Heap) (words : List ℕ) (seats : List Seat) (log : List Entry) → IsHeap heap → length words ≡ table_length heap → All (λ word. word < 2 ^ 64) words
-    → seats ≡ map (opening_seat heap) (range_with_len 0 heap.seats)
-    → IsMachine heap (record { words = words; seats = seats; collector = record { log = log } })
-machine_opens heap words seats log limits table wide opened =
+pub machine_opens : (heap : Heap) (words : List ℕ) (seats : List Seat) (collector : Collector) → IsHeap heap → length words ≡ table_length heap → All (λ word. word < 2 ^ 64) words
+    → ((a : Address) → InTable heap a → at heap words a ≡ opening_word heap a)
+    → seats ≡ map (opening_seat heap) (range_with_len 0 heap.seats) → collector ≡ opening_collector
+    → IsMachine heap (record { words = words; seats = seats; collector = collector })
+machine_opens heap words seats collector limits table wide opens opened here =
     let long : length seats ≡ heap.seats = ap length opened ∙ length-map-range_with_len (opening_seat heap) 0 heap.seats in
     record {
       limits = limits;
       table = table;
       wide = wide;
+      leads = opening_leads heap words limits opens;
       seated = long;
       fit = λ n within.
           let is : get_or seats n nobody ≡ opening_seat heap n = ap (λ (l : List Seat). get_or l n nobody) opened ∙ get_or-map-range_with_len (opening_seat heap) 0 heap.seats n n nobody (omega arith) (omega arith) in
           subst (Fits heap) (sym is) (fits_open heap n limits);
+      collector_fit = subst (CollectorFits heap) (sym here) (collector_opens heap limits);
     }

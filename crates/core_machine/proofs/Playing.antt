@@ -1,6 +1,5 @@
 -- A call that is made by itself, step by step.
 use Rattle.std.proofs.Common.{◌≡◌, ℕ, ◌+◌, ◌-◌, ◌*◌, ◌%◌, ◌^◌, ◌<◌, ◌≤◌, List, [], ◌∷◌, ◌++◌, length, refl, sym, ap, subst, ◌∙◌, inl, inr, length-append, append-nil, bit_or, arith}
-use Rattle.std.specs.Prelude.{IfSome}
 use Rattle.std.proofs.lemmas.Bool.Decides.{eqb_tells, leb_tells}
 use Rattle.std.proofs.lemmas.List.Filters.{length-filter_both}
 use Rattle.std.proofs.Math.Nat.{mod-eq_of_lt, add-mod_right}
@@ -8,12 +7,10 @@ use Rattle.heap_model.specs.declared.heap.Heap.{Heap}
 use Rattle.heap_model.specs.declared.command.Command.{Command}
 use Rattle.heap_model.specs.declared.entry.Entry.{Entry}
 use Rattle.heap_model.specs.declared.entry.Entry.TheVariants.{Said, GivesBack}
-use Rattle.heap_model.specs.declared.reply.Reply.{Reply}
 use Rattle.heap_model.specs.declared.reply.Reply.TheVariants as replies
 use Rattle.heap_model.specs.Space.{need_of}
 use Rattle.core_machine.specs.declared.address.Address.{Address}
 use Rattle.core_machine.specs.declared.address.Address.TheVariants.{Phase, Control}
-use Rattle.core_machine.specs.declared.place.Place.{Place}
 use Rattle.core_machine.specs.declared.place.Place.TheVariants as places
 use Rattle.core_machine.specs.declared.place.Making.{Making}
 use Rattle.core_machine.specs.declared.place.Making.TheVariants.{Gathering, Returning, Refusing, Storing, Bearing}
@@ -22,10 +19,10 @@ use Rattle.core_machine.specs.Layout.{at, put, InTable, table_length, SameTable}
 use Rattle.core_machine.specs.Operation.{all_taken}
 use Rattle.core_machine.specs.Seat.{Seat, need, with_entries}
 use Rattle.core_machine.specs.Making.{goes_on, next_group, first_group, given_back, stored_more, storing, next_id}
-use Rattle.core_machine.specs.Moves.{Move, move_at, next_move, seat_after, claim_move, give_back_move, refusal_move, store_move, bearing_move, is_last_birth, takes_some}
-use Rattle.core_machine.specs.Machine.{State, seat_at, found_by, stepped, begun}
-use Rattle.core_machine.specs.Fits.{IsAtRest, Gathers, Refuses, FitsPlace, Fits}
-use Rattle.core_machine.specs.Calls.{free_fragments, within_reach, KeepsOwn, AnswersNew}
+use Rattle.core_machine.specs.Moves.{Move, seat_after, claim_move, give_back_move, refusal_move, store_move, bearing_move, is_last_birth, takes_some, making_move}
+use Rattle.core_machine.specs.Machine.{State, seat_at, found_by, stepped}
+use Rattle.core_machine.specs.Fits.{IsAtRest, Gathers, Refuses, FitsPlace, Fits, FitsMaking}
+use Rattle.core_machine.specs.Calls.{free_fragments, within_reach, KeepsOwn}
 use Rattle.core_machine.specs.Value.{IsMachine}
 use Rattle.core_machine.proofs.Addresses.{at-put_other, at-put_same, put-at}
 use Rattle.core_machine.proofs.Bits.{bool_tells}
@@ -35,43 +32,7 @@ use Rattle.core_machine.proofs.Owned.{group_within}
 use Rattle.core_machine.proofs.Owing.{out_shorter}
 use Rattle.core_machine.proofs.Restoring.{Claims, claims_none, claims_more, claims_less, claims_over}
 use Rattle.core_machine.proofs.Runs.{seat_at-set}
-
--- while groups are claimed: what is free now and what is in the hand was free at the begin, and the groups passed have nothing free
-pub record WhileGathering (heap : Heap) (old : State) (words : List ℕ) (number : ℕ) (seat : Seat) : Type 0 where
-  pub own : KeepsOwn (seat_at old number) seat
-  pub free : free_fragments heap words + length seat.hand ≡ free_fragments heap old.words
-  pub passed : (i : ℕ) → i < seat.tried → clear_in ((seat.cursor + i) % heap.groups) (at heap words (Control ((seat.cursor + i) % heap.groups))) ≡ []
-  pub claims : Claims heap old.words words seat.hand
-
--- while what was claimed is given back: it was all that was free
-pub record WhileReturning (heap : Heap) (old : State) (words : List ℕ) (number : ℕ) (seat : Seat) : Type 0 where
-  pub own : KeepsOwn (seat_at old number) seat
-  pub all : length seat.hand + seat.given ≡ free_fragments heap old.words
-  pub claims : Claims heap old.words words seat.hand
-
--- while the object is stored and born: enough was within reach
-pub record WhileMaking (heap : Heap) (old : State) (number : ℕ) (command : Command) (made : ℕ) : Type 0 where
-  pub enough : need_of command ≤ within_reach heap old number
-  pub made_stays : made ≡ (seat_at old number).made
-
--- the call was answered: its last entry is its reply
-pub record Answered (heap : Heap) (old new : State) (number : ℕ) (command : Command) (told : List Entry) : Type 0 where
-  pub reply : Reply
-  pub before : List Entry
-  pub last : told ≡ before ++ Said number command reply ∷ []
-  pub answer : AnswersNew heap old new number command reply
-
--- how the state stands to that of the begin, by the place of the call
-abbrev pub StageOf : Heap → State → State → ℕ → Command → List Entry → Seat → Making → Type 0
-StageOf heap old now number command told seat Gathering = WhileGathering heap old now.words number seat
-StageOf heap old now number command told seat Returning = WhileReturning heap old now.words number seat
-StageOf heap old now number command told seat Refusing = WhileReturning heap old now.words number seat
-StageOf heap old now number command told seat Storing = WhileMaking heap old number command seat.made
-StageOf heap old now number command told seat Bearing = WhileMaking heap old number command seat.made
-
-abbrev pub Stage : Heap → State → State → ℕ → Command → List Entry → Seat → Place → Type 0
-Stage heap old now number command told seat places.Idle = Answered heap old now number command told
-Stage heap old now number command told seat (places.Making place) = (seat.command ≡ command) × StageOf heap old now number command told seat place
+use Rattle.core_machine.proofs.Stages.{WhileGathering, WhileReturning, WhileMaking, StageOf, Stage}
 
 -- each group is passed when as many were claimed as there are
 every_group : (groups cursor tried g : ℕ) (P : ℕ → Type 0) → cursor < groups → groups ≤ tried → g < groups
@@ -140,13 +101,13 @@ module _ (heap : Heap) (old : State) (number : ℕ) (command : Command) where
         claims = while.claims;
       }
 
-  -- the command is begun
-  pub stage_begun : (now : State) → Fits heap (seat_at old number) → (seat_at old number).place ≡ places.Idle → now.words ≡ old.words
-      → Stage heap old now number command [] (begun heap (seat_at old number) command) (begun heap (seat_at old number) command).place
-  stage_begun now fits idle same =
+  -- the making of a record is begun
+  pub stage_begun_new : (now : State) → Fits heap (seat_at old number) → (seat_at old number).place ≡ places.Idle → now.words ≡ old.words
+      → Stage heap old now number command [] (goes_on heap (record (seat_at old number) { command = command })) (goes_on heap (record (seat_at old number) { command = command })).place
+  stage_begun_new now fits idle same =
       let seat = seat_at old number in
       let rest : IsAtRest seat = subst (FitsPlace heap seat) idle fits.at_place in
-      let begun_ = begun heap seat command in
+      let begun_ = goes_on heap (record seat { command = command }) in
       subst (λ (s : Seat). Stage heap old now number command [] s begun_.place) (with_entries-nil begun_)
       (stage_goes_on now [] [] (record seat { command = command }) refl rest.none_given fits.cursor_within (record {
         own = record { registers_stay = refl; reserve_stays = refl; cursor_stays = refl; made_stays = refl };
@@ -157,11 +118,11 @@ module _ (heap : Heap) (old : State) (number : ℕ) (command : Command) where
 
   module _ (now : State) (told : List Entry) (machine : IsMachine heap now) (within : number < length now.seats)
       (small : (a : Address) → InTable heap a → at heap old.words a < 2 ^ 64) where
-    abbrev the_seat : Seat
+    abbrev pub the_seat : Seat
     the_seat = seat_at now number
 
     -- what a move leads to
-    abbrev Leads : Move → Type 0
+    abbrev pub Leads : Move → Type 0
     Leads move =
         let found = found_by heap now move.step in
         Stage heap old (stepped heap now number move) number command (told ++ move.shows now.words found) (seat_after move found) (seat_after move found).place
@@ -217,7 +178,8 @@ module _ (heap : Heap) (old : State) (number : ℕ) (command : Command) where
           reply = replies.Full (need seat) (length seat.reserve + seat.given);
           before = told;
           last = ap (λ (c : Command). told ++ Said number c (replies.Full (need seat) (length seat.reserve + seat.given)) ∷ []) same;
-          answer = record {
+          refused = λ refusal. absurd refusal;
+          answer = λ a_record. record {
             made = λ enough. absurd (omega (arith, enough, few));
             refused = λ lacks. record {
               shows = rw (found, same) refl;
@@ -244,20 +206,16 @@ module _ (heap : Heap) (old : State) (number : ℕ) (command : Command) where
             reply = replies.Made (next_id number seat);
             before = told;
             last = ap (λ (c : Command). told ++ Said number c (replies.Made (next_id number seat)) ∷ []) same;
-            answer = record { made = λ enough. rw while.made_stays refl; refused = λ lacks. absurd (omega (arith, lacks, while.enough)) };
+            refused = λ refusal. absurd refusal;
+            answer = λ a_record. record { made = λ enough. rw while.made_stays refl; refused = λ lacks. absurd (omega (arith, lacks, while.enough)) };
           })
           | inr more ↦ rw (more, place) (same, while)
         ]
 
-    stage_at : (place : Place) → the_seat.place ≡ place → FitsPlace heap the_seat place → Stage heap old now number command told the_seat place
-        → IfSome (move_at heap number the_seat place) Leads
-    stage_at places.Idle here fits stage = tt
-    stage_at (places.Making Gathering) here fits stage = stage_claimed fits stage.0 stage.1
-    stage_at (places.Making Returning) here fits stage = stage_given_back fits.0 fits.1 stage.0 stage.1
-    stage_at (places.Making Refusing) here fits stage = stage_refused fits.0 fits.1 stage.0 stage.1
-    stage_at (places.Making Storing) here fits stage = stage_stored stage.0 stage.1
-    stage_at (places.Making Bearing) here fits stage = stage_bearing here stage.0 stage.1
-
-    -- each move leads on
-    pub stage_moved : Stage heap old now number command told the_seat the_seat.place → IfSome (next_move heap number the_seat) Leads
-    stage_moved stage = stage_at the_seat.place refl (machine.fit number within).at_place stage
+    pub stage_making : (place : Making) → the_seat.place ≡ places.Making place → FitsMaking heap the_seat place → (the_seat.command ≡ command) × StageOf heap old now number command told the_seat place
+        → Leads (making_move heap number the_seat place)
+    stage_making Gathering here fits stage = stage_claimed fits stage.0 stage.1
+    stage_making Returning here fits stage = stage_given_back fits.0 fits.1 stage.0 stage.1
+    stage_making Refusing here fits stage = stage_refused fits.0 fits.1 stage.0 stage.1
+    stage_making Storing here fits stage = stage_stored stage.0 stage.1
+    stage_making Bearing here fits stage = stage_bearing here stage.0 stage.1

@@ -5,7 +5,7 @@ use Rattle.heap_model.specs.declared.command.Command.{Command}
 use Rattle.heap_model.specs.declared.entry.Entry.{Entry}
 use Rattle.heap_model.specs.declared.entry.Entry.TheVariants.{Said}
 use Rattle.heap_model.specs.declared.reply.Reply.{Reply}
-use Rattle.heap_model.specs.declared.reply.Reply.TheVariants.{Made, Full}
+use Rattle.heap_model.specs.declared.reply.Reply.TheVariants.{Made, Full, NoObject, NoField}
 use Rattle.heap_model.specs.Space.{need_of}
 use Rattle.core_machine.specs.declared.address.Address.TheVariants.{Control}
 use Rattle.core_machine.specs.declared.place.Place.TheVariants.{Idle}
@@ -55,6 +55,18 @@ pub record IsRefused (heap : Heap) (old new : State) (number : ℕ) (command : C
 pub record AnswersNew (heap : Heap) (old new : State) (number : ℕ) (command : Command) (reply : Reply) : Type 0 where
   pub made : need_of command ≤ within_reach heap old number → reply ≡ Made (next_id number (seat_at old number))
   pub refused : within_reach heap old number < need_of command → IsRefused heap old new number command reply
+
+-- the reply refuses a get, a set or a len
+abbrev pub IsPlaceRefusal : Reply → Type 0
+IsPlaceRefusal NoObject = Unit {0}
+IsPlaceRefusal NoField = Unit {0}
+IsPlaceRefusal _ = ⊥
+
+-- nothing was changed, but that the seat has the call's entry
+pub record LeavesAll (old new : State) (number : ℕ) : Type 0 where
+  pub words_stay : new.words ≡ old.words
+  pub seat_stays : seat_at new number
+      ≡ record (seat_at old number) { command = (seat_at new number).command; mine = (seat_at new number).mine }
 
 -- the reply that an entry tells
 abbrev pub reply_of : Entry → Option Reply

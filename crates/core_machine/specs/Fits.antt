@@ -1,75 +1,62 @@
 -- What is true of a seat's own data, whatever the words are.
-use Rattle.std.specs.Prelude.{◌≡◌, ℕ, ◌+◌, ◌*◌, ◌/◌, ◌<◌, ◌≤◌, ◌^◌, List, [], length, All}
+use Rattle.std.specs.Prelude.{◌≡◌, ◌*◌, ◌/◌, ◌<◌, ◌≤◌, ◌^◌, true, [], length, All}
 use Rattle.heap_model.specs.declared.heap.Heap.{Heap}
-use Rattle.heap_model.specs.declared.command.Command.{Command}
+use Rattle.heap_model.specs.declared.command.Command.TheVariants as commands
 use Rattle.heap_model.specs.Command.{IsCommand}
 use Rattle.core_machine.specs.declared.place.Place.{Place}
 use Rattle.core_machine.specs.declared.place.Place.TheVariants as places
-use Rattle.core_machine.specs.declared.place.Making.{Making}
-use Rattle.core_machine.specs.declared.place.Making.TheVariants.{Gathering, Returning, Refusing, Storing, Bearing}
-use Rattle.core_machine.specs.Commands.{IsRecord}
-use Rattle.core_machine.specs.Seat.{Seat, need}
+use Rattle.core_machine.specs.declared.register.Register.{Register}
+use Rattle.core_machine.specs.declared.register.Register.TheVariants.{Nil, Number, Object}
+use Rattle.core_machine.specs.FitsReaching.{FitsReaching, IsNowhere}
+use Rattle.core_machine.specs.Loaded.{head_in, IsWithinHeap}
+use Rattle.core_machine.specs.Seat.{Seat}
+pub use Rattle.core_machine.specs.FitsMaking.{AreFragments, HasNoHand, IsAtRest, MakesRecord, Gathers, Refuses, HasBody, FitsMaking}
+pub use Rattle.core_machine.specs.FitsAnswering.{IsLocal, FitsLeaving, HasNoAnswer, IsSilent, Answers, FitsPolling}
+pub use Rattle.core_machine.specs.FitsTurns.{FitsStage, CollectorFits}
 
--- each is a fragment of the heap
-abbrev pub AreFragments : Heap → List ℕ → Type 0
-AreFragments heap fragments = All (λ fragment. fragment < 16 * heap.groups) fragments
-
--- nothing is in the hand, and nothing was claimed or stored
-pub record IsAtRest (seat : Seat) : Type 0 where
-  pub empty_hand : seat.hand ≡ []
-  pub no_body : seat.body ≡ []
-  pub none_stored : seat.stored ≡ 0
-  pub none_tried : seat.tried ≡ 0
-  pub none_given : seat.given ≡ 0
-
--- the command makes a record, and a name is left for it where so many objects were made
-pub record MakesRecord (command : Command) (made : ℕ) : Type 0 where
-  pub a_record : IsRecord command
-  pub in_range : IsCommand command
-  pub numbered : made + 1 < 2 ^ 32
-
--- nothing is stored or given back yet, too little is gathered, and some group wasn't claimed
-pub record Gathers (heap : Heap) (seat : Seat) : Type 0 where
-  pub makes : MakesRecord seat.command seat.made
-  pub no_body : seat.body ≡ []
-  pub none_stored : seat.stored ≡ 0
-  pub none_given : seat.given ≡ 0
-  pub groups_left : seat.tried < heap.groups
-  pub too_few : length seat.reserve + length seat.hand < need seat
-
--- every group was claimed, and too little was gathered, with what was given back since
-pub record Refuses (heap : Heap) (seat : Seat) : Type 0 where
-  pub makes : MakesRecord seat.command seat.made
-  pub no_body : seat.body ≡ []
-  pub none_stored : seat.stored ≡ 0
-  pub all_tried : seat.tried ≡ heap.groups
-  pub too_few : length seat.reserve + length seat.hand + seat.given < need seat
-
--- the object has its fragments
-pub record HasBody (seat : Seat) : Type 0 where
-  pub makes : MakesRecord seat.command seat.made
-  pub whole : length seat.body ≡ need seat
-  pub none_tried : seat.tried ≡ 0
-  pub none_given : seat.given ≡ 0
-
-abbrev pub FitsMaking : Heap → Seat → Making → Type 0
-FitsMaking heap seat Gathering = Gathers heap seat
-FitsMaking heap seat Returning = Refuses heap seat × (0 < length seat.hand)
-FitsMaking heap seat Refusing = Refuses heap seat × (seat.hand ≡ [])
-FitsMaking heap seat Storing = HasBody seat × (seat.hand ≡ seat.body) × (seat.stored < 4 * length seat.body)
-FitsMaking heap seat Bearing =
-    HasBody seat × (0 < length seat.hand) × (length seat.hand ≤ length seat.body) × (seat.stored ≡ 4 * length seat.body)
-
+-- what is in the hand at a place
 abbrev pub FitsPlace : Heap → Seat → Place → Type 0
 FitsPlace heap seat places.Idle = IsAtRest seat
 FitsPlace heap seat (places.Making place) = FitsMaking heap seat place
+FitsPlace heap seat places.Telling = IsAtRest seat × IsCommand seat.command × IsLocal seat.registers seat.command
+FitsPlace heap seat (places.Reaching place) = IsAtRest seat
+FitsPlace heap seat (places.Polling place) = IsAtRest seat
+FitsPlace heap seat (places.Leaving place) = IsAtRest seat × (seat.command ≡ commands.Leave) × FitsLeaving seat place
+
+-- what was reached and loaded there
+abbrev pub FitsWay : Seat → Place → Type 0
+FitsWay seat (places.Reaching place) = FitsReaching seat place
+FitsWay seat _ = IsNowhere seat
+
+-- which phase is about to be answered there
+abbrev pub FitsAnswer : Seat → Place → Type 0
+FitsAnswer seat (places.Polling place) = FitsPolling seat place
+FitsAnswer seat _ = IsSilent seat
+
+-- a register's number has at most thirty bits, and its object's first fragment is one of the heap's
+abbrev pub FitsRegister : Heap → Register → Type 0
+FitsRegister heap Nil = Unit {0}
+FitsRegister heap (Number n) = n < 2 ^ 30
+FitsRegister heap (Object head id) = head < 16 * heap.groups
+
+-- a seat that has left has no call in flight and no reserve
+pub record IsGone (seat : Seat) : Type 0 where
+  pub idle : seat.place ≡ places.Idle
+  pub no_reserve : seat.reserve ≡ []
 
 -- the seat's own data fit together
 pub record Fits (heap : Heap) (seat : Seat) : Type 0 where
   pub registers_whole : length seat.registers ≡ 16
+  pub registers_fit : All (FitsRegister heap) seat.registers
   pub cursor_within : seat.cursor < heap.groups
   pub small_reserve : length seat.reserve ≤ 15
   pub reserve_of_cursor : All (λ fragment. fragment / 16 ≡ seat.cursor) seat.reserve
   pub hand_within : AreFragments heap seat.hand
   pub body_within : AreFragments heap seat.body
+  pub reached_within : seat.reached < 16 * heap.groups
+  pub loaded_within : IsWithinHeap heap (head_in seat.loaded)
+  pub asked_small : seat.asked < 2 ^ 64
   pub at_place : FitsPlace heap seat seat.place
+  pub way_at_place : FitsWay seat seat.place
+  pub answer_at_place : FitsAnswer seat seat.place
+  pub gone : seat.left ≡ true → IsGone seat

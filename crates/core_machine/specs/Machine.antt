@@ -1,21 +1,23 @@
 -- States, events and runs of the machine.
-use Rattle.std.specs.Prelude.{◌≡◌, ℕ, ◌+◌, ◌<◌, ◌^◌, List, [], ◌∷◌, ◌++◌, length, slice_index_or, slice_set, Option, Some, None, IsSome}
+use Rattle.std.specs.Prelude.{◌≡◌, ℕ, ◌<◌, false, List, [], ◌∷◌, ◌++◌, length, slice_index_or, slice_set, Option, Some, None, IsSome}
 use Rattle.heap_model.specs.declared.heap.Heap.{Heap}
 use Rattle.heap_model.specs.declared.command.Command.{Command}
+use Rattle.heap_model.specs.declared.command.Command.TheVariants as commands
 use Rattle.heap_model.specs.declared.entry.Entry.{Entry}
 use Rattle.heap_model.specs.Command.{IsCommand}
-use Rattle.core_machine.specs.declared.place.Place.TheVariants.{Idle}
+use Rattle.core_machine.specs.declared.place.Place.TheVariants.{Idle, Telling, Polling, Leaving}
+use Rattle.core_machine.specs.declared.place.Polling.TheVariants.{Asking}
 use Rattle.core_machine.specs.declared.step.Step.{Step}
-use Rattle.core_machine.specs.Commands.{IsRecord}
+use Rattle.core_machine.specs.Commands.{IsServed}
 use Rattle.core_machine.specs.Layout.{at, put}
 use Rattle.core_machine.specs.Operation.{address_of, written}
-use Rattle.core_machine.specs.Seat.{Seat, nobody}
+use Rattle.core_machine.specs.Seat.{Seat, nobody, HasNumber}
 use Rattle.core_machine.specs.Making.{goes_on}
+use Rattle.core_machine.specs.Reaching.{opened}
+use Rattle.core_machine.specs.Registers.{register_in}
+use Rattle.core_machine.specs.Polling.{leaving}
 use Rattle.core_machine.specs.Moves.{Move, next_move, seat_after}
-
--- the collector: its entries, in their order; nothing is due of it yet
-pub record Collector : Type 0 where
-  pub log : List Entry
+pub use Rattle.core_machine.specs.Collector.{Collector, Turn, next_turn, collector_after, MayTurn}
 
 -- the words of the table, the seats in their order, and the collector
 pub record State : Type 0 where
@@ -38,26 +40,46 @@ stepped heap state number move = record state {
   seats = slice_set state.seats number (seat_after move (found_by heap state move.step));
 }
 
+-- where a seat stands that begins this call
+abbrev pub starts : Heap → Seat → Command → Seat
+starts heap seat (commands.New d fields) = goes_on heap seat
+starts heap seat (commands.Get d r i) = opened seat (register_in seat.registers r)
+starts heap seat (commands.Set r i v) = opened seat (register_in seat.registers r)
+starts heap seat (commands.Len r) = opened seat (register_in seat.registers r)
+starts heap seat commands.Poll = record seat { place = Polling Asking }
+starts heap seat commands.Leave = record seat { place = Leaving (leaving seat.reserve) }
+starts heap seat _ = record seat { place = Telling }
+
 -- the seat with this call in flight
 abbrev pub begun : Heap → Seat → Command → Seat
-begun heap seat command = goes_on heap (record seat { command = command })
+begun heap seat command = starts heap (record seat { command = command }) command
 
--- the command may be begun: no call is in flight, its numbers are in range, and a name is left. So far it makes a record
+-- the command may be begun: no call is in flight, the seat hasn't left, and the command is served and has its numbers
 pub record MayBegin (seat : Seat) (command : Command) : Type 0 where
   pub idle : seat.place ≡ Idle
-  pub a_record : IsRecord command
+  pub present : seat.left ≡ false
+  pub served : IsServed command
   pub in_range : IsCommand command
-  pub numbered : seat.made + 1 < 2 ^ 32
+  pub numbered : HasNumber seat.made seat.sets command
 
--- what happens: a seat is given a command, or makes the step that is due
+-- the state after a turn of the collector: one word and the collector change
+abbrev pub turned : Heap → State → Turn → State
+turned heap state turn = record state {
+  words = put heap state.words (address_of turn.step) (written turn.step (found_by heap state turn.step));
+  collector = collector_after turn (found_by heap state turn.step);
+}
+
+-- what happens: a seat is given a command, or makes the step that is due, or the collector makes its turn
 pub data Event : Type 0 where
   Begins : (number : ℕ) (command : Command) → Event
   Steps : (number : ℕ) → Event
+  Turns : Event
 
 -- the event may happen
 abbrev pub Can : Heap → State → Event → Type 0
 Can heap state (Begins number command) = (number < length state.seats) × MayBegin (seat_at state number) command
 Can heap state (Steps number) = IsSome (next_move heap number (seat_at state number))
+Can heap state Turns = MayTurn state.collector state.collector.stage
 
 abbrev pub moved : Heap → State → ℕ → Option Move → State
 moved heap state number None = state
@@ -68,6 +90,7 @@ abbrev pub after : Heap → State → Event → State
 after heap state (Begins number command) =
     record state { seats = slice_set state.seats number (begun heap (seat_at state number) command) }
 after heap state (Steps number) = moved heap state number (next_move heap number (seat_at state number))
+after heap state Turns = turned heap state (next_turn heap state.collector)
 
 abbrev pub shown : Heap → State → Option Move → List Entry
 shown heap state None = []
@@ -77,6 +100,7 @@ shown heap state (Some move) = move.shows state.words (found_by heap state move.
 abbrev pub entries : Heap → State → Event → List Entry
 entries heap state (Begins number command) = []
 entries heap state (Steps number) = shown heap state (next_move heap number (seat_at state number))
+entries heap state Turns = (next_turn heap state.collector).adds
 
 -- each event may happen after those before it
 abbrev pub Run : Heap → State → List Event → Type 0

@@ -1,5 +1,5 @@
 -- The state in which a heap opens.
-use Rattle.std.specs.Prelude.{◌≡◌, ℕ, ◌+◌, ◌*◌, ◌%◌, ◌==◌, nat_lt, if◌then◌else◌, List, [], ◌∷◌, length, map, replicate}
+use Rattle.std.specs.Prelude.{◌≡◌, ℕ, ◌+◌, ◌*◌, ◌%◌, ◌==◌, nat_lt, false, if◌then◌else◌, List, [], ◌∷◌, length, map, replicate}
 use Rattle.std.specs.List.{range_with_len}
 use Rattle.heap_words.specs.declared.name.Name.{Name}
 use Rattle.heap_words.specs.declared.phase.TheConstants.{LEFT}
@@ -13,6 +13,7 @@ use Rattle.core_machine.specs.declared.register.Register.TheVariants.{Nil, Objec
 use Rattle.core_machine.specs.Layout.{at, InTable, table_length}
 use Rattle.core_machine.specs.Newborn.{record_word}
 use Rattle.core_machine.specs.Seat.{Seat, nobody}
+use Rattle.core_machine.specs.Collector.{opening_collector}
 use Rattle.core_machine.specs.Machine.{State}
 
 -- the board's fragments
@@ -61,11 +62,11 @@ with_board count (Spine half offset) word = word
 -- a seat at the opening: register 0 holds the board, and each seat's cursor stands at a group of its own as far as there are as many
 abbrev pub opening_seat : Heap → ℕ → Seat
 opening_seat heap number =
-    record nobody { registers = Object 0 ids.Board ∷ replicate 15 Nil; cursor = number % heap.groups }
+    record nobody { registers = Object 0 ids.Board ∷ replicate 15 Nil; cursor = number % heap.groups; left = false }
 
 -- the state is the one in which the heap opens
 pub record IsOpening (heap : Heap) (state : State) : Type 0 where
   pub table : length state.words ≡ table_length heap
   pub words_open : (address : Address) → InTable heap address → at heap state.words address ≡ opening_word heap address
   pub seats_open : state.seats ≡ map (opening_seat heap) (range_with_len 0 heap.seats)
-  pub nothing_done : state.collector.log ≡ []
+  pub nothing_done : state.collector ≡ opening_collector

@@ -1,5 +1,5 @@
 -- What the machine keeps of a seat. The seat's number is its place among the seats, and stands nowhere in it.
-use Rattle.std.specs.Prelude.{ℕ, List, [], ◌++◌}
+use Rattle.std.specs.Prelude.{ℕ, ◌+◌, ◌<◌, ◌^◌, Bool, true, List, [], ◌++◌}
 use Rattle.heap_model.specs.declared.entry.Entry.{Entry}
 use Rattle.heap_model.specs.declared.command.Command.{Command}
 use Rattle.heap_model.specs.declared.command.Command.TheVariants as commands
@@ -33,10 +33,24 @@ pub record Seat : Type 0 where
   pub answered : ℕ
   -- how many objects it made
   pub made : ℕ
+  -- the fragment that its call has reached on the way to a field
+  pub reached : ℕ
+  -- how many links lead on from there to the field
+  pub links : ℕ
+  -- the field that the call has loaded: for a get, while the name of what it refers to is awaited, and for a set with the barrier on
+  pub loaded : ℕ
+  -- the phase that it is about to answer
+  pub asked : ℕ
+  -- how many objects of its registers it has shaded for that
+  pub shaded : ℕ
+  -- how many sets it did
+  pub sets : ℕ
+  -- whether it has left
+  pub left : Bool
   -- its entries, in their order
   pub mine : List Entry
 
--- what stands for a seat that isn't there: one without anything, that does nothing
+-- what stands for a seat that isn't there: one that has left, without anything
 abbrev pub nobody : Seat
 nobody = record {
   registers = [];
@@ -51,12 +65,25 @@ nobody = record {
   place = Idle;
   answered = 0;
   made = 0;
+  reached = 0;
+  links = 0;
+  loaded = 0;
+  asked = 0;
+  shaded = 0;
+  sets = 0;
+  left = true;
   mine = [];
 }
 
 -- the fragments that its call needs
 abbrev pub need : Seat → ℕ
 need seat = need_of seat.command
+
+-- where so many objects were made and sets done, a name is left for the object that the command makes, or a stamp for its set
+abbrev pub HasNumber : ℕ → ℕ → Command → Type 0
+HasNumber made sets (commands.New d fields) = made + 1 < 2 ^ 32
+HasNumber made sets (commands.Set r i v) = sets + 1 < 2 ^ 26
+HasNumber made sets _ = Unit {0}
 
 -- the seat with more entries
 abbrev pub with_entries : Seat → List Entry → Seat

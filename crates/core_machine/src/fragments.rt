@@ -1,7 +1,7 @@
 ghost use Rattle.std.specs.Prelude.{◌≡◌, ◌+◌, ◌*◌, ◌<◌, ◌≤◌, ◌++◌, ◌/◌, ◌-◌, length, slice_index_or};
 ghost use Rattle.std.specs.List.{list_all};
 ghost use Rattle.core_machine.specs.Making.{first_group as first_group_of, last_group as last_group_of};
-ghost use Rattle.core_machine.specs.Fragments.{in_group, part_in, part_out, mask, clear_in};
+ghost use Rattle.core_machine.specs.Fragments.{in_group, part_in, part_out, mask as mask_of, clear_in};
 
 use arrayvec::ArrayVec;
 
@@ -23,11 +23,21 @@ pub type Hand = ArrayVec<u16, MOST_HELD>;
 /// The bits of those fragments that are of this group.
 #[tactic(auto, using(crate::proofs::Bits::one_shl_16), unfolding(crate::specs::Fragments::mask))]
 pub fn mask_in(fragments: &[u16], group: u16) -> u16
-    ensures { result ≡ mask (part_in group fragments.now) }
+    ensures { result ≡ mask_of (part_in group fragments.now) }
 {
     fragments
         .iter()
         .filter(|fragment| **fragment / 16 == group)
+        .fold(0, |bits, fragment| bits | 1 << (*fragment % 16))
+}
+
+/// The bits of these fragments.
+#[tactic(auto, using(crate::proofs::Bits::one_shl_16), unfolding(crate::specs::Fragments::mask))]
+pub fn mask(fragments: &[u16]) -> u16
+    ensures { result ≡ mask_of fragments.now }
+{
+    fragments
+        .iter()
         .fold(0, |bits, fragment| bits | 1 << (*fragment % 16))
 }
 

@@ -2,10 +2,15 @@
 #![tactic(auto)]
 
 mod address;
+mod answer;
 mod bear;
+mod begins;
+mod collector;
 mod commands;
+mod due;
 mod fragments;
 mod gather;
+mod loaded;
 mod machine;
 mod moves;
 mod newborn;
@@ -13,14 +18,20 @@ mod opening;
 mod party;
 mod place;
 mod play;
+mod reach;
 mod register;
+mod stage;
 mod step;
+mod tell;
 #[cfg(test)]
 mod tests;
+mod way;
 
 pub use address::Address;
+pub use collector::CollectorParty;
 pub use machine::Machine;
 pub use party::SeatParty;
-pub use place::{Making, Place};
+pub use place::{Leaving, Making, Place, Polling, Reaching};
 pub use register::Register;
-pub use step::{MakingStep, Step};
+pub use stage::Stage;
+pub use step::{AnsweringStep, MakingStep, ReachingStep, Step, TurningStep};

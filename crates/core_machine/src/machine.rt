@@ -1,27 +1,30 @@
-ghost use Rattle.std.specs.Prelude.{◌≡◌, ◌≢◌, ℕ, ◌+◌, ◌-◌, ◌*◌, ◌<◌, ◌≤◌, ◌^◌, ◌↔◌, IsTrue, [], ◌∷◌, ◌++◌, Some, OnOk, OnErr, IfOk};
-ghost use Rattle.heap_model.specs.Heap.{IsHeap};
+ghost use Rattle.std.specs.Prelude.{◌≡◌, ◌≢◌, ℕ, ◌+◌, ◌-◌, ◌*◌, ◌<◌, ◌≤◌, ◌↔◌, IsTrue, [], ◌∷◌, ◌++◌, length, Some, OnOk, OnErr};
 ghost use Rattle.heap_model.specs.Space.{need_of};
-ghost use Rattle.core_machine.specs.Machine.{Begins, Steps, Can, after, seat_at, found_by};
+ghost use Rattle.core_machine.specs.Machine.{Begins, Steps, Turns, Can, after, seat_at, found_by};
+ghost use Rattle.core_machine.specs.declared.address.Address.TheVariants.{Phase};
+ghost use Rattle.core_machine.specs.Layout.{at};
+ghost use Rattle.core_machine.specs.Collector.{next_turn, turn_answer};
 ghost use Rattle.core_machine.specs.Moves.{due_step};
-ghost use Rattle.core_machine.specs.Value.{spare_of, log_of, IsParty, SpendsRoom, IsMachine};
+ghost use Rattle.core_machine.specs.Value.{spare_of, log_of, due_of, event_of, IsParty, SpendsRoom, IsMachine};
 
+use crate::collector::CollectorParty;
 use crate::party::SeatParty;
 use crate::step::Step;
-use heap_model::{Command, Entry, Heap, Memory};
+use heap_model::{Command, Entry, Heap, Memory, Turn};
 use std::marker::Model;
 
 /// A heap's table of words and its parties: the seats, numbered from 0, and after them the collector. Any party may
-/// make its due step at any time; the collector has none due yet.
+/// make its due step at any time.
 #[derive(Drop)]
 pub struct Machine {
     pub(crate) heap: Heap,
     pub(crate) words: Vec<u64>,
     pub(crate) seats: Vec<SeatParty>,
-    pub(crate) log: Vec<Entry>,
+    pub(crate) collector: CollectorParty,
 }
 
 impl Model for Machine {
-    ghost use Rattle.std.specs.Prelude.{◌-◌, ◌++◌, ◌∷◌, [], map, vec_capacity, vec_len};
+    ghost use Rattle.std.specs.Prelude.{◌++◌, ◌∷◌, [], map};
     ghost use Rattle.core_machine.specs.Value.{MachineValue, IsMachine};
 
     ghost Value = { MachineValue };
@@ -31,15 +34,15 @@ impl Model for Machine {
       state = record {
         words = m.words.items;
         seats = map (λ s. s.seat) m.seats.items;
-        collector = record { log = m.log.items };
+        collector = m.collector.collector;
       };
-      spares = map (λ s. s.spare) m.seats.items ++ (vec_capacity m.log - vec_len m.log) ∷ [];
+      spares = map (λ s. s.spare) m.seats.items ++ m.collector.spare ∷ [];
     } };
 
     ghost invariant = { λ m. IsMachine m.heap (record {
       words = m.words.items;
       seats = map (λ s. s.seat) m.seats.items;
-      collector = record { log = m.log.items };
+      collector = m.collector.collector;
     }) };
 }
 
@@ -52,12 +55,32 @@ impl Machine {
         self.heap
     }
 
-    /// The one step that the party makes next; none exactly for a seat without a call in flight, and for the collector.
-    pub fn due(&self, party: u8) -> Option<Step>
-        ensures { result ≡ due_step self.now.heap party (seat_at self.now.state party) }
+    /// The phase word.
+    #[tactic(auto, unfolding(crate::specs::Layout::at))]
+    pub fn phase(&self) -> u64
+        ensures { result ≡ at self.now.heap self.now.state.words Phase }
     {
-        let seat = self.seats.get(party as usize)?;
-        seat.due(&self.heap, party)
+        self.words[0]
+    }
+
+    /// The one step that the party makes next; none exactly for a seat without a call in flight.
+    pub fn due(&self, party: u8) -> Option<Step>
+        requires { IsParty self.now party }
+        ensures { result ≡ due_of self.now.heap self.now.state party }
+    {
+        if (party as usize) < self.seats.len() {
+            self.due_of_seat(party)
+        } else {
+            Some(Step::Turning(self.collector.due(&self.heap)))
+        }
+    }
+
+    /// The one step that the seat makes next; none where no call is in flight.
+    pub(crate) fn due_of_seat(&self, seat: u8) -> Option<Step>
+        ensures { result ≡ due_step self.now.heap seat (seat_at self.now.state seat) }
+    {
+        let party = self.seats.get(seat as usize)?;
+        party.due(&self.heap, seat)
     }
 
     /// Whether the command of a seat may be begun now.
@@ -83,20 +106,68 @@ impl Machine {
 
     /// Makes the due step of the party, and answers the word as it was before.
     pub fn step(&mut self, party: u8, step: &Step) -> u64
-        requires due { due_step self.old.heap party (seat_at self.old.state party) ≡ Some step.now }
+        requires party { IsParty self.old party }
+        requires due { due_of self.old.heap self.old.state party ≡ Some step.now }
         requires room { 2 ≤ spare_of self.old party }
         ensures heap { self.new.heap ≡ self.old.heap }
-        ensures state { self.new.state ≡ after self.old.heap self.old.state (Steps party) }
+        ensures state { self.new.state ≡ after self.old.heap self.old.state (event_of self.old.state party) }
         ensures found { result ≡ found_by self.old.heap self.old.state step.now }
         ensures spent { SpendsRoom self.old self.new party }
+    {
+        if (party as usize) < self.seats.len() {
+            self.step_of_seat(party, step)
+        } else {
+            self.turn(step).0
+        }
+    }
+
+    /// Makes the due step of the seat, and answers the word as it was before.
+    pub(crate) fn step_of_seat(&mut self, seat: u8, step: &Step) -> u64
+        requires due { due_step self.old.heap seat (seat_at self.old.state seat) ≡ Some step.now }
+        requires room { 2 ≤ spare_of self.old seat }
+        ensures heap { self.new.heap ≡ self.old.heap }
+        ensures state { self.new.state ≡ after self.old.heap self.old.state (Steps seat) }
+        ensures found { result ≡ found_by self.old.heap self.old.state step.now }
+        ensures spent { SpendsRoom self.old self.new seat }
     {
         let heap = self.heap;
         let index = step.address().index(&heap);
         let found = self.words[index];
         self.words[index] = step.written(found);
-        let seat = &mut self.seats[party as usize];
-        seat.learn(&heap, party, found);
+        let party = &mut self.seats[seat as usize];
+        party.learn(&heap, seat, found);
         found
+    }
+
+    /// Makes the collector's due step.
+    pub fn play_turn(&mut self) -> Turn
+        requires room { 2 ≤ spare_of self.old (length self.old.state.seats) }
+        ensures heap { self.new.heap ≡ self.old.heap }
+        ensures state { self.new.state ≡ after self.old.heap self.old.state Turns }
+        ensures answer { let collector = self.old.state.collector in
+            result ≡ turn_answer collector collector.stage (found_by self.old.heap self.old.state (next_turn self.old.heap collector).step) }
+        ensures spent { SpendsRoom self.old self.new (length self.old.state.seats) }
+    {
+        let step = Step::Turning(self.collector.due(&self.heap));
+        self.turn(&step).1
+    }
+
+    /// Makes the collector's due step: answers the word as it was before, and what the turn comes to.
+    fn turn(&mut self, step: &Step) -> (u64, Turn)
+        requires due { (next_turn self.old.heap self.old.state.collector).step ≡ step.now }
+        requires room { 2 ≤ spare_of self.old (length self.old.state.seats) }
+        ensures heap { self.new.heap ≡ self.old.heap }
+        ensures state { self.new.state ≡ after self.old.heap self.old.state Turns }
+        ensures found { result.0 ≡ found_by self.old.heap self.old.state step.now }
+        ensures answer { result.1 ≡ turn_answer self.old.state.collector self.old.state.collector.stage result.0 }
+        ensures spent { SpendsRoom self.old self.new (length self.old.state.seats) }
+    {
+        let heap = self.heap;
+        let index = step.address().index(&heap);
+        let found = self.words[index];
+        self.words[index] = step.written(found);
+        let answer = self.collector.learn(&heap, found);
+        (found, answer)
     }
 
     /// The party's entries, in their order.
@@ -106,7 +177,7 @@ impl Machine {
     {
         match self.seats.get(party as usize) {
             Some(seat) => seat.log(),
-            None => self.log.as_slice(),
+            None => self.collector.log(),
         }
     }
 
@@ -117,7 +188,7 @@ impl Machine {
     {
         match self.seats.get(party as usize) {
             Some(seat) => seat.spare(),
-            None => self.log.capacity() - self.log.len(),
+            None => self.collector.spare(),
         }
     }
 
@@ -134,7 +205,7 @@ impl Machine {
             let seat = &mut self.seats[party as usize];
             seat.room(n)
         } else {
-            self.log.reserve(n).map_err(|_| Memory)
+            self.collector.room(n)
         }
     }
 }

@@ -1,56 +1,83 @@
-ghost use Rattle.std.specs.Prelude.{◌≡◌, ℕ, ◌+◌, ◌<◌, ◌≤◌, ◌↔◌, ◌^◌, IsTrue, length};
+ghost use Rattle.std.specs.Prelude.{◌≡◌, ◌+◌, ◌<◌, ◌≤◌, length, IfSome};
 ghost use Rattle.heap_model.specs.Heap.{IsHeap};
-ghost use Rattle.core_machine.specs.Fits.{Fits};
-ghost use Rattle.core_machine.specs.Moves.{due_step, next_move, seat_moved};
-ghost use Rattle.core_machine.specs.Machine.{MayBegin, begun};
+ghost use Rattle.core_machine.specs.Fits.{Fits, FitsMaking, FitsPolling};
+ghost use Rattle.core_machine.specs.FitsReaching.{FitsReaching};
+ghost use Rattle.core_machine.specs.Loaded.{FoundWithin};
+ghost use Rattle.core_machine.specs.Moves.{next_move, seat_moved, seat_after, making_move, reaching_move, polling_move, leaving_move};
+ghost use Rattle.core_machine.specs.Operation.{address_of};
 
 use crate::party::SeatParty;
-use crate::place::{Making, Place};
-use crate::step::{MakingStep, Step};
-use heap_model::{Command, Heap};
+use crate::place::{Leaving, Making, Place, Polling, Reaching};
+use heap_model::Heap;
 
 impl SeatParty {
-    /// Whether the command may be begun now.
-    pub fn may_begin(&self, command: &Command) -> bool
-        ensures { IsTrue result ↔ MayBegin self.now.seat command.now }
-    {
-        let Place::Idle = self.place else {
-            return false;
-        };
-        let Command::New { .. } = command else {
-            return false;
-        };
-        command.is_in_range() && self.made < u32::MAX
-    }
-
-    /// Puts the command in flight.
-    pub fn begin(&mut self, heap: &Heap, command: Command)
-        requires limits { IsHeap heap.now }
-        requires fits { Fits heap.now self.old.seat }
-        requires may { MayBegin self.old.seat command }
-        ensures seat { self.new.seat ≡ begun heap.now self.old.seat command }
-        ensures spare { self.new.spare ≡ self.old.spare }
-    {
-        self.command = command;
-        self.go_on(heap);
-    }
-
-    /// The one step that the seat makes next; none where no call is in flight.
-    pub fn due(&self, heap: &Heap, number: u8) -> Option<Step>
+    /// Learns what a step of making found.
+    fn learn_making(&mut self, heap: &Heap, number: u8, place: Making, found: u64)
         requires limits { IsHeap heap.now }
         requires number { number < heap.now.seats }
-        requires fits { Fits heap.now self.now.seat }
-        ensures { result ≡ due_step heap.now number self.now.seat }
+        requires fits { Fits heap.now self.old.seat }
+        requires at_place { FitsMaking heap.now self.old.seat place }
+        requires spare { 0 < self.old.spare }
+        ensures seat { self.new.seat ≡ seat_after (making_move heap.now number self.old.seat place) found }
+        ensures spare { self.old.spare + length self.old.seat.mine ≤ self.new.spare + length self.new.seat.mine }
     {
-        match self.place {
-            Place::Idle => None,
-            Place::Making(Making::Gathering) => Some(Step::Making(MakingStep::Claim {
-                group: self.next_group(heap),
-            })),
-            Place::Making(Making::Returning) => Some(Step::Making(self.give_back())),
-            Place::Making(Making::Refusing) => Some(Step::PollLoad),
-            Place::Making(Making::Storing) => Some(Step::Making(self.store(number))),
-            Place::Making(Making::Bearing) => Some(Step::Making(self.birth())),
+        match place {
+            Making::Gathering => self.learn_claim(heap, number, found),
+            Making::Returning => self.learn_give_back(heap, number),
+            Making::Refusing => self.learn_refusal(number),
+            Making::Storing => self.learn_store(),
+            Making::Bearing => self.learn_birth(number),
+        }
+    }
+
+    /// Learns what a step of reaching found.
+    fn learn_reaching(&mut self, heap: &Heap, number: u8, place: Reaching, found: u64)
+        requires limits { IsHeap heap.now }
+        requires number { number < heap.now.seats }
+        requires fits { Fits heap.now self.old.seat }
+        requires at_place { FitsReaching self.old.seat place }
+        requires found { FoundWithin heap.now (address_of (reaching_move heap.now number self.old.seat place).step) found }
+        requires spare { 0 < self.old.spare }
+        ensures seat { self.new.seat ≡ seat_after (reaching_move heap.now number self.old.seat place) found }
+        ensures spare { self.old.spare + length self.old.seat.mine ≤ self.new.spare + length self.new.seat.mine }
+    {
+        match place {
+            Reaching::Opening => self.learn_meta(number, found),
+            Reaching::Walking => self.learn_link(found),
+            Reaching::Getting => self.learn_get(number, found),
+            Reaching::Naming => self.learn_name(number, found),
+            Reaching::LoadingOld => self.learn_old(found),
+            Reaching::ShadingOld => self.finish_old(),
+            Reaching::ShadingNew => self.place = Place::Reaching(Reaching::Swapping),
+            Reaching::Swapping => self.learn_swap(number, found),
+        }
+    }
+
+    /// Learns what a step of answering found.
+    fn learn_polling(&mut self, number: u8, place: Polling, found: u64)
+        requires registers { length self.old.seat.registers ≡ 16 }
+        requires at_place { FitsPolling self.old.seat place }
+        requires spare { 1 < self.old.spare }
+        ensures seat { self.new.seat ≡ seat_after (polling_move number self.old.seat place) found }
+        ensures spare { self.old.spare + length self.old.seat.mine ≤ self.new.spare + length self.new.seat.mine }
+    {
+        match place {
+            Polling::Asking => self.learn_phase(number, found),
+            Polling::Shading => self.learn_root(),
+            Polling::Answering => self.learn_answer(number),
+        }
+    }
+
+    /// Learns that a step of leaving was made.
+    fn learn_leaving(&mut self, number: u8, place: Leaving)
+        requires few { length self.old.seat.reserve ≤ 15 }
+        requires spare { 0 < self.old.spare }
+        ensures seat { self.new.seat ≡ seat_after (leaving_move number self.old.seat place) 0 }
+        ensures spare { self.old.spare + length self.old.seat.mine ≤ self.new.spare + length self.new.seat.mine }
+    {
+        match place {
+            Leaving::Emptying => self.learn_empty(number),
+            Leaving::Parting => self.learn_leave(number),
         }
     }
 
@@ -59,17 +86,18 @@ impl SeatParty {
         requires limits { IsHeap heap.now }
         requires number { number < heap.now.seats }
         requires fits { Fits heap.now self.old.seat }
-        requires spare { 0 < self.old.spare }
+        requires found { IfSome (next_move heap.now number self.old.seat) (λ move. FoundWithin heap.now (address_of move.step) found) }
+        requires spare { 1 < self.old.spare }
         ensures seat { self.new.seat ≡ seat_moved self.old.seat (next_move heap.now number self.old.seat) found }
         ensures spare { self.old.spare + length self.old.seat.mine ≤ self.new.spare + length self.new.seat.mine }
     {
         match self.place {
             Place::Idle => (),
-            Place::Making(Making::Gathering) => self.learn_claim(heap, number, found),
-            Place::Making(Making::Returning) => self.learn_give_back(heap, number),
-            Place::Making(Making::Refusing) => self.learn_refusal(number),
-            Place::Making(Making::Storing) => self.learn_store(),
-            Place::Making(Making::Bearing) => self.learn_birth(number),
+            Place::Making(place) => self.learn_making(heap, number, place, found),
+            Place::Telling => self.learn_told(number),
+            Place::Reaching(place) => self.learn_reaching(heap, number, place, found),
+            Place::Polling(place) => self.learn_polling(number, place, found),
+            Place::Leaving(place) => self.learn_leaving(number, place),
         }
     }
 }

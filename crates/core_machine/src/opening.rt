@@ -6,6 +6,7 @@ ghost use Rattle.core_machine.specs.Layout.{at, put, InTable, table_length};
 ghost use Rattle.core_machine.specs.Opening.{IsOpening, opening_word, opening_seat, with_left, with_board};
 
 use crate::address::Address;
+use crate::collector::CollectorParty;
 use crate::machine::Machine;
 use crate::newborn::Newborn;
 use crate::party::SeatParty;
@@ -29,7 +30,7 @@ impl Machine {
             heap,
             words,
             seats,
-            log: Vec::new(alloc),
+            collector: CollectorParty::opening(alloc),
         })
     }
 }

@@ -1,16 +1,17 @@
-ghost use Rattle.std.specs.Prelude.{◌≡◌, ℕ, ◌+◌, ◌-◌, ◌*◌, ◌<◌, ◌≤◌, ◌^◌, ◌∷◌, [], OnOk, OnErr, IfOk};
+ghost use Rattle.std.specs.Prelude.{◌≡◌, ◌+◌, ◌-◌, ◌<◌, ◌≤◌, ◌∷◌, [], OnOk, OnErr};
 ghost use Rattle.heap_model.specs.Heap.{IsHeap};
 ghost use Rattle.core_machine.specs.Seat.{with_entries};
+ghost use Rattle.core_machine.specs.ReachingMoves.{said};
 ghost use Rattle.core_machine.specs.Opening.{opening_seat};
 
 use crate::fragments::{Hand, Reserve};
 use crate::place::Place;
 use crate::register::Register;
-use heap_model::{Command, Entry, Heap, Id, Memory};
+use heap_model::{Command, Entry, Heap, Id, Memory, Reply};
 use std::alloc::Global;
 use std::marker::Model;
 
-/// What is kept of a seat: its registers, its fragments, its call in flight and its entries.
+/// What is kept of a seat: its registers, its fragments, its call in flight, what it answered, and its entries.
 #[derive(Drop)]
 pub struct SeatParty {
     pub(crate) registers: [Register; 16],
@@ -25,6 +26,13 @@ pub struct SeatParty {
     pub(crate) place: Place,
     pub(crate) answered: u64,
     pub(crate) made: u32,
+    pub(crate) reached: u16,
+    pub(crate) links: u16,
+    pub(crate) loaded: u64,
+    pub(crate) asked: u64,
+    pub(crate) shaded: u8,
+    pub(crate) sets: u32,
+    pub(crate) left: bool,
     pub(crate) mine: Vec<Entry>,
 }
 
@@ -48,6 +56,13 @@ impl Model for SeatParty {
         place = party.place;
         answered = party.answered;
         made = party.made;
+        reached = party.reached;
+        links = party.links;
+        loaded = party.loaded;
+        asked = party.asked;
+        shaded = party.shaded;
+        sets = party.sets;
+        left = party.left;
         mine = party.mine.items;
       };
       spare = vec_capacity party.mine - vec_len party.mine;
@@ -78,6 +93,13 @@ impl SeatParty {
             place: Place::Idle,
             answered: 0,
             made: 0,
+            reached: 0,
+            links: 0,
+            loaded: 0,
+            asked: 0,
+            shaded: 0,
+            sets: 0,
+            left: false,
             mine: Vec::new(alloc),
         }
     }
@@ -116,5 +138,18 @@ impl SeatParty {
             Ok(()) => (),
             Err(_) => unreachable!(),
         }
+    }
+
+    /// Adds the reply to the call, for which there is room.
+    pub(crate) fn say(&mut self, number: u8, reply: Reply)
+        requires { 0 < self.old.spare }
+        ensures seat { self.new.seat ≡ with_entries self.old.seat (said number self.old.seat reply) }
+        ensures spare { self.old.spare ≤ self.new.spare + 1 }
+    {
+        self.note(Entry::Said {
+            seat: number,
+            command: self.command,
+            reply,
+        });
     }
 }

@@ -5,6 +5,14 @@ pub enum Place {
     Idle,
     /// An object is made.
     Making(Making),
+    /// The call has no word to look at: its reply is told.
+    Telling,
+    /// An object is read or written.
+    Reaching(Reaching),
+    /// The phase is answered.
+    Polling(Polling),
+    /// The seat leaves.
+    Leaving(Leaving),
 }
 
 /// Where a seat stands while it makes an object.
@@ -20,4 +28,45 @@ pub enum Making {
     Storing,
     /// The fragments are born.
     Bearing,
+}
+
+/// Where a seat stands while it reads or writes an object.
+#[derive(Clone, Copy)]
+pub enum Reaching {
+    /// The object's meta is loaded.
+    Opening,
+    /// The link to the next fragment is loaded.
+    Walking,
+    /// The field is loaded, for a get.
+    Getting,
+    /// It was a reference: the object's name is loaded.
+    Naming,
+    /// The field is loaded, for a set with the barrier on.
+    LoadingOld,
+    /// It was a reference: the object is shaded.
+    ShadingOld,
+    /// The object that the set puts into the field is shaded.
+    ShadingNew,
+    /// The field gets its new word.
+    Swapping,
+}
+
+/// Where a seat stands while it answers the phase.
+#[derive(Clone, Copy)]
+pub enum Polling {
+    /// The phase is loaded.
+    Asking,
+    /// The objects in the registers are shaded.
+    Shading,
+    /// The answer is stored.
+    Answering,
+}
+
+/// Where a seat stands while it leaves.
+#[derive(Clone, Copy)]
+pub enum Leaving {
+    /// The reserve is given back.
+    Emptying,
+    /// The seat's word tells that it has left.
+    Parting,
 }

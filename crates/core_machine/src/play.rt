@@ -1,7 +1,8 @@
-ghost use Rattle.std.specs.Prelude.{◌≡◌, ℕ, ◌+◌, ◌*◌, ◌<◌, ◌≤◌, Some};
+ghost use Rattle.std.specs.Prelude.{◌≡◌, ◌+◌, ◌*◌, ◌<◌, ◌≤◌, Some};
 ghost use Rattle.heap_model.specs.Space.{need_of};
 ghost use Rattle.core_machine.specs.Machine.{Begins, Can};
-ghost use Rattle.core_machine.specs.Calls.{PlaysCall, AnswersNew, last_reply as last_reply_of};
+ghost use Rattle.core_machine.specs.Commands.{IsRecord};
+ghost use Rattle.core_machine.specs.Calls.{PlaysCall, AnswersNew, IsPlaceRefusal, LeavesAll, last_reply as last_reply_of};
 ghost use Rattle.core_machine.specs.Value.{spare_of, SpendsRoom};
 
 use crate::machine::Machine;
@@ -14,14 +15,15 @@ impl Machine {
         requires room { 2 * need_of command.now + 4 ≤ spare_of self.old seat }
         ensures heap { self.new.heap ≡ self.old.heap }
         ensures steps { PlaysCall self.old.heap self.old.state self.new.state seat command.now result }
-        ensures answer { AnswersNew self.old.heap self.old.state self.new.state seat command.now result }
+        ensures answer { IsRecord command.now → AnswersNew self.old.heap self.old.state self.new.state seat command.now result }
+        ensures refused { IsPlaceRefusal result → LeavesAll self.old.state self.new.state seat }
         ensures spent { SpendsRoom self.old self.new seat }
     {
         // What is true of every machine is known from here on.
         let _ = &self.words;
         self.begin(seat, *command);
-        while let Some(step) = self.due(seat) {
-            self.step(seat, &step);
+        while let Some(step) = self.due_of_seat(seat) {
+            self.step_of_seat(seat, &step);
         }
         match last_reply(self.log(seat)) {
             Some(reply) => reply,

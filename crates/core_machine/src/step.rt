@@ -1,7 +1,8 @@
 ghost use Rattle.std.specs.Prelude.{◌≡◌};
-ghost use Rattle.core_machine.specs.Operation.{address_of, written, making_address, making_written, birth_bits as birth_bits_of};
+ghost use Rattle.core_machine.specs.Operation.{address_of, written, making_address, making_written, birth_bits as birth_bits_of, reaching_address, reaching_written, shade_bit as shade_bit_of, answering_address, answering_written, turning_address, turning_written};
 
 use crate::address::Address;
+use heap_words::LEFT;
 
 /// One atomic step: one operation on one word of the table.
 #[derive(Clone, Copy)]
@@ -10,6 +11,12 @@ pub enum Step {
     Making(MakingStep),
     /// The phase is loaded.
     PollLoad,
+    /// A step by which an object is read or written.
+    Reaching(ReachingStep),
+    /// A step by which a seat tells what it has answered.
+    Answering(AnsweringStep),
+    /// A step of the collector.
+    Turning(TurningStep),
 }
 
 /// A step by which an object is made. Bit `j` of `bits` is fragment `j` of the group.
@@ -27,6 +34,41 @@ pub enum MakingStep {
     LastBirth { group: u16, bits: u16, black: bool },
 }
 
+/// A step by which an object is read or written.
+#[derive(Clone, Copy)]
+pub enum ReachingStep {
+    /// The first word of a fragment is loaded: a meta or a link.
+    WalkLoad { fragment: u16 },
+    /// An object's name is loaded from its first fragment.
+    NameLoad { head: u16 },
+    /// A field is loaded for a get.
+    GetLoad { fragment: u16, part: u8 },
+    /// A field is loaded for a set.
+    OldLoad { fragment: u16, part: u8 },
+    /// A fragment is marked.
+    Shade { fragment: u16 },
+    /// A field gets another word.
+    Swap { fragment: u16, part: u8, word: u64 },
+}
+
+/// A step by which a seat tells in its own word what it has answered.
+#[derive(Clone, Copy)]
+pub enum AnsweringStep {
+    /// The seat has answered the phase.
+    AnswerStore { seat: u8, phase: u64 },
+    /// The seat has left.
+    LeaveStore { seat: u8 },
+}
+
+/// A step of the collector.
+#[derive(Clone, Copy)]
+pub enum TurningStep {
+    /// A seat's word is loaded.
+    LookLoad { seat: u8 },
+    /// The phase begins.
+    AdvanceStore { phase: u64 },
+}
+
 impl Step {
     /// The word that the step touches.
     pub fn address(&self) -> Address
@@ -35,6 +77,9 @@ impl Step {
         match *self {
             Step::Making(step) => step.address(),
             Step::PollLoad => Address::Phase,
+            Step::Reaching(step) => step.address(),
+            Step::Answering(step) => step.address(),
+            Step::Turning(step) => step.address(),
         }
     }
 
@@ -45,6 +90,9 @@ impl Step {
         match *self {
             Step::Making(step) => step.written(found),
             Step::PollLoad => found,
+            Step::Reaching(step) => step.written(found),
+            Step::Answering(step) => step.written(),
+            Step::Turning(step) => step.written(found),
         }
     }
 }
@@ -76,6 +124,78 @@ impl MakingStep {
     }
 }
 
+impl ReachingStep {
+    fn address(&self) -> Address
+        ensures { result ≡ reaching_address self.now }
+    {
+        match *self {
+            ReachingStep::WalkLoad { fragment } => Address::Word { fragment, part: 0 },
+            ReachingStep::NameLoad { head } => Address::Word {
+                fragment: head,
+                part: 1,
+            },
+            ReachingStep::GetLoad { fragment, part }
+            | ReachingStep::OldLoad { fragment, part }
+            | ReachingStep::Swap { fragment, part, .. } => Address::Word { fragment, part },
+            ReachingStep::Shade { fragment } => Address::Control(fragment / 16),
+        }
+    }
+
+    fn written(&self, found: u64) -> u64
+        ensures { result ≡ reaching_written self.now found }
+    {
+        match *self {
+            ReachingStep::WalkLoad { .. }
+            | ReachingStep::NameLoad { .. }
+            | ReachingStep::GetLoad { .. }
+            | ReachingStep::OldLoad { .. } => found,
+            ReachingStep::Shade { fragment } => found | shade_bit(fragment),
+            ReachingStep::Swap { word, .. } => word,
+        }
+    }
+}
+
+impl AnsweringStep {
+    fn address(&self) -> Address
+        ensures { result ≡ answering_address self.now }
+    {
+        match *self {
+            AnsweringStep::AnswerStore { seat, .. } | AnsweringStep::LeaveStore { seat } => {
+                Address::Answer(seat)
+            }
+        }
+    }
+
+    fn written(&self) -> u64
+        ensures { result ≡ answering_written self.now }
+    {
+        match *self {
+            AnsweringStep::AnswerStore { phase, .. } => phase,
+            AnsweringStep::LeaveStore { .. } => LEFT,
+        }
+    }
+}
+
+impl TurningStep {
+    fn address(&self) -> Address
+        ensures { result ≡ turning_address self.now }
+    {
+        match *self {
+            TurningStep::LookLoad { seat } => Address::Answer(seat),
+            TurningStep::AdvanceStore { .. } => Address::Phase,
+        }
+    }
+
+    fn written(&self, found: u64) -> u64
+        ensures { result ≡ turning_written self.now found }
+    {
+        match *self {
+            TurningStep::LookLoad { .. } => found,
+            TurningStep::AdvanceStore { phase } => phase,
+        }
+    }
+}
+
 /// The bits that a birth sets.
 fn birth_bits(black: bool, bits: u16) -> u64
     ensures { result ≡ birth_bits_of black bits }
@@ -86,4 +206,11 @@ fn birth_bits(black: bool, bits: u16) -> u64
     } else {
         born
     }
+}
+
+/// The bit that a shade sets.
+fn shade_bit(fragment: u16) -> u64
+    ensures { result ≡ shade_bit_of fragment }
+{
+    1 << (32 + fragment % 16)
 }

@@ -1,4 +1,4 @@
-use Rattle.std.proofs.Common.{arith, ◌<◌, ◌-◌, length, vec_capacity, vec_len}
+use Rattle.std.proofs.Common.{arith, ◌<◌, length}
 use Rattle.std.proofs.lemmas.List.{length-map}
 use Rattle.core_machine.specs.Value.{SeatWithRoom}
 use Rattle.core_machine.proofs.Stepping.{begin_machine, begin_value}
@@ -8,7 +8,7 @@ pub invariant_of-self : goal.invariant_of-self
 invariant_of-self c =
     let can = rw (← c.self.view_is) at c.requires.can in
     let within : c.args.seat < length c.self.inside.seats.items = omega (arith, can.0, length-map c.self.inside.seats.items (λ (s : SeatWithRoom). s.seat)) in
-    begin_machine c.self.inside.heap c.self.inside.words.items c.self.inside.seats.items c.self.inside.log.items 0 c.args.seat
+    begin_machine c.self.inside.heap c.self.inside.words.items c.self.inside.seats.items c.self.inside.collector.collector 0 c.args.seat
     c.index_mut-party.result.now c.begin.new.self within c.index_mut-party.ensures.value
     c.args.command can.1 c.begin.ensures.seat c.self.invariant
 
@@ -16,6 +16,6 @@ pub returns : goal.returns
 returns c =
     let can = rw (← c.self.view_is) at c.requires.can in
     let within : c.args.seat < length c.self.inside.seats.items = omega (arith, can.0, length-map c.self.inside.seats.items (λ (s : SeatWithRoom). s.seat)) in
-    rw (← c.self.view_is) (begin_value c.self.inside.heap c.self.inside.words.items c.self.inside.seats.items c.self.inside.log.items
-    (vec_capacity c.self.inside.log - vec_len c.self.inside.log) c.args.seat c.index_mut-party.result.now c.begin.new.self within
+    rw (← c.self.view_is) (begin_value c.self.inside.heap c.self.inside.words.items c.self.inside.seats.items c.self.inside.collector.collector
+    c.self.inside.collector.spare c.args.seat c.index_mut-party.result.now c.begin.new.self within
     c.index_mut-party.ensures.value c.args.command c.begin.ensures.seat c.begin.ensures.spare)

@@ -4,7 +4,9 @@ use Rattle.core_machine.specs.Moves.{due_step}
 use Rattle.core_machine.specs.Value.{MachineValue, IsMachine}
 use Rattle.core_machine.specs.Calls.{last_reply}
 use Rattle.core_machine.proofs.Addresses.{at-lt}
-use Rattle.core_machine.proofs.Calling.{Playing, playing_begun, playing_more, step_room, spends_on, spends_begun, room_for, none_due, some_due, call_over, call_replies}
+use Rattle.core_machine.proofs.Calling.{Playing, playing_begun, playing_more}
+use Rattle.core_machine.proofs.CallRoom.{step_room, spends_on, spends_begun, room_for}
+use Rattle.core_machine.proofs.CallEnd.{none_due, some_due, call_over, call_replies}
 use Rattle.core_machine.proofs.Owing.{steps_left}
 use Rattle.core_machine.proofs.machine.Machine.play_call.Goals as goal
 
@@ -19,33 +21,33 @@ loop-step-init c =
       playing = subst (λ (s : State). Playing old.heap old.state s c.args.seat c.args.command.now) (sym begun_)
           (playing_begun old.heap old.state c.args.seat c.args.command.now start c.requires.can);
       room = room_for old c.begin.new.self c.args.seat c.args.command.now start c.requires.can c.begin.ensures c.requires.room;
-      spent = spends_begun old c.begin.new.self c.args.seat c.args.command.now c.requires.can.0 c.begin.ensures;
+      spent = spends_begun old c.begin.new.self c.args.seat c.args.command.now c.requires.can.0 c.requires.can.1.served c.begin.ensures;
     }
 
 pub loop-step-smaller : goal.loop-step-smaller
 loop-step-smaller c =
     let at_ = c.loop-step in
-    let due : due_step at_.self.heap c.args.seat (seat_at at_.self.state c.args.seat) ≡ Some c.in-Some.step = sym c.due.ensures ∙ c.in-Some.is in
+    let due : due_step at_.self.heap c.args.seat (seat_at at_.self.state c.args.seat) ≡ Some c.in-Some.step = sym c.due_of_seat.ensures ∙ c.in-Some.is in
     let machine = subst (λ h. IsMachine h at_.self.state) (sym at_.invariant.heap) at_.invariant.playing.machine in
-    let next = step_room at_.self c.step.new.self c.args.seat c.in-Some.step machine at_.invariant.playing.within due c.step.ensures.state c.step.ensures.spent at_.invariant.room in
-    subst (λ h. steps_left h (seat_at c.step.new.self.state c.args.seat) < steps_left at_.self.heap (seat_at at_.self.state c.args.seat)) (sym c.step.ensures.heap) next.0
+    let next = step_room at_.self c.step_of_seat.new.self c.args.seat c.in-Some.step machine at_.invariant.playing.within due c.step_of_seat.ensures.state c.step_of_seat.ensures.spent at_.invariant.room in
+    subst (λ h. steps_left h (seat_at c.step_of_seat.new.self.state c.args.seat) < steps_left at_.self.heap (seat_at at_.self.state c.args.seat)) (sym c.step_of_seat.ensures.heap) next.0
 
 pub loop-step-preserved : goal.loop-step-preserved
 loop-step-preserved c =
     let old = c.args.self.now in
     let at_ = c.loop-step in
-    let due : due_step at_.self.heap c.args.seat (seat_at at_.self.state c.args.seat) ≡ Some c.in-Some.step = sym c.due.ensures ∙ c.in-Some.is in
+    let due : due_step at_.self.heap c.args.seat (seat_at at_.self.state c.args.seat) ≡ Some c.in-Some.step = sym c.due_of_seat.ensures ∙ c.in-Some.is in
     let machine = subst (λ h. IsMachine h at_.self.state) (sym at_.invariant.heap) at_.invariant.playing.machine in
-    let next = step_room at_.self c.step.new.self c.args.seat c.in-Some.step machine at_.invariant.playing.within due c.step.ensures.state c.step.ensures.spent at_.invariant.room in
-    let state : c.step.new.self.state ≡ after old.heap at_.self.state (Steps c.args.seat) = c.step.ensures.state ∙ ap (λ h. after h at_.self.state (Steps c.args.seat)) at_.invariant.heap in
+    let next = step_room at_.self c.step_of_seat.new.self c.args.seat c.in-Some.step machine at_.invariant.playing.within due c.step_of_seat.ensures.state c.step_of_seat.ensures.spent at_.invariant.room in
+    let state : c.step_of_seat.new.self.state ≡ after old.heap at_.self.state (Steps c.args.seat) = c.step_of_seat.ensures.state ∙ ap (λ h. after h at_.self.state (Steps c.args.seat)) at_.invariant.heap in
     let due_ : due_step old.heap c.args.seat (seat_at at_.self.state c.args.seat) ≡ Some c.in-Some.step = ap (λ h. due_step h c.args.seat (seat_at at_.self.state c.args.seat)) (sym at_.invariant.heap) ∙ due in
     record {
-      heap = c.step.ensures.heap ∙ at_.invariant.heap;
+      heap = c.step_of_seat.ensures.heap ∙ at_.invariant.heap;
       small = at_.invariant.small;
       playing = subst (λ (s : State). Playing old.heap old.state s c.args.seat c.args.command.now) (sym state)
           (playing_more old.heap old.state at_.self.state c.args.seat c.args.command.now at_.invariant.small at_.invariant.playing (some_due old.heap c.args.seat (seat_at at_.self.state c.args.seat) c.in-Some.step due_));
       room = next.1;
-      spent = spends_on old at_.self c.step.new.self c.args.seat at_.invariant.spent c.step.ensures.spent;
+      spent = spends_on old at_.self c.step_of_seat.new.self c.args.seat at_.invariant.spent c.step_of_seat.ensures.spent;
     }
 
 pub unreachable-requires : goal.unreachable-requires
@@ -53,7 +55,7 @@ unreachable-requires c =
     let old = c.args.self.now in
     let at_ = c.loop-step in
     let none : due_step old.heap c.args.seat (seat_at at_.self.state c.args.seat) ≡ None =
-    ap (λ h. due_step h c.args.seat (seat_at at_.self.state c.args.seat)) (sym at_.invariant.heap) ∙ none_due _ (λ step is. c.in_default.not-Some step (c.due.ensures ∙ is)) in
+    ap (λ h. due_step h c.args.seat (seat_at at_.self.state c.args.seat)) (sym at_.invariant.heap) ∙ none_due _ (λ step is. c.in_default.not-Some step (c.due_of_seat.ensures ∙ is)) in
     call_replies old.heap old.state at_.self c.args.seat c.args.command.now at_.invariant.playing none (ap last_reply (sym c.log.ensures) ∙ sym c.last_reply.ensures ∙ c.in-None.is)
 
 pub returns-clause-steps : goal.returns-clause-steps
@@ -61,7 +63,7 @@ returns-clause-steps c =
     let old = c.args.self.now in
     let at_ = c.loop-step in
     let none : due_step old.heap c.args.seat (seat_at at_.self.state c.args.seat) ≡ None =
-    ap (λ h. due_step h c.args.seat (seat_at at_.self.state c.args.seat)) (sym at_.invariant.heap) ∙ none_due _ (λ step is. c.in_default.not-Some step (c.due.ensures ∙ is)) in
+    ap (λ h. due_step h c.args.seat (seat_at at_.self.state c.args.seat)) (sym at_.invariant.heap) ∙ none_due _ (λ step is. c.in_default.not-Some step (c.due_of_seat.ensures ∙ is)) in
     (call_over old.heap old.state at_.self c.args.seat c.args.command.now c.in-Some-last_reply.reply at_.invariant.playing none
     (ap last_reply (sym c.log.ensures) ∙ sym c.last_reply.ensures ∙ c.in-Some-last_reply.is)).0
 
@@ -70,6 +72,15 @@ returns-clause-answer c =
     let old = c.args.self.now in
     let at_ = c.loop-step in
     let none : due_step old.heap c.args.seat (seat_at at_.self.state c.args.seat) ≡ None =
-    ap (λ h. due_step h c.args.seat (seat_at at_.self.state c.args.seat)) (sym at_.invariant.heap) ∙ none_due _ (λ step is. c.in_default.not-Some step (c.due.ensures ∙ is)) in
+    ap (λ h. due_step h c.args.seat (seat_at at_.self.state c.args.seat)) (sym at_.invariant.heap) ∙ none_due _ (λ step is. c.in_default.not-Some step (c.due_of_seat.ensures ∙ is)) in
     (call_over old.heap old.state at_.self c.args.seat c.args.command.now c.in-Some-last_reply.reply at_.invariant.playing none
     (ap last_reply (sym c.log.ensures) ∙ sym c.last_reply.ensures ∙ c.in-Some-last_reply.is)).1
+
+pub returns-clause-refused : goal.returns-clause-refused
+returns-clause-refused c =
+    let old = c.args.self.now in
+    let at_ = c.loop-step in
+    let none : due_step old.heap c.args.seat (seat_at at_.self.state c.args.seat) ≡ None =
+    ap (λ h. due_step h c.args.seat (seat_at at_.self.state c.args.seat)) (sym at_.invariant.heap) ∙ none_due _ (λ step is. c.in_default.not-Some step (c.due_of_seat.ensures ∙ is)) in
+    (call_over old.heap old.state at_.self c.args.seat c.args.command.now c.in-Some-last_reply.reply at_.invariant.playing none
+    (ap last_reply (sym c.log.ensures) ∙ sym c.last_reply.ensures ∙ c.in-Some-last_reply.is)).2

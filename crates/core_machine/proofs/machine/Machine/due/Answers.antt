@@ -1,7 +1,0 @@
-use Rattle.core_machine.proofs.Parties.{fits_of}
-use Rattle.core_machine.proofs.machine.Machine.due.Goals as goal
-
-pub due-requires-clause-fits : goal.due-requires-clause-fits
-due-requires-clause-fits c =
-    let found = rw c.deref.ensures.value at c.in_ok-seat.ensures.lookup in
-    fits_of c.self.inside.heap c.self.inside.words.items c.self.inside.seats.items c.self.inside.log.items c.args.party c.in_ok-seat.seat.now found.3.0 found.1 c.self.invariant

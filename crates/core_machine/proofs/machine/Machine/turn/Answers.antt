@@ -1,0 +1,41 @@
+use Rattle.std.proofs.Common.{arith, ◌≡◌, ◌∙◌, ap, subst, set}
+use Rattle.core_machine.specs.Layout.{index_of, put}
+use Rattle.core_machine.specs.Operation.{address_of}
+use Rattle.core_machine.specs.Machine.{after, Turns}
+use Rattle.core_machine.specs.Value.{MachineValue}
+use Rattle.core_machine.proofs.Addresses.{at_read, put_write}
+use Rattle.core_machine.proofs.Parties.{state_of}
+use Rattle.core_machine.proofs.Turning.{turn_at_value, turn_state, turn_machine}
+use Rattle.core_machine.proofs.machine.Machine.turn.Goals as goal
+
+pub invariant_of-self : goal.invariant_of-self
+invariant_of-self c =
+    let m = c.self.inside in
+    let due = turn_at_value _ c.args.self.now c.args.step.now c.self.view_is c.requires.due in
+    let place : c.index-index.result ≡ index_of m.heap (address_of c.args.step.now) = c.index-index.ensures.index ∙ ap (index_of m.heap) c.address.ensures in
+    let found = at_read m.heap m.words.items (address_of c.args.step.now) c.index-index.result c.index-found.result.now place
+    (omega (arith, c.index-index.ensures.within, c.self.invariant.table)) c.index-found.ensures in
+    let now = put_write m.heap m.words.items (address_of c.args.step.now) c.index-index.result c.written.result place
+    ∙ ap (put m.heap m.words.items (address_of c.args.step.now)) c.written.ensures in
+    let state = turn_state m.heap m.words.items m.seats.items m.collector.collector c.args.step.now c.index-found.result.now _ c.learn-answer.new.self.collector due found now c.learn-answer.ensures.collector in
+    turn_machine m.heap m.words.items m.seats.items m.collector.collector _ c.learn-answer.new.self.collector c.learn-answer.ensures.may state c.self.invariant
+
+pub returns-clause-state : goal.returns-clause-state
+returns-clause-state c =
+    let m = c.self.inside in
+    let due = turn_at_value _ c.args.self.now c.args.step.now c.self.view_is c.requires.due in
+    let place : c.index-index.result ≡ index_of m.heap (address_of c.args.step.now) = c.index-index.ensures.index ∙ ap (index_of m.heap) c.address.ensures in
+    let found = at_read m.heap m.words.items (address_of c.args.step.now) c.index-index.result c.index-found.result.now place
+    (omega (arith, c.index-index.ensures.within, c.self.invariant.table)) c.index-found.ensures in
+    let now = put_write m.heap m.words.items (address_of c.args.step.now) c.index-index.result c.written.result place
+    ∙ ap (put m.heap m.words.items (address_of c.args.step.now)) c.written.ensures in
+    subst (λ (v : MachineValue). state_of (set m.words.items c.index-index.result c.written.result) m.seats.items c.learn-answer.new.self.collector ≡ after v.heap v.state Turns)
+    c.self.view_is
+    (turn_state m.heap m.words.items m.seats.items m.collector.collector c.args.step.now c.index-found.result.now _ c.learn-answer.new.self.collector due found now c.learn-answer.ensures.collector)
+
+pub returns-clause-found : goal.returns-clause-found
+returns-clause-found c =
+    let m = c.self.inside in
+    let place : c.index-index.result ≡ index_of m.heap (address_of c.args.step.now) = c.index-index.ensures.index ∙ ap (index_of m.heap) c.address.ensures in
+    rw (← c.self.view_is) (at_read m.heap m.words.items (address_of c.args.step.now) c.index-index.result c.index-found.result.now place
+    (omega (arith, c.index-index.ensures.within, c.self.invariant.table)) c.index-found.ensures)

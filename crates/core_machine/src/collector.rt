@@ -1,0 +1,154 @@
+ghost use Rattle.std.specs.Prelude.{◌≡◌, ◌+◌, ◌-◌, ◌<◌, ◌≤◌, ◌^◌, length, OnOk, OnErr};
+ghost use Rattle.core_machine.specs.declared.step.Step.TheVariants.{Turning as Turns};
+ghost use Rattle.core_machine.specs.Collector.{opening_collector, next_turn, collector_after, turn_answer, MayTurn, has_answered as has_answered_of, advance_turn, looked_on};
+ghost use Rattle.core_machine.specs.Fits.{CollectorFits};
+
+use crate::stage::Stage;
+use crate::step::TurningStep;
+use heap_model::{Entry, Heap, Memory, Turn};
+use heap_words::LEFT;
+use std::alloc::Global;
+use std::marker::Model;
+
+/// What is kept of the collector: the phase, how far its turns are in it, and its entries.
+#[derive(Drop)]
+pub struct CollectorParty {
+    pub(crate) phase: u64,
+    pub(crate) stage: Stage,
+    pub(crate) looked: u8,
+    pub(crate) log: Vec<Entry>,
+}
+
+impl Model for CollectorParty {
+    ghost use Rattle.std.specs.Prelude.{◌-◌, vec_capacity, vec_len};
+    ghost use Rattle.core_machine.specs.Value.{CollectorWithRoom};
+
+    ghost Value = { CollectorWithRoom };
+
+    ghost view = { λ party. record {
+      collector = record {
+        phase = party.phase;
+        stage = party.stage;
+        looked = party.looked;
+        log = party.log.items;
+      };
+      spare = vec_capacity party.log - vec_len party.log;
+    } };
+}
+
+impl CollectorParty {
+    /// The collector at the opening.
+    pub fn opening(alloc: Global) -> CollectorParty
+        ensures { result.collector ≡ opening_collector }
+    {
+        CollectorParty {
+            phase: 0,
+            stage: Stage::Looking,
+            looked: 0,
+            log: Vec::new(alloc),
+        }
+    }
+
+    /// The collector's entries, in their order.
+    pub fn log(&self) -> &[Entry]
+        ensures { result.now ≡ self.now.collector.log }
+    {
+        self.log.as_slice()
+    }
+
+    /// For how many more entries there is room.
+    pub fn spare(&self) -> usize
+        ensures { result ≡ self.now.spare }
+    {
+        self.log.capacity() - self.log.len()
+    }
+
+    /// Makes room for at least `n` more entries.
+    pub fn room(&mut self, n: usize) -> Result<(), Memory>
+        ensures same { self.new.collector ≡ self.old.collector }
+        ensures more { self.old.spare ≤ self.new.spare }
+        ensures room { OnOk result (n ≤ self.new.spare) }
+        ensures memory { OnErr result (self.new ≡ self.old) }
+    {
+        self.log.reserve(n).map_err(|_| Memory)
+    }
+
+    /// The step of its next turn.
+    pub fn due(&self, heap: &Heap) -> TurningStep
+        requires { self.now.collector.phase < 2 ^ 64 - 1 }
+        ensures { Turns result ≡ (next_turn heap.now self.now.collector).step }
+    {
+        match self.stage {
+            Stage::Looking => TurningStep::LookLoad { seat: self.looked },
+            Stage::Advancing => TurningStep::AdvanceStore {
+                phase: self.phase + 1,
+            },
+        }
+    }
+
+    /// Whether the seat with this word has answered the phase, or has left.
+    fn has_answered(&self, word: u64) -> bool
+        ensures { result ≡ has_answered_of self.now.collector.phase word }
+    {
+        word == self.phase || word == LEFT
+    }
+
+    /// One more seat has answered.
+    fn look_on(&mut self, heap: &Heap)
+        requires { self.old.collector.looked < heap.now.seats }
+        ensures collector { self.new.collector ≡ looked_on heap.now self.old.collector }
+        ensures spare { self.new.spare ≡ self.old.spare }
+    {
+        let seats = heap.seats;
+        self.looked += 1;
+        if self.looked < seats {
+            return;
+        }
+        if self.phase % 7 == 3 {
+            self.looked = 0;
+        } else {
+            self.stage = Stage::Advancing;
+        }
+    }
+
+    /// The next phase has begun.
+    fn advance(&mut self)
+        requires may { self.old.collector.phase < 2 ^ 64 - 2 }
+        requires spare { 0 < self.old.spare }
+        ensures collector { self.new.collector ≡ collector_after (advance_turn self.old.collector) 0 }
+        ensures spare { self.old.spare ≤ self.new.spare + 1 }
+    {
+        self.phase += 1;
+        self.stage = Stage::Looking;
+        self.looked = 0;
+        match self.log.push(Entry::Advance(self.phase)) {
+            Ok(()) => (),
+            Err(_) => unreachable!(),
+        }
+    }
+
+    /// Learns the word that its turn found. Each phase has an entry, so there is always a number left for the next one.
+    pub fn learn(&mut self, heap: &Heap, found: u64) -> Turn
+        requires fits { CollectorFits heap.now self.old.collector }
+        requires spare { 1 < self.old.spare }
+        ensures may { MayTurn self.old.collector self.old.collector.stage }
+        ensures collector { self.new.collector ≡ collector_after (next_turn heap.now self.old.collector) found }
+        ensures answer { result ≡ turn_answer self.old.collector self.old.collector.stage found }
+        ensures spare { self.old.spare + length self.old.collector.log ≤ self.new.spare + length self.new.collector.log }
+    {
+        let _all = self.log.capacity();
+        let Stage::Looking = self.stage else {
+            self.advance();
+            return Turn::Stepped;
+        };
+        if !self.has_answered(found) {
+            return Turn::Waits {
+                seat: self.looked,
+                answered: found,
+                phase: self.phase,
+            };
+        }
+        self.look_on(heap);
+        Turn::Stepped
+    }
+}
