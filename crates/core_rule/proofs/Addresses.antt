@@ -8,7 +8,7 @@ use Rattle.core_machine.specs.Layout.{table_length, index_of, at, put}
 use Rattle.core_machine.proofs.Addresses.{at-put_same}
 
 -- a word with another index is as before
-at-put_apart : (heap : Heap) (words : List ℕ) (a b : Address) (n : ℕ) → index_of heap b ≢ index_of heap a → at heap (put heap words a n) b ≡ at heap words b
+pub at-put_apart : (heap : Heap) (words : List ℕ) (a b : Address) (n : ℕ) → index_of heap b ≢ index_of heap a → at heap (put heap words a n) b ≡ at heap words b
 unfolding at put
 at-put_apart heap words a b n apart = get_or-set_other words (index_of heap a) (index_of heap b) n 0 apart
 

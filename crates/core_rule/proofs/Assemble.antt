@@ -1,5 +1,5 @@
 -- A seat's step keeps the rule, where the heap, the seat and each other seat stand after it.
-use Rattle.std.proofs.Common.{◌≡◌, ◌≢◌, ℕ, ◌<◌, List, [], ◌++◌, length, filter, slice_set, slice_index_or, refl, sym, ◌∙◌, subst, inl, inr}
+use Rattle.std.proofs.Common.{◌≡◌, ◌≢◌, ℕ, ◌<◌, List, [], ◌++◌, length, filter, slice_set, slice_index_or, refl, sym, Bool, true, false, ◌∙◌, subst, inl, inr}
 use Rattle.std.proofs.lemmas.List.{get_or-set_same, get_or-set_other, append-nil, length-set}
 use Rattle.std.proofs.lemmas.List.Elements.{filter-append}
 use Rattle.std.proofs.lemmas.Bool.Decides.{eqb_tells}
@@ -7,6 +7,12 @@ use Rattle.heap_model.specs.declared.heap.Heap.{Heap}
 use Rattle.heap_model.specs.declared.entry.Entry.{Entry}
 use Rattle.core_machine.specs.Machine.{State, seat_at}
 use Rattle.core_machine.specs.Seat.{Seat, nobody}
+use Rattle.heap_model.specs.Cycles.{graph_of}
+use Rattle.heap_model.specs.Objects.{party}
+use Rattle.core_machine.specs.declared.place.Place.TheVariants as places
+use Rattle.core_machine.specs.declared.place.Making.{Making}
+use Rattle.core_machine.specs.Fits.{Fits}
+use Rattle.core_machine.specs.Value.{IsMachine}
 use Rattle.core_rule.specs.Book.{Book}
 use Rattle.core_rule.specs.Counts.{is_collectors}
 use Rattle.core_rule.specs.Rule.{Rule, HeapStands, SeatStands}
@@ -38,18 +44,40 @@ pub stands_for : (heap : Heap) (state : State) (book : Book) (begun : ℕ → �
     → StandsFor heap state book.history added
 stands_for heap state book begun added keeps = record { book = keeps.now; grown = keeps.grown; rule = keeps.rule }
 
+-- a seat that makes an object hasn't left
+pub present_at : (heap : Heap) (state : State) (book : Book) (q : ℕ) (making : Making) → Rule heap state book → q < heap.seats
+    → (seat_at state q).place ≡ places.Making making → (party (graph_of heap book.history) q).left ≡ false
+present_at heap state book q making rule here placed =
+    (rule.seats_stand q here).counts.leaves ∙ stays (seat_at state q).left refl
+  where
+    busy : places.Making making ≡ places.Idle → ⊥
+    busy e = cc
+
+    stays : (b : Bool) → (seat_at state q).left ≡ b → (seat_at state q).left ≡ false
+    stays true gone = let idle : (seat_at state q).place ≡ places.Idle = ((rule.seats_stand q here).fits.gone gone).idle in absurd (busy (sym placed ∙ idle))
+    stays false still = still
+
+-- the seat's own data fit together after its step
+pub fit_after : (heap : Heap) (state : State) (book : Book) (q : ℕ) {words : List ℕ} {seat : Seat} → Rule heap state book → q < heap.seats
+    → IsMachine heap (record state { words = words; seats = slice_set state.seats q seat }) → Fits heap seat
+fit_after heap state book q {words} {seat} rule here machine =
+    let below : q < length state.seats = rw rule.all_seats here in
+    subst (Fits heap) (get_or-set_same state.seats q seat nobody below) (machine.fit q (rw (length-set state.seats q seat) below))
+
 -- the rule after a seat's step
 pub seat_steps : (heap : Heap) (state : State) (book : Book) (q : ℕ) (words : List ℕ) (seat : Seat) (now : Book) (added : List Entry)
-    → Rule heap state book → q < heap.seats → now.history ≡ book.history ++ added → filter is_collectors added ≡ []
+    → Rule heap state book → q < heap.seats → IsMachine heap (record state { words = words; seats = slice_set state.seats q seat })
+    → now.history ≡ book.history ++ added → filter is_collectors added ≡ []
     → HeapStands heap words now → SeatStands heap words now q seat
     → ((r : ℕ) → r < heap.seats → r ≢ q → SeatStands heap state.words book r (seat_at state r) → SeatStands heap words now r (seat_at state r))
     → Keeps heap (record state { words = words; seats = slice_set state.seats q seat }) book now.begun added
-seat_steps heap state book q words seat now added rule here grown none heap_after self others = record {
+seat_steps heap state book q words seat now added rule here machine grown none heap_after self others = record {
   now = now;
   grown = grown;
   calls = refl;
   rule = record {
     limits = rule.limits;
+    machine = machine;
     all_seats = length-set state.seats q seat ∙ rule.all_seats;
     heap_stands = heap_after;
     seats_stand = λ r below. each_seat (λ n s. SeatStands heap words now n s) state.seats q seat (subst (λ n. q < n) (sym rule.all_seats) here) self r

@@ -3,7 +3,6 @@ use Rattle.std.proofs.Common.{◌≡◌, ◌≢◌, ℕ, ◌-◌, ◌*◌, ◌<�
 use Rattle.std.proofs.lemmas.List.{append-nil}
 use Rattle.heap_model.specs.declared.heap.Heap.{Heap}
 use Rattle.heap_model.specs.Cycles.{graph_of}
-use Rattle.core_machine.proofs.FittingMoves.{fits_born, fits_entries}
 use Rattle.core_machine.proofs.Owned.{group_within}
 use Rattle.core_machine.specs.declared.address.Address.TheVariants.{Control}
 use Rattle.core_machine.specs.declared.place.Place.TheVariants as places
@@ -19,7 +18,14 @@ use Rattle.core_machine.specs.Seat.{Seat}
 use Rattle.core_rule.specs.Book.{Book}
 use Rattle.core_rule.specs.Owners.{Owner, Bears, Holds, Keeps as KeepsPart, handed}
 use Rattle.core_rule.specs.Rule.{Rule}
-use Rattle.core_rule.proofs.Assemble.{Keeps, seat_steps}
+use Rattle.core_rule.proofs.SeatLists.{making_list, list_of_making, list_owners, whole_list, list_stays, same_names}
+use Rattle.core_rule.proofs.WayFrames.{way_owners}
+use Rattle.core_rule.proofs.Resting.{rests_put, rests_more, quiet_more, quiet_same}
+use Rattle.core_rule.specs.Objects.{cells_at}
+use Rattle.core_machine.specs.Value.{IsMachine}
+use Rattle.core_machine.specs.Commands.{target_of}
+use Rattle.core_rule.proofs.InFlight.{awaits_none, is_busy}
+use Rattle.core_rule.proofs.Assemble.{fit_after, present_at, Keeps, seat_steps}
 use Rattle.core_rule.proofs.ControlSteps.{birth_bits_after}
 use Rattle.core_rule.proofs.CountMoves.{birth_used, birth_frees}
 use Rattle.core_rule.proofs.GatherMoves.{gathers_same}
@@ -41,9 +47,10 @@ last_within heap seat fits some = group_within heap seat.hand (length seat.hand 
 pub birth_keeps : (heap : Heap) (state : State) (book : Book) (q : ℕ) → Rule heap state book → q < heap.seats
     → (seat_at state q).place ≡ places.Making Bearing
     → is_last_birth (seat_at state q) ≡ false
+    → IsMachine heap (stepped heap state q (birth_move (seat_at state q)))
     → Keeps heap (stepped heap state q (birth_move (seat_at state q))) book book.begun
     ((birth_move (seat_at state q)).shows state.words (found_by heap state (birth_move (seat_at state q)).step))
-birth_keeps heap state book q rule here place more =
+birth_keeps heap state book q rule here place more machine =
     let seat : Seat = seat_at state q in
     let stands = rule.seats_stand q here in
     let heap_stands = rule.heap_stands in
@@ -61,7 +68,7 @@ birth_keeps heap state book q rule here place more =
     let kept = part_kept book.owner q part (Bears q) (bears_keeps_none q) held in
     let frees = birth_frees heap book.owner book.history q part once inside heap_stands.used held in
     seat_steps heap state book q (put heap state.words (Control g) word) (seat_after (birth_move seat) found) (record book { owner = owner }) []
-    rule here (sym (append-nil book.history)) refl
+    rule here machine (sym (append-nil book.history)) refl
     record {
       table = length-put heap state.words (Control g) word ∙ heap_stands.table;
       control_words = birth_bits_after heap state.words book.owner g heap_stands.table below heap_stands.control_words seat.hand q
@@ -71,13 +78,18 @@ birth_keeps heap state book q rule here place more =
           (objects_control heap state.words (graph_of heap book.history) book.made book.owner book.fragments g word below heap_stands.objects);
       used = birth_used heap book.owner book.history q part once inside heap_stands.used held;
       legal = heap_stands.legal;
+      rests = rests_put heap state.words book.history (Control g) word (λ e. omega (arith, e)) heap_stands.rests;
     }
     record {
-      fits = fits_entries heap (born seat) [] (fits_born heap seat stands.fits at_place.0 at_place.2 at_place.3 place more);
+      fits = fit_after heap state book q rule here machine;
       holding = holding_bears book.owner q seat.reserve seat.hand seat.body stands.holding g some;
       stored = stored_control heap state.words q seat g word below stands.stored;
-      registers = registers_owners book.owner owner kept book.made book.fragments (graph_of heap book.history) q seat.registers stands.registers;
-      counts = counts_same (graph_of heap book.history) book.history q seat (seat_after (birth_move seat) found) refl refl
+      registers = registers_owners book.owner owner kept book.made book.fragments (graph_of heap book.history) q seat.registers seat.place (target_of seat.command) stands.registers;
+      list = list_of_making (graph_of heap book.history) book.history book.made owner book.fragments q (seat_after (birth_move seat) found) Bearing place
+          (append-nil seat.mine ∙ making_list (graph_of heap book.history) book.history book.made book.owner book.fragments q seat Bearing place stands.list);
+      way = rw place tt;
+      quiet = quiet_same book.history q seat (seat_after (birth_move seat) found) refl stands.quiet;
+      counts = counts_same (graph_of heap book.history) book.history q seat (seat_after (birth_move seat) found) refl refl refl
           (rw (whole_full (part_out g seat.hand) seat.hand seat.body some) refl) stands.counts;
       began = stands.began;
       gathers = gathers_same heap book.owner owner q (drop (book.begun q) book.history) seat.cursor seat.tried seat.given frees stands.gathers;
@@ -86,7 +98,10 @@ birth_keeps heap state book q rule here place more =
       fits = other.fits;
       holding = holding_born book.owner r (seat_at state r).reserve (seat_at state r).hand (seat_at state r).body other.holding part q apart held;
       stored = stored_control heap state.words r (seat_at state r) g word below other.stored;
-      registers = registers_owners book.owner owner kept book.made book.fragments (graph_of heap book.history) r (seat_at state r).registers other.registers;
+      registers = registers_owners book.owner owner kept book.made book.fragments (graph_of heap book.history) r (seat_at state r).registers (seat_at state r).place (target_of (seat_at state r).command) other.registers;
+      list = list_owners (graph_of heap book.history) book.owner owner kept book.made book.fragments r (seat_at state r) book.history book.history refl other.list;
+      way = way_owners (cells_at (graph_of heap book.history) book.made) book.owner owner kept book.made book.fragments (seat_at state r) other.way;
+      quiet = other.quiet;
       counts = other.counts;
       began = other.began;
       gathers = gathers_same heap book.owner owner r (drop (book.begun r) book.history) (seat_at state r).cursor (seat_at state r).tried (seat_at state r).given frees other.gathers;

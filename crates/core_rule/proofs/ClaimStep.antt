@@ -7,7 +7,6 @@ use Rattle.heap_model.specs.declared.heap.Heap.{Heap}
 use Rattle.heap_model.specs.declared.entry.Entry.{Entry}
 use Rattle.heap_model.specs.Cycles.{graph_of}
 use Rattle.heap_model.specs.State.{State as Graph}
-use Rattle.core_machine.proofs.FittingMoves.{fits_claimed, fits_entries}
 use Rattle.core_machine.specs.declared.address.Address.TheVariants.{Control}
 use Rattle.core_machine.specs.declared.place.Place.TheVariants as places
 use Rattle.core_machine.specs.declared.place.Making.TheVariants.{Gathering}
@@ -26,7 +25,13 @@ use Rattle.core_rule.specs.Gathers.{GathersRight}
 use Rattle.core_rule.specs.Holding.{whole_hand}
 use Rattle.core_rule.specs.Owners.{Owner, Free, Holds, Keeps as KeepsPart, free_bit, handed}
 use Rattle.core_rule.specs.Rule.{Rule}
-use Rattle.core_rule.proofs.Assemble.{Keeps, seat_steps}
+use Rattle.core_rule.proofs.SeatLists.{making_list, list_of_making, list_owners}
+use Rattle.core_rule.proofs.WayFrames.{way_owners}
+use Rattle.core_rule.proofs.Resting.{rests_put}
+use Rattle.core_rule.specs.Objects.{cells_at}
+use Rattle.core_machine.specs.Value.{IsMachine}
+use Rattle.core_machine.specs.Commands.{target_of}
+use Rattle.core_rule.proofs.Assemble.{fit_after, present_at, Keeps, seat_steps}
 use Rattle.core_rule.proofs.ClaimTold.{told}
 use Rattle.core_rule.proofs.ClearLemmas.{clear_here, clear_group, clear_once}
 use Rattle.core_rule.proofs.ControlLemmas.{found_taken}
@@ -39,7 +44,7 @@ use Rattle.core_rule.proofs.StoredFrames.{stored_control}
 use Rattle.core_rule.proofs.OwnerLemmas.{free_by_bit}
 use Rattle.core_machine.proofs.Addresses.{length-put}
 use Rattle.core_rule.proofs.Bodies.{whole_empty}
-use Rattle.core_rule.proofs.InFlight.{is_busy}
+use Rattle.core_rule.proofs.InFlight.{awaits_none, is_busy}
 
 next_within : (heap : Heap) (seat : Seat) → seat.cursor < heap.groups → next_group heap seat < heap.groups
 next_within heap seat within = mod-lt (seat.cursor + seat.tried) (omega (arith, within))
@@ -76,9 +81,10 @@ none_below u stored was same none below = omega (arith, none, same, below)
 -- a claim keeps the rule
 pub claim_keeps : (heap : Heap) (state : State) (book : Book) (q : ℕ) → Rule heap state book → q < heap.seats
     → (seat_at state q).place ≡ places.Making Gathering
+    → IsMachine heap (stepped heap state q (claim_move heap q (seat_at state q)))
     → Keeps heap (stepped heap state q (claim_move heap q (seat_at state q))) book book.begun
     ((claim_move heap q (seat_at state q)).shows state.words (found_by heap state (claim_move heap q (seat_at state q)).step))
-claim_keeps heap state book q rule here place =
+claim_keeps heap state book q rule here place machine =
     let seat : Seat = seat_at state q in
     let stands = rule.seats_stand q here in
     let heap_stands = rule.heap_stands in
@@ -100,10 +106,12 @@ claim_keeps heap state book q rule here place =
     let free = clear_is_free heap state.words book.owner g heap_stands.table below heap_stands.control_words in
     let kept = handed_kept (Holds q) book.owner fs (holds_keeps_none q) (λ f i k there. free_kept book.owner f i k (free f there)) in
     let same = same_goes_on heap mid in
-    let tells = told heap state book q fs rule here (is_busy Gathering seat.place place) gathers.none_given once inside free
+    let present = present_at heap state book q Gathering rule here place in
+    let list = making_list g_of book.history book.made book.owner book.fragments q seat Gathering place stands.list in
+    let tells = told heap state book q fs rule here (is_busy Gathering seat.place place) present gathers.none_given once inside free
     (none_free heap state.words book.owner g heap_stands.table below heap_stands.control_words q book.history heap_stands.used) in
     seat_steps heap state book q words next (record book { history = history; owner = owner }) added
-    rule here refl tells.log
+    rule here machine refl tells.log
     record {
       table = length-put heap state.words (Control g) word ∙ heap_stands.table;
       control_words = claim_bits heap state.words book.owner g heap_stands.table below heap_stands.control_words q;
@@ -112,15 +120,19 @@ claim_keeps heap state book q rule here place =
           (objects_control heap state.words g_of book.made book.owner book.fragments g word below heap_stands.objects));
       used = tells.used;
       legal = tells.legal;
+      rests = rests_put heap state.words history (Control g) word (λ e. omega (arith, e)) tells.rests;
     }
     record {
-      fits = fits_entries heap (claimed heap seat found) added (fits_claimed heap seat found stands.fits gathers);
+      fits = fit_after heap state book q rule here machine;
       holding = holding_goes_on heap owner q mid gathers.no_body
           (holding_claims book.owner q seat.reserve seat.hand seat.body stands.holding fs once free gathers.no_body);
       stored = λ u less. absurd (none_below u next.stored seat.stored same.stored gathers.none_stored less);
-      registers = rw (tells.graph, same.registers) (registers_owners book.owner owner kept book.made book.fragments g_of q seat.registers stands.registers);
-      counts = rw tells.graph (tells.counts next same.made (ap (λ m. m ++ added) same.mine)
+      registers = rw (tells.graph, same.registers) (λ r fresh. registers_owners book.owner owner kept book.made book.fragments g_of q seat.registers seat.place (target_of seat.command) stands.registers r (awaits_none Gathering seat.place (target_of seat.command) r place));
+      counts = rw tells.graph (tells.counts next same.made same.sets same.left
           (length_goes_on heap mid gathers.no_body ∙ more_in_hand seat.reserve seat.hand seat.body fs gathers.no_body));
+      list = list_of_making (graph_of heap history) history book.made owner book.fragments q next same.making same.placed (ap (λ m. m ++ added) same.mine ∙ tells.own seat.mine list);
+      way = rw same.placed tt;
+      quiet = tells.quiet q stands.quiet next same.answered;
       began = tells.began next.place;
       gathers = gathers_goes_on heap owner q (drop (book.begun q) history) mid gathers.none_given
           (subst (λ n. GathersRight heap owner q (drop (book.begun q) history) seat.cursor (seat.tried + 1) n) (sym gathers.none_given) tells.gathers);
@@ -129,7 +141,10 @@ claim_keeps heap state book q rule here place =
       fits = other.fits;
       holding = holding_claimed book.owner r (seat_at state r).reserve (seat_at state r).hand (seat_at state r).body other.holding fs once free q apart;
       stored = stored_control heap state.words r (seat_at state r) g word below other.stored;
-      registers = rw tells.graph (registers_owners book.owner owner kept book.made book.fragments g_of r (seat_at state r).registers other.registers);
+      registers = rw tells.graph (registers_owners book.owner owner kept book.made book.fragments g_of r (seat_at state r).registers (seat_at state r).place (target_of (seat_at state r).command) other.registers);
+      list = rw tells.graph (list_owners g_of book.owner owner kept book.made book.fragments r (seat_at state r) book.history history (tells.others_own r apart) other.list);
+      way = rw tells.graph (way_owners (cells_at g_of book.made) book.owner owner kept book.made book.fragments (seat_at state r) other.way);
+      quiet = tells.quiet r other.quiet (seat_at state r) refl;
       counts = rw tells.graph (tells.other_counts r under apart);
       began = tells.other_began r under apart;
       gathers = tells.other_gathers r under apart;

@@ -15,15 +15,19 @@ use Rattle.core_machine.specs.Moves.{takes_some}
 use Rattle.core_machine.specs.Seat.{Seat}
 use Rattle.core_rule.specs.Book.{Book}
 use Rattle.core_rule.specs.Counts.{OwnCounts, AreUsed, is_collectors}
-use Rattle.core_rule.specs.Gathers.{GathersRight, Began}
+use Rattle.core_rule.specs.Gathers.{GathersRight, Began, IsAnswered}
+use Rattle.core_rule.specs.Phases.{Rests, IsQuiet}
+use Rattle.heap_model.specs.Effects.{is_of}
+use Rattle.heap_model.specs.Objects.{party}
 use Rattle.core_rule.specs.Holding.{whole_hand}
 use Rattle.core_rule.specs.Owners.{Owner, Free, Holds, free_bit, handed}
 use Rattle.core_rule.specs.Rule.{Rule}
 use Rattle.core_rule.proofs.CountMoves.{claim_used, claim_none, claim_room}
 use Rattle.core_rule.proofs.GatherSteps.{no_more, own_claims, own_claims_none, other_claims, other_claims_none}
-use Rattle.core_rule.proofs.Others.{counts_stay, began_stays, of_other}
+use Rattle.core_rule.proofs.Others.{counts_stay, began_stays, of_other, own-other}
 use Rattle.core_rule.proofs.InFlight.{began_past}
-use Rattle.core_rule.proofs.OwnEntries.{counts_own, counts_same}
+use Rattle.core_rule.proofs.OwnEntries.{counts_own, counts_same, own_grows}
+use Rattle.core_rule.proofs.Resting.{rests_more, quiet_more, quiet_same}
 use Rattle.std.proofs.lemmas.Bool.{eq-eqb}
 use Rattle.core_rule.proofs.SpaceEntries.{graph_takes, legal_takes}
 
@@ -33,7 +37,11 @@ pub record ClaimTold (heap : Heap) (state : State) (book : Book) (q : ℕ) (owne
   pub graph : graph_of heap history ≡ graph_of heap book.history
   pub used : AreUsed heap owner history
   pub legal : IsLegal heap false history
-  pub counts : (now : Seat) → now.made ≡ (seat_at state q).made → now.mine ≡ (seat_at state q).mine ++ added
+  pub rests : Rests heap state.words history
+  pub quiet : (r : ℕ) → IsQuiet book.history r (seat_at state r) → (now : Seat) → now.answered ≡ (seat_at state r).answered → IsQuiet history r now
+  pub own : (mine : List Entry) → mine ≡ filter (is_of q) book.history → mine ++ added ≡ filter (is_of q) history
+  pub others_own : (r : ℕ) → r ≢ q → filter (is_of r) history ≡ filter (is_of r) book.history
+  pub counts : (now : Seat) → now.made ≡ (seat_at state q).made → now.sets ≡ (seat_at state q).sets → now.left ≡ (seat_at state q).left
       → length now.reserve + length (whole_hand now.hand now.body) ≡ length (seat_at state q).reserve + length (whole_hand (seat_at state q).hand (seat_at state q).body) + count
       → OwnCounts (graph_of heap book.history) history q now
   pub began : (now : Place) → Began history q (book.begun q) now
@@ -44,7 +52,7 @@ pub record ClaimTold (heap : Heap) (state : State) (book : Book) (q : ℕ) (owne
       → GathersRight heap owner r (drop (book.begun r) history) (seat_at state r).cursor (seat_at state r).tried (seat_at state r).given
 
 module _ (heap : Heap) (state : State) (book : Book) (q : ℕ) (fs : List ℕ) (rule : Rule heap state book) (here : q < heap.seats)
-    (busy : (seat_at state q).place ≢ places.Idle) (none_given : (seat_at state q).given ≡ 0)
+    (busy : ¬ IsAnswered (seat_at state q).place) (present : (party (graph_of heap book.history) q).left ≡ false) (none_given : (seat_at state q).given ≡ 0)
     (once : (f : ℕ) → tally f fs ≤ 1) (below : (f : ℕ) → 1 ≤ tally f fs → f < 16 * heap.groups) (free : (f : ℕ) → 1 ≤ tally f fs → book.owner f ≡ Free)
     (none : (f : ℕ) → f / 16 ≡ ((seat_at state q).cursor + (seat_at state q).tried) % heap.groups → free_bit (handed (Holds q) book.owner fs f) ≡ 0) where
   nothing_given : GathersRight heap book.owner q (drop (book.begun q) book.history) (seat_at state q).cursor (seat_at state q).tried 0
@@ -60,9 +68,13 @@ module _ (heap : Heap) (state : State) (book : Book) (q : ℕ) (fs : List ℕ) (
         log = refl;
         graph = graph_takes heap book.history q (length fs);
         used = claim_used heap book.owner book.history q fs once below used free;
-        legal = legal_takes heap book.history q (length fs) rule.heap_stands.legal stands.counts.present some (claim_room heap book.owner book.history q fs once below used free);
-        counts = λ now same mine more. counts_own (graph_of heap book.history) (graph_of heap book.history) book.history q (seat_at state q) now stands.counts entry (eq-eqb q q refl) mine
-            (same ∙ stands.counts.numbered) stands.counts.present (omega (arith, more));
+        legal = legal_takes heap book.history q (length fs) rule.heap_stands.legal present some (claim_room heap book.owner book.history q fs once below used free);
+        rests = rests_more heap state.words book.history entry refl rule.heap_stands.rests;
+        quiet = λ r quiet now same. quiet_more book.history r (seat_at state r) now same quiet entry refl;
+        own = λ mine was. own_grows q book.history mine entry (eq-eqb q q refl) was;
+        others_own = λ r apart. own-other r book.history entry (of_other q r apart);
+        counts = λ now same sets left more. counts_own (graph_of heap book.history) (graph_of heap book.history) book.history q (seat_at state q) now stands.counts entry (eq-eqb q q refl)
+            (same ∙ stands.counts.numbered) (sets ∙ stands.counts.stamped) (stands.counts.leaves ∙ sym left) (omega (arith, more));
         began = λ now. began_past book.history entry q (book.begun q) (seat_at state q).place now refl (λ still. busy) stands.began;
         gathers = own_claims heap book.owner book.history q fs once below used (book.begun q) stands.began.earlier (seat_at state q).cursor (seat_at state q).tried 0 free none nothing_given;
         other_counts = λ r under apart. counts_stay (graph_of heap book.history) (graph_of heap book.history) book.history entry r (seat_at state r) (of_other q r apart) refl (rule.seats_stand r under).counts;
@@ -81,7 +93,11 @@ module _ (heap : Heap) (state : State) (book : Book) (q : ℕ) (fs : List ℕ) (
         graph = refl;
         used = claim_none heap book.owner book.history q fs once below used free nothing;
         legal = rule.heap_stands.legal;
-        counts = λ now same mine more. counts_same (graph_of heap book.history) book.history q (seat_at state q) now mine same (no_more _ _ (length fs) more nothing) stands.counts;
+        rests = rule.heap_stands.rests;
+        quiet = λ r quiet now same. quiet_same book.history r (seat_at state r) now same quiet;
+        own = λ mine was. append-nil mine ∙ was;
+        others_own = λ r apart. refl;
+        counts = λ now same sets left more. counts_same (graph_of heap book.history) book.history q (seat_at state q) now same sets left (no_more _ _ (length fs) more nothing) stands.counts;
         began = λ now. record { earlier = stands.began.earlier; unanswered = λ active. stands.began.unanswered busy };
         gathers = own_claims_none heap book.owner book.history q fs once below used (book.begun q) stands.began.earlier (seat_at state q).cursor (seat_at state q).tried 0 free none nothing_given;
         other_counts = λ r under apart. (rule.seats_stand r under).counts;

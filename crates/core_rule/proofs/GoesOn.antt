@@ -5,10 +5,11 @@ use Rattle.std.proofs.lemmas.Bool.Decides.{leb_tells}
 use Rattle.std.proofs.lemmas.List.{length-append, take-append-drop}
 use Rattle.heap_model.specs.declared.heap.Heap.{Heap}
 use Rattle.core_machine.specs.declared.place.Place.TheVariants as places
-use Rattle.core_machine.specs.declared.place.Making.TheVariants.{Gathering}
+use Rattle.core_machine.specs.declared.place.Making.{Making}
+use Rattle.core_machine.specs.declared.place.Making.TheVariants.{Gathering, Storing}
 use Rattle.core_machine.specs.Fragments.{tally}
 use Rattle.heap_model.specs.declared.entry.Entry.{Entry}
-use Rattle.core_machine.specs.Making.{gathered, settled, refused, goes_on, last_claimed}
+use Rattle.core_machine.specs.Making.{gathered, settled, refused, goes_on, last_claimed, returning}
 use Rattle.core_machine.specs.Seat.{Seat, need}
 use Rattle.core_rule.specs.Owners.{Owner, bears_bit}
 use Rattle.core_rule.specs.Holding.{Holding, whole_hand}
@@ -75,12 +76,17 @@ pub record IsSameBut (old new : Seat) : Type 0 where
   pub stored : new.stored ≡ old.stored
   pub made : new.made ≡ old.made
   pub mine : new.mine ≡ old.mine
-  pub busy : new.place ≢ places.Idle
+  pub sets : new.sets ≡ old.sets
+  pub left : new.left ≡ old.left
+  pub answered : new.answered ≡ old.answered
+  pub command : new.command ≡ old.command
+  pub making : Making
+  pub placed : new.place ≡ places.Making making
 
 -- it is so on each way
 pub same_goes_on : (heap : Heap) (seat : Seat) → IsSameBut seat (goes_on heap seat)
 same_goes_on heap seat =
     goes_on_cases (λ s. IsSameBut seat s) heap seat
-    (λ enough. record { registers = refl; stored = refl; made = refl; mine = refl; busy = λ e. cc })
-    (λ few left. record { registers = refl; stored = refl; made = refl; mine = refl; busy = λ e. cc })
-    (λ few tried. record { registers = refl; stored = refl; made = refl; mine = refl; busy = λ e. cc })
+    (λ enough. record { registers = refl; stored = refl; made = refl; mine = refl; sets = refl; left = refl; answered = refl; command = refl; making = Storing; placed = refl })
+    (λ few left. record { registers = refl; stored = refl; made = refl; mine = refl; sets = refl; left = refl; answered = refl; command = refl; making = Gathering; placed = refl })
+    (λ few tried. record { registers = refl; stored = refl; made = refl; mine = refl; sets = refl; left = refl; answered = refl; command = refl; making = returning seat.hand; placed = refl })

@@ -62,6 +62,9 @@ module _ (g : State) (q d : ℕ) (object : Node) (present : (party g q).left ≡
   pub objects_more : length (party (add g q d object) q).objects ≡ length (party g q).objects + 1
   objects_more = ap (λ (p : Party). length p.objects) party_same ∙ omega (arith, length-append (party g q).objects (object ∷ []))
 
+  pub sets_same : (party (add g q d object) q).sets ≡ (party g q).sets
+  sets_same = ap (λ (p : Party). p.sets) party_same
+
   pub left_same : (party (add g q d object) q).left ≡ false
   left_same = ap (λ (p : Party). p.left) party_same ∙ present
 

@@ -6,7 +6,7 @@ use Rattle.heap_model.specs.Objects.{node}
 use Rattle.heap_model.specs.State.{State, Node}
 use Rattle.heap_model.specs.Reach.{IsMade}
 use Rattle.core_rule.specs.Book.{number_of, id_at}
-use Rattle.core_rule.specs.Objects.{AreMade}
+use Rattle.core_rule.specs.Objects.{FitsName, AreMade}
 use Rattle.core_rule.proofs.Numbering.{id_tells, number_of-le, id_at-number_of, number_of-append, number_of-new, id_at-append, id_at-new, slice_get-append}
 
 -- an id with no object wasn't made
@@ -68,10 +68,12 @@ module _ (g now : State) (made : List Id) (id : Id) (object : Node) (ids : AreMa
           (omega (arith, same, it.0, length_more), ap (id_at (made ++ id ∷ [])) same ∙ id_at-append made id (number_of made x) it.0 ∙ it.1)
 
   -- the ids with the new one are the graph's
-  pub ids_grown : AreMade now (made ++ id ∷ [])
-  ids_grown = record {
+  pub ids_grown : FitsName id → AreMade now (made ++ id ∷ [])
+  ids_grown name = record {
     board = slice_get-append made id _ ids.board;
     in_graph = made_in_graph;
     numbered = made_numbered;
     distinct = made_distinct;
+    fit = old_or_new (λ i. FitsName (id_at (made ++ id ∷ []) i)) (λ i below. subst FitsName (sym (id_at-append made id i below)) (ids.fit i below))
+        (subst FitsName (sym (id_at-new made id)) name);
   }

@@ -1,5 +1,5 @@
 -- A call in flight: its place, and where it began.
-use Rattle.std.proofs.Common.{◌≡◌, ◌≢◌, ℕ, ◌*◌, ◌≤◌, false, List, [], ◌∷◌, ◌++◌, length, drop, refl, arith}
+use Rattle.std.proofs.Common.{◌≡◌, ◌≢◌, ℕ, ◌*◌, ◌≤◌, false, List, [], ◌∷◌, ◌++◌, length, drop, refl, subst, arith}
 use Rattle.std.proofs.lemmas.List.{drop-append-le, length-append}
 use Rattle.heap_model.specs.declared.heap.Heap.{Heap}
 use Rattle.heap_model.specs.declared.entry.Entry.{Entry}
@@ -11,15 +11,24 @@ use Rattle.core_machine.specs.declared.place.Making.{Making}
 use Rattle.core_machine.specs.declared.place.Making.TheVariants.{Gathering, Returning, Refusing, Storing, Bearing}
 use Rattle.core_machine.specs.Fits.{FitsPlace}
 use Rattle.core_machine.specs.Seat.{Seat}
-use Rattle.core_rule.specs.Gathers.{Began}
+use Rattle.core_rule.specs.Gathers.{Began, IsAnswered}
+use Rattle.core_rule.specs.Registers.{IsAwaited}
 
--- whoever makes an object isn't idle
-pub is_busy : (making : Making) (place : Place) → place ≡ places.Making making → place ≢ places.Idle
-is_busy making place is idle = cc
+-- whoever makes an object has no reply yet
+pub is_busy : (making : Making) (place : Place) → place ≡ places.Making making → ¬ IsAnswered place
+is_busy making place is answered = subst IsAnswered is answered
+
+-- and awaits no name
+pub awaits_none : (making : Making) (place : Place) (d r : ℕ) → place ≡ places.Making making → ¬ IsAwaited place d r
+awaits_none making place d r is awaited = subst (λ p. IsAwaited p d r) is awaited
 
 -- no more groups are tried than there are
 pub tried_within : (heap : Heap) (seat : Seat) (place : Place) → FitsPlace heap seat place → seat.tried ≤ heap.groups
 tried_within heap seat places.Idle fits = omega (arith, fits.none_tried)
+tried_within heap seat places.Telling fits = omega (arith, fits.0.none_tried)
+tried_within heap seat (places.Reaching place) fits = omega (arith, fits.none_tried)
+tried_within heap seat (places.Polling place) fits = omega (arith, fits.none_tried)
+tried_within heap seat (places.Leaving place) fits = omega (arith, fits.0.none_tried)
 tried_within heap seat (places.Making Gathering) fits = omega (arith, fits.groups_left)
 tried_within heap seat (places.Making Returning) fits = omega (arith, fits.0.all_tried)
 tried_within heap seat (places.Making Refusing) fits = omega (arith, fits.0.all_tried)
@@ -29,6 +38,10 @@ tried_within heap seat (places.Making Bearing) fits = omega (arith, fits.0.none_
 -- no more is stored than the object has
 pub stored_within : (heap : Heap) (seat : Seat) (place : Place) → FitsPlace heap seat place → seat.stored ≤ 4 * length seat.body
 stored_within heap seat places.Idle fits = omega (arith, fits.none_stored)
+stored_within heap seat places.Telling fits = omega (arith, fits.0.none_stored)
+stored_within heap seat (places.Reaching place) fits = omega (arith, fits.none_stored)
+stored_within heap seat (places.Polling place) fits = omega (arith, fits.none_stored)
+stored_within heap seat (places.Leaving place) fits = omega (arith, fits.0.none_stored)
 stored_within heap seat (places.Making Gathering) fits = omega (arith, fits.none_stored)
 stored_within heap seat (places.Making Returning) fits = omega (arith, fits.0.none_stored)
 stored_within heap seat (places.Making Refusing) fits = omega (arith, fits.0.none_stored)
@@ -40,7 +53,7 @@ pub window_more : (history : List Entry) (begun : ℕ) (entry : Entry) → begun
 window_more history begun entry earlier = drop-append-le begun history (entry ∷ []) earlier
 
 -- a call goes on past an entry that is no reply to it
-pub began_past : (history : List Entry) (entry : Entry) (q begun : ℕ) (place now : Place) → is_reply_to q entry ≡ false → (now ≢ places.Idle → place ≢ places.Idle)
+pub began_past : (history : List Entry) (entry : Entry) (q begun : ℕ) (place now : Place) → is_reply_to q entry ≡ false → (¬ IsAnswered now → ¬ IsAnswered place)
     → Began history q begun place → Began (history ++ entry ∷ []) q begun now
 began_past history entry q begun place now no_reply busy began = record {
   earlier = rw (length-append history (entry ∷ [])) (omega (arith, began.earlier));
@@ -48,12 +61,12 @@ began_past history entry q begun place now no_reply busy began = record {
 }
 
 -- and where no entry is added
-pub began_on : (history : List Entry) (q begun : ℕ) (place now : Place) → place ≢ places.Idle → Began history q begun place → Began history q begun now
+pub began_on : (history : List Entry) (q begun : ℕ) (place now : Place) → ¬ IsAnswered place → Began history q begun place → Began history q begun now
 began_on history q begun place now busy began = record { earlier = began.earlier; unanswered = λ still. began.unanswered busy }
 
 -- a seat that is told stands idle
 pub began_idle : (history : List Entry) (entry : Entry) (q begun : ℕ) (place : Place) → Began history q begun place → Began (history ++ entry ∷ []) q begun places.Idle
 began_idle history entry q begun place began = record {
   earlier = rw (length-append history (entry ∷ [])) (omega (arith, began.earlier));
-  unanswered = λ busy. absurd (busy refl);
+  unanswered = λ busy. absurd (busy tt);
 }

@@ -11,6 +11,7 @@ use Rattle.heap_model.specs.Objects.{node, party, register}
 use Rattle.heap_model.specs.State.{State, Node}
 use Rattle.heap_model.specs.Changes.{add}
 use Rattle.core_machine.specs.declared.address.Address.TheVariants.{Word}
+use Rattle.core_machine.specs.declared.place.Place.{Place}
 use Rattle.core_machine.specs.declared.register.Register.{Register}
 use Rattle.core_machine.specs.declared.register.Register.TheVariants as registers
 use Rattle.core_machine.specs.Fragments.{tally}
@@ -58,8 +59,8 @@ module _ (g : State) (q d : ℕ) (object : Node) (present : (party g q).left ≡
   Now held value = regs.Holds (made ++ id ∷ []) now_owner now_fragments held value
 
   -- another's registers hold what they held
-  pub registers_others : (r : ℕ) (held : List Register) → r ≢ q → Registers g made owner fragments r held → Registers (add g q d object) (made ++ id ∷ []) now_owner now_fragments r held
-  registers_others r held apart old i = subst (Now (get_or held i registers.Nil)) (sym (register_other g q d object present r i apart)) (holds_old made id owner fragments body free _ _ (old i))
+  pub registers_others : (r : ℕ) (held : List Register) (place : Place) (e : ℕ) → r ≢ q → Registers g made owner fragments r held place e → Registers (add g q d object) (made ++ id ∷ []) now_owner now_fragments r held place e
+  registers_others r held place e apart old i fresh = subst (Now (get_or held i registers.Nil)) (sym (register_other g q d object present r i apart)) (holds_old made id owner fragments body free _ _ (old i fresh))
 
   module _ (once : (f : ℕ) → tally f body ≤ 1) (some : 1 ≤ length body) (new : number_of made id ≡ length made) where
     holds_new : Now (registers.Object (get_or body 0 0) id) (values.Object id)
@@ -72,8 +73,8 @@ module _ (g : State) (q d : ℕ) (object : Node) (present : (party g q).left ≡
 
     -- its own do too, but for the one that holds the new object
     pub registers_own : (held : List Register) → d < length held → d < length (party g q).registers → id ≡ Made q (length (party g q).objects)
-        → Registers g made owner fragments q held
-        → Registers (add g q d object) (made ++ id ∷ []) now_owner now_fragments q (set held d (registers.Object (get_or body 0 0) id))
+        → ((i : ℕ) → regs.Holds made owner fragments (get_or held i registers.Nil) (register g q i))
+        → (i : ℕ) → Now (get_or (set held d (registers.Object (get_or body 0 0) id)) i registers.Nil) (register (add g q d object) q i)
     registers_own held within there next old i = elim (cases_eq i d) [
       | inl e ↦ subst (λ r. Now (get_or (set held d (registers.Object (get_or body 0 0) id)) r registers.Nil) (register (add g q d object) q r)) (sym e)
           (subst (λ v. Now (get_or (set held d (registers.Object (get_or body 0 0) id)) d registers.Nil) v) (ap values.Object next ∙ sym (register_target g q d object present there))

@@ -1,5 +1,5 @@
 -- The last birth of an object keeps the rule.
-use Rattle.std.proofs.Common.{◌≡◌, ℕ, ◌-◌, ◌*◌, ◌<◌, ◌≤◌, false, List, [], ◌∷◌, ◌++◌, length, drop, bit_or, refl, sym, ap, ◌∙◌, subst, arith, true}
+use Rattle.std.proofs.Common.{eq-eqb, ◌≡◌, ℕ, ◌-◌, ◌*◌, ◌<◌, ◌≤◌, false, List, [], ◌∷◌, ◌++◌, length, drop, bit_or, refl, sym, ap, ◌∙◌, subst, arith, true}
 use Rattle.heap_model.specs.declared.heap.Heap.{Heap}
 use Rattle.heap_model.specs.declared.id.Id.{Id}
 use Rattle.heap_model.specs.declared.id.Id.TheVariants.{Made}
@@ -19,14 +19,20 @@ use Rattle.core_machine.specs.Making.{last_group, made_last, next_id, newborn_wo
 use Rattle.core_machine.specs.Moves.{bears_black, last_birth_move, last_part, made_entry, seat_after, is_last_birth}
 use Rattle.core_machine.specs.Operation.{birth_bits}
 use Rattle.core_machine.specs.Seat.{Seat}
-use Rattle.core_machine.proofs.FittingMoves.{fits_made, fits_entries}
 use Rattle.core_machine.proofs.Owned.{group_within}
 use Rattle.core_rule.specs.Book.{Book}
 use Rattle.core_rule.specs.Objects.{AreMade}
 use Rattle.core_rule.specs.Gathers.{GathersRight}
 use Rattle.core_rule.specs.Rule.{Rule}
-use Rattle.core_rule.proofs.Assemble.{Keeps, seat_steps}
-use Rattle.core_rule.proofs.GraphGrowth.{party_other}
+use Rattle.core_rule.proofs.SeatLists.{making_list, whole_list, list_stays}
+use Rattle.core_rule.proofs.WayFrames.{ways_stay}
+use Rattle.core_rule.proofs.NamesGrowth.{names_grown, object_grows}
+use Rattle.core_rule.proofs.Resting.{rests_put, rests_more, quiet_more}
+use Rattle.core_rule.specs.Objects.{cells_at}
+use Rattle.core_machine.specs.Value.{IsMachine}
+use Rattle.core_rule.proofs.OwnEntries.{own_grows}
+use Rattle.core_rule.proofs.Assemble.{fit_after, present_at, Keeps, seat_steps}
+use Rattle.core_rule.proofs.GraphGrowth.{register_other, party_other}
 use Rattle.core_rule.proofs.GraphRegisters.{registers_length}
 use Rattle.core_rule.proofs.IdsGrowth.{OneMore, ids_grown, number_new}
 use Rattle.core_rule.proofs.Keeping.{kept_by, with_object}
@@ -35,7 +41,7 @@ use Rattle.core_rule.proofs.LastBirth.{one_more, all_stored, registers_own, regi
 use Rattle.core_rule.proofs.MadeEntry.{graph_grown, used_made, counts_made, made_legal}
 use Rattle.core_rule.proofs.ObjectFrames.{objects_control}
 use Rattle.core_rule.proofs.ObjectsGrowth.{NewBody, objects_grown}
-use Rattle.core_rule.proofs.Others.{counts_stay, began_stays, gathers_stay, of_other}
+use Rattle.core_rule.proofs.Others.{own-other, counts_stay, began_stays, gathers_stay, of_other}
 use Rattle.core_rule.proofs.RecordCommands.{need_made, ranges_made}
 use Rattle.core_rule.proofs.StoredFrames.{stored_control}
 use Rattle.core_rule.proofs.OwnerLemmas.{own_keeps_none}
@@ -43,7 +49,7 @@ use Rattle.core_rule.proofs.GatherMoves.{nothing_tried, gathers_same}
 use Rattle.core_rule.proofs.CountMoves.{used_same}
 use Rattle.core_machine.proofs.Addresses.{length-put}
 use Rattle.core_rule.proofs.Bodies.{body_once, body_own}
-use Rattle.core_rule.proofs.InFlight.{began_idle}
+use Rattle.core_rule.proofs.InFlight.{awaits_none, began_idle}
 
 -- the words after it
 abbrev words_born : Heap → List ℕ → Seat → List ℕ
@@ -63,9 +69,10 @@ book_born book q seat = record book {
 pub last_birth_keeps : (heap : Heap) (state : State) (book : Book) (q : ℕ) → Rule heap state book → q < heap.seats
     → (seat_at state q).place ≡ places.Making Bearing
     → is_last_birth (seat_at state q) ≡ true
+    → IsMachine heap (stepped heap state q (last_birth_move q (seat_at state q)))
     → Keeps heap (stepped heap state q (last_birth_move q (seat_at state q))) book book.begun
     ((last_birth_move q (seat_at state q)).shows state.words (found_by heap state (last_birth_move q (seat_at state q)).step))
-last_birth_keeps heap state book q rule here place last =
+last_birth_keeps heap state book q rule here place last machine =
     let seat : Seat = seat_at state q in
     let body : List ℕ = seat.body in
     let group : ℕ = last_group seat.hand in
@@ -76,6 +83,8 @@ last_birth_keeps heap state book q rule here place last =
     let id : Id = next_id q seat in
     let now : Book = book_born book q seat in
     let stands = rule.seats_stand q here in
+    let present = present_at heap state book q Bearing rule here place in
+    let list = making_list (graph_of heap book.history) book.history book.made book.owner book.fragments q seat Bearing place stands.list in
     let at_place : HasBody seat × (0 < length seat.hand) × (length seat.hand ≤ length body) × (seat.stored ≡ 4 * length body) = rw place at stands.fits.at_place in
     let has = at_place.0 in
     let below : group < heap.groups = group_within heap seat.hand (length seat.hand - 1) (omega (arith, at_place.1)) stands.fits.hand_within in
@@ -87,7 +96,7 @@ last_birth_keeps heap state book q rule here place last =
     let grown : Graph = add g q d (fresh false fields) in
     let graph : graph_of heap now.history ≡ grown = graph_grown heap book.history q seat has.makes.a_record in
     let ids : AreMade g book.made = rule.heap_stands.ids in
-    let more : OneMore g grown id (fresh false fields) = one_more g q d (fresh false fields) seat.made stands.counts.present stands.counts.numbered in
+    let more : OneMore g grown id (fresh false fields) = one_more g q d (fresh false fields) seat.made present stands.counts.numbered in
     let once = body_once book.owner q seat.reserve seat.hand body stands.holding some in
     let unkept = λ (f i k : ℕ) (there : 1 ≤ tally f body). own_keeps_none q i k (book.owner f) (body_own book.owner q seat.reserve seat.hand body stands.holding f there) in
     let new : NewBody heap state.words book.owner id fields body = record {
@@ -97,26 +106,32 @@ last_birth_keeps heap state book q rule here place last =
       unkept = unkept;
       newborn = all_stored heap state.words body (newborn_word q seat) seat.stored at_place.3 stands.stored;
     } in
-    seat_steps heap state book q words (seat_after (last_birth_move q seat) found) now (entry ∷ []) rule here refl refl
+    seat_steps heap state book q words (seat_after (last_birth_move q seat) found) now (entry ∷ []) rule here machine refl refl
     record {
       table = length-put heap state.words (Control group) word ∙ rule.heap_stands.table;
       control_words = kept_bits heap state.words book.owner q seat.reserve seat.hand body group (length book.made) (bears_black seat) rule.heap_stands.table below
           rule.heap_stands.control_words stands.holding some last;
-      ids = rw graph (ids_grown g grown book.made id (fresh false fields) ids more);
+      ids = rw graph (ids_grown g grown book.made id (fresh false fields) ids more (omega (arith, here, rule.limits.seats_fit), omega (arith, has.makes.numbered)));
       objects = rw graph (objects_control heap state.words grown now.made now.owner now.fragments group word below
           (objects_grown heap state.words g grown book.made id book.owner book.fragments fields body ids more new rule.heap_stands.objects));
       used = used_made heap now.owner book.history q seat (used_same heap book.owner now.owner book.history
           (kept_taken book.owner q seat.reserve seat.hand body stands.holding some (length book.made)) rule.heap_stands.used);
-      legal = made_legal g book.history q seat stands.counts has.whole some heap refl has.makes.a_record has.makes.in_range stands.fits.small_reserve rule.heap_stands.legal;
+      legal = made_legal g book.history q seat stands.counts has.whole some present heap refl has.makes.a_record has.makes.in_range stands.fits.small_reserve rule.heap_stands.legal;
+      rests = rests_put heap state.words now.history (Control group) word (λ e. omega (arith, e)) (rests_more heap state.words book.history entry refl rule.heap_stands.rests);
     }
     record {
-      fits = fits_entries heap (made_last q seat) (entry ∷ []) (fits_made heap q seat stands.fits has);
+      fits = fit_after heap state book q rule here machine;
       holding = kept_holding book.owner q seat.reserve seat.hand body stands.holding some (length book.made);
       stored = λ u none. absurd (omega (arith, none));
-      registers = rw graph (registers_own g q d (fresh false fields) stands.counts.present book.made id book.owner book.fragments body unkept once some
+      registers = rw graph (λ r still. registers_own g q d (fresh false fields) present book.made id book.owner book.fragments body unkept once some
           (number_new g grown book.made id (fresh false fields) ids more) seat.registers (omega (arith, stands.fits.registers_whole, ranges.1))
-          (omega (arith, registers_length heap book.history q stands.counts.present, ranges.1)) (ap (Made q) stands.counts.numbered) stands.registers);
-      counts = rw graph (counts_made g book.history q seat stands.counts has.whole some d (fresh false fields) found);
+          (omega (arith, registers_length heap book.history q present, ranges.1)) (ap (Made q) stands.counts.numbered)
+          (λ i. stands.registers i (awaits_none Bearing seat.place d i place)) r);
+      list = whole_list (graph_of heap now.history) now.history now.made now.owner now.fragments q (seat_after (last_birth_move q seat) found) refl
+          (own_grows q book.history seat.mine entry (eq-eqb q q refl) list);
+      way = tt;
+      quiet = quiet_more book.history q seat (seat_after (last_birth_move q seat) found) refl stands.quiet entry refl;
+      counts = rw graph (counts_made g book.history q seat stands.counts has.whole some present d (fresh false fields) found);
       began = began_idle book.history entry q (book.begun q) seat.place stands.began;
       gathers = subst (λ n. GathersRight heap now.owner q (drop (book.begun q) now.history) seat.cursor n seat.given) (sym has.none_tried)
           (subst (λ n. GathersRight heap now.owner q (drop (book.begun q) now.history) seat.cursor 0 n) (sym has.none_given)
@@ -127,9 +142,16 @@ last_birth_keeps heap state book q rule here place last =
       holding = kept_others book.owner q seat.reserve seat.hand body stands.holding some (length book.made) r
           (seat_at state r).reserve (seat_at state r).hand (seat_at state r).body apart other.holding;
       stored = stored_control heap state.words r (seat_at state r) group word below other.stored;
-      registers = rw graph (registers_others g q d (fresh false fields) stands.counts.present book.made id book.owner book.fragments body unkept r (seat_at state r).registers apart other.registers);
+      registers = rw graph (registers_others g q d (fresh false fields) present book.made id book.owner book.fragments body unkept r (seat_at state r).registers
+          (seat_at state r).place (target_of (seat_at state r).command) apart other.registers);
+      list = rw graph (list_stays g grown book.made now.made book.owner now.owner book.fragments now.fragments r (seat_at state r)
+          (names_grown book.made id book.owner book.fragments body unkept) (λ i. register_other g q d (fresh false fields) present r i apart) book.history now.history
+          (own-other r book.history entry (of_other q r apart)) other.list);
+      way = rw graph (ways_stay (cells_at g book.made) (cells_at grown now.made) book.made now.made book.owner now.owner book.fragments now.fragments
+          (object_grows g grown book.made id book.owner book.fragments (fresh false fields) body unkept ids more) (seat_at state r) (seat_at state r).place other.way);
+      quiet = quiet_more book.history r (seat_at state r) (seat_at state r) refl other.quiet entry refl;
       counts = rw graph (counts_stay g grown book.history entry r (seat_at state r) (of_other q r apart)
-          (party_other g q d (fresh false fields) stands.counts.present r apart) other.counts);
+          (party_other g q d (fresh false fields) present r apart) other.counts);
       began = began_stays book.history entry r (book.begun r) (seat_at state r).place (of_other q r apart) other.began;
       gathers = gathers_stay heap now.owner r book.history (book.begun r) entry (seat_at state r).cursor (seat_at state r).tried (seat_at state r).given other.began.earlier
           (gathers_same heap book.owner now.owner r (drop (book.begun r) book.history) (seat_at state r).cursor (seat_at state r).tried (seat_at state r).given

@@ -18,11 +18,12 @@ use Rattle.core_machine.specs.Moves.{made_entry, last_birth_move, seat_after}
 use Rattle.core_machine.specs.Seat.{Seat, need}
 use Rattle.core_rule.specs.Counts.{OwnCounts, AreUsed}
 use Rattle.core_rule.specs.Owners.{Owner}
-use Rattle.core_rule.proofs.GraphGrowth.{objects_more, left_same}
+use Rattle.core_rule.proofs.GraphGrowth.{objects_more, left_same, sets_same}
 use Rattle.core_rule.proofs.Legality.{legal_more}
 use Rattle.core_rule.proofs.OwnEntries.{counts_own}
 use Rattle.core_rule.proofs.RecordCommands.{graph_made, accepts_made, made_keeps}
 use Rattle.core_rule.proofs.Bodies.{whole_body}
+use Rattle.heap_model.specs.Objects.{party}
 
 -- the entry is its seat's
 pub made_own : (q : ℕ) (seat : Seat) → is_of q (made_entry q seat) ≡ true
@@ -40,7 +41,7 @@ used_made heap owner history q seat used =
     rw (total-more (λ e. e.given) history (made_entry q seat), total-more (λ e. e.freed) history (made_entry q seat), total-more (λ e. e.taken) history (made_entry q seat))
     (omega (arith, used))
 
-module _ (g : State) (history : List Entry) (q : ℕ) (seat : Seat) (counts : OwnCounts g history q seat) (whole : length seat.body ≡ need seat) (some : 1 ≤ length seat.body) where
+module _ (g : State) (history : List Entry) (q : ℕ) (seat : Seat) (counts : OwnCounts g history q seat) (whole : length seat.body ≡ need seat) (some : 1 ≤ length seat.body) (present : (party g q).left ≡ false) where
   -- it has its reserve, and what the object is made of
   pub all_own : length seat.reserve + need seat + spent_of q history ≡ taken_of q history
   all_own =
@@ -50,8 +51,9 @@ module _ (g : State) (history : List Entry) (q : ℕ) (seat : Seat) (counts : Ow
   -- the seat's counts after it
   pub counts_made : (d : ℕ) (object : Node) (found : ℕ) → OwnCounts (add g q d object) (history ++ made_entry q seat ∷ []) q (seat_after (last_birth_move q seat) found)
   counts_made d object found =
-      counts_own g (add g q d object) history q seat (seat_after (last_birth_move q seat) found) counts (made_entry q seat) (made_own q seat) refl
-      (ap (λ n. n + 1) counts.numbered ∙ sym (objects_more g q d object counts.present)) (left_same g q d object counts.present)
+      counts_own g (add g q d object) history q seat (seat_after (last_birth_move q seat) found) counts (made_entry q seat) (made_own q seat)
+      (ap (λ n. n + 1) counts.numbered ∙ sym (objects_more g q d object present)) (counts.stamped ∙ sym (sets_same g q d object present))
+      (left_same g q d object present ∙ sym present ∙ counts.leaves)
       (omega (arith, ap length (whole_body seat.hand seat.body some), whole))
 
   -- it may stand
@@ -59,5 +61,5 @@ module _ (g : State) (history : List Entry) (q : ℕ) (seat : Seat) (counts : Ow
       → IsLegal heap false history → IsLegal heap false (history ++ made_entry q seat ∷ [])
   made_legal heap same made ranges small legal =
       legal_more heap false history (made_entry q seat) legal
-      (rw same (accepts_made seat.command made g q (next_id q seat) ranges counts.present (ap (Made q) counts.numbered)))
+      (rw same (accepts_made seat.command made g q (next_id q seat) ranges present (ap (Made q) counts.numbered)))
       (made_keeps seat.command made heap false history q (next_id q seat) (omega (arith, all_own)) (omega (arith, all_own, small)))

@@ -13,8 +13,13 @@ use Rattle.core_rule.specs.Owners.{Owner, Keeps}
 use Rattle.core_rule.specs.Book.{fragment_at, number_of, head_of}
 use Rattle.core_rule.specs.Objects.{IsKept, NamesKept, value_word, field_word, is_cell, object_word}
 use Rattle.core_rule.specs.Registers as regs
-use Rattle.core_rule.proofs.Numbering.{number_of-append}
+use Rattle.core_rule.proofs.Numbering.{id_at-append, number_of-append}
 use Rattle.core_rule.proofs.Keeping.{kept_by, with_object, object_old, object_new, kept_stays, kept_was, kept_part}
+use Rattle.heap_model.specs.State.{State, Node}
+use Rattle.core_rule.specs.Objects.{AreMade, cells_at, cells_in}
+use Rattle.core_rule.proofs.IdsGrowth.{OneMore, node_at}
+use Rattle.core_rule.proofs.SeatLists.{NamesStay}
+use Rattle.core_rule.proofs.WayFrames.{ObjectStays}
 
 -- an object of a number that was there
 pub old_apart : (made : List Id) (i : ℕ) → i < length made → i ≢ length made
@@ -43,7 +48,7 @@ module _ (made : List Id) (id : Id) (owner : ℕ → Owner) (fragments : ℕ →
   -- so names of kept objects name kept ones, by the same first fragments
   pub names_old : (value : Value) → NamesKept made owner fragments value → NamesKept (made ++ id ∷ []) now_owner now_fragments value
   names_old values.Nil names = tt
-  names_old (values.Number n) names = tt
+  names_old (values.Number n) names = names
   names_old (values.Object x) names =
       let same : number_of (made ++ id ∷ []) x ≡ number_of made x = number_of-append made id x names.0 in (
         omega (arith, same, names.0, length-append made (id ∷ [])),
@@ -78,3 +83,22 @@ module _ (made : List Id) (id : Id) (owner : ℕ → Owner) (fragments : ℕ →
   holds_old registers.Nil value holds = holds
   holds_old (registers.Number n) value holds = holds
   holds_old (registers.Object head x) value holds = (holds.0, names_old (values.Object x) holds.1, holds.2 ∙ sym (head_old x holds.1.0))
+
+-- names and ways go on when one object more is made
+pub names_grown : (made : List Id) (id : Id) (owner : ℕ → Owner) (fragments : ℕ → List ℕ) (body : List ℕ) → ((f i k : ℕ) → 1 ≤ tally f body → owner f ≢ Keeps i k)
+    → NamesStay made (made ++ id ∷ []) owner (kept_by (length made) body owner) fragments (with_object fragments (length made) body)
+names_grown made id owner fragments body free = record {
+  names = λ x kept. names_old made id owner fragments body free (values.Object x) kept;
+  heads = λ x kept. head_old made id owner fragments body free x kept.0;
+}
+
+pub object_grows : (g now : State) (made : List Id) (id : Id) (owner : ℕ → Owner) (fragments : ℕ → List ℕ) (object : Node) (body : List ℕ)
+    → ((f i k : ℕ) → 1 ≤ tally f body → owner f ≢ Keeps i k) → AreMade g made → OneMore g now id object → (i : ℕ) → i < length made → IsKept owner fragments i
+    → ObjectStays (cells_at g made) (cells_at now (made ++ id ∷ [])) made (made ++ id ∷ []) owner (kept_by (length made) body owner) fragments (with_object fragments (length made) body) i
+object_grows g now made id owner fragments object body free ids more i below kept = record {
+  below = omega (arith, below, length-append made (id ∷ []));
+  kept = kept_old made id owner fragments body free i below kept;
+  id = id_at-append made id i below;
+  fragments_stay = object_old fragments (length made) body i (old_apart made i below);
+  cells_stay = ap (λ o. length (cells_in o)) (node_at g now made id object ids more i below);
+}

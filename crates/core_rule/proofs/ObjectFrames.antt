@@ -6,6 +6,7 @@ use Rattle.heap_model.specs.declared.id.Value.{Value}
 use Rattle.heap_model.specs.declared.id.Value.TheVariants as values
 use Rattle.heap_model.specs.State.{State}
 use Rattle.core_machine.specs.declared.address.Address.TheVariants.{Word, Control}
+use Rattle.core_machine.specs.declared.place.Place.{Place}
 use Rattle.core_machine.specs.declared.register.Register.{Register}
 use Rattle.core_machine.specs.declared.register.Register.TheVariants as registers
 use Rattle.core_machine.specs.Fragments.{tally}
@@ -69,9 +70,9 @@ pub free_keeps_none : (i k : ℕ) → Free ≢ Keeps i k
 free_keeps_none i k e = cc
 
 module _ (owner now : ℕ → Owner) (same : SameKept owner now) (made : List Id) (fragments : ℕ → List ℕ) where
-  names_kept : (value : Value) → NamesKept made owner fragments value → NamesKept made now fragments value
+  pub names_kept : (value : Value) → NamesKept made owner fragments value → NamesKept made now fragments value
   names_kept values.Nil names = tt
-  names_kept (values.Number n) names = tt
+  names_kept (values.Number n) names = names
   names_kept (values.Object id) names = (names.0, same.stays _ _ _ names.1)
 
   -- so the objects stand
@@ -83,7 +84,7 @@ module _ (owner now : ℕ → Owner) (same : SameKept owner now) (made : List Id
       owned = λ k p. same.stays _ _ _ (one.owned k p);
       stored = one.stored;
     };
-    named = λ i j below is cell there. names_kept cell.value (old.named i j below (same.was _ _ _ is) cell there);
+    named = λ i j below is cell there. let one = old.named i j below (same.was _ _ _ is) cell there in (names_kept cell.value one.0, one.1);
     back = λ f i k is. let one = old.back f i k (same.was f i k is) in (one.0, same.stays _ _ _ one.1, one.2, one.3);
   }
 
@@ -93,5 +94,6 @@ module _ (owner now : ℕ → Owner) (same : SameKept owner now) (made : List Id
   holds_kept (registers.Object head id) value holds = (holds.0, names_kept (values.Object id) holds.1, holds.2)
 
   -- and the registers hold what they held
-  pub registers_owners : (g : State) (q : ℕ) (held : List Register) → Registers g made owner fragments q held → Registers g made now fragments q held
-  registers_owners g q held old = λ r. holds_kept _ _ (old r)
+  pub registers_owners : (g : State) (q : ℕ) (held : List Register) (place : Place) (d : ℕ)
+      → Registers g made owner fragments q held place d → Registers g made now fragments q held place d
+  registers_owners g q held place d old = λ r fresh. holds_kept _ _ (old r fresh)

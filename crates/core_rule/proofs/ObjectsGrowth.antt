@@ -1,5 +1,5 @@
 -- The objects when one more is made of a seat's fragments.
-use Rattle.std.proofs.Common.{◌≡◌, ◌≢◌, ℕ, zero, suc, ◌+◌, ◌<◌, ◌≤◌, false, List, [], ◌∷◌, ◌++◌, length, replicate, slice_get, Some, inl, inr, sym, ap, ◌∙◌, subst, arith, length-append}
+use Rattle.std.proofs.Common.{◌≡◌, ◌^◌, ◌≢◌, ℕ, zero, suc, ◌+◌, ◌<◌, ◌≤◌, false, List, [], ◌∷◌, ◌++◌, length, replicate, slice_get, Some, inl, inr, sym, ap, ◌∙◌, subst, arith, length-append}
 use Rattle.std.proofs.lemmas.List.{length-replicate}
 use Rattle.heap_model.specs.declared.cell.Cell.{Cell}
 use Rattle.heap_model.specs.declared.heap.Heap.{Heap}
@@ -73,7 +73,7 @@ module _ (heap : Heap) (words : List ℕ) (g now : State) (made : List Id) (id :
         owned = λ k p. kept_stays (length made) body owner new.unkept _ i k (one.owned k p);
         stored = λ k part p q. one.stored k part p q
             ∙ sym (words_old made id owner fragments body new.unkept (name_of (id_at made i)) (cells_at g made i) (fragments i) k part
-            (λ j c there. old.named i j below before c there));
+            (λ j c there. (old.named i j below before c there).0));
       }
 
   new_kept : IsKept now_owner now_fragments (length made) → Kept (length made) (id_at now_made (length made)) (cells_at now now_made (length made)) (now_fragments (length made))
@@ -88,15 +88,15 @@ module _ (heap : Heap) (words : List ℕ) (g now : State) (made : List Id) (id :
         stored = λ k part p q. new.newborn k part p q ∙ sym (newborn_is (head_of now_made now_fragments) (name_of id) fields body k part);
       }
 
-  new_named : (j : ℕ) (cell : Cell) → slice_get (cells_at now now_made (length made)) j ≡ Some cell → NamesKept now_made now_owner now_fragments cell.value
+  new_named : (j : ℕ) (cell : Cell) → slice_get (cells_at now now_made (length made)) j ≡ Some cell → NamesKept now_made now_owner now_fragments cell.value × (cell.stamp < 2 ^ 32)
   new_named j cell there =
       let is : cell ≡ unset = unset_cell fields j cell (ap (λ cells. slice_get cells j) (sym cells_new) ∙ there) in
-      subst (λ (c : Cell). NamesKept now_made now_owner now_fragments c.value) (sym is) tt
+      subst (λ (c : Cell). NamesKept now_made now_owner now_fragments c.value × (c.stamp < 2 ^ 32)) (sym is) (tt, omega arith)
 
-  old_named : (i j : ℕ) → i < length made → IsKept now_owner now_fragments i → (cell : Cell) → slice_get (cells_at now now_made i) j ≡ Some cell → NamesKept now_made now_owner now_fragments cell.value
+  old_named : (i j : ℕ) → i < length made → IsKept now_owner now_fragments i → (cell : Cell) → slice_get (cells_at now now_made i) j ≡ Some cell → NamesKept now_made now_owner now_fragments cell.value × (cell.stamp < 2 ^ 32)
   old_named i j below is cell there =
-      names_old made id owner fragments body new.unkept cell.value
-      (old.named i j below (kept_before made id owner fragments body new.unkept i below is) cell (ap (λ cells. slice_get cells j) (sym (cells_old i below)) ∙ there))
+      let one = old.named i j below (kept_before made id owner fragments body new.unkept i below is) cell (ap (λ cells. slice_get cells j) (sym (cells_old i below)) ∙ there) in
+      (names_old made id owner fragments body new.unkept cell.value one.0, one.1)
 
   abbrev Back : ℕ → ℕ → ℕ → Type 0
   Back f i k = (i < length now_made) × IsKept now_owner now_fragments i × (k < length (now_fragments i)) × (f ≡ fragment_at (now_fragments i) k)
@@ -127,7 +127,7 @@ module _ (heap : Heap) (words : List ℕ) (g now : State) (made : List Id) (id :
   objects_grown = record {
     kept = old_or_new g now made id (fresh false fields) ids more (λ i. IsKept now_owner now_fragments i → Kept i (id_at now_made i) (cells_at now now_made i) (now_fragments i)) old_kept new_kept;
     named = λ i j below. old_or_new g now made id (fresh false fields) ids more
-        (λ x. IsKept now_owner now_fragments x → (cell : Cell) → slice_get (cells_at now now_made x) j ≡ Some cell → NamesKept now_made now_owner now_fragments cell.value)
+        (λ x. IsKept now_owner now_fragments x → (cell : Cell) → slice_get (cells_at now now_made x) j ≡ Some cell → NamesKept now_made now_owner now_fragments cell.value × (cell.stamp < 2 ^ 32))
         (λ x less. old_named x j less) (λ is. new_named j) i below;
     back = λ f i k is. elim (kept_back (length made) body owner f i k is) [
       | inl here ↦ subst (λ x. Back f x k) (sym here.0) (new_back f k here.1 here.2)

@@ -1,5 +1,5 @@
 -- The board is the one object when a heap opens.
-use Rattle.std.proofs.Common.{◌≡◌, ℕ, ◌+◌, ◌*◌, ◌/◌, ◌%◌, ◌<◌, ◌≤◌, inl, inr, true, List, [], ◌∷◌, length, nat_lt, replicate, slice_get, Some, IsSome, refl, sym, ap, ◌∙◌, subst, arith}
+use Rattle.std.proofs.Common.{◌≡◌, ◌^◌, ℕ, ◌+◌, ◌*◌, ◌/◌, ◌%◌, ◌<◌, ◌≤◌, inl, inr, true, List, [], ◌∷◌, length, nat_lt, replicate, slice_get, Some, IsSome, refl, sym, ap, ◌∙◌, subst, arith}
 use Rattle.std.specs.Int.{bit_at}
 use Rattle.std.proofs.lemmas.Bool.{cases_lt, false≢true}
 use Rattle.std.proofs.lemmas.Bool.Decides.{nat_tests, eqb_tells}
@@ -18,7 +18,7 @@ use Rattle.core_machine.specs.Opening.{board, board_name, opening_word}
 use Rattle.core_rule.specs.Owners.{Keeps, taken_bit, born_bit}
 use Rattle.core_rule.specs.Book.{fragment_at, id_at, number_of, head_of}
 use Rattle.core_rule.specs.ControlWords.{Bits}
-use Rattle.core_rule.specs.Objects.{AreMade, IsKept, NamesKept, KeptObject, Objects, cells_at}
+use Rattle.core_rule.specs.Objects.{FitsName, AreMade, IsKept, NamesKept, KeptObject, Objects, cells_at}
 use Rattle.core_rule.proofs.GraphRegisters.{opening_at}
 use Rattle.core_rule.proofs.Newborn.{newborn_is}
 use Rattle.core_rule.proofs.ObjectsGrowth.{unset_cell}
@@ -50,6 +50,7 @@ opening_ids heap = record {
   in_graph = λ i below. let none : 0 ≡ i = omega arith in subst (λ x. IsMade (opening heap) (id_at opening_made x)) none refl;
   numbered = λ id is. subst (λ x. (number_of opening_made x < length opening_made) × (id_at opening_made (number_of opening_made x) ≡ x)) (only_board heap id is) (omega arith, refl);
   distinct = λ i below. let none : 0 ≡ i = omega arith in subst (λ x. number_of opening_made (id_at opening_made x) ≡ x) none refl;
+  fit = λ i below. let none : 0 ≡ i = omega arith in subst (λ x. FitsName (id_at opening_made x)) none tt;
 }
 
 module _ (heap : Heap) (words : List ℕ) (some : 1 ≤ heap.groups) (open_words : (address : Address) → InTable heap address → at heap words address ≡ opening_word heap address) where
@@ -92,7 +93,7 @@ module _ (heap : Heap) (words : List ℕ) (some : 1 ≤ heap.groups) (open_words
         subst (λ x. KeptObject heap words opening_owner (head_of opening_made opening_fragments) x (id_at opening_made x) (cells_at (opening heap) opening_made x) (opening_fragments x)) none board_kept;
     named = λ i j below is cell there. let none : i ≡ 0 = omega arith in
         let blank : cell ≡ unset = unset_cell 32 j cell (subst (λ x. slice_get (cells_at (opening heap) opening_made x) j ≡ Some cell) none there) in
-        subst (λ (c : Cell). NamesKept opening_made opening_owner opening_fragments c.value) (sym blank) tt;
+        subst (λ (c : Cell). NamesKept opening_made opening_owner opening_fragments c.value × (c.stamp < 2 ^ 32)) (sym blank) (tt, omega arith);
     back = λ f i k. opening_cases (λ o. o ≡ Keeps i k → (i < length opening_made) × IsKept opening_owner opening_fragments i × (k < length (opening_fragments i)) × (f ≡ fragment_at (opening_fragments i) k)) f
         (λ below is. let object : 0 ≡ i = cc in let part : f ≡ k = cc in
         subst (λ x. (x < length opening_made) × IsKept opening_owner opening_fragments x × (k < length (opening_fragments x)) × (f ≡ fragment_at (opening_fragments x) k)) object

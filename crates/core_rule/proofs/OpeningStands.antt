@@ -23,21 +23,15 @@ use Rattle.core_rule.proofs.GraphRegisters.{opening_at}
 use Rattle.core_rule.proofs.OpeningObjects.{opening_made, opening_fragments, opening_ids, opening_bits, opening_objects}
 use Rattle.core_rule.proofs.OpeningOwners.{opening_owner, opening_cases, opening_used}
 use Rattle.core_rule.proofs.GatherMoves.{nothing_tried}
+use Rattle.core_machine.specs.Value.{IsMachine}
+use Rattle.core_machine.specs.declared.place.Place.TheVariants as places
+use Rattle.core_machine.specs.declared.address.Address.TheVariants.{Phase}
+use Rattle.core_machine.specs.Collector.{Collector}
+use Rattle.core_machine.proofs.OpeningMachine.{opening_machine}
 
 -- the book when a heap opens: nothing has happened, and there is the board alone
 abbrev pub opening_book : Book
 opening_book = record { history = []; made = opening_made; owner = opening_owner; fragments = opening_fragments; begun = λ q. 0 }
-
-opening_fits : (heap : Heap) (q : ℕ) → 1 ≤ heap.groups → Fits heap (opening_seat heap q)
-opening_fits heap q some = record {
-  registers_whole = refl;
-  cursor_within = omega arith;
-  small_reserve = omega arith;
-  reserve_of_cursor = λ k d below. absurd (omega (arith, below));
-  hand_within = λ k d below. absurd (omega (arith, below));
-  body_within = λ k d below. absurd (omega (arith, below));
-  at_place = record { empty_hand = refl; no_body = refl; none_stored = refl; none_tried = refl; none_given = refl };
-}
 
 abbrev Now : Register → Value → Type 0
 Now held value = regs.Holds opening_made opening_owner opening_fragments held value
@@ -51,23 +45,26 @@ opening_held : (r : ℕ) → Now (get_or (registers.Object 0 ids.Board ∷ repli
 opening_held zero = (refl, (omega arith, refl), refl)
 opening_held (suc r) = nil_registers 15 r
 
-opening_registers : (heap : Heap) (q : ℕ) → q < heap.seats → Registers (opening heap) opening_made opening_owner opening_fragments q (opening_seat heap q).registers
-opening_registers heap q below r = subst (λ (p : Party). Now (get_or (opening_seat heap q).registers r registers.Nil) (get_or p.registers r values.Nil)) (sym (opening_at heap q below)) (opening_held r)
+opening_registers : (heap : Heap) (q : ℕ) → q < heap.seats → Registers (opening heap) opening_made opening_owner opening_fragments q (opening_seat heap q).registers places.Idle 0
+opening_registers heap q below r fresh = subst (λ (p : Party). Now (get_or (opening_seat heap q).registers r registers.Nil) (get_or p.registers r values.Nil)) (sym (opening_at heap q below)) (opening_held r)
 
 -- a seat stands
-opening_seat_stands : (heap : Heap) (words : List ℕ) (q : ℕ) → 1 ≤ heap.groups → q < heap.seats → SeatStands heap words opening_book q (opening_seat heap q)
-opening_seat_stands heap words q some below = record {
-  fits = opening_fits heap q some;
+opening_seat_stands : (heap : Heap) (words : List ℕ) (q : ℕ) → Fits heap (opening_seat heap q) → q < heap.seats → SeatStands heap words opening_book q (opening_seat heap q)
+opening_seat_stands heap words q fits below = record {
+  fits = fits;
   holding = record {
     held = λ f. opening_cases (λ o. 0 ≡ holds_bit q o) f (λ less. refl) (λ past. refl);
     borne = λ f. opening_cases (λ o. 0 ≡ 0 + bears_bit q o) f (λ less. refl) (λ past. refl);
   };
   stored = λ u none. absurd (omega (arith, none));
   registers = opening_registers heap q below;
+  list = record { awaited = []; own = refl; awaits = refl };
+  way = tt;
+  quiet = record { none_answered = refl; answer = refl };
   counts = record {
-    own = refl;
     numbered = ap (λ (p : Party). length p.objects) (sym (opening_at heap q below));
-    present = ap (λ (p : Party). p.left) (opening_at heap q below);
+    stamped = ap (λ (p : Party). p.sets) (sym (opening_at heap q below));
+    leaves = ap (λ (p : Party). p.left) (opening_at heap q below);
     unborn = refl;
   };
   began = record { earlier = omega arith; unanswered = λ busy. refl };
@@ -78,9 +75,10 @@ pub opening_seat_at : (heap : Heap) (state : State) (q : ℕ) → IsOpening heap
 opening_seat_at heap state q opens below = ap (λ seats. get_or seats q nobody) opens.seats_open ∙ get_or-map-range_with_len (opening_seat heap) 0 heap.seats q q nobody below (omega arith)
 
 -- the opening book stands for an opening state
-pub opening_rule : (heap : Heap) (state : State) → IsHeap heap → IsOpening heap state → Rule heap state opening_book
-opening_rule heap state fits opens = record {
+pub opening_rule : (heap : Heap) (state : State) → IsHeap heap → IsMachine heap state → IsOpening heap state → Rule heap state opening_book
+opening_rule heap state fits machine opens = record {
   limits = fits;
+  machine = machine;
   all_seats = ap length opens.seats_open ∙ length-map-range_with_len (opening_seat heap) 0 heap.seats;
   heap_stands = record {
     table = opens.table;
@@ -89,11 +87,12 @@ opening_rule heap state fits opens = record {
     objects = opening_objects heap state.words fits.some_group opens.words_open;
     used = opening_used heap fits.some_group;
     legal = record { objects = tt; space = tt };
+    rests = record { word = opens.words_open Phase tt; none_begun = refl };
   };
   seats_stand = λ q below. subst (λ (s : Seat). SeatStands heap state.words opening_book q s) (sym (opening_seat_at heap state q opens below))
-      (opening_seat_stands heap state.words q fits.some_group below);
-  collector_log = opens.nothing_done;
+      (opening_seat_stands heap state.words q (subst (Fits heap) (opening_seat_at heap state q opens below) (machine.fit q (rw machine.seated below))) below);
+  collector_log = ap (λ (c : Collector). c.log) opens.nothing_done;
 }
 
 pub opening_stands : (heap : Heap) (state : State) → IsHeap heap → IsOpening heap state → StandsFor heap state [] []
-opening_stands heap state fits opens = record { book = opening_book; grown = refl; rule = opening_rule heap state fits opens }
+opening_stands heap state fits opens = record { book = opening_book; grown = refl; rule = opening_rule heap state fits (opening_machine heap state fits opens) opens }

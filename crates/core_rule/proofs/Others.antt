@@ -46,16 +46,17 @@ no_reply r (entries.Turned command reply) other = refl
 pub total_of-other : (r : ℕ) (part : Effect → ℕ) (history : List Entry) (entry : Entry) → is_of r entry ≡ false → total_of r part (history ++ entry ∷ []) ≡ total_of r part history
 total_of-other r part history entry other = rw (total_of-more r part history entry, other) (omega arith)
 
-own-other : (r : ℕ) (history : List Entry) (entry : Entry) → is_of r entry ≡ false → filter (is_of r) (history ++ entry ∷ []) ≡ filter (is_of r) history
+-- nor to its own entries
+pub own-other : (r : ℕ) (history : List Entry) (entry : Entry) → is_of r entry ≡ false → filter (is_of r) (history ++ entry ∷ []) ≡ filter (is_of r) history
 own-other r history entry other = rw (filter-append (is_of r) history (entry ∷ []), other, append-nil (filter (is_of r) history)) refl
 
 -- the seat's counts stay
 pub counts_stay : (g now : State) (history : List Entry) (entry : Entry) (r : ℕ) (seat : Seat) → is_of r entry ≡ false → party now r ≡ party g r
     → OwnCounts g history r seat → OwnCounts now (history ++ entry ∷ []) r seat
 counts_stay g now history entry r seat other same counts = record {
-  own = counts.own ∙ sym (own-other r history entry other);
   numbered = rw same counts.numbered;
-  present = rw same counts.present;
+  stamped = rw same counts.stamped;
+  leaves = rw same counts.leaves;
   unborn = rw (total_of-other r (λ e. e.given) history entry other, total_of-other r (λ e. e.born) history entry other, total_of-other r (λ e. e.taken) history entry other) counts.unborn;
 }
 

@@ -1,5 +1,5 @@
 -- A seat's counts when the history grows by an entry of its own.
-use Rattle.std.proofs.Common.{◌≡◌, ℕ, ◌+◌, List, [], ◌∷◌, ◌++◌, filter, refl, ◌∙◌, true, false, arith, length, append-nil}
+use Rattle.std.proofs.Common.{◌≡◌, ℕ, ◌+◌, List, [], ◌∷◌, ◌++◌, filter, refl, sym, ◌∙◌, true, false, arith, length}
 use Rattle.std.proofs.lemmas.List.Elements.{filter-append}
 use Rattle.heap_model.specs.declared.effect.Effect.{Effect}
 use Rattle.heap_model.specs.declared.entry.Entry.{Entry}
@@ -31,12 +31,12 @@ at_hand seat = length seat.reserve + length (whole_hand seat.hand seat.body)
 
 module _ (g grown : State) (history : List Entry) (q : ℕ) (seat now : Seat) (counts : OwnCounts g history q seat) where
   -- its counts once an entry of its own is added, by what that gave, made and took
-  pub counts_own : (entry : Entry) → is_of q entry ≡ true → now.mine ≡ seat.mine ++ entry ∷ [] → now.made ≡ length (party grown q).objects → (party grown q).left ≡ false
+  pub counts_own : (entry : Entry) → is_of q entry ≡ true → now.made ≡ length (party grown q).objects → now.sets ≡ (party grown q).sets → (party grown q).left ≡ now.left
       → at_hand now + (effect_of entry).given + (effect_of entry).born ≡ at_hand seat + (effect_of entry).taken → OwnCounts grown (history ++ entry ∷ []) q now
-  counts_own entry own mine numbered present sum = record {
-    own = mine ∙ own_grows q history seat.mine entry own counts.own;
+  counts_own entry own numbered stamped leaves sum = record {
     numbered = numbered;
-    present = present;
+    stamped = stamped;
+    leaves = leaves;
     unborn = rw (
       total_of-own q (λ e. e.given) history entry own,
       total_of-own q (λ e. e.born) history entry own,
@@ -45,11 +45,11 @@ module _ (g grown : State) (history : List Entry) (q : ℕ) (seat now : Seat) (c
   }
 
 -- no entry is added
-pub counts_same : (g : State) (history : List Entry) (q : ℕ) (seat now : Seat) → now.mine ≡ seat.mine ++ [] → now.made ≡ seat.made → at_hand now ≡ at_hand seat
+pub counts_same : (g : State) (history : List Entry) (q : ℕ) (seat now : Seat) → now.made ≡ seat.made → now.sets ≡ seat.sets → now.left ≡ seat.left → at_hand now ≡ at_hand seat
     → OwnCounts g history q seat → OwnCounts g history q now
-counts_same g history q seat now mine made sum counts = record {
-  own = mine ∙ append-nil seat.mine ∙ counts.own;
+counts_same g history q seat now made sets left sum counts = record {
   numbered = made ∙ counts.numbered;
-  present = counts.present;
+  stamped = sets ∙ counts.stamped;
+  leaves = counts.leaves ∙ sym left;
   unborn = rw sum counts.unborn;
 }

@@ -1,5 +1,5 @@
 -- What a step adds to the history may stand in a play, where no other seat made a step since the call began.
-use Rattle.std.proofs.Common.{◌≡◌, ℕ, ◌+◌, ◌<◌, Bool, true, false, inl, inr, List, [], ◌∷◌, length, drop, refl, subst, arith}
+use Rattle.std.proofs.Common.{◌≡◌, ◌==◌, ℕ, ◌+◌, ◌<◌, Bool, true, false, inl, inr, List, [], ◌∷◌, length, drop, refl, subst, arith}
 use Rattle.std.specs.List.{list_all}
 use Rattle.std.specs.Prelude.{if◌then◌else◌}
 use Rattle.std.proofs.lemmas.Bool.{eq-eqb}
@@ -26,7 +26,24 @@ use Rattle.core_machine.specs.Seat.{Seat, need}
 use Rattle.core_rule.specs.Book.{Book}
 use Rattle.core_rule.specs.Gathers.{GathersRight}
 use Rattle.core_rule.specs.Rule.{Rule}
-use Rattle.core_rule.proofs.Plays.{taking, giving, making, plain_keeps, finds_in_play}
+use Rattle.core_rule.proofs.Plays.{IsPlainReply, taking, giving, saying, plain_keeps, finds_in_play}
+use Rattle.std.specs.Prelude.{Option, None, Some, IfSome}
+use Rattle.heap_model.specs.declared.command.Command.{Command}
+use Rattle.heap_model.specs.declared.reply.Reply.{Reply}
+use Rattle.heap_model.specs.Cycles.{graph_of}
+use Rattle.core_machine.specs.declared.place.Reaching.TheVariants.{Opening, Walking, Getting, Naming, LoadingOld, ShadingOld, ShadingNew, Swapping}
+use Rattle.core_machine.specs.declared.place.Polling.TheVariants.{Asking, Shading, Answering}
+use Rattle.core_machine.specs.declared.place.Leaving.TheVariants.{Emptying, Parting}
+use Rattle.core_machine.specs.declared.register.Register.{Register}
+use Rattle.core_machine.specs.declared.address.Address.TheVariants.{Word, Phase}
+use Rattle.core_machine.specs.Layout.{at}
+use Rattle.core_machine.specs.Reaching.{meta_reply}
+use Rattle.core_machine.specs.ReachingMoves.{said_some, got_shows, field_part}
+use Rattle.core_machine.specs.Loaded.{head_in}
+use Rattle.core_machine.specs.Registers.{register_in, value_of, is_same_value}
+use Rattle.core_machine.specs.Telling.{answer_of, local_reply}
+use Rattle.core_rule.specs.Objects.{cells_at}
+use Rattle.core_rule.specs.Ways.{WayStands}
 use Rattle.core_rule.proofs.Bodies.{bare_hand}
 use Rattle.core_rule.proofs.RecordCommands.{record_only, full_keeps}
 
@@ -49,15 +66,38 @@ module _ (heap : Heap) (before : List Entry) (q : ℕ) where
   gave : (count : ℕ) → AddsPlay heap before q (entries.GivesBack q count ∷ [])
   gave count = one (entries.GivesBack q count) record { own = eq-eqb q q refl; keeps = plain_keeps heap before (entries.GivesBack q count) (giving q count) }
 
-  made : (seat : Seat) → IsRecord seat.command → AddsPlay heap before q (made_entry q seat ∷ [])
-  made seat a_record = one (made_entry q seat) record {
-    own = eq-eqb q q refl;
-    keeps = record_only (λ c. KeepsSpace heap false before (entries.Said q c (replies.Made (next_id q seat))) → KeepsSpace heap true before (entries.Said q c (replies.Made (next_id q seat))))
-        (λ d fields. plain_keeps heap before (entries.Said q (commands.New d fields) (replies.Made (next_id q seat))) (making q d fields (next_id q seat))) seat.command a_record;
-  }
+  says : (command : Command) (reply : Reply) → IsPlainReply reply → AddsPlay heap before q (entries.Said q command reply ∷ [])
+  says command reply plain =
+      one (entries.Said q command reply) record { own = eq-eqb q q refl; keeps = plain_keeps heap before (entries.Said q command reply) (saying q command reply plain) }
 
-has_body : (heap : Heap) (seat : Seat) → FitsMaking heap seat Bearing → HasBody seat
-has_body heap seat fits = fits.0
+  polls : (command : Command) (b : Bool) (p : ℕ) → AddsPlay heap before q (if b then entries.Said q command (replies.Phase p) ∷ [] else [])
+  polls command true p = says command (replies.Phase p) tt
+  polls command false p = nothing
+
+  says_some : (seat : Seat) (reply : Option Reply) → IfSome reply IsPlainReply → AddsPlay heap before q (said_some q seat reply)
+  says_some seat None plain = nothing
+  says_some seat (Some reply) plain = says seat.command reply plain
+
+  gets : (seat : Seat) (words : List ℕ) (found : ℕ) (head : Option ℕ) → AddsPlay heap before q (got_shows heap q seat words found head)
+  gets seat words found None = says seat.command _ tt
+  gets seat words found (Some head) = says seat.command _ tt
+
+-- a reply of a call that looks at no word is plain
+answer_plain : (b : Bool) → IsPlainReply (answer_of b)
+answer_plain true = tt
+answer_plain false = tt
+
+local_plain : (registers : List Register) (command : Command) → IsPlainReply (local_reply registers command)
+local_plain registers (commands.Same a b) = answer_plain (is_same_value (value_of (register_in registers a)) (value_of (register_in registers b)))
+local_plain registers _ = tt
+
+field_plain : (b : Bool) → IfSome (if b then None else Some replies.NoField) IsPlainReply
+field_plain true = tt
+field_plain false = tt
+
+meta_plain : (command : Command) (found : ℕ) → IfSome (meta_reply command found) IsPlainReply
+meta_plain (commands.Len r) found = tt
+meta_plain _ found = field_plain _
 
 refusal : (heap : Heap) (state : State) (book : Book) (q : ℕ) → Rule heap state book → q < heap.seats → (seat_at state q).place ≡ places.Making Refusing
     → list_all (is_of q) (drop (book.begun q) book.history) ≡ true → AddsPlay heap book.history q (full_entry q (seat_at state q) ∷ [])
@@ -95,6 +135,29 @@ adds_play heap state book q (places.Making Bearing) rule here placed alone =
 
     bearing : (last : Bool)
         → AddsPlay heap book.history q ((if last then last_birth_move q seat else birth_move seat).shows state.words (found_by heap state (if last then last_birth_move q seat else birth_move seat).step))
-    bearing true = made heap book.history q seat (has_body heap seat (rw placed at (rule.seats_stand q here).fits.at_place)).makes.a_record
+    bearing true = says heap book.history q seat.command (replies.Made (next_id q seat)) tt
     bearing false = nothing
 adds_play heap state book q (places.Making Refusing) rule here placed alone = refusal heap state book q rule here placed alone
+adds_play heap state book q places.Telling rule here placed alone =
+    says heap book.history q (seat_at state q).command (local_reply (seat_at state q).registers (seat_at state q).command) (local_plain (seat_at state q).registers (seat_at state q).command)
+adds_play heap state book q (places.Reaching Opening) rule here placed alone = says_some heap book.history q (seat_at state q)
+    (meta_reply (seat_at state q).command (at heap state.words (Word (seat_at state q).reached 0)))
+    (meta_plain (seat_at state q).command (at heap state.words (Word (seat_at state q).reached 0)))
+adds_play heap state book q (places.Reaching Walking) rule here placed alone = nothing
+adds_play heap state book q (places.Reaching Getting) rule here placed alone = gets heap book.history q (seat_at state q) state.words
+    (at heap state.words (Word (seat_at state q).reached (field_part (seat_at state q))))
+    (head_in (at heap state.words (Word (seat_at state q).reached (field_part (seat_at state q)))))
+adds_play heap state book q (places.Reaching Naming) rule here placed alone = nothing
+adds_play heap state book q (places.Reaching LoadingOld) rule here placed alone = nothing
+adds_play heap state book q (places.Reaching ShadingOld) rule here placed alone = nothing
+adds_play heap state book q (places.Reaching ShadingNew) rule here placed alone = nothing
+adds_play heap state book q (places.Reaching Swapping) rule here placed alone = says heap book.history q (seat_at state q).command _ tt
+adds_play heap state book q (places.Polling Asking) rule here placed alone = polls heap book.history q (seat_at state q).command (at heap state.words Phase == (seat_at state q).answered) (at heap state.words Phase)
+adds_play heap state book q (places.Polling Shading) rule here placed alone = nothing
+adds_play heap state book q (places.Polling Answering) rule here placed alone = absurd (polling (seat_at state q).place placed (rule.seats_stand q here).way)
+  where
+    polling : (place : Place) → place ≡ places.Polling Answering
+        → WayStands (cells_at (graph_of heap book.history) book.made) book.made book.owner book.fragments (seat_at state q) place → ⊥
+    polling place is way = subst (λ p. WayStands (cells_at (graph_of heap book.history) book.made) book.made book.owner book.fragments (seat_at state q) p) is way
+adds_play heap state book q (places.Leaving Emptying) rule here placed alone = gave heap book.history q _
+adds_play heap state book q (places.Leaving Parting) rule here placed alone = says heap book.history q (seat_at state q).command replies.Done tt

@@ -15,15 +15,15 @@ use Rattle.heap_model.specs.State.{opening}
 use Rattle.heap_model.specs.Effects.{is_of}
 use Rattle.heap_model.proofs.Histories.{KeepsSpaceAfter-more}
 use Rattle.core_machine.specs.declared.place.Place.TheVariants as places
-use Rattle.core_machine.specs.Machine.{State, seat_at, moved, Event, Begins, Steps, Can, after, entries, Run, history}
+use Rattle.core_machine.specs.Machine.{State, seat_at, moved, Event, Begins, Steps, Turns, Can, after, entries, Run, history}
 use Rattle.core_machine.specs.Moves.{Move, move_at, next_move}
 use Rattle.core_machine.specs.Opening.{IsOpening}
 use Rattle.core_machine.specs.Seat.{Seat, nobody}
 use Rattle.core_rule.specs.Book.{Book}
 use Rattle.core_rule.specs.Rule.{Rule}
-use Rattle.core_rule.specs.Laws.{StandsFor, IsAlone, OneCallAtATime, WholeCallsPlay, seat_of_event}
+use Rattle.core_rule.specs.Laws.{StandsFor, IsAlone, OneCallAtATime, WholeCallsPlay, HappensAlone}
 use Rattle.core_rule.proofs.BeginStep.{begins}
-use Rattle.core_rule.proofs.Runs.{EachStepKeeps, EachBeginKeeps, seat_of_step}
+use Rattle.core_rule.proofs.Runs.{MachineStays, OpeningStands, EachStepKeeps, EachBeginKeeps, seat_of_step}
 use Rattle.core_rule.proofs.Plays.{last_keeps}
 use Rattle.core_rule.proofs.PlayEntries.{AddsPlay, nothing, one, adds_play}
 
@@ -67,12 +67,12 @@ pub record PlaysNext (heap : Heap) (state : State) (before added : List Entry) :
   pub grown : now.history ≡ before ++ added
   pub plays : PlaysOn heap state now
 
-step_plays : EachStepKeeps → (heap : Heap) (state : State) (book : Book) (q : ℕ) → PlaysOn heap state book → IsAlone state q → Can heap state (Steps q)
+step_plays : MachineStays → EachStepKeeps → (heap : Heap) (state : State) (book : Book) (q : ℕ) → PlaysOn heap state book → IsAlone state q → Can heap state (Steps q)
     → PlaysNext heap (after heap state (Steps q)) book.history (entries heap state (Steps q))
-step_plays steps heap state book q plays alone can =
+step_plays stays steps heap state book q plays alone can =
     let here : q < heap.seats = seat_of_step heap state book q plays.rule can in
     let active : (seat_at state q).place ≢ places.Idle = busy heap q (seat_at state q) can in
-    let keeps = steps heap state book q plays.rule here in
+    let keeps = steps heap state book q plays.rule here (stays heap state (Steps q) plays.rule.machine can) in
     let adds : AddsPlay heap book.history q (entries heap state (Steps q))
     = adds_play heap state book q (seat_at state q).place plays.rule here refl (plays.own q here active) in
     let earlier : book.begun q ≤ length book.history = (plays.rule.seats_stand q here).began.earlier in
@@ -96,10 +96,10 @@ nothing_since : (q : ℕ) (history : List Entry) → list_all (is_of q) (drop (l
 nothing_since q [] = refl
 nothing_since q (entry ∷ history) = nothing_since q history
 
-begin_plays : EachBeginKeeps → (heap : Heap) (state : State) (book : Book) (q : ℕ) (command : Command) → PlaysOn heap state book → IsAlone state q
+begin_plays : MachineStays → EachBeginKeeps → (heap : Heap) (state : State) (book : Book) (q : ℕ) (command : Command) → PlaysOn heap state book → IsAlone state q
     → Can heap state (Begins q command) → PlaysNext heap (after heap state (Begins q command)) book.history []
-begin_plays begin heap state book q command plays alone can =
-    let keeps = begin heap state book q command plays.rule can in
+begin_plays stays begin heap state book q command plays alone can =
+    let keeps = begin heap state book q command plays.rule can (stays heap state (Begins q command) plays.rule.machine can) in
     let same : keeps.now.history ≡ book.history = keeps.grown ∙ append-nil book.history in
     let first : begins q (length book.history) book.begun q ≡ length book.history = rw (eq-eqb q q refl) refl in
     let own_now : list_all (is_of q) (drop (keeps.now.begun q) keeps.now.history) ≡ true
@@ -117,11 +117,12 @@ begin_plays begin heap state book q command plays alone can =
       };
     }
 
-module _ (steps : EachStepKeeps) (begin : EachBeginKeeps) where
-  event_plays : (heap : Heap) (state : State) (book : Book) (event : Event) → PlaysOn heap state book → IsAlone state (seat_of_event event) → Can heap state event
+module _ (stays : MachineStays) (steps : EachStepKeeps) (begin : EachBeginKeeps) where
+  event_plays : (heap : Heap) (state : State) (book : Book) (event : Event) → PlaysOn heap state book → HappensAlone state event → Can heap state event
       → PlaysNext heap (after heap state event) book.history (entries heap state event)
-  event_plays heap state book (Begins q command) plays alone can = begin_plays begin heap state book q command plays alone can
-  event_plays heap state book (Steps q) plays alone can = step_plays steps heap state book q plays alone can
+  event_plays heap state book (Begins q command) plays alone can = begin_plays stays begin heap state book q command plays alone can
+  event_plays heap state book (Steps q) plays alone can = step_plays stays steps heap state book q plays alone can
+  event_plays heap state book Turns plays alone can = absurd alone
 
   run_plays : (heap : Heap) (state : State) (book : Book) (events : List Event) → PlaysOn heap state book → Run heap state events → OneCallAtATime heap state events
       → IsLegal heap true (book.history ++ history heap state events)
@@ -133,7 +134,7 @@ module _ (steps : EachStepKeeps) (begin : EachBeginKeeps) where
       ∙ append_assoc book.history (entries heap state event) (history heap (after heap state event) events)) rest
 
   -- so does the whole run, from the opening on
-  pub whole_calls_play : ((heap : Heap) (state : State) → IsHeap heap → IsOpening heap state → StandsFor heap state [] []) → WholeCallsPlay
+  pub whole_calls_play : OpeningStands → WholeCallsPlay
   whole_calls_play opens heap state events limits opening run alone =
       let first = opens heap state limits opening in
       subst (λ before. IsLegal heap true (before ++ history heap state events)) first.grown

@@ -4,15 +4,16 @@ use Rattle.std.proofs.lemmas.List.{append-nil}
 use Rattle.std.specs.List.{list_all}
 use Rattle.std.proofs.lemmas.List.Sums.{sum_by-cons}
 use Rattle.heap_model.specs.declared.heap.Heap.{Heap}
-use Rattle.heap_model.specs.declared.id.Id.{Id}
 use Rattle.heap_model.specs.declared.effect.Effect.{Effect}
 use Rattle.heap_model.specs.declared.command.Command.TheVariants as commands
 use Rattle.heap_model.specs.declared.reply.Reply.TheVariants as replies
 use Rattle.heap_model.specs.declared.entry.Entry.{Entry}
 use Rattle.heap_model.specs.declared.entry.Entry.TheVariants as entries
 use Rattle.heap_model.specs.Account.{KeepsSpace, KeepsSpaceAfter}
-use Rattle.heap_model.specs.Refusals.{FindsSpace, RefusesRightly, RefusesSpine}
-use Rattle.heap_model.specs.Phases.{ShowsRightly}
+use Rattle.heap_model.specs.Refusals.{FindsSpace, ShowsSpace, ShowsSpine}
+use Rattle.heap_model.specs.Phases.{ShowsPhases}
+use Rattle.heap_model.specs.declared.command.Command.{Command}
+use Rattle.heap_model.specs.declared.reply.Reply.{Reply}
 use Rattle.heap_model.specs.Space.{taken_of, spent_of, total, total_but}
 use Rattle.heap_model.specs.Effects.{effect_of, is_of}
 use Rattle.core_rule.specs.Owners.{Owner}
@@ -20,33 +21,67 @@ use Rattle.core_rule.specs.Counts.{AreUsed}
 use Rattle.core_rule.specs.Gathers.{GathersRight}
 use Rattle.core_rule.proofs.FreeSums.{taken_and_free, passed_all}
 
+-- a reply that refuses nothing for want of space, and waits for nobody
+abbrev pub IsPlainReply : Reply → Type 0
+IsPlainReply (replies.Full need found) = ⊥
+IsPlainReply (replies.SpineFull need used) = ⊥
+IsPlainReply (replies.Waits other answer p) = ⊥
+IsPlainReply _ = Unit {0}
+
 -- an entry by which nothing is refused
 pub data IsPlain : Entry → Type 0 where
   taking : (q count : ℕ) → IsPlain (entries.Takes q count)
   giving : (q count : ℕ) → IsPlain (entries.GivesBack q count)
-  making : (q d fields : ℕ) (id : Id) → IsPlain (entries.Said q (commands.New d fields) (replies.Made id))
+  saying : (q : ℕ) (command : Command) (reply : Reply) → IsPlainReply reply → IsPlain (entries.Said q command reply)
 
-refuses_nothing : (heap : Heap) (before : List Entry) (entry : Entry) → IsPlain entry
-    → RefusesRightly heap true before entry × RefusesSpine heap true before entry × ShowsRightly heap true before entry
-refuses_nothing heap before _ (taking q count) = (tt, tt, tt)
-refuses_nothing heap before _ (giving q count) = (tt, tt, tt)
-refuses_nothing heap before _ (making q d fields id) = (tt, tt, tt)
+shows_no_space : (heap : Heap) (before : List Entry) (q : ℕ) (command : Command) (reply : Reply) → IsPlainReply reply → ShowsSpace heap true before q command reply
+shows_no_space heap before q command (replies.Full need found) plain = absurd plain
+shows_no_space heap before q command _ plain = tt
+
+shows_no_spine : (heap : Heap) (before : List Entry) (q : ℕ) (command : Command) (reply : Reply) → IsPlainReply reply → ShowsSpine heap true before q command reply
+shows_no_spine heap before q command (replies.SpineFull need used) plain = absurd plain
+shows_no_spine heap before q command _ plain = tt
+
+shows_same : (heap : Heap) (before : List Entry) (q : ℕ) (command : Command) (reply : Reply) → IsPlainReply reply → ShowsPhases heap false before q command reply
+    → ShowsPhases heap true before q command reply
+shows_same heap before q commands.Collect (replies.Waits other answer p) plain shows = absurd plain
+shows_same heap before q _ _ plain shows = shows
 
 -- the rules for it are those of a run
 pub plain_keeps : (heap : Heap) (before : List Entry) (entry : Entry) → IsPlain entry → KeepsSpace heap false before entry → KeepsSpace heap true before entry
-plain_keeps heap before entry plain keeps =
-    let nothing = refuses_nothing heap before entry plain in
-    record {
-      takes = keeps.takes;
-      makes = keeps.makes;
-      refuses = nothing.0;
-      refuses_spine = nothing.1;
-      answers = keeps.answers;
-      begins = keeps.begins;
-      sweeps = keeps.sweeps;
-      ends = keeps.ends;
-      shows = nothing.2;
-    }
+plain_keeps heap before _ (taking q count) keeps = record {
+  takes = keeps.takes;
+  makes = tt;
+  refuses = tt;
+  refuses_spine = tt;
+  answers = tt;
+  begins = tt;
+  sweeps = tt;
+  ends = tt;
+  shows = tt;
+}
+plain_keeps heap before _ (giving q count) keeps = record {
+  takes = keeps.takes;
+  makes = tt;
+  refuses = tt;
+  refuses_spine = tt;
+  answers = tt;
+  begins = tt;
+  sweeps = tt;
+  ends = tt;
+  shows = tt;
+}
+plain_keeps heap before _ (saying q command reply plain) keeps = record {
+  takes = tt;
+  makes = keeps.makes;
+  refuses = shows_no_space heap before q command reply plain;
+  refuses_spine = shows_no_spine heap before q command reply plain;
+  answers = tt;
+  begins = tt;
+  sweeps = tt;
+  ends = tt;
+  shows = shows_same heap before q command reply plain keeps.shows;
+}
 
 -- the last entry of a legal history keeps the rules after those before it
 pub last_keeps : (heap : Heap) (play : Bool) (before history : List Entry) (entry : Entry) → KeepsSpaceAfter heap play before (history ++ entry ∷ [])

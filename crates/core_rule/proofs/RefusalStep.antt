@@ -19,23 +19,30 @@ use Rattle.core_machine.specs.Seat.{Seat, need}
 use Rattle.core_rule.specs.Book.{Book}
 use Rattle.core_rule.specs.Gathers.{GathersRight}
 use Rattle.core_rule.specs.Rule.{Rule}
-use Rattle.core_rule.proofs.Assemble.{Keeps, seat_steps}
-use Rattle.core_rule.proofs.Others.{counts_stay, began_stays, gathers_stay, of_other}
+use Rattle.core_rule.proofs.SeatLists.{making_list, list_of_making, list_owners, whole_list, list_stays, same_names}
+use Rattle.core_rule.proofs.WayFrames.{way_owners}
+use Rattle.core_rule.proofs.Resting.{rests_put, rests_more, quiet_more, quiet_same}
+use Rattle.core_rule.specs.Objects.{cells_at}
+use Rattle.core_machine.specs.Value.{IsMachine}
+use Rattle.core_machine.specs.Commands.{target_of}
+use Rattle.core_rule.proofs.Assemble.{fit_after, present_at, Keeps, seat_steps}
+use Rattle.core_rule.proofs.Others.{own-other, counts_stay, began_stays, gathers_stay, of_other}
 use Rattle.core_rule.proofs.Legality.{legal_more}
 use Rattle.core_rule.proofs.Refusals.{finds_in_run}
-use Rattle.core_rule.proofs.OwnEntries.{counts_own}
+use Rattle.core_rule.proofs.OwnEntries.{own_grows, counts_own}
 use Rattle.core_rule.proofs.GatherMoves.{nothing_tried}
 use Rattle.core_machine.proofs.Addresses.{put-at}
 use Rattle.core_rule.proofs.Bodies.{bare_hand}
 use Rattle.core_rule.proofs.RecordCommands.{graph_full, accepts_full, full_keeps}
-use Rattle.core_rule.proofs.InFlight.{is_busy, began_idle}
+use Rattle.core_rule.proofs.InFlight.{awaits_none, is_busy, began_idle}
 
 -- a refusal that is told keeps the rule
 pub refusal_keeps : (heap : Heap) (state : State) (book : Book) (q : ℕ) → Rule heap state book → q < heap.seats
     → (seat_at state q).place ≡ places.Making Refusing
+    → IsMachine heap (stepped heap state q (refusal_move q (seat_at state q)))
     → Keeps heap (stepped heap state q (refusal_move q (seat_at state q))) book book.begun
     ((refusal_move q (seat_at state q)).shows state.words (found_by heap state (refusal_move q (seat_at state q)).step))
-refusal_keeps heap state book q rule here place =
+refusal_keeps heap state book q rule here place machine =
     let seat : Seat = seat_at state q in
     let entry : Entry = full_entry q seat in
     let stands = rule.seats_stand q here in
@@ -51,15 +58,19 @@ refusal_keeps heap state book q rule here place =
     let finds : FindsSpace heap false book.history q (length seat.reserve + seat.given)
     = finds_in_run heap book.owner book.history q (book.begun q) seat.cursor seat.given (length seat.reserve) fits.cursor_within
     rule.heap_stands.used own (stands.began.unanswered (is_busy Refusing seat.place place)) (subst (λ n. GathersRight heap book.owner q (drop (book.begun q) book.history) seat.cursor n seat.given) refuses.all_tried stands.gathers) in
+    let present = present_at heap state book q Refusing rule here place in
+    let list = making_list g book.history book.made book.owner book.fragments q seat Refusing place stands.list in
+    let whole : IsMachine heap (record state { words = state.words; seats = slice_set state.seats q (seat_after (refusal_move q seat) (at heap state.words Phase)) })
+    = subst (λ words. IsMachine heap (record state { words = words; seats = slice_set state.seats q (seat_after (refusal_move q seat) (at heap state.words Phase)) })) (put-at heap state.words Phase) machine in
     let less : length seat.reserve + seat.given < need seat = omega (arith, refuses.too_few) in
     let legal = legal_more heap false book.history entry rule.heap_stands.legal
-    (accepts_full seat.command refuses.makes.a_record g q (need seat) (length seat.reserve + seat.given) refuses.makes.in_range stands.counts.present)
+    (accepts_full seat.command refuses.makes.a_record g q (need seat) (length seat.reserve + seat.given) refuses.makes.in_range present)
     (full_keeps seat.command refuses.makes.a_record heap false book.history q (length seat.reserve + seat.given)
     (omega (arith, own)) (omega (arith, own, fits.small_reserve)) less finds) in
     subst (λ words. Keeps heap (record state { words = words; seats = slice_set state.seats q (seat_after (refusal_move q seat) (at heap state.words Phase)) }) book book.begun (entry ∷ []))
     (sym (put-at heap state.words Phase))
     (seat_steps heap state book q state.words (seat_after (refusal_move q seat) (at heap state.words Phase)) (record book { history = history }) (entry ∷ [])
-    rule here refl refl
+    rule here whole refl refl
     record {
       table = rule.heap_stands.table;
       control_words = rule.heap_stands.control_words;
@@ -67,22 +78,18 @@ refusal_keeps heap state book q rule here place =
       objects = rw graph rule.heap_stands.objects;
       used = rw (total-more (λ e. e.given) book.history entry, total-more (λ e. e.freed) book.history entry, total-more (λ e. e.taken) book.history entry) (omega (arith, rule.heap_stands.used));
       legal = legal;
+      rests = rests_more heap state.words book.history entry refl rule.heap_stands.rests;
     }
     record {
-      fits = record {
-        registers_whole = fits.registers_whole;
-        cursor_within = fits.cursor_within;
-        small_reserve = fits.small_reserve;
-        reserve_of_cursor = fits.reserve_of_cursor;
-        hand_within = fits.hand_within;
-        body_within = fits.body_within;
-        at_place = record { empty_hand = at_place.1; no_body = refuses.no_body; none_stored = refuses.none_stored; none_tried = refl; none_given = refl };
-      };
+      fits = fit_after heap state book q rule here whole;
       holding = stands.holding;
       stored = stands.stored;
-      registers = rw graph stands.registers;
-      counts = rw graph (counts_own g g book.history q seat (seat_after (refusal_move q seat) (at heap state.words Phase)) stands.counts entry (eq-eqb q q refl) refl
-          stands.counts.numbered stands.counts.present (omega arith));
+      registers = rw graph (λ r fresh. stands.registers r (awaits_none Refusing seat.place (target_of seat.command) r place));
+      list = whole_list (graph_of heap history) history book.made book.owner book.fragments q (seat_after (refusal_move q seat) (at heap state.words Phase)) refl (own_grows q book.history seat.mine entry (eq-eqb q q refl) list);
+      way = tt;
+      quiet = quiet_more book.history q seat (seat_after (refusal_move q seat) (at heap state.words Phase)) refl stands.quiet entry refl;
+      counts = rw graph (counts_own g g book.history q seat (seat_after (refusal_move q seat) (at heap state.words Phase)) stands.counts entry (eq-eqb q q refl)
+          stands.counts.numbered stands.counts.stamped stands.counts.leaves (omega arith));
       began = began_idle book.history entry q (book.begun q) seat.place stands.began;
       gathers = nothing_tried heap book.owner q (drop (book.begun q) history) seat.cursor;
     }
@@ -91,6 +98,9 @@ refusal_keeps heap state book q rule here place =
       holding = other.holding;
       stored = other.stored;
       registers = rw graph other.registers;
+      list = rw graph (list_stays g g book.made book.made book.owner book.owner book.fragments book.fragments r (seat_at state r) (same_names book.made book.owner book.fragments) (λ d. refl) book.history history (own-other r book.history entry (of_other q r apart)) other.list);
+      way = rw graph other.way;
+      quiet = quiet_more book.history r (seat_at state r) (seat_at state r) refl other.quiet entry refl;
       counts = rw graph (counts_stay g g book.history entry r (seat_at state r) (of_other q r apart) refl other.counts);
       began = began_stays book.history entry r (book.begun r) (seat_at state r).place (of_other q r apart) other.began;
       gathers = gathers_stay heap book.owner r book.history (book.begun r) entry (seat_at state r).cursor (seat_at state r).tried (seat_at state r).given other.began.earlier other.gathers;

@@ -7,25 +7,26 @@ use Rattle.std.proofs.lemmas.Bool.Decides.{leb_tells}
 use Rattle.heap_model.specs.declared.heap.Heap.{Heap}
 use Rattle.heap_model.specs.declared.command.Command.{Command}
 use Rattle.heap_model.specs.Heap.{IsHeap}
-use Rattle.core_machine.specs.Machine.{State, seat_at, Event, Begins, Steps, Can, after, entries, Run, after_all, history}
+use Rattle.core_machine.specs.Machine.{State, seat_at, Event, Begins, Steps, Turns, Can, after, entries, Run, after_all, history}
 use Rattle.core_machine.specs.Moves.{Move, next_move}
 use Rattle.core_machine.specs.Opening.{IsOpening}
+use Rattle.core_machine.specs.Value.{IsMachine}
 use Rattle.core_machine.specs.Seat.{Seat, nobody}
 use Rattle.core_rule.specs.Book.{Book}
 use Rattle.core_rule.specs.Rule.{Rule}
-use Rattle.core_rule.specs.Laws.{StandsFor, EachEventKeeps, EveryRunKeeps}
+use Rattle.core_rule.specs.Laws.{StandsFor, EachEventKeeps, EveryRunKeeps, AreSeats}
 use Rattle.core_rule.proofs.Assemble.{Keeps, stands_for}
 use Rattle.core_rule.proofs.BeginStep.{begins}
 
 -- each step of a seat keeps the rule
 abbrev pub EachStepKeeps : Type 0
 EachStepKeeps = (heap : Heap) (state : State) (book : Book) (q : ℕ) → Rule heap state book → q < heap.seats
-    → Keeps heap (after heap state (Steps q)) book book.begun (entries heap state (Steps q))
+    → IsMachine heap (after heap state (Steps q)) → Keeps heap (after heap state (Steps q)) book book.begun (entries heap state (Steps q))
 
 -- so does each begin
 abbrev pub EachBeginKeeps : Type 0
 EachBeginKeeps = (heap : Heap) (state : State) (book : Book) (q : ℕ) (command : Command) → Rule heap state book → Can heap state (Begins q command)
-    → Keeps heap (after heap state (Begins q command)) book (begins q (length book.history) book.begun) []
+    → IsMachine heap (after heap state (Begins q command)) → Keeps heap (after heap state (Begins q command)) book (begins q (length book.history) book.begun) []
 
 no_move : IsSome {T = Move} None → ⊥
 no_move none = cc
@@ -40,19 +41,31 @@ seat_of_step heap state book q rule can = elim (leb_tells heap.seats q) as (λ _
     nothing_due : (seat : Seat) → seat ≡ nobody → IsSome (next_move heap q seat) → ⊥
     nothing_due seat none due = no_move (subst (λ s. IsSome (next_move heap q s)) none due)
 
+-- the machine's own facts are kept by each event
+abbrev pub MachineStays : Type 0
+MachineStays = (heap : Heap) (state : State) (event : Event) → IsMachine heap state → Can heap state event → IsMachine heap (after heap state event)
+
+-- an opening machine has a book
+abbrev pub OpeningStands : Type 0
+OpeningStands = (heap : Heap) (state : State) → IsHeap heap → IsOpening heap state → StandsFor heap state [] []
+
 -- so each event does
-pub each_event_keeps : EachStepKeeps → EachBeginKeeps → EachEventKeeps
-each_event_keeps steps begin heap state book (Begins q command) rule can = stands_for heap (after heap state (Begins q command)) book (begins q (length book.history) book.begun) [] (begin heap state book q command rule can)
-each_event_keeps steps begin heap state book (Steps q) rule can =
-    stands_for heap (after heap state (Steps q)) book book.begun (entries heap state (Steps q)) (steps heap state book q rule (seat_of_step heap state book q rule can))
+pub each_event_keeps : MachineStays → EachStepKeeps → EachBeginKeeps → EachEventKeeps
+each_event_keeps stays steps begin heap state book (Begins q command) rule can seats =
+    stands_for heap (after heap state (Begins q command)) book (begins q (length book.history) book.begun) []
+    (begin heap state book q command rule can (stays heap state (Begins q command) rule.machine can))
+each_event_keeps stays steps begin heap state book (Steps q) rule can seats =
+    stands_for heap (after heap state (Steps q)) book book.begun (entries heap state (Steps q))
+    (steps heap state book q rule (seat_of_step heap state book q rule can) (stays heap state (Steps q) rule.machine can))
+each_event_keeps stays steps begin heap state book Turns rule can seats = absurd seats
 
 -- each run keeps the rule
-pub run_keeps : EachEventKeeps → (heap : Heap) (state : State) (book : Book) (events : List Event) → Rule heap state book → Run heap state events
+pub run_keeps : EachEventKeeps → (heap : Heap) (state : State) (book : Book) (events : List Event) → Rule heap state book → Run heap state events → AreSeats events
     → StandsFor heap (after_all heap state events) book.history (history heap state events)
-run_keeps each heap state book [] rule run = record { book = book; grown = sym (append-nil book.history); rule = rule }
-run_keeps each heap state book (event ∷ events) rule run =
-    let first = each heap state book event rule run.0 in
-    let rest = run_keeps each heap (after heap state event) first.book events first.rule run.1 in
+run_keeps each heap state book [] rule run seats = record { book = book; grown = sym (append-nil book.history); rule = rule }
+run_keeps each heap state book (event ∷ events) rule run seats =
+    let first = each heap state book event rule run.0 seats.0 in
+    let rest = run_keeps each heap (after heap state event) first.book events first.rule run.1 seats.1 in
     record {
       book = rest.book;
       grown = rest.grown ∙ ap (λ es. es ++ history heap (after heap state event) events) first.grown
@@ -61,8 +74,8 @@ run_keeps each heap state book (event ∷ events) rule run =
     }
 
 -- from the opening on
-pub every_run_keeps : EachEventKeeps → ((heap : Heap) (state : State) → IsHeap heap → IsOpening heap state → StandsFor heap state [] []) → EveryRunKeeps
-every_run_keeps each opens heap state events limits opening run =
+pub every_run_keeps : EachEventKeeps → OpeningStands → EveryRunKeeps
+every_run_keeps each opens heap state events limits opening run seats =
     let first = opens heap state limits opening in
-    let rest = run_keeps each heap state first.book events first.rule run in
+    let rest = run_keeps each heap state first.book events first.rule run seats in
     record { book = rest.book; grown = rest.grown ∙ ap (λ es. es ++ history heap state events) first.grown; rule = rest.rule }

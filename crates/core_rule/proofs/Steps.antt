@@ -1,48 +1,92 @@
 -- Each step and each begin of a seat keeps the rule, by the place of its call.
-use Rattle.std.proofs.Common.{◌≡◌, ℕ, ◌<◌, Bool, true, false, refl, sym}
-use Rattle.std.proofs.lemmas.List.{append-nil}
+use Rattle.std.proofs.Common.{◌≡◌, ℕ, ◌<◌, Bool, true, false, List, [], length, refl, sym, subst}
 use Rattle.std.specs.Prelude.{if◌then◌else◌}
+use Rattle.std.proofs.lemmas.List.{append-nil}
 use Rattle.heap_model.specs.declared.heap.Heap.{Heap}
+use Rattle.heap_model.specs.declared.command.Command.{Command}
+use Rattle.heap_model.specs.declared.command.Command.TheVariants as commands
+use Rattle.heap_model.specs.Cycles.{graph_of}
 use Rattle.core_machine.specs.declared.place.Place.{Place}
 use Rattle.core_machine.specs.declared.place.Place.TheVariants as places
 use Rattle.core_machine.specs.declared.place.Making.TheVariants.{Gathering, Returning, Refusing, Storing, Bearing}
-use Rattle.core_machine.specs.Machine.{State, seat_at, moved, shown, stepped, found_by}
+use Rattle.core_machine.specs.declared.place.Reaching.TheVariants.{Opening, Walking, Getting, Naming, LoadingOld, ShadingOld, ShadingNew, Swapping}
+use Rattle.core_machine.specs.declared.place.Polling.TheVariants.{Asking, Shading, Answering}
+use Rattle.core_machine.specs.declared.place.Leaving.TheVariants.{Emptying, Parting}
+use Rattle.core_machine.specs.Commands.{IsRecord}
+use Rattle.core_machine.specs.Machine.{State, seat_at, moved, shown, stepped, found_by, after, Begins, Can}
 use Rattle.core_machine.specs.Moves.{move_at, is_last_birth, last_birth_move, birth_move}
-use Rattle.core_machine.proofs.FittingMoves.{fits_begun}
+use Rattle.core_machine.specs.Value.{IsMachine}
 use Rattle.core_rule.specs.Book.{Book}
+use Rattle.core_rule.specs.Objects.{cells_at}
 use Rattle.core_rule.specs.Rule.{Rule}
+use Rattle.core_rule.specs.Ways.{WayStands}
 use Rattle.core_rule.proofs.Assemble.{Keeps}
-use Rattle.core_rule.proofs.BeginStep.{begin_keeps}
+use Rattle.core_rule.proofs.BeginOthers.{begin_others_keep}
+use Rattle.core_rule.proofs.BeginStep.{begins, begin_keeps}
 use Rattle.core_rule.proofs.BirthStep.{birth_keeps}
 use Rattle.core_rule.proofs.ClaimStep.{claim_keeps}
+use Rattle.core_rule.proofs.EmptyStep.{empty_keeps}
+use Rattle.core_rule.proofs.GetStep.{get_keeps}
 use Rattle.core_rule.proofs.GiveBackStep.{give_back_keeps}
+use Rattle.core_rule.proofs.LastBirthStep.{last_birth_keeps}
+use Rattle.core_rule.proofs.LeaveStep.{leave_keeps}
+use Rattle.core_rule.proofs.NameStep.{name_keeps}
+use Rattle.core_rule.proofs.OnwardStep.{walk_keeps}
+use Rattle.core_rule.proofs.OpenStep.{open_keeps}
+use Rattle.core_rule.proofs.PollStep.{poll_keeps}
 use Rattle.core_rule.proofs.RefusalStep.{refusal_keeps}
 use Rattle.core_rule.proofs.Runs.{EachStepKeeps, EachBeginKeeps}
 use Rattle.core_rule.proofs.StoreStep.{store_keeps}
-use Rattle.core_rule.proofs.LastBirthStep.{last_birth_keeps}
+use Rattle.core_rule.proofs.SwapStep.{swap_keeps}
+use Rattle.core_rule.proofs.TellingStep.{telling_keeps}
 
--- the step due at this place keeps the rule
-keeps_at : (heap : Heap) (state : State) (book : Book) (q : ℕ) (place : Place) → Rule heap state book → q < heap.seats → (seat_at state q).place ≡ place
-    → Keeps heap (moved heap state q (move_at heap q (seat_at state q) place)) book book.begun (shown heap state (move_at heap q (seat_at state q) place))
-keeps_at heap state book q places.Idle rule here placed = record { now = book; grown = sym (append-nil book.history); calls = refl; rule = rule }
-keeps_at heap state book q (places.Making Gathering) rule here placed = claim_keeps heap state book q rule here placed
-keeps_at heap state book q (places.Making Returning) rule here placed = give_back_keeps heap state book q rule here placed
-keeps_at heap state book q (places.Making Refusing) rule here placed = refusal_keeps heap state book q rule here placed
-keeps_at heap state book q (places.Making Storing) rule here placed = store_keeps heap state book q rule here placed
-keeps_at heap state book q (places.Making Bearing) rule here placed =
-    bearing (is_last_birth (seat_at state q)) refl
-  where
-    bearing : (last : Bool) → is_last_birth (seat_at state q) ≡ last
-        → Keeps heap (stepped heap state q (if last then last_birth_move q (seat_at state q) else birth_move (seat_at state q))) book book.begun
-        ((if last then last_birth_move q (seat_at state q) else birth_move (seat_at state q)).shows state.words
-        (found_by heap state (if last then last_birth_move q (seat_at state q) else birth_move (seat_at state q)).step))
-    bearing true last = last_birth_keeps heap state book q rule here placed last
-    bearing false more = birth_keeps heap state book q rule here placed more
+module _ (heap : Heap) (state : State) (book : Book) (q : ℕ) (rule : Rule heap state book) (here : q < heap.seats) where
+  -- a seat is at no place at which nothing can be true of its way
+  way_at : (place : Place) → (seat_at state q).place ≡ place → WayStands (cells_at (graph_of heap book.history) book.made) book.made book.owner book.fragments (seat_at state q) place
+  way_at place placed = subst (λ p. WayStands (cells_at (graph_of heap book.history) book.made) book.made book.owner book.fragments (seat_at state q) p) placed
+      (rule.seats_stand q here).way
 
--- whatever the place is
+  -- the step due at this place keeps the rule
+  keeps_at : (place : Place) → (seat_at state q).place ≡ place → IsMachine heap (moved heap state q (move_at heap q (seat_at state q) place))
+      → Keeps heap (moved heap state q (move_at heap q (seat_at state q) place)) book book.begun (shown heap state (move_at heap q (seat_at state q) place))
+  keeps_at places.Idle placed machine = record { now = book; grown = sym (append-nil book.history); calls = refl; rule = rule }
+  keeps_at (places.Making Gathering) placed machine = claim_keeps heap state book q rule here placed machine
+  keeps_at (places.Making Returning) placed machine = give_back_keeps heap state book q rule here placed machine
+  keeps_at (places.Making Refusing) placed machine = refusal_keeps heap state book q rule here placed machine
+  keeps_at (places.Making Storing) placed machine = store_keeps heap state book q rule here placed machine
+  keeps_at (places.Making Bearing) placed machine =
+      bearing (is_last_birth (seat_at state q)) refl machine
+    where
+      bearing : (last : Bool) → is_last_birth (seat_at state q) ≡ last
+          → IsMachine heap (stepped heap state q (if last then last_birth_move q (seat_at state q) else birth_move (seat_at state q)))
+          → Keeps heap (stepped heap state q (if last then last_birth_move q (seat_at state q) else birth_move (seat_at state q))) book book.begun
+          ((if last then last_birth_move q (seat_at state q) else birth_move (seat_at state q)).shows state.words
+          (found_by heap state (if last then last_birth_move q (seat_at state q) else birth_move (seat_at state q)).step))
+      bearing true last whole = last_birth_keeps heap state book q rule here placed last whole
+      bearing false more whole = birth_keeps heap state book q rule here placed more whole
+  keeps_at places.Telling placed machine = telling_keeps heap state book q rule here placed machine
+  keeps_at (places.Reaching Opening) placed machine = open_keeps heap state book q rule here placed machine
+  keeps_at (places.Reaching Walking) placed machine = walk_keeps heap state book q rule here placed machine
+  keeps_at (places.Reaching Getting) placed machine = get_keeps heap state book q rule here placed machine
+  keeps_at (places.Reaching Naming) placed machine = name_keeps heap state book q rule here placed machine
+  keeps_at (places.Reaching LoadingOld) placed machine = absurd (way_at (places.Reaching LoadingOld) placed)
+  keeps_at (places.Reaching ShadingOld) placed machine = absurd (way_at (places.Reaching ShadingOld) placed)
+  keeps_at (places.Reaching ShadingNew) placed machine = absurd (way_at (places.Reaching ShadingNew) placed)
+  keeps_at (places.Reaching Swapping) placed machine = swap_keeps heap state book q rule here placed machine
+  keeps_at (places.Polling Asking) placed machine = poll_keeps heap state book q rule here placed machine
+  keeps_at (places.Polling Shading) placed machine = absurd (way_at (places.Polling Shading) placed)
+  keeps_at (places.Polling Answering) placed machine = absurd (way_at (places.Polling Answering) placed)
+  keeps_at (places.Leaving Emptying) placed machine = empty_keeps heap state book q rule here placed machine
+  keeps_at (places.Leaving Parting) placed machine = leave_keeps heap state book q rule here placed machine
+
 pub each_step_keeps : EachStepKeeps
-each_step_keeps heap state book q rule here = keeps_at heap state book q (seat_at state q).place rule here refl
+each_step_keeps heap state book q rule here machine = keeps_at heap state book q rule here (seat_at state q).place refl machine
+
+-- so does the begin of a call
+begins_at : (heap : Heap) (state : State) (book : Book) (q : ℕ) (command : Command) → Rule heap state book → q < heap.seats → Can heap state (Begins q command)
+    → IsMachine heap (after heap state (Begins q command)) → Keeps heap (after heap state (Begins q command)) book (begins q (length book.history) book.begun) []
+begins_at heap state book q (commands.New d fields) rule here can machine = begin_keeps heap state book q (commands.New d fields) rule here can.1 tt machine
+begins_at heap state book q command rule here can machine = begin_others_keep heap state book q command rule here can.1 (λ made. made) machine
 
 pub each_begin_keeps : EachBeginKeeps
-each_begin_keeps heap state book q command rule can =
-    begin_keeps heap state book q command rule (rw (← rule.all_seats) can.0) can.1 (fits_begun heap (seat_at state q) command (rule.seats_stand q (rw (← rule.all_seats) can.0)).fits can.1)
+each_begin_keeps heap state book q command rule can machine = begins_at heap state book q command rule (rw (← rule.all_seats) can.0) can machine

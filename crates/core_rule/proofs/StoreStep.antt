@@ -12,25 +12,31 @@ use Rattle.core_machine.specs.Machine.{State, seat_at, stepped, found_by}
 use Rattle.core_machine.specs.Making.{newborn_word, stored_more}
 use Rattle.core_machine.specs.Moves.{store_move, seat_after}
 use Rattle.core_machine.specs.Seat.{Seat}
-use Rattle.core_machine.proofs.FittingMoves.{fits_stored, fits_entries}
 use Rattle.core_rule.specs.Book.{Book, fragment_at}
 use Rattle.core_rule.specs.Rule.{Rule}
-use Rattle.core_rule.proofs.Assemble.{Keeps, seat_steps}
+use Rattle.core_rule.proofs.SeatLists.{making_list, list_of_making, list_owners, whole_list, list_stays, same_names}
+use Rattle.core_rule.proofs.WayFrames.{way_owners}
+use Rattle.core_rule.proofs.Resting.{rests_put, rests_more, quiet_more, quiet_same}
+use Rattle.core_rule.specs.Objects.{cells_at}
+use Rattle.core_machine.specs.Value.{IsMachine}
+use Rattle.core_machine.specs.Commands.{target_of}
+use Rattle.core_rule.proofs.Assemble.{fit_after, present_at, Keeps, seat_steps}
 use Rattle.core_rule.proofs.ObjectFrames.{objects_store}
 use Rattle.core_rule.proofs.StoreLemmas.{bits_store, store_next}
 use Rattle.core_rule.proofs.StoredFrames.{stored_store}
 use Rattle.core_rule.proofs.OwnerLemmas.{IsOwn, own_keeps_none, own_not_others}
 use Rattle.core_machine.proofs.Addresses.{length-put}
 use Rattle.core_rule.proofs.Bodies.{body_once, body_at-own}
-use Rattle.core_rule.proofs.InFlight.{stored_within, began_on, is_busy}
+use Rattle.core_rule.proofs.InFlight.{awaits_none, stored_within, began_on, is_busy}
 use Rattle.core_rule.proofs.OwnEntries.{counts_same}
 
 -- a store keeps the rule
 pub store_keeps : (heap : Heap) (state : State) (book : Book) (q : ℕ) → Rule heap state book → q < heap.seats
     → (seat_at state q).place ≡ places.Making Storing
+    → IsMachine heap (stepped heap state q (store_move q (seat_at state q)))
     → Keeps heap (stepped heap state q (store_move q (seat_at state q))) book book.begun
     ((store_move q (seat_at state q)).shows state.words (found_by heap state (store_move q (seat_at state q)).step))
-store_keeps heap state book q rule here place =
+store_keeps heap state book q rule here place machine =
     let seat : Seat = seat_at state q in
     let f : ℕ = fragment_at seat.body (seat.stored / 4) in
     let part : ℕ = seat.stored % 4 in
@@ -43,7 +49,7 @@ store_keeps heap state book q rule here place =
     let fits_part : part < 4 = omega arith in
     let own : IsOwn q (book.owner f) = body_at-own book.owner q seat.reserve seat.hand seat.body stands.holding (seat.stored / 4) row in
     let once = body_once book.owner q seat.reserve seat.hand seat.body stands.holding (omega (arith, row)) in
-    seat_steps heap state book q words (seat_after (store_move q seat) found) book [] rule here (sym (append-nil book.history)) refl
+    seat_steps heap state book q words (seat_after (store_move q seat) found) book [] rule here machine (sym (append-nil book.history)) refl
     record {
       table = length-put heap state.words (Word f part) word ∙ rule.heap_stands.table;
       control_words = bits_store heap state.words book.owner f part word rule.heap_stands.control_words;
@@ -52,13 +58,18 @@ store_keeps heap state book q rule here place =
           (λ i k. own_keeps_none q i k (book.owner f) own) rule.heap_stands.objects;
       used = rule.heap_stands.used;
       legal = rule.heap_stands.legal;
+      rests = rests_put heap state.words book.history (Word f part) word (λ e. omega (arith, e)) rule.heap_stands.rests;
     }
     record {
-      fits = fits_entries heap (stored_more seat) [] (fits_stored heap seat stands.fits at_place.0 at_place.1 at_place.2);
+      fits = fit_after heap state book q rule here machine;
       holding = stands.holding;
       stored = store_next heap seat.body (newborn_word q seat) state.words seat.stored once stands.fits.body_within at_place.2 rule.heap_stands.table stands.stored;
-      registers = stands.registers;
-      counts = counts_same (graph_of heap book.history) book.history q seat (seat_after (store_move q seat) found) refl refl refl stands.counts;
+      registers = λ r fresh. stands.registers r (awaits_none Storing seat.place (target_of seat.command) r place);
+      list = whole_list (graph_of heap book.history) book.history book.made book.owner book.fragments q (seat_after (store_move q seat) found) refl
+          (append-nil seat.mine ∙ making_list (graph_of heap book.history) book.history book.made book.owner book.fragments q seat Storing place stands.list);
+      way = tt;
+      quiet = quiet_same book.history q seat (seat_after (store_move q seat) found) refl stands.quiet;
+      counts = counts_same (graph_of heap book.history) book.history q seat (seat_after (store_move q seat) found) refl refl refl refl stands.counts;
       began = began_on book.history q (book.begun q) seat.place (seat_after (store_move q seat) found).place (is_busy Storing seat.place place) stands.began;
       gathers = stands.gathers;
     }
@@ -68,6 +79,9 @@ store_keeps heap state book q rule here place =
       stored = stored_store heap state.words book.owner r (seat_at state r) f part word other.holding
           (stored_within heap (seat_at state r) (seat_at state r).place other.fits.at_place) fits_part (λ o. apart (own_not_others r q (book.owner f) o own)) other.stored;
       registers = other.registers;
+      list = other.list;
+      way = other.way;
+      quiet = other.quiet;
       counts = other.counts;
       began = other.began;
       gathers = other.gathers;

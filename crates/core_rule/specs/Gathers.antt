@@ -1,5 +1,5 @@
 -- What a gather knows of the groups that it has passed, though other parties take and give back meanwhile.
-use Rattle.std.specs.Prelude.{◌≡◌, ◌≢◌, ℕ, ◌+◌, ◌*◌, ◌%◌, ◌≤◌, false, List, length, drop}
+use Rattle.std.specs.Prelude.{◌≡◌, ℕ, ◌+◌, ◌*◌, ◌%◌, ◌≤◌, false, List, length, drop}
 use Rattle.std.specs.List.{list_any}
 use Rattle.heap_model.specs.declared.heap.Heap.{Heap}
 use Rattle.heap_model.specs.declared.entry.Entry.{Entry}
@@ -7,7 +7,8 @@ use Rattle.heap_model.specs.Refusals.{given_up}
 use Rattle.heap_model.specs.Space.{total_but}
 use Rattle.heap_model.specs.Windows.{is_reply_to}
 use Rattle.core_machine.specs.declared.place.Place.{Place}
-use Rattle.core_machine.specs.declared.place.Place.TheVariants.{Idle}
+use Rattle.core_machine.specs.declared.place.Place.TheVariants as places
+use Rattle.core_machine.specs.declared.place.Reaching.TheVariants.{Naming}
 use Rattle.core_machine.specs.Sums.{sum_upto}
 use Rattle.core_rule.specs.Owners.{Owner, free_bit}
 
@@ -29,7 +30,13 @@ pub record GathersRight (heap : Heap) (owner : ℕ → Owner) (q : ℕ) (since :
   pub passed : free_in_passed heap owner cursor tried ≤ given_up q since + given
   pub returned : given ≤ free_in_all heap owner + total_but q (λ e. e.taken) since
 
+-- no reply is to come: there is no call, or the history has its reply, which only awaits a name
+abbrev pub IsAnswered : Place → Type 0
+IsAnswered places.Idle = Unit {0}
+IsAnswered (places.Reaching Naming) = Unit {0}
+IsAnswered _ = ⊥
+
 -- the call in flight began when the history had this length, and wasn't answered since
 pub record Began (history : List Entry) (q begun : ℕ) (place : Place) : Type 0 where
   pub earlier : begun ≤ length history
-  pub unanswered : place ≢ Idle → list_any (is_reply_to q) (drop begun history) ≡ false
+  pub unanswered : ¬ IsAnswered place → list_any (is_reply_to q) (drop begun history) ≡ false

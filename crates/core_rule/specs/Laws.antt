@@ -7,7 +7,7 @@ use Rattle.heap_model.specs.Account.{IsLegal}
 use Rattle.heap_model.specs.Space.{gained, lost}
 use Rattle.core_machine.specs.declared.place.Place.TheVariants.{Idle}
 use Rattle.core_machine.specs.Calls.{free_fragments}
-use Rattle.core_machine.specs.Machine.{State, seat_at, Event, Begins, Steps, Can, after, entries, Run, after_all, history}
+use Rattle.core_machine.specs.Machine.{State, seat_at, Event, Begins, Steps, Turns, Can, after, entries, Run, after_all, history}
 use Rattle.core_machine.specs.Opening.{IsOpening}
 use Rattle.core_rule.specs.Book.{Book}
 use Rattle.core_rule.specs.Rule.{Rule}
@@ -18,30 +18,40 @@ pub record StandsFor (heap : Heap) (state : State) (before added : List Entry) :
   pub grown : book.history ≡ before ++ added
   pub rule : Rule heap state book
 
--- from any state and book that meet the rule, whatever led to them, each event that may happen gives a state that some book stands for,
--- whose history is the old one and then the event's entries
+-- the event is a seat's: the collector makes no turn yet
+abbrev pub IsSeats : Event → Type 0
+IsSeats Turns = ⊥
+IsSeats _ = Unit {0}
+
+abbrev pub AreSeats : List Event → Type 0
+AreSeats [] = Unit {0}
+AreSeats (event ∷ events) = IsSeats event × AreSeats events
+
+-- from any state and book that meet the rule, whatever led to them, each event of a seat that may happen gives a state that some book
+-- stands for, whose history is the old one and then the event's entries
 abbrev pub EachEventKeeps : Type 0
-EachEventKeeps = (heap : Heap) (state : State) (book : Book) (event : Event) → Rule heap state book → Can heap state event
+EachEventKeeps = (heap : Heap) (state : State) (book : Book) (event : Event) → Rule heap state book → Can heap state event → IsSeats event
     → StandsFor heap (after heap state event) book.history (entries heap state event)
 
--- so does every run from the opening
+-- so does every run of seats from the opening
 abbrev pub EveryRunKeeps : Type 0
-EveryRunKeeps = (heap : Heap) (state : State) (events : List Event) → IsHeap heap → IsOpening heap state → Run heap state events
+EveryRunKeeps = (heap : Heap) (state : State) (events : List Event) → IsHeap heap → IsOpening heap state → Run heap state events → AreSeats events
     → StandsFor heap (after_all heap state events) [] (history heap state events)
-
--- the seat of an event
-abbrev pub seat_of_event : Event → ℕ
-seat_of_event (Begins number command) = number
-seat_of_event (Steps number) = number
 
 -- no other seat has a call in flight
 abbrev pub IsAlone : State → ℕ → Type 0
 IsAlone state number = (other : ℕ) → other < length state.seats → other ≢ number → (seat_at state other).place ≡ Idle
 
+-- the event is that of a seat that is alone
+abbrev pub HappensAlone : State → Event → Type 0
+HappensAlone state (Begins number command) = IsAlone state number
+HappensAlone state (Steps number) = IsAlone state number
+HappensAlone state Turns = ⊥
+
 -- whole calls, one after another
 abbrev pub OneCallAtATime : Heap → State → List Event → Type 0
 OneCallAtATime heap state [] = Unit {0}
-OneCallAtATime heap state (event ∷ events) = IsAlone state (seat_of_event event) × OneCallAtATime heap (after heap state event) events
+OneCallAtATime heap state (event ∷ events) = HappensAlone state event × OneCallAtATime heap (after heap state event) events
 
 -- a run of whole calls, one after another, has a history that is legal as a play
 abbrev pub WholeCallsPlay : Type 0

@@ -6,5 +6,7 @@ pub mod Registers
 pub mod Holding
 pub mod Counts
 pub mod Gathers
+pub mod Phases
+pub mod Ways
 pub mod Rule
 pub mod Laws

@@ -1,5 +1,5 @@
 -- The objects that were made, and the words of those that are kept.
-use Rattle.std.specs.Prelude.{◌≡◌, ℕ, ◌+◌, ◌-◌, ◌*◌, ◌==◌, ◌<◌, ◌≤◌, Bool, nat_lt, if◌then◌else◌, List, [], length, slice_get, Option, Some, None}
+use Rattle.std.specs.Prelude.{◌≡◌, ℕ, ◌+◌, ◌-◌, ◌*◌, ◌^◌, ◌==◌, ◌<◌, ◌≤◌, Bool, nat_lt, if◌then◌else◌, List, [], length, slice_get, Option, Some, None}
 use Rattle.heap_words.specs.declared.kind.Kind.TheVariants as kinds
 use Rattle.heap_words.specs.declared.name.Name.{Name}
 use Rattle.heap_words.specs.Cell.{cell_word}
@@ -19,12 +19,18 @@ use Rattle.core_machine.specs.Newborn.{record_word}
 use Rattle.core_rule.specs.Owners.{Owner, Keeps}
 use Rattle.core_rule.specs.Book.{fragment_at, id_at, number_of, head_of}
 
+-- the id fits into a name
+abbrev pub FitsName : Id → Type 0
+FitsName Board = Unit {0}
+FitsName (Made s count) = (s < 255) × (count < 2 ^ 32)
+
 -- the list has exactly the ids of the graph's objects, each once, the board first
 pub record AreMade (g : State) (made : List Id) : Type 0 where
   pub board : slice_get made 0 ≡ Some Board
   pub in_graph : (i : ℕ) → i < length made → IsMade g (id_at made i)
   pub numbered : (id : Id) → IsMade g id → (number_of made id < length made) × (id_at made (number_of made id) ≡ id)
   pub distinct : (i : ℕ) → i < length made → number_of made (id_at made i) ≡ i
+  pub fit : (i : ℕ) → i < length made → FitsName (id_at made i)
 
 -- the name of an object: 0 for the board, and else its maker's number plus 1, with its count
 abbrev pub name_of : Id → Name
@@ -60,10 +66,10 @@ cells_in (Some object) = object.cells
 abbrev pub IsKept : (ℕ → Owner) → (ℕ → List ℕ) → ℕ → Type 0
 IsKept owner fragments i = owner (fragment_at (fragments i) 0) ≡ Keeps i 0
 
--- a value names a kept object, or none
+-- a value names a kept object, or is a number of at most thirty bits, or nothing
 abbrev pub NamesKept : List Id → (ℕ → Owner) → (ℕ → List ℕ) → Value → Type 0
 NamesKept made owner fragments Nil = Unit {0}
-NamesKept made owner fragments (Number n) = Unit {0}
+NamesKept made owner fragments (Number n) = n < 2 ^ 30
 NamesKept made owner fragments (Object id) = (number_of made id < length made) × IsKept owner fragments (number_of made id)
 
 -- a kept object's fragments are its own, and have the words of its name and cells
@@ -83,5 +89,5 @@ pub record Objects (heap : Heap) (words : List ℕ) (g : State) (made : List Id)
   pub kept : (i : ℕ) → i < length made → IsKept owner fragments i
       → KeptObject heap words owner (head_of made fragments) i (id_at made i) (cells_at g made i) (fragments i)
   pub named : (i j : ℕ) → i < length made → IsKept owner fragments i → (cell : Cell) → slice_get (cells_at g made i) j ≡ Some cell
-      → NamesKept made owner fragments cell.value
+      → NamesKept made owner fragments cell.value × (cell.stamp < 2 ^ 32)
   pub back : (f i k : ℕ) → owner f ≡ Keeps i k → (i < length made) × IsKept owner fragments i × (k < length (fragments i)) × (f ≡ fragment_at (fragments i) k)

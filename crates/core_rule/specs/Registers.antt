@@ -1,10 +1,13 @@
 -- A seat's registers hold what the graph says.
-use Rattle.std.specs.Prelude.{◌≡◌, ℕ, List, slice_index_or}
+use Rattle.std.specs.Prelude.{◌≡◌, ℕ, ◌<◌, ◌^◌, List, slice_index_or}
 use Rattle.heap_model.specs.declared.id.Id.{Id}
 use Rattle.heap_model.specs.declared.id.Value.{Value}
 use Rattle.heap_model.specs.declared.id.Value.TheVariants as values
 use Rattle.heap_model.specs.Objects.{register}
 use Rattle.heap_model.specs.State.{State}
+use Rattle.core_machine.specs.declared.place.Place.{Place}
+use Rattle.core_machine.specs.declared.place.Place.TheVariants as places
+use Rattle.core_machine.specs.declared.place.Reaching.TheVariants.{Naming}
 use Rattle.core_machine.specs.declared.register.Register.{Register}
 use Rattle.core_machine.specs.declared.register.Register.TheVariants as registers
 use Rattle.core_rule.specs.Owners.{Owner}
@@ -14,11 +17,16 @@ use Rattle.core_rule.specs.Objects.{NamesKept}
 -- what a register holds is the value: a number, nothing, or a kept object's first fragment with its id
 abbrev pub Holds : List Id → (ℕ → Owner) → (ℕ → List ℕ) → Register → Value → Type 0
 Holds made owner fragments registers.Nil value = value ≡ values.Nil
-Holds made owner fragments (registers.Number n) value = value ≡ values.Number n
+Holds made owner fragments (registers.Number n) value = (value ≡ values.Number n) × (n < 2 ^ 30)
 Holds made owner fragments (registers.Object head id) value =
     (value ≡ values.Object id) × NamesKept made owner fragments (values.Object id) × (head ≡ head_of made fragments id)
 
--- each register of the seat holds its value in the graph
-abbrev pub Registers : State → List Id → (ℕ → Owner) → (ℕ → List ℕ) → ℕ → List Register → Type 0
-Registers g made owner fragments q held =
-    (r : ℕ) → Holds made owner fragments (slice_index_or held r registers.Nil) (register g q r)
+-- a get has loaded a reference, and its register d still awaits the object's name
+abbrev pub IsAwaited : Place → ℕ → ℕ → Type 0
+IsAwaited (places.Reaching Naming) d r = r ≡ d
+IsAwaited _ d r = ⊥
+
+-- each register of the seat holds its value in the graph, but for one that is awaited
+abbrev pub Registers : State → List Id → (ℕ → Owner) → (ℕ → List ℕ) → ℕ → List Register → Place → ℕ → Type 0
+Registers g made owner fragments q held place d =
+    (r : ℕ) → ¬ IsAwaited place d r → Holds made owner fragments (slice_index_or held r registers.Nil) (register g q r)

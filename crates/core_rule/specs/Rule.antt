@@ -4,16 +4,20 @@ use Rattle.heap_model.specs.declared.heap.Heap.{Heap}
 use Rattle.heap_model.specs.Heap.{IsHeap}
 use Rattle.heap_model.specs.Account.{IsLegal}
 use Rattle.heap_model.specs.Cycles.{graph_of}
+use Rattle.core_machine.specs.Commands.{target_of}
 use Rattle.core_machine.specs.Fits.{Fits}
 use Rattle.core_machine.specs.Layout.{table_length}
 use Rattle.core_machine.specs.Machine.{State, seat_at}
 use Rattle.core_machine.specs.Seat.{Seat}
+use Rattle.core_machine.specs.Value.{IsMachine}
 use Rattle.core_rule.specs.Book.{Book}
 use Rattle.core_rule.specs.ControlWords.{Bits}
-use Rattle.core_rule.specs.Objects.{AreMade, Objects}
+use Rattle.core_rule.specs.Objects.{AreMade, Objects, cells_at}
 use Rattle.core_rule.specs.Registers.{Registers}
 use Rattle.core_rule.specs.Holding.{Holding, IsStored}
-use Rattle.core_rule.specs.Counts.{OwnCounts, AreUsed, is_collectors}
+use Rattle.core_rule.specs.Counts.{OwnCounts, OwnList, AreUsed, is_collectors}
+use Rattle.core_rule.specs.Phases.{Rests, IsQuiet}
+use Rattle.core_rule.specs.Ways.{WayStands}
 use Rattle.core_rule.specs.Gathers.{GathersRight, Began}
 
 -- what is true of the heap
@@ -23,6 +27,7 @@ pub record HeapStands (heap : Heap) (words : List ℕ) (book : Book) : Type 0 wh
   pub ids : AreMade (graph_of heap book.history) book.made
   pub objects : Objects heap words (graph_of heap book.history) book.made book.owner book.fragments
   pub used : AreUsed heap book.owner book.history
+  pub rests : Rests heap words book.history
   pub legal : IsLegal heap false book.history
 
 -- what is true of a seat
@@ -30,13 +35,17 @@ pub record SeatStands (heap : Heap) (words : List ℕ) (book : Book) (q : ℕ) (
   pub fits : Fits heap seat
   pub holding : Holding book.owner q seat.reserve seat.hand seat.body
   pub stored : IsStored heap words q seat
-  pub registers : Registers (graph_of heap book.history) book.made book.owner book.fragments q seat.registers
+  pub registers : Registers (graph_of heap book.history) book.made book.owner book.fragments q seat.registers seat.place (target_of seat.command)
+  pub list : OwnList (graph_of heap book.history) book.history book.made book.owner book.fragments q seat
+  pub way : WayStands (cells_at (graph_of heap book.history) book.made) book.made book.owner book.fragments seat seat.place
+  pub quiet : IsQuiet book.history q seat
   pub counts : OwnCounts (graph_of heap book.history) book.history q seat
   pub began : Began book.history q (book.begun q) seat.place
   pub gathers : GathersRight heap book.owner q (drop (book.begun q) book.history) seat.cursor seat.tried seat.given
 
 pub record Rule (heap : Heap) (state : State) (book : Book) : Type 0 where
   pub limits : IsHeap heap
+  pub machine : IsMachine heap state
   pub all_seats : length state.seats ≡ heap.seats
   pub heap_stands : HeapStands heap state.words book
   pub seats_stand : (q : ℕ) → q < heap.seats → SeatStands heap state.words book q (seat_at state q)

@@ -1,0 +1,25 @@
+-- Where a record's field stands.
+use Rattle.std.proofs.Common.{◌≡◌, ℕ, ◌+◌, ◌-◌, ◌*◌, ◌<◌, true, inl, inr, refl, arith}
+use Rattle.std.proofs.lemmas.Bool.{lt-ltb}
+use Rattle.std.proofs.lemmas.Bool.Decides.{eqb_tells}
+use Rattle.heap_model.specs.Needs.{record_fragments}
+use Rattle.core_machine.specs.Reaching.{row_of, part_of}
+use Rattle.core_rule.specs.Objects.{is_cell}
+
+-- the field of a row and a part
+pub field_back : (i : ℕ) → 3 * row_of i + part_of i - 2 ≡ i
+field_back i = omega arith
+
+pub part_within : (i : ℕ) → part_of i < 4
+part_within i = omega arith
+
+-- a cell stands there
+pub cell_there : (i : ℕ) → is_cell (row_of i) (part_of i) ≡ true
+cell_there i = elim (eqb_tells (row_of i) 0) as (λ _. is_cell (row_of i) (part_of i) ≡ true) [
+  | inl head ↦ rw (head.0, lt-ltb 1 (part_of i) (omega (arith, head.1))) refl
+  | inr other ↦ rw (other.0, lt-ltb 0 (part_of i) (omega arith)) refl
+]
+
+-- the record has that row
+pub row_within : (i length : ℕ) → i < length → row_of i < record_fragments length
+row_within i length within = omega (arith, within)
