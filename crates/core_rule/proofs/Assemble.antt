@@ -1,5 +1,5 @@
 -- A seat's step keeps the rule, where the heap, the seat and each other seat stand after it.
-use Rattle.std.proofs.Common.{◌≡◌, ◌≢◌, ℕ, ◌<◌, List, [], ◌++◌, length, filter, slice_set, slice_index_or, refl, sym, Bool, true, false, ◌∙◌, subst, inl, inr}
+use Rattle.std.proofs.Common.{◌≡◌, ◌≢◌, ℕ, ◌<◌, List, [], ◌++◌, length, filter, slice_set, slice_index_or, refl, sym, false, ◌∙◌, subst, inl, inr}
 use Rattle.std.proofs.lemmas.List.{get_or-set_same, get_or-set_other, append-nil, length-set}
 use Rattle.std.proofs.lemmas.List.Elements.{filter-append}
 use Rattle.std.proofs.lemmas.Bool.Decides.{eqb_tells}
@@ -17,6 +17,7 @@ use Rattle.core_rule.specs.Book.{Book}
 use Rattle.core_rule.specs.Counts.{is_collectors}
 use Rattle.core_rule.specs.Rule.{Rule, HeapStands, SeatStands}
 use Rattle.core_rule.specs.Laws.{StandsFor}
+use Rattle.core_rule.proofs.AtRest.{in_flight}
 
 -- a seat's new data leave the other seats'
 pub each_seat : (P : ℕ → Seat → Type 0) (seats : List Seat) (q : ℕ) (seat : Seat) → q < length seats → P q seat
@@ -48,14 +49,11 @@ stands_for heap state book begun added keeps = record { book = keeps.now; grown 
 pub present_at : (heap : Heap) (state : State) (book : Book) (q : ℕ) (making : Making) → Rule heap state book → q < heap.seats
     → (seat_at state q).place ≡ places.Making making → (party (graph_of heap book.history) q).left ≡ false
 present_at heap state book q making rule here placed =
-    (rule.seats_stand q here).counts.leaves ∙ stays (seat_at state q).left refl
+    let stands = rule.seats_stand q here in
+    stands.counts.leaves ∙ in_flight heap (seat_at state q) stands.fits (λ idle. busy (sym placed ∙ idle))
   where
     busy : places.Making making ≡ places.Idle → ⊥
     busy e = cc
-
-    stays : (b : Bool) → (seat_at state q).left ≡ b → (seat_at state q).left ≡ false
-    stays true gone = let idle : (seat_at state q).place ≡ places.Idle = ((rule.seats_stand q here).fits.gone gone).idle in absurd (busy (sym placed ∙ idle))
-    stays false still = still
 
 -- the seat's own data fit together after its step
 pub fit_after : (heap : Heap) (state : State) (book : Book) (q : ℕ) {words : List ℕ} {seat : Seat} → Rule heap state book → q < heap.seats

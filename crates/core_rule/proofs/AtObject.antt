@@ -1,6 +1,5 @@
 -- A call that works on an object: what its seat knows of the graph.
-use Rattle.std.proofs.Common.{◌≡◌, ℕ, ◌+◌, ◌<◌, ◌≤◌, false, List, length, slice_index_or, subst, arith}
-use Rattle.std.proofs.lemmas.Bool.{false_from_ne_true}
+use Rattle.std.proofs.Common.{◌≡◌, ◌≢◌, ℕ, ◌+◌, ◌<◌, ◌≤◌, List, slice_index_or, ◌∙◌, subst}
 use Rattle.heap_model.specs.declared.heap.Heap.{Heap}
 use Rattle.heap_model.specs.declared.id.Id.{Id}
 use Rattle.heap_model.specs.declared.id.Value.{Value}
@@ -22,7 +21,7 @@ use Rattle.core_rule.specs.Owners.{Owner}
 use Rattle.core_rule.specs.Registers.{Holds, IsAwaited}
 use Rattle.core_rule.specs.Rule.{Rule}
 use Rattle.core_rule.specs.Ways.{OnWay}
-use Rattle.core_rule.proofs.Bodies.{bare_hand}
+use Rattle.core_rule.proofs.AtRest.{in_flight, spent_own, few_own}
 
 -- the register holds the object of the graph's register
 held_object : (made : List Id) (owner : ℕ → Owner) (fragments : ℕ → List ℕ) (held : Register) (value : Value) (head : ℕ) (id : Id)
@@ -37,23 +36,20 @@ module _ (heap : Heap) (state : State) (book : Book) (q : ℕ) (rule : Rule heap
   pub is_present : IsPresent (graph_of heap book.history) q
   is_present =
       let stands = rule.seats_stand q here in
-      let stays : (seat_at state q).left ≡ false
-      = false_from_ne_true (seat_at state q).left (λ left. let idle = (stands.fits.gone left).idle in absurd (cc)) in
-      rw stays at stands.counts.leaves
+      stands.counts.leaves ∙ in_flight heap (seat_at state q) stands.fits busy
+    where
+      busy : (seat_at state q).place ≢ places.Idle
+      busy idle = absurd (cc)
 
-  -- what it took it has in its reserve, or spent
-  own : length (seat_at state q).reserve + spent_of q book.history ≡ taken_of q book.history
-  own =
-      let seat : Seat = seat_at state q in
-      let stands = rule.seats_stand q here in
-      let rest : IsAtRest seat = rw place at stands.fits.at_place in
-      bare_hand seat.reserve seat.hand seat.body (spent_of q book.history) (taken_of q book.history) rest.empty_hand rest.no_body stands.counts.unborn
+  rest : IsAtRest (seat_at state q)
+  rest = rw place at (rule.seats_stand q here).fits.at_place
 
+  -- it spent no more than it took, and has little left
   pub has_enough : spent_of q book.history ≤ taken_of q book.history
-  has_enough = omega (arith, own)
+  has_enough = spent_own heap state book q rule here rest
 
   pub has_little : taken_of q book.history ≤ spent_of q book.history + 15
-  has_little = omega (arith, own, (rule.seats_stand q here).fits.small_reserve)
+  has_little = few_own heap state book q rule here rest
 
   -- its way's object is that of the graph's register
   pub way_object : ((d r : ℕ) → ¬ IsAwaited (seat_at state q).place d r) → (number : ℕ) → OnWay book.made book.owner book.fragments (seat_at state q) number

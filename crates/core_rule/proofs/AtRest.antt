@@ -6,7 +6,6 @@ use Rattle.heap_model.specs.Space.{taken_of, spent_of}
 use Rattle.core_machine.specs.declared.place.Place.{Place}
 use Rattle.core_machine.specs.declared.place.Place.TheVariants as places
 use Rattle.core_machine.specs.Fits.{Fits, IsAtRest}
-use Rattle.core_machine.specs.Layout.{at}
 use Rattle.core_machine.specs.Machine.{State, seat_at}
 use Rattle.core_machine.specs.Seat.{Seat}
 use Rattle.core_rule.specs.Book.{Book}

@@ -1,15 +1,12 @@
 -- The begin of a call that makes no object keeps the rule.
-use Rattle.std.proofs.Common.{◌≡◌, ℕ, ◌<◌, false, List, [], ◌∷◌, length, filter, drop, refl, sym, ◌∙◌, arith, append-nil}
-use Rattle.std.specs.List.{list_any}
+use Rattle.std.proofs.Common.{◌≡◌, ℕ, ◌<◌, [], length, filter, drop, refl, sym, ◌∙◌, arith, append-nil}
 use Rattle.std.proofs.lemmas.Bool.{eq-eqb}
 use Rattle.heap_model.specs.declared.command.Command.{Command}
-use Rattle.heap_model.specs.declared.entry.Entry.{Entry}
 use Rattle.heap_model.specs.declared.heap.Heap.{Heap}
 use Rattle.heap_model.specs.Cycles.{graph_of}
 use Rattle.heap_model.specs.Effects.{is_of}
 use Rattle.heap_model.specs.Objects.{register}
 use Rattle.heap_model.specs.State.{State as Graph}
-use Rattle.heap_model.specs.Windows.{is_reply_to}
 use Rattle.core_machine.specs.declared.place.Place.TheVariants as places
 use Rattle.core_machine.specs.Commands.{IsRecord, target_of}
 use Rattle.core_machine.specs.Fits.{IsAtRest}
@@ -27,11 +24,7 @@ use Rattle.core_rule.proofs.Others.{of_other}
 use Rattle.core_rule.proofs.ReplyStep.{holding_as, none_stored, gathers_none}
 use Rattle.core_rule.proofs.Starting.{Starts, starts_other}
 use Rattle.core_rule.proofs.AtRest.{all_told, none_awaited}
-
--- a call that begins has no reply yet
-no_reply_yet : (q : ℕ) (history : List Entry) → list_any (is_reply_to q) (drop (length history) history) ≡ false
-no_reply_yet q [] = refl
-no_reply_yet q (entry ∷ history) = no_reply_yet q history
+use Rattle.core_rule.proofs.SinceCall.{no_reply_yet}
 
 -- the begin of any call but a new object's keeps the rule
 pub begin_others_keep : (heap : Heap) (state : State) (book : Book) (q : ℕ) (command : Command) → Rule heap state book → q < heap.seats

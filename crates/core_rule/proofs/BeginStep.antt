@@ -1,15 +1,12 @@
 -- The begin of a call keeps the rule.
-use Rattle.std.proofs.Common.{slice_set, subst, ◌≡◌, ℕ, ◌<◌, ◌==◌, false, List, [], ◌∷◌, length, drop, refl, sym, ◌∙◌, arith}
+use Rattle.std.proofs.Common.{slice_set, subst, ◌≡◌, ℕ, ◌<◌, ◌==◌, [], length, drop, refl, sym, ◌∙◌, arith}
 use Rattle.std.specs.Prelude.{if◌then◌else◌}
-use Rattle.std.specs.List.{list_any}
 use Rattle.std.proofs.lemmas.List.{append-nil}
 use Rattle.std.proofs.lemmas.Bool.{eq-eqb}
 use Rattle.heap_model.specs.declared.heap.Heap.{Heap}
 use Rattle.heap_model.specs.declared.command.Command.{Command}
-use Rattle.heap_model.specs.declared.entry.Entry.{Entry}
-use Rattle.heap_model.specs.Windows.{is_reply_to}
-use Rattle.core_machine.specs.Fits.{Fits, IsAtRest}
-use Rattle.core_machine.specs.Machine.{State, seat_at, begun, MayBegin, Begins, after}
+use Rattle.core_machine.specs.Fits.{IsAtRest}
+use Rattle.core_machine.specs.Machine.{State, seat_at, begun, MayBegin}
 use Rattle.core_machine.specs.Making.{goes_on}
 use Rattle.core_machine.specs.Seat.{Seat}
 use Rattle.core_rule.specs.Book.{Book}
@@ -26,14 +23,11 @@ use Rattle.core_rule.proofs.Assemble.{fit_after, Keeps, seat_steps}
 use Rattle.core_rule.proofs.GoesOn.{holding_goes_on, length_goes_on, gathers_goes_on, same_goes_on}
 use Rattle.core_rule.proofs.GatherMoves.{nothing_tried}
 use Rattle.core_rule.proofs.Others.{of_other}
+use Rattle.core_rule.proofs.SinceCall.{no_reply_yet}
 
 -- the call of q begins when the history has this length
 abbrev pub begins : ℕ → ℕ → (ℕ → ℕ) → ℕ → ℕ
 begins q n begun r = if r == q then n else begun r
-
-nothing_since : (q : ℕ) (history : List Entry) → list_any (is_reply_to q) (drop (length history) history) ≡ false
-nothing_since q [] = refl
-nothing_since q (entry ∷ history) = nothing_since q history
 
 -- the begin of a call keeps the rule
 pub begin_keeps : (heap : Heap) (state : State) (book : Book) (q : ℕ) (command : Command) → Rule heap state book → q < heap.seats
@@ -72,7 +66,7 @@ begin_keeps heap state book q command rule here may a_record machine =
         leaves = stands.counts.leaves ∙ sym same.left;
         unborn = omega (arith, length_goes_on heap seat rest.no_body, stands.counts.unborn);
       };
-      began = rw first record { earlier = omega arith; unanswered = λ active. nothing_since q book.history };
+      began = rw first record { earlier = omega arith; unanswered = λ active. no_reply_yet q book.history };
       gathers = gathers_goes_on heap book.owner q (drop (begins q (length book.history) book.begun q) book.history) seat rest.none_given
           (started (seat_at state q).tried (seat_at state q).given rest.none_tried rest.none_given
           (nothing_tried heap book.owner q (drop (begins q (length book.history) book.begun q) book.history) seat.cursor));

@@ -11,21 +11,20 @@ use Rattle.core_machine.specs.Fits.{Fits, HasBody}
 use Rattle.core_machine.specs.Fragments.{part_in, part_out, mask, tally}
 use Rattle.core_machine.specs.Layout.{at, put}
 use Rattle.core_machine.specs.Machine.{State, seat_at, stepped, found_by}
-use Rattle.core_machine.specs.Making.{last_group, born}
+use Rattle.core_machine.specs.Making.{last_group}
 use Rattle.core_machine.specs.Moves.{birth_move, bears_black, is_last_birth, seat_after}
 use Rattle.core_machine.specs.Operation.{birth_bits}
 use Rattle.core_machine.specs.Seat.{Seat}
 use Rattle.core_rule.specs.Book.{Book}
 use Rattle.core_rule.specs.Owners.{Owner, Bears, Holds, Keeps as KeepsPart, handed}
 use Rattle.core_rule.specs.Rule.{Rule}
-use Rattle.core_rule.proofs.SeatLists.{making_list, list_of_making, list_owners, whole_list, list_stays, same_names}
+use Rattle.core_rule.proofs.SeatLists.{making_list, list_of_making, list_owners}
 use Rattle.core_rule.proofs.WayFrames.{way_owners}
-use Rattle.core_rule.proofs.Resting.{rests_put, rests_more, quiet_more, quiet_same}
+use Rattle.core_rule.proofs.Resting.{rests_put, quiet_same}
 use Rattle.core_rule.specs.Objects.{cells_at}
 use Rattle.core_machine.specs.Value.{IsMachine}
 use Rattle.core_machine.specs.Commands.{target_of}
-use Rattle.core_rule.proofs.InFlight.{awaits_none, is_busy}
-use Rattle.core_rule.proofs.Assemble.{fit_after, present_at, Keeps, seat_steps}
+use Rattle.core_rule.proofs.Assemble.{fit_after, Keeps, seat_steps}
 use Rattle.core_rule.proofs.ControlSteps.{birth_bits_after}
 use Rattle.core_rule.proofs.CountMoves.{birth_used, birth_frees}
 use Rattle.core_rule.proofs.GatherMoves.{gathers_same}

@@ -14,7 +14,7 @@ use Rattle.core_machine.specs.Fits.{Gathers}
 use Rattle.core_machine.specs.Fragments.{clear_in, tally}
 use Rattle.core_machine.specs.Layout.{at, put, table_length}
 use Rattle.core_machine.specs.Machine.{State, seat_at, stepped, found_by}
-use Rattle.core_machine.specs.Making.{next_group, claimed}
+use Rattle.core_machine.specs.Making.{next_group}
 use Rattle.core_machine.specs.Moves.{claim_move, takes_some, seat_after}
 use Rattle.core_machine.specs.Operation.{all_taken}
 use Rattle.core_machine.specs.Seat.{Seat}

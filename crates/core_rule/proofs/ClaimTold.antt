@@ -8,7 +8,6 @@ use Rattle.heap_model.specs.declared.entry.Entry.TheVariants as entries
 use Rattle.heap_model.specs.Account.{IsLegal}
 use Rattle.heap_model.specs.Cycles.{graph_of}
 use Rattle.core_machine.specs.declared.place.Place.{Place}
-use Rattle.core_machine.specs.declared.place.Place.TheVariants as places
 use Rattle.core_machine.specs.Fragments.{tally}
 use Rattle.core_machine.specs.Machine.{State, seat_at}
 use Rattle.core_machine.specs.Moves.{takes_some}

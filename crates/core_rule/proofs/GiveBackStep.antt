@@ -14,7 +14,7 @@ use Rattle.core_machine.specs.Fits.{Fits, Refuses}
 use Rattle.core_machine.specs.Fragments.{part_in, part_out, mask}
 use Rattle.core_machine.specs.Layout.{at, put}
 use Rattle.core_machine.specs.Machine.{State, seat_at, stepped, found_by}
-use Rattle.core_machine.specs.Making.{first_group, given_back, returning}
+use Rattle.core_machine.specs.Making.{first_group, returning}
 use Rattle.core_machine.specs.Moves.{give_back_move, seat_after}
 use Rattle.core_machine.specs.Operation.{untaken}
 use Rattle.core_machine.specs.Seat.{Seat}
@@ -22,9 +22,9 @@ use Rattle.core_rule.specs.Book.{Book}
 use Rattle.core_rule.specs.Holding.{whole_hand}
 use Rattle.core_rule.specs.Owners.{Owner, Free, handed}
 use Rattle.core_rule.specs.Rule.{Rule}
-use Rattle.core_rule.proofs.SeatLists.{making_list, list_of_making, list_owners, whole_list, list_stays, same_names}
+use Rattle.core_rule.proofs.SeatLists.{making_list, list_owners, whole_list}
 use Rattle.core_rule.proofs.WayFrames.{way_owners}
-use Rattle.core_rule.proofs.Resting.{rests_put, rests_more, quiet_more, quiet_same}
+use Rattle.core_rule.proofs.Resting.{rests_put, rests_more, quiet_more}
 use Rattle.core_rule.specs.Objects.{cells_at}
 use Rattle.core_machine.specs.Value.{IsMachine}
 use Rattle.core_machine.specs.Commands.{target_of}

@@ -15,7 +15,7 @@ use Rattle.core_machine.specs.Fits.{HasBody}
 use Rattle.core_machine.specs.Fragments.{mask, tally}
 use Rattle.core_machine.specs.Layout.{at, put}
 use Rattle.core_machine.specs.Machine.{State, seat_at, stepped, found_by}
-use Rattle.core_machine.specs.Making.{last_group, made_last, next_id, newborn_word}
+use Rattle.core_machine.specs.Making.{last_group, next_id, newborn_word}
 use Rattle.core_machine.specs.Moves.{bears_black, last_birth_move, last_part, made_entry, seat_after, is_last_birth}
 use Rattle.core_machine.specs.Operation.{birth_bits}
 use Rattle.core_machine.specs.Seat.{Seat}

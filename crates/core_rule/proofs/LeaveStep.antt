@@ -12,7 +12,7 @@ use Rattle.heap_model.specs.Command.{IsCommand}
 use Rattle.heap_model.specs.Cycles.{graph_of}
 use Rattle.heap_model.specs.Effects.{is_of}
 use Rattle.heap_model.specs.Growth.{after_reply}
-use Rattle.heap_model.specs.Objects.{party, register}
+use Rattle.heap_model.specs.Objects.{party}
 use Rattle.heap_model.specs.Phases.{ShowsPhases}
 use Rattle.heap_model.specs.Replies.{Says}
 use Rattle.heap_model.specs.State.{State as Graph, Party}

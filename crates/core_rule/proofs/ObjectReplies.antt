@@ -1,5 +1,5 @@
 -- The replies to commands that read or write an object, and that their entries may stand.
-use Rattle.std.proofs.Common.{◌≡◌, ℕ, ◌+◌, ◌≤◌, Bool, false, List, length, slice_get, Option, Some, None, IsSome, refl, arith}
+use Rattle.std.proofs.Common.{◌≡◌, ℕ, ◌+◌, ◌≤◌, Bool, List, length, slice_get, Option, Some, None, IsSome, refl, arith}
 use Rattle.std.proofs.lemmas.Bool.{false≢true}
 use Rattle.std.proofs.lemmas.Option.{slice_get_past}
 use Rattle.heap_model.specs.declared.heap.Heap.{Heap}

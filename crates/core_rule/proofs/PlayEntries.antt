@@ -16,12 +16,11 @@ use Rattle.heap_model.specs.Effects.{is_of}
 use Rattle.core_machine.specs.declared.place.Place.{Place}
 use Rattle.core_machine.specs.declared.place.Place.TheVariants as places
 use Rattle.core_machine.specs.declared.place.Making.TheVariants.{Gathering, Returning, Refusing, Storing, Bearing}
-use Rattle.core_machine.specs.Commands.{IsRecord}
-use Rattle.core_machine.specs.Fits.{Refuses, HasBody, FitsMaking}
+use Rattle.core_machine.specs.Fits.{Refuses}
 use Rattle.core_machine.specs.Fragments.{in_group}
 use Rattle.core_machine.specs.Machine.{State, seat_at, shown, found_by}
 use Rattle.core_machine.specs.Making.{last_group, next_id}
-use Rattle.core_machine.specs.Moves.{move_at, takes_some, made_entry, full_entry, last_birth_move, birth_move}
+use Rattle.core_machine.specs.Moves.{move_at, takes_some, full_entry, last_birth_move, birth_move}
 use Rattle.core_machine.specs.Seat.{Seat, need}
 use Rattle.core_rule.specs.Book.{Book}
 use Rattle.core_rule.specs.Gathers.{GathersRight}
@@ -45,7 +44,7 @@ use Rattle.core_machine.specs.Telling.{answer_of, local_reply}
 use Rattle.core_rule.specs.Objects.{cells_at}
 use Rattle.core_rule.specs.Ways.{WayStands}
 use Rattle.core_rule.proofs.Bodies.{bare_hand}
-use Rattle.core_rule.proofs.RecordCommands.{record_only, full_keeps}
+use Rattle.core_rule.proofs.RecordCommands.{full_keeps}
 
 -- there is no entry, or one of the seat's that may stand in a play where it may in a run
 pub record MayPlay (heap : Heap) (before : List Entry) (q : ℕ) (entry : Entry) : Type 0 where

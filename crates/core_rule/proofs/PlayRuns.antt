@@ -9,7 +9,6 @@ use Rattle.std.proofs.lemmas.List.Folds.{list_all-append}
 use Rattle.heap_model.specs.declared.heap.Heap.{Heap}
 use Rattle.heap_model.specs.declared.command.Command.{Command}
 use Rattle.heap_model.specs.declared.entry.Entry.{Entry}
-use Rattle.heap_model.specs.Heap.{IsHeap}
 use Rattle.heap_model.specs.Account.{IsLegal}
 use Rattle.heap_model.specs.State.{opening}
 use Rattle.heap_model.specs.Effects.{is_of}
@@ -17,11 +16,10 @@ use Rattle.heap_model.proofs.Histories.{KeepsSpaceAfter-more}
 use Rattle.core_machine.specs.declared.place.Place.TheVariants as places
 use Rattle.core_machine.specs.Machine.{State, seat_at, moved, Event, Begins, Steps, Turns, Can, after, entries, Run, history}
 use Rattle.core_machine.specs.Moves.{Move, move_at, next_move}
-use Rattle.core_machine.specs.Opening.{IsOpening}
 use Rattle.core_machine.specs.Seat.{Seat, nobody}
 use Rattle.core_rule.specs.Book.{Book}
 use Rattle.core_rule.specs.Rule.{Rule}
-use Rattle.core_rule.specs.Laws.{StandsFor, IsAlone, OneCallAtATime, WholeCallsPlay, HappensAlone}
+use Rattle.core_rule.specs.Laws.{IsAlone, OneCallAtATime, WholeCallsPlay, HappensAlone}
 use Rattle.core_rule.proofs.BeginStep.{begins}
 use Rattle.core_rule.proofs.Runs.{MachineStays, OpeningStands, EachStepKeeps, EachBeginKeeps, seat_of_step}
 use Rattle.core_rule.proofs.Plays.{last_keeps}

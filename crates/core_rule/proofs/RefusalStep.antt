@@ -19,10 +19,8 @@ use Rattle.core_machine.specs.Seat.{Seat, need}
 use Rattle.core_rule.specs.Book.{Book}
 use Rattle.core_rule.specs.Gathers.{GathersRight}
 use Rattle.core_rule.specs.Rule.{Rule}
-use Rattle.core_rule.proofs.SeatLists.{making_list, list_of_making, list_owners, whole_list, list_stays, same_names}
-use Rattle.core_rule.proofs.WayFrames.{way_owners}
-use Rattle.core_rule.proofs.Resting.{rests_put, rests_more, quiet_more, quiet_same}
-use Rattle.core_rule.specs.Objects.{cells_at}
+use Rattle.core_rule.proofs.SeatLists.{making_list, whole_list, list_stays, same_names}
+use Rattle.core_rule.proofs.Resting.{rests_more, quiet_more}
 use Rattle.core_machine.specs.Value.{IsMachine}
 use Rattle.core_machine.specs.Commands.{target_of}
 use Rattle.core_rule.proofs.Assemble.{fit_after, present_at, Keeps, seat_steps}

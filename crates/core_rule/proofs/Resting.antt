@@ -1,12 +1,12 @@
 -- The phase stays 0 where no entry begins one, and no seat answers one.
-use Rattle.std.proofs.Common.{◌≡◌, ◌≢◌, ℕ, ◌+◌, Bool, true, false, cond, List, [], ◌∷◌, ◌++◌, refl, sym, ◌∙◌, arith}
+use Rattle.std.proofs.Common.{◌≡◌, ◌≢◌, ℕ, Bool, true, false, cond, List, [], ◌∷◌, ◌++◌, refl, sym, ◌∙◌, arith}
 use Rattle.heap_model.specs.declared.heap.Heap.{Heap}
 use Rattle.heap_model.specs.declared.entry.Entry.{Entry}
 use Rattle.heap_model.specs.Effects.{effect_of, is_of}
 use Rattle.heap_model.proofs.Histories.{total-more, total_of-more}
 use Rattle.core_machine.specs.declared.address.Address.{Address}
 use Rattle.core_machine.specs.declared.address.Address.TheVariants.{Phase}
-use Rattle.core_machine.specs.Layout.{index_of, at, put}
+use Rattle.core_machine.specs.Layout.{index_of, put}
 use Rattle.core_machine.specs.Seat.{Seat}
 use Rattle.core_rule.specs.Phases.{Rests, IsQuiet}
 use Rattle.core_rule.proofs.Addresses.{at-put_apart}

@@ -1,5 +1,5 @@
 -- A seat's own list, and what it awaits.
-use Rattle.std.proofs.Common.{◌≡◌, ℕ, List, [], ◌∷◌, ◌++◌, filter, refl, sym, ap, ◌∙◌, subst, true}
+use Rattle.std.proofs.Common.{◌≡◌, ℕ, List, [], ◌++◌, filter, refl, sym, ap, ◌∙◌, subst}
 use Rattle.std.specs.Prelude.{Some}
 use Rattle.std.proofs.lemmas.List.{append-nil}
 use Rattle.heap_model.specs.declared.entry.Entry.{Entry}
@@ -14,7 +14,7 @@ use Rattle.core_machine.specs.declared.place.Making.{Making}
 use Rattle.core_machine.specs.declared.place.Reaching.TheVariants.{Opening, Walking, Getting, Naming, LoadingOld, ShadingOld, ShadingNew, Swapping}
 use Rattle.core_machine.specs.Seat.{Seat}
 use Rattle.core_rule.specs.Book.{head_of}
-use Rattle.core_rule.specs.Counts.{OwnList, Awaits, AwaitsName}
+use Rattle.core_rule.specs.Counts.{OwnList, Awaits}
 use Rattle.core_rule.specs.Objects.{NamesKept}
 use Rattle.core_rule.specs.Owners.{Owner}
 use Rattle.core_rule.proofs.ObjectFrames.{SameKept, names_kept}

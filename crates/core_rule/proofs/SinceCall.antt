@@ -1,5 +1,5 @@
 -- Sums over what came since a call began are at most those over what came since its seat's last reply.
-use Rattle.std.proofs.Common.{◌≡◌, ℕ, zero, suc, ◌≤◌, Bool, true, false, cond, List, [], ◌∷◌, drop, arith}
+use Rattle.std.proofs.Common.{◌≡◌, ℕ, zero, suc, ◌≤◌, Bool, true, false, cond, List, [], ◌∷◌, length, drop, refl, arith}
 use Rattle.std.specs.List.{list_any, sum_by}
 use Rattle.std.proofs.lemmas.List.Sums.{sum_by-cons}
 use Rattle.heap_model.specs.declared.entry.Entry.{Entry}
@@ -28,3 +28,8 @@ sum_after_last test f (suc n) (entry ∷ history) none =
 pub since_call : (q : ℕ) (f : Entry → ℕ) (n : ℕ) (history : List Entry) → list_any (is_reply_to q) (drop n history) ≡ false
     → sum_by f (drop n history) ≤ sum_by f (since_reply q history)
 since_call q f n history none = sum_after_last (is_reply_to q) f n history none
+
+-- a call that begins now has no reply yet
+pub no_reply_yet : (q : ℕ) (history : List Entry) → list_any (is_reply_to q) (drop (length history) history) ≡ false
+no_reply_yet q [] = refl
+no_reply_yet q (entry ∷ history) = no_reply_yet q history

@@ -1,5 +1,5 @@
 -- Each step and each begin of a seat keeps the rule, by the place of its call.
-use Rattle.std.proofs.Common.{◌≡◌, ℕ, ◌<◌, Bool, true, false, List, [], length, refl, sym, subst}
+use Rattle.std.proofs.Common.{◌≡◌, ℕ, ◌<◌, Bool, true, false, [], length, refl, sym, subst}
 use Rattle.std.specs.Prelude.{if◌then◌else◌}
 use Rattle.std.proofs.lemmas.List.{append-nil}
 use Rattle.heap_model.specs.declared.heap.Heap.{Heap}
@@ -12,7 +12,6 @@ use Rattle.core_machine.specs.declared.place.Making.TheVariants.{Gathering, Retu
 use Rattle.core_machine.specs.declared.place.Reaching.TheVariants.{Opening, Walking, Getting, Naming, LoadingOld, ShadingOld, ShadingNew, Swapping}
 use Rattle.core_machine.specs.declared.place.Polling.TheVariants.{Asking, Shading, Answering}
 use Rattle.core_machine.specs.declared.place.Leaving.TheVariants.{Emptying, Parting}
-use Rattle.core_machine.specs.Commands.{IsRecord}
 use Rattle.core_machine.specs.Machine.{State, seat_at, moved, shown, stepped, found_by, after, Begins, Can}
 use Rattle.core_machine.specs.Moves.{move_at, is_last_birth, last_birth_move, birth_move}
 use Rattle.core_machine.specs.Value.{IsMachine}

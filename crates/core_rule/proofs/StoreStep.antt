@@ -9,18 +9,16 @@ use Rattle.core_machine.specs.declared.address.Address.TheVariants.{Word}
 use Rattle.core_machine.specs.Fits.{HasBody}
 use Rattle.core_machine.specs.Layout.{at, put}
 use Rattle.core_machine.specs.Machine.{State, seat_at, stepped, found_by}
-use Rattle.core_machine.specs.Making.{newborn_word, stored_more}
+use Rattle.core_machine.specs.Making.{newborn_word}
 use Rattle.core_machine.specs.Moves.{store_move, seat_after}
 use Rattle.core_machine.specs.Seat.{Seat}
 use Rattle.core_rule.specs.Book.{Book, fragment_at}
 use Rattle.core_rule.specs.Rule.{Rule}
-use Rattle.core_rule.proofs.SeatLists.{making_list, list_of_making, list_owners, whole_list, list_stays, same_names}
-use Rattle.core_rule.proofs.WayFrames.{way_owners}
-use Rattle.core_rule.proofs.Resting.{rests_put, rests_more, quiet_more, quiet_same}
-use Rattle.core_rule.specs.Objects.{cells_at}
+use Rattle.core_rule.proofs.SeatLists.{making_list, whole_list}
+use Rattle.core_rule.proofs.Resting.{rests_put, quiet_same}
 use Rattle.core_machine.specs.Value.{IsMachine}
 use Rattle.core_machine.specs.Commands.{target_of}
-use Rattle.core_rule.proofs.Assemble.{fit_after, present_at, Keeps, seat_steps}
+use Rattle.core_rule.proofs.Assemble.{fit_after, Keeps, seat_steps}
 use Rattle.core_rule.proofs.ObjectFrames.{objects_store}
 use Rattle.core_rule.proofs.StoreLemmas.{bits_store, store_next}
 use Rattle.core_rule.proofs.StoredFrames.{stored_store}

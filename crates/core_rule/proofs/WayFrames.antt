@@ -1,5 +1,5 @@
 -- A way goes on as before where its object does.
-use Rattle.std.proofs.Common.{◌≡◌, ℕ, ◌<◌, List, length, refl, sym, ◌∙◌}
+use Rattle.std.proofs.Common.{◌≡◌, ℕ, ◌<◌, List, length, refl}
 use Rattle.heap_model.specs.declared.cell.Cell.{Cell}
 use Rattle.heap_model.specs.declared.id.Id.{Id}
 use Rattle.core_machine.specs.declared.place.Place.{Place}
@@ -7,11 +7,11 @@ use Rattle.core_machine.specs.declared.place.Place.TheVariants as places
 use Rattle.core_machine.specs.declared.place.Polling.TheVariants.{Asking, Shading, Answering}
 use Rattle.core_machine.specs.declared.place.Reaching.TheVariants.{Opening, Walking, Getting, Naming, LoadingOld, ShadingOld, ShadingNew, Swapping}
 use Rattle.core_machine.specs.Seat.{Seat}
-use Rattle.core_rule.specs.Book.{fragment_at, id_at}
+use Rattle.core_rule.specs.Book.{id_at}
 use Rattle.core_rule.specs.Objects.{IsKept}
 use Rattle.core_rule.specs.Owners.{Owner}
 use Rattle.core_rule.proofs.ObjectFrames.{SameKept}
-use Rattle.core_rule.specs.Ways.{OnWay, SetsOut, Finds, WayStands}
+use Rattle.core_rule.specs.Ways.{OnWay, Finds, WayStands}
 
 -- the object of this number is kept as before: under its id, in its fragments, with as many cells
 pub record ObjectStays (cells now_cells : ℕ → List Cell) (made now_made : List Id) (owner now_owner : ℕ → Owner) (fragments now_fragments : ℕ → List ℕ) (i : ℕ) : Type 0 where
