@@ -9,7 +9,7 @@ use Rattle.core_machine.specs.declared.register.Register.{Register}
 use Rattle.core_machine.specs.Loaded.{head_in, IsWithinHeap}
 use Rattle.core_machine.specs.Seat.{Seat}
 use Rattle.core_machine.specs.FitsReaching.{HasNoWay}
-use Rattle.core_machine.specs.Fits.{FitsRegister, FitsWay, FitsAnswer, HasNoAnswer, Fits}
+use Rattle.core_machine.specs.Fits.{FitsRegister, FitsWay, FitsAnswer, HasNoAnswer, Fits, FitsPlace, AreFragments}
 
 -- the registers fit, nothing is reached, loaded or about to be answered, and the seat hasn't left
 pub record StandsAside (heap : Heap) (registers : List Register) (reached links loaded asked shaded : ℕ) (left : Bool) : Type 0 where
@@ -60,4 +60,28 @@ aside_idle heap seat fits here present = record {
   nowhere = subst (FitsWay seat) here fits.way_at_place;
   silent = subst (FitsAnswer seat) here fits.answer_at_place;
   present = present;
+}
+
+-- the seat with another hand, elsewhere in its making or through with it
+abbrev pub with_hand : Seat → List ℕ → ℕ → ℕ → ℕ → Place → Seat
+with_hand seat hand stored tried given place = record seat { hand = hand; stored = stored; tried = tried; given = given; place = place }
+
+pub fits_hand : (heap : Heap) (seat : Seat) (hand : List ℕ) (stored tried given : ℕ) (place : Place) → Fits heap seat → IsAside heap seat → AreFragments heap hand
+    → FitsPlace heap (with_hand seat hand stored tried given place) place → FitsWay (with_hand seat hand stored tried given place) place
+    → FitsAnswer (with_hand seat hand stored tried given place) place → Fits heap (with_hand seat hand stored tried given place)
+fits_hand heap seat hand stored tried given place fits aside within at_place way answer = record {
+  registers_whole = fits.registers_whole;
+  registers_fit = aside.registers_fit;
+  cursor_within = fits.cursor_within;
+  small_reserve = fits.small_reserve;
+  reserve_of_cursor = fits.reserve_of_cursor;
+  hand_within = within;
+  body_within = fits.body_within;
+  reached_within = aside.reached_within;
+  loaded_within = aside.loaded_within;
+  asked_small = aside.asked_small;
+  at_place = at_place;
+  way_at_place = way;
+  answer_at_place = answer;
+  gone = gone_aside aside.present;
 }

@@ -2,6 +2,8 @@
 use Rattle.std.proofs.Common.{◌≡◌, ℕ, ◌-◌, List, [], ◌∷◌, ◌++◌, length, Option, Some, None, refl, sym, ap, subst, ◌∙◌, length-append, append_assoc, append-nil, arith}
 use Rattle.std.specs.Prelude.{IsSome, option_and_then, option_map}
 use Rattle.core_machine.specs.declared.step.Step.{Step}
+use Rattle.std.specs.List.{AllByRecursion}
+use Rattle.std.proofs.lemmas.List.{append_cancel_right}
 use Rattle.std.proofs.lemmas.Option.{slice_get-get_or}
 use Rattle.std.proofs.Math.Seq.{get_or-append_seam}
 use Rattle.heap_model.specs.declared.heap.Heap.{Heap}
@@ -14,8 +16,10 @@ use Rattle.core_machine.specs.declared.place.Place.TheVariants as places
 use Rattle.core_machine.specs.Seat.{Seat}
 use Rattle.core_machine.specs.Moves.{Move, move_at, next_move, due_step}
 use Rattle.core_machine.specs.Machine.{State, seat_at}
-use Rattle.core_machine.specs.Calls.{PlaysCall, AnswersNew, reply_of, last_reply, IsPlaceRefusal, LeavesAll}
+use Rattle.heap_model.specs.declared.command.Command.TheVariants.{Leave}
+use Rattle.core_machine.specs.Calls.{IsBeside, PlaysCall, CountsCall, TellsLeave, AnswersNew, reply_of, last_reply, IsPlaceRefusal, LeavesAll}
 use Rattle.core_machine.specs.Value.{MachineValue, log_of}
+use Rattle.core_machine.proofs.Saying.{Says, IsOver}
 use Rattle.core_machine.proofs.Stages.{Answered, Stage}
 use Rattle.core_machine.specs.Awaiting.{awaited_at}
 use Rattle.core_machine.specs.Commands.{IsRecord}
@@ -40,13 +44,11 @@ pub answered : (heap : Heap) (old now : State) (number : ℕ) (command : Command
 answered heap old now number command playing none =
     subst (Stage heap old now number command playing.told (seat_at now number)) (idle_from heap number (seat_at now number) none) playing.stage
 
--- nothing is awaited once it is over
-all_mine : (heap : Heap) (old now : State) (number : ℕ) (command : Command) (playing : Playing heap old now number command)
-    → due_step heap number (seat_at now number) ≡ None → (seat_at now number).mine ≡ (seat_at old number).mine ++ playing.told
-all_mine heap old now number command playing none =
-    let idle = idle_from heap number (seat_at now number) none in
-    let mine = playing.mine in
-    sym (append-nil (seat_at now number).mine) ∙ ap (λ (l : List Entry). (seat_at now number).mine ++ l) (sym (ap (awaited_at heap now.words number (seat_at now number)) idle)) ∙ mine
+-- and it told no more than that
+pub over : (heap : Heap) (old now : State) (number : ℕ) (command : Command) (playing : Playing heap old now number command)
+    → due_step heap number (seat_at now number) ≡ None → IsOver (seat_at old number) number command (seat_at now number) playing.told
+over heap old now number command playing none =
+    subst (Says (seat_at old number) number command (seat_at now number) playing.told) (idle_from heap number (seat_at now number) none) playing.says
 
 -- a reply that is told last is the last
 pub last_reply-said : (entries_ : List Entry) (number : ℕ) (command : Command) (reply : Reply) → last_reply (entries_ ++ Said number command reply ∷ []) ≡ Some reply
@@ -57,19 +59,39 @@ last_reply-said entries_ number command reply =
     rw last (ap (option_and_then reply_of) (slice_get-get_or (entries_ ++ entry ∷ []) (length entries_) entry (omega arith)
     ∙ ap Some (get_or-append_seam entries_ entry [] entry)))
 
+-- a list has one last reply, and one front before it
+one_last : (number : ℕ) (command : Command) (reply other : Reply) (told before front : List Entry) → told ≡ before ++ Said number command reply ∷ [] → told ≡ front ++ Said number command other ∷ [] → front ≡ before
+one_last number command reply other told before front is also =
+    let same : last_reply (front ++ Said number command other ∷ []) ≡ last_reply (before ++ Said number command reply ∷ []) = ap last_reply (sym also ∙ is) in
+    let e : other ≡ reply = some_reply (sym (last_reply-said front number command other) ∙ same ∙ last_reply-said before number command reply) in
+    append_cancel_right front before (Said number command reply ∷ []) (ap (λ (r : Reply). front ++ Said number command r ∷ []) (sym e) ∙ sym also ∙ is)
+  where
+    some_reply : {a b : Reply} → Some a ≡ Some b → a ≡ b
+    some_reply e = cc
+
+-- nothing is awaited once it is over
+all_mine : (heap : Heap) (old now : State) (number : ℕ) (command : Command) (playing : Playing heap old now number command)
+    → due_step heap number (seat_at now number) ≡ None → (seat_at now number).mine ≡ (seat_at old number).mine ++ playing.told
+all_mine heap old now number command playing none =
+    let idle = idle_from heap number (seat_at now number) none in
+    let mine = playing.mine in
+    sym (append-nil (seat_at now number).mine) ∙ ap (λ (l : List Entry). (seat_at now number).mine ++ l) (sym (ap (awaited_at heap now.words number (seat_at now number)) idle)) ∙ mine
+
 -- the whole call
 pub plays_call : (heap : Heap) (old now : State) (number : ℕ) (command : Command) (playing : Playing heap old now number command)
     (none : due_step heap number (seat_at now number) ≡ None) → PlaysCall heap old now number command (answered heap old now number command playing none).reply
 plays_call heap old now number command playing none =
-    let over = answered heap old now number command playing none in
+    let answer = answered heap old now number command playing none in
+    let said = (over heap old now number command playing none).replied in
     record {
       steps = playing.steps;
       can = playing.can;
       ends = playing.ends;
       idle = idle_from heap number (seat_at now number) none;
-      before = over.before;
-      shown = playing.shows ∙ over.last;
-      mine = all_mine heap old now number command playing none ∙ ap (λ (l : List Entry). (seat_at old number).mine ++ l) over.last;
+      before = answer.before;
+      shown = playing.shows ∙ answer.last;
+      mine = all_mine heap old now number command playing none ∙ ap (λ (l : List Entry). (seat_at old number).mine ++ l) answer.last;
+      beside = subst (AllByRecursion (IsBeside number)) (one_last number command answer.reply said.reply playing.told answer.before said.before answer.last said.last) said.beside;
     }
 
 -- the reply that its last entry tells
@@ -97,14 +119,17 @@ none_due (Some step) not_ = absurd (not_ step refl)
 -- a call that is over was made whole, and its last entry tells the answer
 pub call_over : (heap : Heap) (old : State) (now : MachineValue) (number : ℕ) (command : Command) (reply : Reply) → Playing heap old now.state number command
     → due_step heap number (seat_at now.state number) ≡ None → last_reply (log_of now number) ≡ Some reply
-    → PlaysCall heap old now.state number command reply × (IsRecord command → AnswersNew heap old now.state number command reply) × (IsPlaceRefusal reply → LeavesAll old now.state number)
+    → PlaysCall heap old now.state number command reply × CountsCall (seat_at old number) (seat_at now.state number) command × (command ≡ Leave → TellsLeave old now.state number) × (IsRecord command → AnswersNew heap old now.state number command reply) × (IsPlaceRefusal reply → LeavesAll old now.state number)
 call_over heap old now number command reply playing none last =
-    let over = answered heap old now.state number command playing none in
+    let answer = answered heap old now.state number command playing none in
+    let ended = over heap old now.state number command playing none in
     let told = ap last_reply (log_of_seat now number playing.within) ∙ replied heap old now.state number command playing none in
-    let same : over.reply ≡ reply = some_same over.reply reply (sym told ∙ last) in (
+    let same : answer.reply ≡ reply = some_same answer.reply reply (sym told ∙ last) in (
       subst (PlaysCall heap old now.state number command) same (plays_call heap old now.state number command playing none),
-      (λ a_record. subst (AnswersNew heap old now.state number command) same (over.answer a_record)),
-      (λ refusal. over.refused (subst IsPlaceRefusal (sym same) refusal)),
+      ended.counts,
+      (λ a_leave. all_mine heap old now.state number command playing none ∙ ap (λ (l : List Entry). (seat_at old number).mine ++ l) (ended.leave a_leave)),
+      (λ a_record. subst (AnswersNew heap old now.state number command) same (answer.answer a_record)),
+      (λ refusal. answer.refused (subst IsPlaceRefusal (sym same) refusal)),
     )
   where
     some_same : (a b : Reply) → Some a ≡ Some b → a ≡ b

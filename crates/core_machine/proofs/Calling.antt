@@ -16,6 +16,8 @@ use Rattle.core_machine.proofs.Fitting.{goes_on_cases}
 use Rattle.core_machine.proofs.Stages.{Stage}
 use Rattle.core_machine.proofs.PlayingOn.{stage_moved}
 use Rattle.core_machine.proofs.PlayingBegins.{stage_begun}
+use Rattle.core_machine.proofs.Saying.{Says}
+use Rattle.core_machine.proofs.SayingMoves.{says_begun, says_moved}
 use Rattle.core_machine.proofs.Awaits.{Adds, adds_at}
 use Rattle.core_machine.specs.Awaiting.{awaited}
 use Rattle.core_machine.specs.Commands.{IsServed}
@@ -38,6 +40,7 @@ pub record Playing (heap : Heap) (old now : State) (number : ℕ) (command : Com
   pub shows : history heap old (call_events number command steps) ≡ told
   pub mine : (seat_at now number).mine ++ awaited heap now.words number (seat_at now number) ≡ (seat_at old number).mine ++ told
   pub stage : Stage heap old now number command told (seat_at now number) (seat_at now number).place
+  pub says : Says (seat_at old number) number command (seat_at now number) told (seat_at now number).place
 
 opened_mine : (heap : Heap) (words : List ℕ) (number : ℕ) (seat : Seat) (register : Register)
     → ((opened seat register).mine ≡ seat.mine) × (awaited heap words number (opened seat register) ≡ [])
@@ -80,6 +83,7 @@ playing_begun heap old number command machine can =
       shows = refl;
       mine = subst (λ (s : Seat). s.mine ++ awaited heap now.words number s ≡ seat.mine ++ []) (sym here) (rw (by.0, by.1) refl);
       stage = subst (λ (s : Seat). Stage heap old now number command [] s s.place) (sym here) (stage_begun heap old number now (machine.fit number can.0) can.1.idle refl command can.1.served);
+      says = subst (λ (s : Seat). Says seat number command s [] s.place) (sym here) (says_begun heap seat number command can.1.served);
     }
 
 -- what a move leaves: the entries and the stage
@@ -104,6 +108,15 @@ more_by heap old now number command told (Some m) within mine stage adds some =
       subst (λ (s : Seat). Stage heap old (stepped heap now number m) number command (told ++ shows_) s s.place) (sym here) stage,
     )
 
+-- what a move leaves of what is said
+says_by : (heap : Heap) (old : Seat) (now : State) (number : ℕ) (command : Command) (told : List Entry) (move : Option Move) → number < length now.seats → IsSome move
+    → IfSome move (λ m. (found : ℕ) → Says old number command (seat_after m found) (told ++ m.shows now.words found) (seat_after m found).place)
+    → Says old number command (seat_at (moved heap now number move) number) (told ++ shown heap now move) (seat_at (moved heap now number move) number).place
+says_by heap old now number command told None within some says = cc
+says_by heap old now number command told (Some m) within some says =
+    let found = found_by heap now m.step in
+    subst (λ (s : Seat). Says old number command s (told ++ m.shows now.words found) s.place) (sym (seat_at-set now.seats number (seat_after m found) within)) (says found)
+
 pub playing_more : (heap : Heap) (old now : State) (number : ℕ) (command : Command) → ((a : Address) → InTable heap a → at heap old.words a < 2 ^ 64)
     → Playing heap old now number command → IsSome (next_move heap number (seat_at now number))
     → Playing heap old (after heap now (Steps number)) number command
@@ -127,4 +140,6 @@ playing_more heap old now number command small playing some =
           ∙ ap (λ (s : State). playing.told ++ entries heap s (Steps number)) (sym playing.ends);
       mine = left.0;
       stage = left.1;
+      says = says_by heap (seat_at old number) now number command playing.told (next_move heap number (seat_at now number)) playing.within some
+          (says_moved (seat_at old number) number command heap now.words (seat_at now number) playing.told playing.says);
     }

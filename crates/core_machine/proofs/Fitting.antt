@@ -94,43 +94,36 @@ pub fits_returning : (heap : Heap) (seat : Seat) (hand : List ℕ) → Refuses h
 fits_returning heap seat [] refuses is = (refuses, is)
 fits_returning heap seat (fragment ∷ more) refuses is = (refuses, rw is (omega arith))
 
-fits_gathering : (heap : Heap) (seat : Seat) → IsGathered heap seat → seat.tried < heap.groups
-    → length seat.reserve + length seat.hand < need seat → Fits heap (record seat { place = places.Making Gathering })
-fits_gathering heap seat is left few = record {
+-- what is gathered goes on to a place of making that it fits
+fits_gathered : (heap : Heap) (seat : Seat) (place : Making) → IsGathered heap seat → FitsMaking heap (record seat { place = places.Making place }) place
+    → Fits heap (record seat { place = places.Making place })
+fits_gathered heap seat place is at_place = record {
   registers_whole = is.registers_whole;
+  registers_fit = is.aside.registers_fit;
   cursor_within = is.cursor_within;
   small_reserve = is.small_reserve;
   reserve_of_cursor = is.reserve_of_cursor;
   hand_within = is.hand_within;
   body_within = rw is.no_body (All-nil (λ fragment. fragment < 16 * heap.groups));
-  registers_fit = is.aside.registers_fit;
   reached_within = is.aside.reached_within;
   loaded_within = is.aside.loaded_within;
   asked_small = is.aside.asked_small;
+  at_place = at_place;
   way_at_place = is.aside.nowhere;
   answer_at_place = is.aside.silent;
   gone = gone_aside is.aside.present;
-  at_place = record { makes = is.makes; no_body = is.no_body; none_stored = is.none_stored; none_given = is.none_given; groups_left = left; too_few = few };
 }
+
+fits_gathering : (heap : Heap) (seat : Seat) → IsGathered heap seat → seat.tried < heap.groups
+    → length seat.reserve + length seat.hand < need seat → Fits heap (record seat { place = places.Making Gathering })
+fits_gathering heap seat is left few = fits_gathered heap seat Gathering is
+    record { makes = is.makes; no_body = is.no_body; none_stored = is.none_stored; none_given = is.none_given; groups_left = left; too_few = few }
 
 fits_refused : (heap : Heap) (seat : Seat) → IsGathered heap seat → seat.tried ≡ heap.groups
     → length seat.reserve + length seat.hand < need seat → Fits heap (refused seat)
-fits_refused heap seat is all few = record {
-  registers_whole = is.registers_whole;
-  cursor_within = is.cursor_within;
-  small_reserve = is.small_reserve;
-  reserve_of_cursor = is.reserve_of_cursor;
-  hand_within = is.hand_within;
-  body_within = rw is.no_body (All-nil (λ fragment. fragment < 16 * heap.groups));
-  registers_fit = is.aside.registers_fit;
-  reached_within = is.aside.reached_within;
-  loaded_within = is.aside.loaded_within;
-  asked_small = is.aside.asked_small;
-  way_at_place = is.aside.nowhere;
-  answer_at_place = is.aside.silent;
-  gone = gone_aside is.aside.present;
-  at_place = fits_returning heap (refused seat) seat.hand (record { makes = is.makes; no_body = is.no_body; none_stored = is.none_stored; all_tried = all; too_few = omega (arith, is.none_given) }) refl;
-}
+fits_refused heap seat is all few = fits_gathered heap seat (returning seat.hand) is
+    (fits_returning heap (refused seat) seat.hand
+    (record { makes = is.makes; no_body = is.no_body; none_stored = is.none_stored; all_tried = all; too_few = omega (arith, is.none_given) }) refl)
 
 pub fits_goes_on : (heap : Heap) (seat : Seat) → IsGathered heap seat → Fits heap (goes_on heap seat)
 fits_goes_on heap seat is =

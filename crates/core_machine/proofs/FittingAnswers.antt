@@ -16,8 +16,9 @@ use Rattle.core_machine.specs.Seat.{Seat}
 use Rattle.core_machine.specs.Telling.{local_registers, told}
 use Rattle.core_machine.specs.Polling.{roots, shades_on, phase_found, shaded_more, answer_stored, emptied, parted}
 use Rattle.core_machine.specs.FitsReaching.{HasNoWay}
-use Rattle.core_machine.specs.Fits.{FitsRegister, FitsAnswer, IsAtRest, Fits}
+use Rattle.core_machine.specs.Fits.{FitsRegister, FitsAnswer, IsAtRest, Fits, FitsPlace, FitsWay}
 use Rattle.core_machine.proofs.Aside.{IsAside, gone_aside}
+use Rattle.core_machine.specs.declared.place.Place.{Place}
 
 -- one of the registers
 pub register_fits : (heap : Heap) (registers : List Register) (r : ℕ) → All (FitsRegister heap) registers → FitsRegister heap (register_in registers r)
@@ -68,10 +69,14 @@ pub record Polls (heap : Heap) (seat : Seat) : Type 0 where
   pub present : seat.left ≡ false
   pub polls : seat.command ≡ commands.Poll
 
--- the seat with another answer under way
-fits_polling : (heap : Heap) (seat : Seat) (asked shaded : ℕ) → Polls heap seat → asked < 2 ^ 64 → asked ≢ seat.answered
-    → shaded ≤ length (roots (record seat { asked = asked; shaded = shaded })) → Fits heap (shades_on (record seat { asked = asked; shaded = shaded }))
-fits_polling heap seat asked shaded polls small anew few =
+-- the seat with other answers, at a place that they fit
+abbrev answering : Seat → ℕ → ℕ → ℕ → Place → Seat
+answering seat answered asked shaded place = record seat { answered = answered; asked = asked; shaded = shaded; place = place }
+
+fits_answering : (heap : Heap) (seat : Seat) (answered asked shaded : ℕ) (place : Place) → Polls heap seat → asked < 2 ^ 64
+    → FitsPlace heap (answering seat answered asked shaded place) place → FitsWay (answering seat answered asked shaded place) place
+    → FitsAnswer (answering seat answered asked shaded place) place → Fits heap (answering seat answered asked shaded place)
+fits_answering heap seat answered asked shaded place polls small at_place way answer =
     let fits = polls.fits in
     record {
       registers_whole = fits.registers_whole;
@@ -84,11 +89,17 @@ fits_polling heap seat asked shaded polls small anew few =
       reached_within = fits.reached_within;
       loaded_within = fits.loaded_within;
       asked_small = small;
-      at_place = polls.rest;
-      way_at_place = polls.nowhere;
+      at_place = at_place;
+      way_at_place = way;
       answer_at_place = answer;
       gone = gone_aside polls.present;
     }
+
+-- another answer is under way
+fits_polling : (heap : Heap) (seat : Seat) (asked shaded : ℕ) → Polls heap seat → asked < 2 ^ 64 → asked ≢ seat.answered
+    → shaded ≤ length (roots (record seat { asked = asked; shaded = shaded })) → Fits heap (shades_on (record seat { asked = asked; shaded = shaded }))
+fits_polling heap seat asked shaded polls small anew few =
+    fits_answering heap seat seat.answered asked shaded next.place polls small polls.rest polls.nowhere answer
   where
     next : Seat
     next = shades_on (record seat { asked = asked; shaded = shaded })
@@ -103,23 +114,7 @@ fits_polling heap seat asked shaded polls small anew few =
 fits_answered : (heap : Heap) (seat : Seat) (answered : ℕ) → Polls heap seat
     → Fits heap (record seat { answered = answered; asked = 0; shaded = 0; place = places.Idle })
 fits_answered heap seat answered polls =
-    let fits = polls.fits in
-    record {
-      registers_whole = fits.registers_whole;
-      registers_fit = fits.registers_fit;
-      cursor_within = fits.cursor_within;
-      small_reserve = fits.small_reserve;
-      reserve_of_cursor = fits.reserve_of_cursor;
-      hand_within = fits.hand_within;
-      body_within = fits.body_within;
-      reached_within = fits.reached_within;
-      loaded_within = fits.loaded_within;
-      asked_small = omega arith;
-      at_place = polls.rest;
-      way_at_place = polls.nowhere;
-      answer_at_place = record { none_asked = refl; none_shaded = refl };
-      gone = gone_aside polls.present;
-    }
+    fits_answering heap seat answered 0 0 places.Idle polls (omega arith) polls.rest polls.nowhere record { none_asked = refl; none_shaded = refl }
 
 -- the phase was found
 pub fits_phase : (heap : Heap) (seat : Seat) (found : ℕ) → Polls heap seat → found < 2 ^ 64 → seat.asked ≡ 0 → seat.shaded ≡ 0 → Fits heap (phase_found seat found)

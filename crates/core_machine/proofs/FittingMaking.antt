@@ -13,13 +13,13 @@ use Rattle.core_machine.specs.declared.place.Place.TheVariants as places
 use Rattle.core_machine.specs.declared.place.Making.TheVariants.{Bearing}
 use Rattle.core_machine.specs.declared.register.Register.TheVariants.{Object}
 use Rattle.core_machine.specs.Commands.{target_of}
-use Rattle.core_machine.specs.Fragments.{clear_in, part_out, in_group, out_of_group}
+use Rattle.core_machine.specs.Fragments.{clear_in, part_out, in_group, out_of_group, part_in}
 use Rattle.core_machine.specs.Seat.{Seat, need}
-use Rattle.core_machine.specs.Making.{claimed, next_group, first_group, last_group, given_back, told_full, stored_more, storing, born, made_last, next_id}
+use Rattle.core_machine.specs.Making.{claimed, next_group, first_group, last_group, given_back, told_full, stored_more, storing, born, made_last, next_id, returning}
 use Rattle.core_machine.specs.Moves.{is_last_birth}
 use Rattle.core_machine.specs.Machine.{MayBegin, begun}
 use Rattle.core_machine.specs.Fits.{FitsRegister, IsAtRest, Gathers, Refuses, HasBody, FitsMaking, FitsPlace, Fits}
-use Rattle.core_machine.proofs.Aside.{IsAside, gone_aside, aside_idle}
+use Rattle.core_machine.proofs.Aside.{IsAside, gone_aside, aside_idle, fits_hand}
 use Rattle.core_machine.proofs.Clear.{length-clear_among}
 use Rattle.core_machine.proofs.Filters.{length-filter_le}
 use Rattle.core_machine.proofs.Owned.{clear_in-group, within_group}
@@ -88,41 +88,16 @@ pub fits_given_back : (heap : Heap) (seat : Seat) → Fits heap seat → IsAside
 fits_given_back heap seat fits aside is =
     let group = first_group seat.hand in
     let both = length-filter_both (in_group group) (out_of_group group) (λ fragment. refl) seat.hand in
-    record {
-      registers_whole = fits.registers_whole;
-      cursor_within = fits.cursor_within;
-      small_reserve = fits.small_reserve;
-      reserve_of_cursor = fits.reserve_of_cursor;
-      hand_within = All-filter (out_of_group group) (λ fragment. fragment < 16 * heap.groups) seat.hand fits.hand_within;
-      body_within = fits.body_within;
-      registers_fit = aside.registers_fit;
-      reached_within = aside.reached_within;
-      loaded_within = aside.loaded_within;
-      asked_small = aside.asked_small;
-      way_at_place = aside.nowhere;
-      answer_at_place = aside.silent;
-      gone = gone_aside aside.present;
-      at_place = fits_returning heap (given_back seat) (part_out group seat.hand) (record { makes = is.makes; no_body = is.no_body; none_stored = is.none_stored; all_tried = is.all_tried; too_few = omega (arith, is.too_few) }) refl;
-    }
+    fits_hand heap seat (part_out group seat.hand) seat.stored seat.tried (seat.given + length (part_in group seat.hand)) (places.Making (returning (part_out group seat.hand))) fits aside
+    (All-filter (out_of_group group) (λ fragment. fragment < 16 * heap.groups) seat.hand fits.hand_within)
+    (fits_returning heap (given_back seat) (part_out group seat.hand)
+    (record { makes = is.makes; no_body = is.no_body; none_stored = is.none_stored; all_tried = is.all_tried; too_few = omega (arith, is.too_few) }) refl)
+    aside.nowhere aside.silent
 
 -- the refusal was told
 pub fits_told : (heap : Heap) (seat : Seat) → Fits heap seat → IsAside heap seat → Refuses heap seat → seat.hand ≡ [] → Fits heap (told_full seat)
-fits_told heap seat fits aside is empty = record {
-  registers_whole = fits.registers_whole;
-  cursor_within = fits.cursor_within;
-  small_reserve = fits.small_reserve;
-  reserve_of_cursor = fits.reserve_of_cursor;
-  hand_within = fits.hand_within;
-  body_within = fits.body_within;
-  registers_fit = aside.registers_fit;
-  reached_within = aside.reached_within;
-  loaded_within = aside.loaded_within;
-  asked_small = aside.asked_small;
-  way_at_place = aside.nowhere;
-  answer_at_place = aside.silent;
-  gone = gone_aside aside.present;
-  at_place = record { empty_hand = empty; no_body = is.no_body; none_stored = is.none_stored; none_tried = refl; none_given = refl };
-}
+fits_told heap seat fits aside is empty = fits_hand heap seat seat.hand seat.stored 0 0 places.Idle fits aside fits.hand_within
+    (record { empty_hand = empty; no_body = is.no_body; none_stored = is.none_stored; none_tried = refl; none_given = refl }) aside.nowhere aside.silent
 
 fits_storing : (heap : Heap) (seat : Seat) → HasBody seat → seat.hand ≡ seat.body → seat.stored ≤ 4 * length seat.body
     → FitsMaking heap seat (storing seat.stored seat.body)
@@ -137,22 +112,10 @@ fits_storing heap seat is whole within =
 -- a word was stored
 pub fits_stored : (heap : Heap) (seat : Seat) → Fits heap seat → IsAside heap seat → HasBody seat → seat.hand ≡ seat.body → seat.stored < 4 * length seat.body
     → Fits heap (stored_more seat)
-fits_stored heap seat fits aside is whole within = record {
-  registers_whole = fits.registers_whole;
-  cursor_within = fits.cursor_within;
-  small_reserve = fits.small_reserve;
-  reserve_of_cursor = fits.reserve_of_cursor;
-  hand_within = fits.hand_within;
-  body_within = fits.body_within;
-  registers_fit = aside.registers_fit;
-  reached_within = aside.reached_within;
-  loaded_within = aside.loaded_within;
-  asked_small = aside.asked_small;
-  way_at_place = aside.nowhere;
-  answer_at_place = aside.silent;
-  gone = gone_aside aside.present;
-  at_place = fits_storing heap (stored_more seat) (record { makes = is.makes; whole = is.whole; none_tried = is.none_tried; none_given = is.none_given }) whole (omega arith);
-}
+fits_stored heap seat fits aside is whole within =
+    fits_hand heap seat seat.hand (seat.stored + 1) seat.tried seat.given (places.Making (storing (seat.stored + 1) seat.body)) fits aside fits.hand_within
+    (fits_storing heap (stored_more seat) (record { makes = is.makes; whole = is.whole; none_tried = is.none_tried; none_given = is.none_given }) whole (omega arith))
+    aside.nowhere aside.silent
 
 -- where not all are of a group, some are of others
 some_out : (group : ℕ) (fragments : List ℕ) → list_all (in_group group) fragments ≡ false → 0 < length (part_out group fragments)
@@ -169,22 +132,10 @@ pub fits_born : (heap : Heap) (seat : Seat) → Fits heap seat → IsAside heap 
 fits_born heap seat fits aside is within stored place more =
     let group = last_group seat.hand in
     let fewer = length-filter_le (out_of_group group) seat.hand in
-    record {
-      registers_whole = fits.registers_whole;
-      cursor_within = fits.cursor_within;
-      small_reserve = fits.small_reserve;
-      reserve_of_cursor = fits.reserve_of_cursor;
-      hand_within = All-filter (out_of_group group) (λ fragment. fragment < 16 * heap.groups) seat.hand fits.hand_within;
-      body_within = fits.body_within;
-      registers_fit = aside.registers_fit;
-      reached_within = aside.reached_within;
-      loaded_within = aside.loaded_within;
-      asked_small = aside.asked_small;
-      way_at_place = rw place aside.nowhere;
-      answer_at_place = rw place aside.silent;
-      gone = gone_aside aside.present;
-      at_place = rw place (record { makes = is.makes; whole = is.whole; none_tried = is.none_tried; none_given = is.none_given }, some_out group seat.hand more, omega arith, stored);
-    }
+    fits_hand heap seat (part_out group seat.hand) seat.stored seat.tried seat.given seat.place fits aside
+    (All-filter (out_of_group group) (λ fragment. fragment < 16 * heap.groups) seat.hand fits.hand_within)
+    (rw place (record { makes = is.makes; whole = is.whole; none_tried = is.none_tried; none_given = is.none_given }, some_out group seat.hand more, omega arith, stored))
+    (rw place aside.nowhere) (rw place aside.silent)
 
 -- the object was made
 pub fits_made : (heap : Heap) (number : ℕ) (seat : Seat) → Fits heap seat → IsAside heap seat → HasBody seat → Fits heap (made_last number seat)

@@ -77,3 +77,13 @@ free-claimed heap words group table within =
     let change = sum_but_one heap.groups (λ g. length (clear_in g (at heap now (Control g)))) (λ g. length (clear_in g (at heap words (Control g)))) group within
     (λ g below other. ap (λ (w : ℕ). length (clear_in g w)) (at-put_other heap words (Control group) (Control g) (bit_or (at heap words (Control group)) all_taken) within below (λ e. other (cc e)))) in
     omega arith
+
+-- a sum with one number more
+pub sum_upto-more : (n : ℕ) (f : ℕ → ℕ) → sum_upto (n + 1) f ≡ sum_upto n f + f n
+unfolding sum_upto
+sum_upto-more n f = let e : n + 1 ≡ suc n = omega arith in ap (λ (m : ℕ). sum_upto m f) e
+
+-- nothing is summed yet
+pub sum_upto-none : (f : ℕ → ℕ) → sum_upto 0 f ≡ 0
+unfolding sum_upto
+sum_upto-none f = refl

@@ -32,6 +32,9 @@ pub mod PlayingBegins
 pub mod PlayingOn
 pub mod Restoring
 pub mod Runs
+pub mod Saying
+pub mod SayingReaching
+pub mod SayingMoves
 pub mod Stages
 pub mod Stepping
 pub mod Turning

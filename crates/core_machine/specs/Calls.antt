@@ -1,11 +1,13 @@
 -- A call that a seat makes from its begin to its reply, with no step of others between.
-use Rattle.std.specs.Prelude.{◌≡◌, ℕ, ◌+◌, ◌≤◌, ◌<◌, ◌-◌, List, [], ◌∷◌, ◌++◌, length, replicate, slice_get, Option, Some, None, option_and_then}
+use Rattle.std.specs.Prelude.{◌≡◌, ◌≢◌, ℕ, ◌+◌, ◌≤◌, ◌<◌, ◌-◌, ◌==◌, if◌then◌else◌, List, [], ◌∷◌, ◌++◌, length, replicate, slice_get, Option, Some, None, option_and_then}
+use Rattle.std.specs.List.{AllByRecursion}
 use Rattle.heap_model.specs.declared.heap.Heap.{Heap}
 use Rattle.heap_model.specs.declared.command.Command.{Command}
+use Rattle.heap_model.specs.declared.command.Command.TheVariants.{Leave}
 use Rattle.heap_model.specs.declared.entry.Entry.{Entry}
-use Rattle.heap_model.specs.declared.entry.Entry.TheVariants.{Said}
+use Rattle.heap_model.specs.declared.entry.Entry.TheVariants.{Said, Takes, GivesBack, Answers}
 use Rattle.heap_model.specs.declared.reply.Reply.{Reply}
-use Rattle.heap_model.specs.declared.reply.Reply.TheVariants.{Made, Full, NoObject, NoField}
+use Rattle.heap_model.specs.declared.reply.Reply.TheVariants.{Done, Made, Full, NoObject, NoField}
 use Rattle.heap_model.specs.Space.{need_of}
 use Rattle.core_machine.specs.declared.address.Address.TheVariants.{Control}
 use Rattle.core_machine.specs.declared.place.Place.TheVariants.{Idle}
@@ -20,7 +22,14 @@ use Rattle.core_machine.specs.Sums.{sum_upto}
 abbrev pub call_events : ℕ → Command → ℕ → List Event
 call_events number command steps = Begins number command ∷ replicate steps (Steps number)
 
--- the second state is the first after the call's steps; its entries, the reply last, are the seat's and the history's
+-- an entry of the seat that tells no reply: it takes or gives back fragments, or answers a phase
+abbrev pub IsBeside : ℕ → Entry → Type 0
+IsBeside number (Takes q count) = q ≡ number
+IsBeside number (GivesBack q count) = q ≡ number
+IsBeside number (Answers q phase) = q ≡ number
+IsBeside number _ = ⊥
+
+-- the second state is the first after the call's steps; its entries, the reply last and no other, are the seat's and the history's
 pub record PlaysCall (heap : Heap) (old new : State) (number : ℕ) (command : Command) (reply : Reply) : Type 0 where
   pub steps : ℕ
   pub can : Run heap old (call_events number command steps)
@@ -29,6 +38,22 @@ pub record PlaysCall (heap : Heap) (old new : State) (number : ℕ) (command : C
   pub before : List Entry
   pub shown : history heap old (call_events number command steps) ≡ before ++ Said number command reply ∷ []
   pub mine : (seat_at new number).mine ≡ (seat_at old number).mine ++ (before ++ Said number command reply ∷ [])
+  pub beside : AllByRecursion (IsBeside number) before
+
+-- a call makes one object at most and does one set at most, and by no call but a leave the seat has left
+pub record CountsCall (old new : Seat) (command : Command) : Type 0 where
+  pub made_more : new.made ≤ old.made + 1
+  pub sets_more : new.sets ≤ old.sets + 1
+  pub present_stays : command ≢ Leave → new.left ≡ old.left
+
+-- what a seat tells that leaves with so many fragments of its own: it gives them back, if there are any, and is done
+abbrev pub leave_entries : ℕ → ℕ → List Entry
+leave_entries number left = (if left == 0 then [] else GivesBack number left ∷ []) ++ Said number Leave Done ∷ []
+
+-- the seat told its leave, with its reserve as what it had of its own
+abbrev pub TellsLeave : State → State → ℕ → Type 0
+TellsLeave old new number =
+    (seat_at new number).mine ≡ (seat_at old number).mine ++ leave_entries number (length (seat_at old number).reserve)
 
 -- the fragments whose taken bit isn't set
 abbrev pub free_fragments : Heap → List ℕ → ℕ

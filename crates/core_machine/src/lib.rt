@@ -20,11 +20,10 @@ mod place;
 mod play;
 mod reach;
 mod register;
+mod space;
 mod stage;
 mod step;
 mod tell;
-#[cfg(test)]
-mod tests;
 mod way;
 
 pub use address::Address;

@@ -2,11 +2,12 @@ ghost use Rattle.std.specs.Prelude.{◌≡◌, ◌≢◌, ℕ, ◌+◌, ◌-◌,
 ghost use Rattle.heap_model.specs.Space.{need_of};
 ghost use Rattle.core_machine.specs.Machine.{Begins, Steps, Turns, Can, after, seat_at, found_by};
 ghost use Rattle.core_machine.specs.declared.address.Address.TheVariants.{Phase};
-ghost use Rattle.core_machine.specs.Layout.{at};
+ghost use Rattle.core_machine.specs.Layout.{at, InTable};
 ghost use Rattle.core_machine.specs.Collector.{next_turn, turn_answer};
 ghost use Rattle.core_machine.specs.Moves.{due_step};
 ghost use Rattle.core_machine.specs.Value.{spare_of, log_of, due_of, event_of, IsParty, SpendsRoom, IsMachine};
 
+use crate::address::Address;
 use crate::collector::CollectorParty;
 use crate::party::SeatParty;
 use crate::step::Step;
@@ -53,6 +54,16 @@ impl Machine {
         ensures machine { IsMachine self.now.heap self.now.state }
     {
         self.heap
+    }
+
+    /// The word at the address.
+    #[tactic(auto, unfolding(crate::specs::Layout::at))]
+    pub fn word(&self, address: Address) -> u64
+        requires { InTable self.now.heap address }
+        ensures { result ≡ at self.now.heap self.now.state.words address }
+    {
+        let index = address.index(&self.heap);
+        self.words[index]
     }
 
     /// The phase word.

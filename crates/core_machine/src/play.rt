@@ -1,8 +1,9 @@
 ghost use Rattle.std.specs.Prelude.{◌≡◌, ◌+◌, ◌*◌, ◌<◌, ◌≤◌, Some};
+ghost use Rattle.heap_model.specs.declared.command.Command.TheVariants.{Leave};
 ghost use Rattle.heap_model.specs.Space.{need_of};
-ghost use Rattle.core_machine.specs.Machine.{Begins, Can};
+ghost use Rattle.core_machine.specs.Machine.{Begins, Can, seat_at};
 ghost use Rattle.core_machine.specs.Commands.{IsRecord};
-ghost use Rattle.core_machine.specs.Calls.{PlaysCall, AnswersNew, IsPlaceRefusal, LeavesAll, last_reply as last_reply_of};
+ghost use Rattle.core_machine.specs.Calls.{PlaysCall, CountsCall, TellsLeave, AnswersNew, IsPlaceRefusal, LeavesAll, last_reply as last_reply_of};
 ghost use Rattle.core_machine.specs.Value.{spare_of, SpendsRoom};
 
 use crate::machine::Machine;
@@ -15,6 +16,8 @@ impl Machine {
         requires room { 2 * need_of command.now + 4 ≤ spare_of self.old seat }
         ensures heap { self.new.heap ≡ self.old.heap }
         ensures steps { PlaysCall self.old.heap self.old.state self.new.state seat command.now result }
+        ensures counts { CountsCall (seat_at self.old.state seat) (seat_at self.new.state seat) command.now }
+        ensures leave { command.now ≡ Leave → TellsLeave self.old.state self.new.state seat }
         ensures answer { IsRecord command.now → AnswersNew self.old.heap self.old.state self.new.state seat command.now result }
         ensures refused { IsPlaceRefusal result → LeavesAll self.old.state self.new.state seat }
         ensures spent { SpendsRoom self.old self.new seat }

@@ -5,7 +5,6 @@ pub mod Counting
 pub mod CycleLemmas
 pub mod Histories
 pub mod Judging
-pub mod LoneLemmas
 pub mod MarkLemmas
 pub mod NoteLemmas
 pub mod Noting

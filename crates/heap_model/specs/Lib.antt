@@ -8,7 +8,6 @@ pub mod Effects
 pub mod Growth
 pub mod Heap
 pub mod Legal
-pub mod LoneSeat
 pub mod Marking
 pub mod Needs
 pub mod Noting

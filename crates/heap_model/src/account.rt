@@ -21,11 +21,9 @@ mod phases;
 mod seat;
 mod sweep;
 mod swung;
-#[cfg(test)]
-mod tests;
 
 /// The counts of fragments, spine words and phases of a history, by which the next entry is judged.
-#[derive(Debug, Drop)]
+#[derive(Drop)]
 pub struct Account {
     heap: Heap,
     entries: u64,

@@ -3,9 +3,6 @@ ghost use Rattle.heap_model.specs.CollectorCalls.{CollectorState, Turns};
 
 use crate::fault::Memory;
 
-#[cfg(test)]
-mod tests;
-
 /// What one turn of the collector came to: a step, a seat that it waits for, or the end of a cycle.
 #[derive(Clone, Copy, Debug, PartialEq, Eq)]
 pub enum Turn {

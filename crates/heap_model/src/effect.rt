@@ -7,7 +7,7 @@ use crate::reply::Reply;
 /// What an entry does, or what many entries come to: the fragments that are taken from the heap, given back, made into
 /// objects and freed, the spine words of the arrays that are made and those that are returned, the phases that begin,
 /// and the answers to phases.
-#[derive(Clone, Copy, Debug, PartialEq, Eq)]
+#[derive(Clone, Copy)]
 pub struct Effect {
     pub taken: u64,
     pub given: u64,

@@ -15,11 +15,9 @@ mod legal;
 mod lookup;
 mod reach;
 mod sizes;
-#[cfg(test)]
-mod tests;
 
 /// The objects that were ever made, and what each seat holds: a heap that never collects.
-#[derive(Debug, Drop)]
+#[derive(Drop)]
 pub struct Graph {
     alloc: Global,
     board: Object,

@@ -6,7 +6,7 @@ use std::alloc::{AllocError, Global};
 use std::marker::Model;
 
 /// A record or an array.
-#[derive(Debug, Drop)]
+#[derive(Drop)]
 pub struct Object {
     array: bool,
     cells: Vec<Cell>,

@@ -9,7 +9,7 @@ use std::alloc::{AllocFailed, Global};
 use std::marker::Model;
 
 /// A seat of the heap, as one that never collects keeps it.
-#[derive(Debug, Drop)]
+#[derive(Drop)]
 pub struct Seat {
     registers: [Value; 16],
     objects: Vec<Object>,

@@ -10,11 +10,6 @@ use crate::fault::Memory;
 use crate::id::{Id, Value};
 use crate::refusal::{Full, NoObject, PlaceRefusal, SpaceRefusal};
 
-#[cfg(test)]
-mod lone;
-#[cfg(test)]
-mod tests;
-
 /// A seat of a heap, through which one mutator works. Registers are numbered 0 to 15, and register 0 is only read.
 /// No call but `room` takes memory.
 pub trait SeatCalls {

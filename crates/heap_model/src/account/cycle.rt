@@ -9,7 +9,7 @@ use crate::id::Id;
 
 /// What the account keeps of the last cycle that began: what was reached then and how many fragments and spine words
 /// that had, what the seats brought, and how many fragments had been taken and spine words granted.
-#[derive(Debug, Drop)]
+#[derive(Drop)]
 pub struct Cycle {
     pub reached: Vec<Id>,
     pub frags: u128,

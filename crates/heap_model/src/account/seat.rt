@@ -4,7 +4,7 @@ use crate::effect::Effect;
 
 /// What the account keeps of a seat: what its entries came to, what its and all entries had come to at its last reply,
 /// which seats were behind the phase then, and the phase in which it left, if it has.
-#[derive(Clone, Copy, Debug, PartialEq, Eq)]
+#[derive(Clone, Copy)]
 pub struct SeatAccount {
     pub own: Effect,
     pub own_then: Effect,

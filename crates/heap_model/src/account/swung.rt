@@ -7,7 +7,7 @@ use std::collections::BTreeSet;
 use std::marker::Model;
 
 /// The arrays that have swung in the phase.
-#[derive(Debug, Drop)]
+#[derive(Drop)]
 pub struct Swung {
     ids: BTreeSet<Id>,
 }

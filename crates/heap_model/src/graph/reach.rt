@@ -10,8 +10,6 @@ use std::alloc::AllocError;
 
 mod marks;
 mod search;
-#[cfg(test)]
-mod tests;
 
 impl Graph {
     ghost use Rattle.heap_model.specs.Objects.{node};

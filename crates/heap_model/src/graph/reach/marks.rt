@@ -6,7 +6,7 @@ use std::alloc::{AllocError, Global};
 use std::marker::Model;
 
 /// The marks of the objects of one seat.
-#[derive(Debug, Drop)]
+#[derive(Drop)]
 struct Row {
     marks: Vec<bool>,
 }
@@ -20,7 +20,7 @@ impl Model for Row {
 }
 
 /// A mark for each object of a graph.
-#[derive(Debug, Drop)]
+#[derive(Drop)]
 pub struct Marks {
     board: bool,
     seats: Vec<Row>,

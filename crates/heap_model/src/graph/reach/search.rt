@@ -9,7 +9,7 @@ use std::alloc::{AllocError, AllocFailed, Global};
 use std::marker::Model;
 
 /// What a walk through a graph has found so far.
-#[derive(Debug, Drop)]
+#[derive(Drop)]
 pub struct Search {
     marks: Marks,
     waiting: Vec<Id>,

@@ -74,10 +74,28 @@ returns-clause-answer c =
     let none : due_step old.heap c.args.seat (seat_at at_.self.state c.args.seat) ≡ None =
     ap (λ h. due_step h c.args.seat (seat_at at_.self.state c.args.seat)) (sym at_.invariant.heap) ∙ none_due _ (λ step is. c.in_default.not-Some step (c.due_of_seat.ensures ∙ is)) in
     (call_over old.heap old.state at_.self c.args.seat c.args.command.now c.in-Some-last_reply.reply at_.invariant.playing none
-    (ap last_reply (sym c.log.ensures) ∙ sym c.last_reply.ensures ∙ c.in-Some-last_reply.is)).1
+    (ap last_reply (sym c.log.ensures) ∙ sym c.last_reply.ensures ∙ c.in-Some-last_reply.is)).3
 
 pub returns-clause-refused : goal.returns-clause-refused
 returns-clause-refused c =
+    let old = c.args.self.now in
+    let at_ = c.loop-step in
+    let none : due_step old.heap c.args.seat (seat_at at_.self.state c.args.seat) ≡ None =
+    ap (λ h. due_step h c.args.seat (seat_at at_.self.state c.args.seat)) (sym at_.invariant.heap) ∙ none_due _ (λ step is. c.in_default.not-Some step (c.due_of_seat.ensures ∙ is)) in
+    (call_over old.heap old.state at_.self c.args.seat c.args.command.now c.in-Some-last_reply.reply at_.invariant.playing none
+    (ap last_reply (sym c.log.ensures) ∙ sym c.last_reply.ensures ∙ c.in-Some-last_reply.is)).4
+
+pub returns-clause-counts : goal.returns-clause-counts
+returns-clause-counts c =
+    let old = c.args.self.now in
+    let at_ = c.loop-step in
+    let none : due_step old.heap c.args.seat (seat_at at_.self.state c.args.seat) ≡ None =
+    ap (λ h. due_step h c.args.seat (seat_at at_.self.state c.args.seat)) (sym at_.invariant.heap) ∙ none_due _ (λ step is. c.in_default.not-Some step (c.due_of_seat.ensures ∙ is)) in
+    (call_over old.heap old.state at_.self c.args.seat c.args.command.now c.in-Some-last_reply.reply at_.invariant.playing none
+    (ap last_reply (sym c.log.ensures) ∙ sym c.last_reply.ensures ∙ c.in-Some-last_reply.is)).1
+
+pub returns-clause-leave : goal.returns-clause-leave
+returns-clause-leave c =
     let old = c.args.self.now in
     let at_ = c.loop-step in
     let none : due_step old.heap c.args.seat (seat_at at_.self.state c.args.seat) ≡ None =

@@ -1,5 +1,0 @@
-mod calls;
-mod fields;
-mod making;
-mod steps_alike;
-mod turns;
