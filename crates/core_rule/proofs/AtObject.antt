@@ -1,5 +1,5 @@
 -- A call that works on an object: what its seat knows of the graph.
-use Rattle.std.proofs.Common.{◌≡◌, ◌≢◌, ℕ, ◌+◌, ◌<◌, ◌≤◌, List, slice_index_or, ◌∙◌, subst}
+use Rattle.std.proofs.Common.{◌≡◌, ℕ, ◌+◌, ◌<◌, ◌≤◌, List, slice_index_or, ◌∙◌, subst, false}
 use Rattle.heap_model.specs.declared.heap.Heap.{Heap}
 use Rattle.heap_model.specs.declared.id.Id.{Id}
 use Rattle.heap_model.specs.declared.id.Value.{Value}
@@ -7,6 +7,7 @@ use Rattle.heap_model.specs.declared.id.Value.TheVariants as values
 use Rattle.heap_model.specs.Cycles.{graph_of}
 use Rattle.heap_model.specs.Legal.{IsPresent}
 use Rattle.heap_model.specs.Objects.{register}
+use Rattle.heap_model.specs.PhaseCounts.{phase}
 use Rattle.heap_model.specs.Space.{taken_of, spent_of}
 use Rattle.core_machine.specs.declared.place.Place.TheVariants as places
 use Rattle.core_machine.specs.declared.place.Reaching.{Reaching}
@@ -18,6 +19,7 @@ use Rattle.core_machine.specs.Machine.{State, seat_at}
 use Rattle.core_machine.specs.Seat.{Seat}
 use Rattle.core_rule.specs.Book.{Book, id_at}
 use Rattle.core_rule.specs.Owners.{Owner}
+use Rattle.core_rule.specs.Phases.{IsNear}
 use Rattle.core_rule.specs.Registers.{Holds, IsAwaited}
 use Rattle.core_rule.specs.Rule.{Rule}
 use Rattle.core_rule.specs.Ways.{OnWay}
@@ -33,13 +35,15 @@ held_object made owner fragments held value head id is holds =
 module _ (heap : Heap) (state : State) (book : Book) (q : ℕ) (rule : Rule heap state book) (here : q < heap.seats)
     (reaching : Reaching) (place : (seat_at state q).place ≡ places.Reaching reaching) where
   -- the seat hasn't left
+  stays : (seat_at state q).left ≡ false
+  stays = in_flight heap (seat_at state q) (rule.seats_stand q here).fits (λ idle. absurd (cc (place, idle)))
+
   pub is_present : IsPresent (graph_of heap book.history) q
-  is_present =
-      let stands = rule.seats_stand q here in
-      stands.counts.leaves ∙ in_flight heap (seat_at state q) stands.fits busy
-    where
-      busy : (seat_at state q).place ≢ places.Idle
-      busy idle = absurd (cc)
+  is_present = (rule.seats_stand q here).counts.leaves ∙ stays
+
+  -- its last answer is to the phase, or to the one before it
+  pub is_near : IsNear (phase book.history) (seat_at state q).answered
+  is_near = (rule.seats_stand q here).cycle.answers_told.near stays
 
   rest : IsAtRest (seat_at state q)
   rest = rw place at (rule.seats_stand q here).fits.at_place

@@ -1,6 +1,5 @@
 -- A seat with a call in flight and nothing at hand: it hasn't left, and what it has of its own is little.
-use Rattle.std.proofs.Common.{◌≡◌, ◌≢◌, ℕ, ◌+◌, ◌<◌, ◌≤◌, Bool, true, false, List, [], ◌++◌, length, refl, sym, ◌∙◌, subst, arith, append-nil}
-use Rattle.heap_model.specs.declared.entry.Entry.{Entry}
+use Rattle.std.proofs.Common.{◌≡◌, ◌≢◌, ℕ, ◌+◌, ◌<◌, ◌≤◌, Bool, true, false, length, refl, subst, arith}
 use Rattle.heap_model.specs.declared.heap.Heap.{Heap}
 use Rattle.heap_model.specs.Space.{taken_of, spent_of}
 use Rattle.core_machine.specs.declared.place.Place.{Place}
@@ -20,10 +19,6 @@ in_flight heap seat fits busy = by seat.left (λ left. busy (fits.gone left).idl
     by : (left : Bool) → (left ≡ true → ⊥) → left ≡ false
     by true none = absurd (none refl)
     by false none = refl
-
--- where nothing is awaited, a seat's own list has all of its entries
-pub all_told : (mine awaited own : List Entry) → mine ++ awaited ≡ own → awaited ≡ [] → mine ≡ own
-all_told mine awaited own both none = sym (append-nil mine) ∙ (rw none at both)
 
 -- a place at which no name is awaited
 pub none_awaited : (place now : Place) (d r : ℕ) → place ≡ now → ¬ IsAwaited now d r → ¬ IsAwaited place d r

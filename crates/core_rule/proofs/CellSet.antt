@@ -10,24 +10,19 @@ use Rattle.heap_model.specs.declared.id.Value.TheVariants as values
 use Rattle.heap_model.specs.Changes.{with_cell, with_object_cell, with_party, count_set, write}
 use Rattle.heap_model.specs.Objects.{party, node, nobody}
 use Rattle.heap_model.specs.State.{State, Node, Party, fresh}
-use Rattle.core_rule.proofs.GraphSeats.{party_is, party_apart, node_stays, same_party}
-use Rattle.core_rule.proofs.SeatFrames.{SameParty}
+use Rattle.core_rule.proofs.GraphSeats.{party_is, party_apart, node_stays}
+use Rattle.core_rule.proofs.SeatFrames.{SameParty, same_party}
 
 -- what stands in a list where one element was set
 pub slice_get-set_same : {A : Type 0} (xs : List A) (i : ℕ) (a : A) → i < length xs → slice_get (set xs i a) i ≡ Some a
 slice_get-set_same xs i a within = slice_get-get_or (set xs i a) i a (omega (arith, within, length-set xs i a)) ∙ ap Some (get_or-set_same xs i a a within)
 
 pub slice_get-set_other : {A : Type 0} (xs : List A) (i j : ℕ) (a : A) → j ≢ i → slice_get (set xs i a) j ≡ slice_get xs j
-slice_get-set_other [] i j a apart = refl
 slice_get-set_other (x ∷ xs) zero zero a apart = absurd (apart refl)
-slice_get-set_other (x ∷ xs) zero (suc j) a apart = refl
-slice_get-set_other (x ∷ xs) (suc i) zero a apart = refl
 slice_get-set_other (x ∷ xs) (suc i) (suc j) a apart = slice_get-set_other xs i j a (λ e. apart (ap suc e))
+slice_get-set_other _ _ _ a apart = refl
 
--- each seat has what it had, and so it has after another such step
-pub party_stays : (g : State) (r : ℕ) → SameParty g g r
-party_stays g r = record { registers = refl; objects = refl; sets = refl; left = refl }
-
+-- each seat has what it had after both of two such steps
 party_then : (g c now : State) (r : ℕ) → SameParty g c r → SameParty c now r → SameParty g now r
 party_then g c now r one two = record {
   registers = two.registers ∙ one.registers;
@@ -90,7 +85,7 @@ module _ (g : State) (t n i : ℕ) (cell : Cell) (object : Node) (there : node g
   ]
 
 -- a write to an object that is there
-pub writes : (g : State) (id : Id) (i : ℕ) (cell : Cell) (object : Node) → node g id ≡ Some object → Writes g (write g (values.Object id) i cell) id i cell
+writes : (g : State) (id : Id) (i : ℕ) (cell : Cell) (object : Node) → node g id ≡ Some object → Writes g (write g (values.Object id) i cell) id i cell
 writes g Board i cell object there = record {
   written = λ o is. ap (λ x. Some (with_cell x i cell)) (the_board o is);
   rest = λ x apart. board_alone x apart;

@@ -4,11 +4,11 @@ use Rattle.std.proofs.Common.{◌≡◌, ◌≢◌, ℕ, ◌+◌, ◌-◌, ◌*�
 use Rattle.std.proofs.lemmas.Bool.{lt-ltb, ltb-true}
 use Rattle.std.proofs.lemmas.Bool.Decides.{eqb_tells}
 use Rattle.std.proofs.lemmas.List.{length-set}
+use Rattle.heap_words.specs.declared.kind.Kind.{Kind}
+use Rattle.heap_words.specs.declared.kind.Kind.TheVariants as kinds
 use Rattle.heap_words.specs.declared.name.Name.{Name}
 use Rattle.heap_words.specs.Cell.{cell_word}
 use Rattle.heap_words.specs.Kind.{kind_number}
-use Rattle.heap_words.specs.declared.kind.Kind.{Kind}
-use Rattle.heap_words.specs.declared.kind.Kind.TheVariants as kinds
 use Rattle.heap_model.specs.declared.cell.Cell.{Cell}
 use Rattle.heap_model.specs.declared.id.Id.{Id}
 use Rattle.heap_model.specs.declared.id.Value.{Value}
@@ -26,23 +26,23 @@ use Rattle.core_rule.specs.Registers.{Holds}
 use Rattle.core_rule.proofs.CellSet.{slice_get-set_same, slice_get-set_other}
 
 -- where a cell may stand
-pub cell_stands : (k part : ℕ) → 1 ≤ part → 2 ≤ 3 * k + part → is_cell k part ≡ true
+cell_stands : (k part : ℕ) → 1 ≤ part → 2 ≤ 3 * k + part → is_cell k part ≡ true
 cell_stands k part some second = elim (eqb_tells k 0) as (λ _. is_cell k part ≡ true) [
   | inl e ↦ rw e.0 (lt-ltb 1 part (omega (arith, e.1, second)))
   | inr e ↦ rw e.0 (lt-ltb 0 part some)
 ]
 
-pub stands_cell : (k part : ℕ) → is_cell k part ≡ true → (1 ≤ part) × (2 ≤ 3 * k + part)
+stands_cell : (k part : ℕ) → is_cell k part ≡ true → (1 ≤ part) × (2 ≤ 3 * k + part)
 stands_cell k part = elim (eqb_tells k 0) as (λ _. is_cell k part ≡ true → (1 ≤ part) × (2 ≤ 3 * k + part)) [
   | inl e ↦ rw e.0 (λ is. let two : 1 < part = ltb-true 1 part is in (omega arith, omega arith))
   | inr e ↦ rw e.0 (λ is. let one : 0 < part = ltb-true 0 part is in let some : k ≢ 0 = e.1 in (omega arith, omega arith))
 ]
 
 -- field i stands in a cell of its row
-pub field_stands : (i : ℕ) → is_cell (row_of i) (part_of i) ≡ true
+field_stands : (i : ℕ) → is_cell (row_of i) (part_of i) ≡ true
 field_stands i = cell_stands (row_of i) (part_of i) (omega arith) (omega arith)
 
-pub field_number : (i : ℕ) → 3 * row_of i + part_of i - 2 ≡ i
+field_number : (i : ℕ) → 3 * row_of i + part_of i - 2 ≡ i
 field_number i = omega arith
 
 -- the stamp of a field's word

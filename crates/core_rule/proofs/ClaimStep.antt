@@ -1,15 +1,17 @@
 -- A claim keeps the rule.
-use Rattle.std.proofs.Common.{◌≡◌, ◌≢◌, ℕ, ◌+◌, ◌*◌, ◌/◌, ◌%◌, ◌<◌, ◌≤◌, List, [], ◌++◌, length, drop, bit_or, refl, sym, ap, ◌∙◌, subst, arith}
 use Rattle.std.specs.Int.{bit_at}
-use Rattle.std.proofs.Math.Nat.{mod-lt}
+use Rattle.std.proofs.Common.{◌≡◌, ◌≢◌, ℕ, ◌+◌, ◌*◌, ◌/◌, ◌%◌, ◌<◌, ◌≤◌, List, [], ◌++◌, length, drop, bit_or, refl, sym, ap, ◌∙◌, subst, arith}
 use Rattle.std.proofs.lemmas.List.{length-append}
-use Rattle.heap_model.specs.declared.heap.Heap.{Heap}
+use Rattle.std.proofs.Math.Nat.{mod-lt}
 use Rattle.heap_model.specs.declared.entry.Entry.{Entry}
+use Rattle.heap_model.specs.declared.heap.Heap.{Heap}
 use Rattle.heap_model.specs.Cycles.{graph_of}
+use Rattle.heap_model.specs.PhaseCounts.{phase, answered, has_left}
 use Rattle.heap_model.specs.State.{State as Graph}
 use Rattle.core_machine.specs.declared.address.Address.TheVariants.{Control}
-use Rattle.core_machine.specs.declared.place.Place.TheVariants as places
 use Rattle.core_machine.specs.declared.place.Making.TheVariants.{Gathering}
+use Rattle.core_machine.specs.declared.place.Place.TheVariants as places
+use Rattle.core_machine.specs.Commands.{target_of}
 use Rattle.core_machine.specs.Fits.{Gathers}
 use Rattle.core_machine.specs.Fragments.{clear_in, tally}
 use Rattle.core_machine.specs.Layout.{at, put, table_length}
@@ -18,20 +20,22 @@ use Rattle.core_machine.specs.Making.{next_group}
 use Rattle.core_machine.specs.Moves.{claim_move, takes_some, seat_after}
 use Rattle.core_machine.specs.Operation.{all_taken}
 use Rattle.core_machine.specs.Seat.{Seat}
+use Rattle.core_machine.specs.Value.{IsMachine}
+use Rattle.core_machine.proofs.Addresses.{length-put}
+use Rattle.core_machine.proofs.Owned.{clear_in-group}
 use Rattle.core_rule.specs.Book.{Book}
 use Rattle.core_rule.specs.ControlWords.{Bits}
 use Rattle.core_rule.specs.Counts.{AreUsed}
 use Rattle.core_rule.specs.Gathers.{GathersRight}
 use Rattle.core_rule.specs.Holding.{whole_hand}
-use Rattle.core_rule.specs.Owners.{Owner, Free, Holds, Keeps as KeepsPart, free_bit, handed}
-use Rattle.core_rule.specs.Rule.{Rule}
-use Rattle.core_rule.proofs.SeatLists.{making_list, list_of_making, list_owners}
-use Rattle.core_rule.proofs.WayFrames.{way_owners}
-use Rattle.core_rule.proofs.Resting.{rests_put}
 use Rattle.core_rule.specs.Objects.{cells_at}
-use Rattle.core_machine.specs.Value.{IsMachine}
-use Rattle.core_machine.specs.Commands.{target_of}
+use Rattle.core_rule.specs.Owners.{Owner, Free, Holds, Bears, Keeps as KeepsPart, free_bit, born_bit, handed}
+use Rattle.core_rule.specs.Rule.{Rule}
+use Rattle.core_rule.specs.Together.{AreTogether}
 use Rattle.core_rule.proofs.Assemble.{fit_after, present_at, Keeps, seat_steps}
+use Rattle.core_rule.proofs.BirthColours.{marks_claim}
+use Rattle.core_rule.proofs.Bodies.{whole_empty}
+use Rattle.core_rule.proofs.ClaimOrder.{together_goes_on, together_claims}
 use Rattle.core_rule.proofs.ClaimTold.{told}
 use Rattle.core_rule.proofs.ClearLemmas.{clear_here, clear_group, clear_once}
 use Rattle.core_rule.proofs.ControlLemmas.{found_taken}
@@ -39,12 +43,14 @@ use Rattle.core_rule.proofs.ControlSteps.{claim_bits, clear_is_free}
 use Rattle.core_rule.proofs.CountMoves.{claim_frees}
 use Rattle.core_rule.proofs.GoesOn.{holding_goes_on, length_goes_on, gathers_goes_on, same_goes_on}
 use Rattle.core_rule.proofs.HandMoves.{holding_claims, holding_claimed}
-use Rattle.core_rule.proofs.ObjectFrames.{handed_kept, holds_keeps_none, objects_control, objects_owners, registers_owners}
-use Rattle.core_rule.proofs.StoredFrames.{stored_control}
-use Rattle.core_rule.proofs.OwnerLemmas.{free_by_bit}
-use Rattle.core_machine.proofs.Addresses.{length-put}
-use Rattle.core_rule.proofs.Bodies.{whole_empty}
 use Rattle.core_rule.proofs.InFlight.{awaits_none, is_busy}
+use Rattle.core_rule.proofs.MakingCycle.{answer_after_control, cycle_control, cycle_goes_on, heap_hands, borne_before}
+use Rattle.core_rule.proofs.MakingSeats.{none_shaded}
+use Rattle.core_rule.proofs.ObjectFrames.{handed_kept, holds_keeps_none, objects_control, objects_owners, registers_owners}
+use Rattle.core_rule.proofs.OwnerLemmas.{free_by_bit}
+use Rattle.core_rule.proofs.SeatLists.{making_list, list_of_making, list_owners}
+use Rattle.core_rule.proofs.StoredFrames.{stored_control}
+use Rattle.core_rule.proofs.WayFrames.{way_owners}
 
 next_within : (heap : Heap) (seat : Seat) → seat.cursor < heap.groups → next_group heap seat < heap.groups
 next_within heap seat within = mod-lt (seat.cursor + seat.tried) (omega (arith, within))
@@ -78,6 +84,9 @@ more_in_hand reserve hand body fs none = rw (whole_empty (hand ++ fs) body none,
 none_below : (u stored was : ℕ) → stored ≡ was → was ≡ 0 → u < stored → ⊥
 none_below u stored was same none below = omega (arith, none, same, below)
 
+holds_bears_none : {q r : ℕ} → Holds q ≢ Bears r
+holds_bears_none e = cc
+
 -- a claim keeps the rule
 pub claim_keeps : (heap : Heap) (state : State) (book : Book) (q : ℕ) → Rule heap state book → q < heap.seats
     → (seat_at state q).place ≡ places.Making Gathering
@@ -105,7 +114,8 @@ claim_keeps heap state book q rule here place machine =
     let inside = clear_within heap state.words book.owner g heap_stands.table below heap_stands.control_words in
     let free = clear_is_free heap state.words book.owner g heap_stands.table below heap_stands.control_words in
     let kept = handed_kept (Holds q) book.owner fs (holds_keeps_none q) (λ f i k there. free_kept book.owner f i k (free f there)) in
-    let same = same_goes_on heap mid in
+    let stays = same_goes_on heap mid in
+    let same = stays.same in
     let present = present_at heap state book q Gathering rule here place in
     let list = making_list g_of book.history book.made book.owner book.fragments q seat Gathering place stands.list in
     let tells = told heap state book q fs rule here (is_busy Gathering seat.place place) present gathers.none_given once inside free
@@ -120,7 +130,8 @@ claim_keeps heap state book q rule here place machine =
           (objects_control heap state.words g_of book.made book.owner book.fragments g word below heap_stands.objects));
       used = tells.used;
       legal = tells.legal;
-      rests = rests_put heap state.words history (Control g) word (λ e. omega (arith, e)) tells.rests;
+      cycle = tells.phases words owner book.colour book.fragments (heap_hands heap state.words book.owner book.colour book.fragments (phase book.history) g word (Holds q) fs below
+          refl (λ f there. ap born_bit (free f there)) kept (marks_claim heap state.words book.colour g heap_stands.table below heap_stands.cycle.marks) heap_stands.cycle);
     }
     record {
       fits = fit_after heap state book q rule here machine;
@@ -130,9 +141,17 @@ claim_keeps heap state book q rule here place machine =
       registers = rw (tells.graph, same.registers) (λ r fresh. registers_owners book.owner owner kept book.made book.fragments g_of q seat.registers seat.place (target_of seat.command) stands.registers r (awaits_none Gathering seat.place (target_of seat.command) r place));
       counts = rw tells.graph (tells.counts next same.made same.sets same.left
           (length_goes_on heap mid gathers.no_body ∙ more_in_hand seat.reserve seat.hand seat.body fs gathers.no_body));
-      list = list_of_making (graph_of heap history) history book.made owner book.fragments q next same.making same.placed (ap (λ m. m ++ added) same.mine ∙ tells.own seat.mine list);
-      way = rw same.placed tt;
-      quiet = tells.quiet q stands.quiet next same.answered;
+      list = list_of_making (graph_of heap history) history book.made owner book.fragments q next stays.making stays.placed (ap (λ m. m ++ added) same.mine ∙ tells.own seat.mine list);
+      way = rw stays.placed tt;
+      cycle = tells.cycles words owner book.colour q next
+          (cycle_goes_on heap state.words words book.owner owner book.colour (phase book.history) (answered q book.history) (has_left q book.history) q seat next
+          record { answered = same.answered; left = same.left; asked = same.asked } (rw stays.placed tt) (same.shaded ∙ none_shaded heap seat Gathering stands.fits place)
+          (answer_after_control heap state.words word g q (omega (arith, here, rule.limits.seats_fit)))
+          (λ f. borne_before (Holds q) book.owner fs q f holds_bears_none) stands.cycle);
+      together = together_goes_on heap mid gathers.no_body stands.fits.cursor_within stands.fits.reserve_of_cursor
+          (subst (λ b. AreTogether heap seat.cursor (seat.tried + 1) (seat.hand ++ fs) b) (sym gathers.no_body)
+          (together_claims heap seat.cursor seat.tried seat.hand fs stands.fits.cursor_within gathers.groups_left (clear_in-group g found)
+          (subst (λ b. AreTogether heap seat.cursor seat.tried seat.hand b) gathers.no_body stands.together)));
       began = tells.began next.place;
       gathers = gathers_goes_on heap owner q (drop (book.begun q) history) mid gathers.none_given
           (subst (λ n. GathersRight heap owner q (drop (book.begun q) history) seat.cursor (seat.tried + 1) n) (sym gathers.none_given) tells.gathers);
@@ -144,7 +163,10 @@ claim_keeps heap state book q rule here place machine =
       registers = rw tells.graph (registers_owners book.owner owner kept book.made book.fragments g_of r (seat_at state r).registers (seat_at state r).place (target_of (seat_at state r).command) other.registers);
       list = rw tells.graph (list_owners g_of book.owner owner kept book.made book.fragments r (seat_at state r) book.history history (tells.others_own r apart) other.list);
       way = rw tells.graph (way_owners (cells_at g_of book.made) book.owner owner kept book.made book.fragments (seat_at state r) other.way);
-      quiet = tells.quiet r other.quiet (seat_at state r) refl;
+      cycle = tells.cycles words owner book.colour r (seat_at state r)
+          (cycle_control heap state.words book.owner owner book.colour book.colour (phase book.history) (answered r book.history) (has_left r book.history) r (seat_at state r) g word below
+          (omega (arith, under, rule.limits.seats_fit)) (λ f marked. marked) (λ f borne. (borne_before (Holds q) book.owner fs r f holds_bears_none borne, refl)) other.cycle);
+      together = other.together;
       counts = rw tells.graph (tells.other_counts r under apart);
       began = tells.other_began r under apart;
       gathers = tells.other_gathers r under apart;

@@ -1,33 +1,35 @@
 -- What a claim of free fragments tells: an entry where it got some, and nothing where it got none.
 use Rattle.std.proofs.Common.{◌≡◌, ◌≢◌, ℕ, ◌+◌, ◌*◌, ◌/◌, ◌%◌, ◌<◌, ◌≤◌, ◌==◌, inl, inr, false, List, [], ◌∷◌, ◌++◌, length, drop, filter, refl, sym, ◌∙◌, subst, arith}
-use Rattle.std.proofs.lemmas.List.{append-nil}
+use Rattle.std.proofs.lemmas.Bool.{eq-eqb}
 use Rattle.std.proofs.lemmas.Bool.Decides.{eqb_tells}
-use Rattle.heap_model.specs.declared.heap.Heap.{Heap}
+use Rattle.std.proofs.lemmas.List.{append-nil}
 use Rattle.heap_model.specs.declared.entry.Entry.{Entry}
 use Rattle.heap_model.specs.declared.entry.Entry.TheVariants as entries
+use Rattle.heap_model.specs.declared.heap.Heap.{Heap}
 use Rattle.heap_model.specs.Account.{IsLegal}
 use Rattle.heap_model.specs.Cycles.{graph_of}
+use Rattle.heap_model.specs.Effects.{is_of}
+use Rattle.heap_model.specs.Objects.{party}
+use Rattle.heap_model.specs.PhaseCounts.{phase, answered, has_left}
 use Rattle.core_machine.specs.declared.place.Place.{Place}
 use Rattle.core_machine.specs.Fragments.{tally}
 use Rattle.core_machine.specs.Machine.{State, seat_at}
 use Rattle.core_machine.specs.Moves.{takes_some}
 use Rattle.core_machine.specs.Seat.{Seat}
-use Rattle.core_rule.specs.Book.{Book}
+use Rattle.core_rule.specs.Book.{Book, Colour}
 use Rattle.core_rule.specs.Counts.{OwnCounts, AreUsed, is_collectors}
+use Rattle.core_rule.specs.Cycle.{HeapInCycle, SeatInCycle}
 use Rattle.core_rule.specs.Gathers.{GathersRight, Began, IsAnswered}
-use Rattle.core_rule.specs.Phases.{Rests, IsQuiet}
-use Rattle.heap_model.specs.Effects.{is_of}
-use Rattle.heap_model.specs.Objects.{party}
 use Rattle.core_rule.specs.Holding.{whole_hand}
 use Rattle.core_rule.specs.Owners.{Owner, Free, Holds, free_bit, handed}
 use Rattle.core_rule.specs.Rule.{Rule}
 use Rattle.core_rule.proofs.CountMoves.{claim_used, claim_none, claim_room}
+use Rattle.core_rule.proofs.CycleHistory.{heap_cycle_more, cycle_own}
 use Rattle.core_rule.proofs.GatherSteps.{no_more, own_claims, own_claims_none, other_claims, other_claims_none}
-use Rattle.core_rule.proofs.Others.{counts_stay, began_stays, of_other, own-other}
 use Rattle.core_rule.proofs.InFlight.{began_past}
+use Rattle.core_rule.proofs.Others.{began_stays, of_other, own-other}
 use Rattle.core_rule.proofs.OwnEntries.{counts_own, counts_same, own_grows}
-use Rattle.core_rule.proofs.Resting.{rests_more, quiet_more, quiet_same}
-use Rattle.std.proofs.lemmas.Bool.{eq-eqb}
+use Rattle.core_rule.proofs.SeatFrames.{counts_stay, same_party}
 use Rattle.core_rule.proofs.SpaceEntries.{graph_takes, legal_takes}
 
 -- what is as it has to be of the history after a claim, with the new owners
@@ -36,8 +38,11 @@ pub record ClaimTold (heap : Heap) (state : State) (book : Book) (q : ℕ) (owne
   pub graph : graph_of heap history ≡ graph_of heap book.history
   pub used : AreUsed heap owner history
   pub legal : IsLegal heap false history
-  pub rests : Rests heap state.words history
-  pub quiet : (r : ℕ) → IsQuiet book.history r (seat_at state r) → (now : Seat) → now.answered ≡ (seat_at state r).answered → IsQuiet history r now
+  pub phases : (words : List ℕ) (owner : ℕ → Owner) (colour : ℕ → Colour) (fragments : ℕ → List ℕ)
+      → HeapInCycle heap words (phase book.history) owner colour fragments → HeapInCycle heap words (phase history) owner colour fragments
+  pub cycles : (words : List ℕ) (owner : ℕ → Owner) (colour : ℕ → Colour) (r : ℕ) (seat : Seat)
+      → SeatInCycle heap words (phase book.history) (answered r book.history) (has_left r book.history) owner colour r seat
+      → SeatInCycle heap words (phase history) (answered r history) (has_left r history) owner colour r seat
   pub own : (mine : List Entry) → mine ≡ filter (is_of q) book.history → mine ++ added ≡ filter (is_of q) history
   pub others_own : (r : ℕ) → r ≢ q → filter (is_of r) history ≡ filter (is_of r) book.history
   pub counts : (now : Seat) → now.made ≡ (seat_at state q).made → now.sets ≡ (seat_at state q).sets → now.left ≡ (seat_at state q).left
@@ -68,15 +73,15 @@ module _ (heap : Heap) (state : State) (book : Book) (q : ℕ) (fs : List ℕ) (
         graph = graph_takes heap book.history q (length fs);
         used = claim_used heap book.owner book.history q fs once below used free;
         legal = legal_takes heap book.history q (length fs) rule.heap_stands.legal present some (claim_room heap book.owner book.history q fs once below used free);
-        rests = rests_more heap state.words book.history entry refl rule.heap_stands.rests;
-        quiet = λ r quiet now same. quiet_more book.history r (seat_at state r) now same quiet entry refl;
+        phases = λ words owner colour fragments cycle. heap_cycle_more heap words owner colour book.history entry refl fragments cycle;
+        cycles = λ words owner colour r seat cycle. cycle_own heap words owner colour book.history entry refl r seat cycle refl refl;
         own = λ mine was. own_grows q book.history mine entry (eq-eqb q q refl) was;
         others_own = λ r apart. own-other r book.history entry (of_other q r apart);
         counts = λ now same sets left more. counts_own (graph_of heap book.history) (graph_of heap book.history) book.history q (seat_at state q) now stands.counts entry (eq-eqb q q refl)
             (same ∙ stands.counts.numbered) (sets ∙ stands.counts.stamped) (stands.counts.leaves ∙ sym left) (omega (arith, more));
         began = λ now. began_past book.history entry q (book.begun q) (seat_at state q).place now refl (λ still. busy) stands.began;
         gathers = own_claims heap book.owner book.history q fs once below used (book.begun q) stands.began.earlier (seat_at state q).cursor (seat_at state q).tried 0 free none nothing_given;
-        other_counts = λ r under apart. counts_stay (graph_of heap book.history) (graph_of heap book.history) book.history entry r (seat_at state r) (of_other q r apart) refl (rule.seats_stand r under).counts;
+        other_counts = λ r under apart. counts_stay (graph_of heap book.history) (graph_of heap book.history) r (same_party (graph_of heap book.history) (graph_of heap book.history) r refl) book.history entry (seat_at state r) (of_other q r apart) (rule.seats_stand r under).counts;
         other_began = λ r under apart. began_stays book.history entry r (book.begun r) (seat_at state r).place (of_other q r apart) (rule.seats_stand r under).began;
         other_gathers = λ r under apart. other_claims heap book.owner book.history q fs once below used (book.begun r) (rule.seats_stand r under).began.earlier
             (seat_at state r).cursor (seat_at state r).tried (seat_at state r).given free r apart (rule.seats_stand r under).gathers;
@@ -92,8 +97,8 @@ module _ (heap : Heap) (state : State) (book : Book) (q : ℕ) (fs : List ℕ) (
         graph = refl;
         used = claim_none heap book.owner book.history q fs once below used free nothing;
         legal = rule.heap_stands.legal;
-        rests = rule.heap_stands.rests;
-        quiet = λ r quiet now same. quiet_same book.history r (seat_at state r) now same quiet;
+        phases = λ words owner colour fragments cycle. cycle;
+        cycles = λ words owner colour r seat cycle. cycle;
         own = λ mine was. append-nil mine ∙ was;
         others_own = λ r apart. refl;
         counts = λ now same sets left more. counts_same (graph_of heap book.history) book.history q (seat_at state q) now same sets left (no_more _ _ (length fs) more nothing) stands.counts;

@@ -1,13 +1,22 @@
 -- The bits of the fragments after a step on a control word.
-use Rattle.std.proofs.Common.{◌≡◌, ◌≢◌, ℕ, ◌+◌, ◌*◌, ◌/◌, ◌%◌, ◌<◌, ◌≤◌, inl, inr, List, length, sym, ◌∙◌, subst, arith}
 use Rattle.std.specs.Int.{bit_at}
+use Rattle.std.proofs.Common.{◌≡◌, ◌≢◌, ℕ, ◌+◌, ◌*◌, ◌/◌, ◌%◌, ◌<◌, ◌≤◌, inl, inr, List, length, sym, ◌∙◌, subst, arith}
 use Rattle.std.proofs.lemmas.Bool.Decides.{eqb_tells}
 use Rattle.heap_model.specs.declared.heap.Heap.{Heap}
 use Rattle.core_machine.specs.declared.address.Address.TheVariants.{Control}
 use Rattle.core_machine.specs.Layout.{at, put, table_length}
-use Rattle.core_rule.specs.Owners.{Owner, Free, taken_bit, born_bit}
 use Rattle.core_rule.specs.ControlWords.{Bits}
+use Rattle.core_rule.specs.Owners.{Owner, Free, taken_bit, born_bit}
 use Rattle.core_rule.proofs.Addresses.{control_same, control_other}
+
+-- where the control words are the same, they have the same bits
+pub bits_same : (heap : Heap) (words now : List ℕ) (owner : ℕ → Owner) → ((group : ℕ) → group < heap.groups → at heap now (Control group) ≡ at heap words (Control group))
+    → Bits heap words owner → Bits heap now owner
+bits_same heap words now owner same bits = record {
+  taken = λ f below. rw (same (f / 16) (omega arith)) (bits.taken f below);
+  born = λ f below. rw (same (f / 16) (omega arith)) (bits.born f below);
+  outside = bits.outside;
+}
 
 module _ (heap : Heap) (words : List ℕ) (owner now : ℕ → Owner) (g word : ℕ) (whole : length words ≡ table_length heap) (below : g < heap.groups) where
   at_group : (f : ℕ) → f / 16 ≡ g → at heap (put heap words (Control g) word) (Control (f / 16)) ≡ word

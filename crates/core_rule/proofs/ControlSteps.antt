@@ -1,21 +1,21 @@
 -- The control words after a claim, a give back and a birth.
-use Rattle.std.proofs.Common.{◌≡◌, ◌≢◌, ℕ, ◌+◌, ◌-◌, ◌*◌, ◌/◌, ◌%◌, ◌<◌, ◌≤◌, max, Bool, List, length, bit_or, refl, sym, ap, ◌∙◌, subst, arith}
 use Rattle.std.specs.Int.{bit_at}
+use Rattle.std.proofs.Common.{◌≡◌, ◌≢◌, ℕ, ◌+◌, ◌-◌, ◌*◌, ◌/◌, ◌%◌, ◌<◌, ◌≤◌, max, Bool, List, length, bit_or, refl, sym, ap, ◌∙◌, subst, arith}
 use Rattle.std.proofs.lemmas.Nat.Bits.{bit_at-lt}
 use Rattle.heap_model.specs.declared.heap.Heap.{Heap}
 use Rattle.core_machine.specs.declared.address.Address.TheVariants.{Control}
 use Rattle.core_machine.specs.Fragments.{part_in, mask, clear_in, tally}
 use Rattle.core_machine.specs.Layout.{at, put, table_length}
 use Rattle.core_machine.specs.Operation.{all_taken, untaken, birth_bits}
-use Rattle.core_rule.specs.Owners.{Owner, Free, Holds, Bears, taken_bit, born_bit, handed}
 use Rattle.core_rule.specs.ControlWords.{Bits}
+use Rattle.core_rule.specs.Owners.{Owner, Free, Holds, Bears, taken_bit, born_bit, handed}
+use Rattle.core_rule.proofs.ClearLemmas.{clear_here, clear_away, clear_once, clear_group}
 use Rattle.core_rule.proofs.ControlLemmas.{bits_after, found_taken, found_born}
 use Rattle.core_rule.proofs.Handed.{handed_out, gains, loses, stays}
 use Rattle.core_rule.proofs.MaskLemmas.{mask_bit, mask-lt}
-use Rattle.core_rule.proofs.WordBits.{claim_taken, claim_born, untaken_taken, untaken_born, birth_taken, birth_born}
-use Rattle.core_rule.proofs.Parts.{part_in-here, part_in-away, parts_tally, not_there}
-use Rattle.core_rule.proofs.ClearLemmas.{clear_here, clear_away, clear_once, clear_group}
 use Rattle.core_rule.proofs.OwnerLemmas.{is_free, born_once, one_owner}
+use Rattle.core_rule.proofs.Parts.{part_in-here, part_in-away, parts_tally, not_there}
+use Rattle.core_rule.proofs.WordBits.{claim_taken, claim_born, untaken_taken, untaken_born, birth_taken, birth_born}
 
 all_set : (set now was more bit : ℕ) → now ≡ was + more → set ≡ 1 → more ≡ 1 - bit → bit ≡ was → bit < 2 → set ≡ now
 all_set set now was more bit grown one clear same small = omega arith

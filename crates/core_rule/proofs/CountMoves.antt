@@ -1,15 +1,15 @@
 -- What is in use once fragments were claimed or given back.
 use Rattle.std.proofs.Common.{◌≡◌, ℕ, ◌+◌, ◌*◌, ◌<◌, ◌≤◌, List, [], ◌∷◌, ◌++◌, length, refl, ap, arith}
-use Rattle.heap_model.specs.declared.heap.Heap.{Heap}
 use Rattle.heap_model.specs.declared.entry.Entry.{Entry}
 use Rattle.heap_model.specs.declared.entry.Entry.TheVariants as entries
+use Rattle.heap_model.specs.declared.heap.Heap.{Heap}
 use Rattle.heap_model.specs.Space.{gained, lost}
 use Rattle.heap_model.proofs.Histories.{total-more}
 use Rattle.core_machine.specs.Fragments.{tally}
 use Rattle.core_machine.specs.Sums.{sum_upto}
-use Rattle.core_rule.specs.Owners.{Owner, Free, Holds, Bears, taken_bit, free_bit, handed}
 use Rattle.core_rule.specs.Counts.{AreUsed}
 use Rattle.core_rule.specs.Gathers.{free_in_all}
+use Rattle.core_rule.specs.Owners.{Owner, Free, Holds, Bears, taken_bit, free_bit, handed}
 use Rattle.core_rule.proofs.FreeSums.{free_unused}
 use Rattle.core_rule.proofs.Handed.{gains, loses, more, fewer, stays}
 use Rattle.core_rule.proofs.SumLemmas.{sum_same}

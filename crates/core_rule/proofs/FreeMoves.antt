@@ -3,8 +3,8 @@ use Rattle.std.proofs.Common.{◌≡◌, ℕ, suc, ◌+◌, ◌*◌, ◌/◌, �
 use Rattle.heap_model.specs.declared.heap.Heap.{Heap}
 use Rattle.core_machine.specs.Fragments.{tally}
 use Rattle.core_machine.specs.Sums.{sum_upto}
-use Rattle.core_rule.specs.Owners.{Owner, free_bit}
 use Rattle.core_rule.specs.Gathers.{free_in, free_in_all, free_in_passed}
+use Rattle.core_rule.specs.Owners.{Owner, free_bit}
 use Rattle.core_rule.proofs.SumLemmas.{sum-suc, sum_same, sum_le, sum_plus, sum_parts, sum_nothing, sum_blocks, sum_wrapped}
 use Rattle.core_rule.proofs.Tallies.{sum_tally}
 

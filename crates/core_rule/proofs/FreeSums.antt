@@ -1,22 +1,22 @@
 -- What is free: the fragments that aren't taken, the clear bits of the control words, what is in no use.
-use Rattle.std.proofs.Common.{◌≡◌, ℕ, ◌+◌, ◌*◌, ◌/◌, ◌%◌, ◌<◌, List, length, ◌∙◌, arith, refl}
 use Rattle.std.specs.Int.{bit_at}
-use Rattle.heap_model.specs.declared.heap.Heap.{Heap}
+use Rattle.std.proofs.Common.{◌≡◌, ℕ, ◌+◌, ◌*◌, ◌/◌, ◌%◌, ◌<◌, List, length, ◌∙◌, arith, refl}
 use Rattle.heap_model.specs.declared.entry.Entry.{Entry}
+use Rattle.heap_model.specs.declared.heap.Heap.{Heap}
 use Rattle.heap_model.specs.Space.{gained, lost}
 use Rattle.core_machine.specs.declared.address.Address.TheVariants.{Control}
 use Rattle.core_machine.specs.Calls.{free_fragments}
 use Rattle.core_machine.specs.Fragments.{clear_in}
 use Rattle.core_machine.specs.Layout.{at}
-use Rattle.core_rule.specs.Owners.{Owner, taken_bit, free_bit}
+use Rattle.core_machine.specs.Sums.{sum_upto}
 use Rattle.core_rule.specs.ControlWords.{Bits}
 use Rattle.core_rule.specs.Counts.{AreUsed}
 use Rattle.core_rule.specs.Gathers.{free_in, free_in_all, free_in_passed}
 use Rattle.core_rule.specs.Laws.{FreeIsUnused}
-use Rattle.core_rule.proofs.SumLemmas.{sum_same, sum_blocks, sum_plus, sum_ones, sum_wrapped}
+use Rattle.core_rule.specs.Owners.{Owner, taken_bit, free_bit}
 use Rattle.core_rule.proofs.ClearLemmas.{length-clear}
-use Rattle.core_machine.specs.Sums.{sum_upto}
 use Rattle.core_rule.proofs.OwnerLemmas.{taken_or_free}
+use Rattle.core_rule.proofs.SumLemmas.{sum_same, sum_blocks, sum_plus, sum_ones, sum_wrapped}
 
 -- each fragment is taken or free
 pub taken_and_free : (n : ℕ) (owner : ℕ → Owner) → sum_upto n (λ f. taken_bit (owner f)) + sum_upto n (λ f. free_bit (owner f)) ≡ n

@@ -4,8 +4,8 @@ use Rattle.heap_model.specs.declared.entry.Entry.{Entry}
 use Rattle.heap_model.specs.declared.heap.Heap.{Heap}
 use Rattle.heap_model.specs.Refusals.{given_up}
 use Rattle.heap_model.specs.Space.{total_but}
-use Rattle.core_rule.specs.Owners.{Owner, free_bit}
 use Rattle.core_rule.specs.Gathers.{GathersRight, free_in_all, free_in_passed, free_in}
+use Rattle.core_rule.specs.Owners.{Owner, free_bit}
 use Rattle.core_rule.proofs.FreeMoves.{passed_less, passed_claimed, all_same}
 use Rattle.core_rule.proofs.SumLemmas.{sum-zero}
 

@@ -1,19 +1,19 @@
 -- What gathers know once the history tells of a claim or a give back.
 use Rattle.std.proofs.Common.{◌≡◌, ◌≢◌, ℕ, ◌+◌, ◌*◌, ◌/◌, ◌%◌, ◌<◌, ◌≤◌, List, [], ◌∷◌, ◌++◌, length, drop, refl, arith}
 use Rattle.std.proofs.lemmas.Bool.{eq-eqb}
-use Rattle.heap_model.specs.declared.heap.Heap.{Heap}
 use Rattle.heap_model.specs.declared.entry.Entry.{Entry}
 use Rattle.heap_model.specs.declared.entry.Entry.TheVariants as entries
+use Rattle.heap_model.specs.declared.heap.Heap.{Heap}
 use Rattle.core_machine.specs.Fragments.{tally}
-use Rattle.core_rule.specs.Owners.{Owner, Free, Holds, free_bit, handed}
 use Rattle.core_rule.specs.Counts.{AreUsed}
 use Rattle.core_rule.specs.Gathers.{GathersRight}
+use Rattle.core_rule.specs.Owners.{Owner, Free, Holds, free_bit, handed}
 use Rattle.core_rule.proofs.CountMoves.{claim_frees, claim_all, give_frees, give_all}
 use Rattle.core_rule.proofs.EffectSums.{given_up-takes, given_up-gives, given_up-own, total_but-own, total_but-other}
 use Rattle.core_rule.proofs.FreeMoves.{passed_more}
 use Rattle.core_rule.proofs.GatherMoves.{gathers_claim, gathers_claimed, gathers_give, gathers_given}
-use Rattle.core_rule.proofs.Others.{of_other}
 use Rattle.core_rule.proofs.InFlight.{window_more}
+use Rattle.core_rule.proofs.Others.{of_other}
 
 -- sums that differ by nothing
 pub no_more : (n m k : ℕ) → n ≡ m + k → k ≡ 0 → n ≡ m

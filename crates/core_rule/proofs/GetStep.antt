@@ -2,16 +2,15 @@
 use Rattle.std.proofs.Common.{◌≡◌, ℕ, ◌-◌, ◌<◌, false, List, [], ◌∷◌, length, get_or, slice_get, slice_set, slice_index_or, Option, Some, refl, sym, ap, ◌∙◌, subst, arith}
 use Rattle.std.proofs.lemmas.Bool.{eq-eqb}
 use Rattle.std.proofs.lemmas.Option.{slice_get-get_or}
-use Rattle.heap_model.specs.declared.heap.Heap.{Heap}
 use Rattle.heap_model.specs.declared.cell.Cell.{Cell}
-use Rattle.heap_model.specs.declared.command.Command.{Command}
+use Rattle.heap_model.specs.declared.entry.Entry.{Entry}
+use Rattle.heap_model.specs.declared.entry.Entry.TheVariants.{Said}
+use Rattle.heap_model.specs.declared.heap.Heap.{Heap}
 use Rattle.heap_model.specs.declared.id.Id.{Id}
 use Rattle.heap_model.specs.declared.id.Value.{Value}
 use Rattle.heap_model.specs.declared.id.Value.TheVariants as values
 use Rattle.heap_model.specs.declared.reply.Reply.{Reply}
 use Rattle.heap_model.specs.declared.reply.Reply.TheVariants.{Got}
-use Rattle.heap_model.specs.declared.entry.Entry.{Entry}
-use Rattle.heap_model.specs.declared.entry.Entry.TheVariants.{Said}
 use Rattle.heap_model.specs.Changes.{put}
 use Rattle.heap_model.specs.Command.{IsCommand}
 use Rattle.heap_model.specs.Cycles.{graph_of}
@@ -41,20 +40,16 @@ use Rattle.core_rule.specs.Rule.{Rule}
 use Rattle.core_rule.specs.Ways.{Finds}
 use Rattle.core_rule.proofs.Assemble.{Keeps}
 use Rattle.core_rule.proofs.AtObject.{is_present, has_enough, has_little, way_object}
-use Rattle.core_rule.proofs.FilledRegisters.{registers_filled}
 use Rattle.core_rule.proofs.GraphRegisters.{registers_length}
 use Rattle.core_rule.proofs.KeptWords.{has_room, field_found, name_found}
-use Rattle.core_rule.proofs.Loads.{went, loaded_state, load_tells}
-use Rattle.core_rule.proofs.MoreEntries.{list_more}
+use Rattle.core_rule.proofs.Loads.{went_cycle, went, loaded_state, load_tells}
 use Rattle.core_rule.proofs.Numbering.{id_at-number_of}
-use Rattle.core_rule.proofs.ObjectReplies.{get_only, accepts_got, graph_got, keeps_got}
+use Rattle.core_rule.proofs.ObjectReplies.{accepts_got, graph_got, keeps_got, target_within}
 use Rattle.core_rule.proofs.OwnEntries.{own_entries}
-use Rattle.core_rule.proofs.PutRegister.{put_only, put_target, put_rest}
+use Rattle.core_rule.proofs.PhaseEntries.{no_leave_told}
+use Rattle.core_rule.proofs.PutRegister.{put_only, put_target, put_rest, registers_filled}
+use Rattle.core_rule.proofs.SeatLists.{list_more}
 use Rattle.core_rule.proofs.Told.{HasRoom, named_head, plain_of, stamp_in-value, head_in-value, plain_in-value}
-
--- a get's register is one of sixteen
-pub target_within : (command : Command) → IsGet command → IsCommand command → target_of command < 16
-target_within command is = get_only (λ c. IsCommand c → target_of c < 16) (λ d r i fits. omega (arith, fits.0)) command is
 
 module _ (heap : Heap) (state : State) (book : Book) (q : ℕ) (rule : Rule heap state book) (here : q < heap.seats)
     (place : (seat_at state q).place ≡ places.Reaching Getting)
@@ -98,7 +93,9 @@ module _ (heap : Heap) (state : State) (book : Book) (q : ℕ) (rule : Rule heap
       (λ r unawaited. registers_filled book.made book.owner book.fragments g q (target_of seat.command) (value_of new) seat.registers new present in_seat in_graph holds (λ x apart. held x) r)
       (list_more g book.made book.owner book.fragments q seat book.history busy stands.list (put g q (target_of seat.command) (value_of new)) _ _ (entry ∷ []) [] (entry ∷ []) refl refl
       (own_entries q book.history entry (eq-eqb q q refl)) refl)
-      tt tt
+      tt tt (no_leave_told q q seat.command reply (λ leaves. subst IsGet leaves a_get))
+      (went_cycle heap state book q rule here (Word seat.reached (field_part seat)) (slice_set seat.registers (target_of seat.command) new) 0 0 0 places.Idle (entry ∷ []) machine
+      (rw place at stands.fits.answer_at_place) tt)
 
   -- a reference awaits its object's name, and the history has the reply
   pending_keeps : (found : ℕ) (id : Id) → NamesKept book.made book.owner book.fragments (values.Object id) → head_in found ≡ Some (head_of book.made book.fragments id)
@@ -123,7 +120,9 @@ module _ (heap : Heap) (state : State) (book : Book) (q : ℕ) (rule : Rule heap
       (list_more g book.made book.owner book.fragments q seat book.history busy stands.list (put g q d value) _ _ [] (entry ∷ []) (entry ∷ []) refl refl
       (own_entries q book.history entry (eq-eqb q q refl))
       (record { id = id; kept = kept; loads = loads; held = put_target g q d value present in_graph; told = refl }))
-      tt tt
+      tt tt (no_leave_told q q seat.command reply (λ leaves. subst IsGet leaves a_get))
+      (went_cycle heap state book q rule here (Word seat.reached (field_part seat)) seat.registers seat.reached seat.links found (places.Reaching Naming) [] machine
+      (rw place at stands.fits.answer_at_place) tt)
 
 -- loading a field keeps the rule
 pub get_keeps : (heap : Heap) (state : State) (book : Book) (q : ℕ) → Rule heap state book → q < heap.seats

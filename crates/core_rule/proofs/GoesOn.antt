@@ -1,22 +1,23 @@
 -- The three ways on of a gather.
-use Rattle.std.proofs.Common.{◌≡◌, ◌∙◌, subst, ℕ, suc, ◌+◌, ◌<◌, ◌≤◌, inl, inr, List, [], length, take, drop, refl, sym, ap, arith}
 use Rattle.std.specs.Prelude.{if◌then◌else◌, nat_lt}
+use Rattle.std.proofs.Common.{◌≡◌, ◌∙◌, subst, ℕ, suc, ◌+◌, ◌<◌, ◌≤◌, inl, inr, List, [], length, take, drop, refl, sym, ap, arith}
 use Rattle.std.proofs.lemmas.Bool.Decides.{leb_tells}
 use Rattle.std.proofs.lemmas.List.{length-append, take-append-drop}
+use Rattle.heap_model.specs.declared.entry.Entry.{Entry}
 use Rattle.heap_model.specs.declared.heap.Heap.{Heap}
-use Rattle.core_machine.specs.declared.place.Place.TheVariants as places
 use Rattle.core_machine.specs.declared.place.Making.{Making}
 use Rattle.core_machine.specs.declared.place.Making.TheVariants.{Gathering, Storing}
+use Rattle.core_machine.specs.declared.place.Place.TheVariants as places
 use Rattle.core_machine.specs.Fragments.{tally}
-use Rattle.heap_model.specs.declared.entry.Entry.{Entry}
 use Rattle.core_machine.specs.Making.{gathered, settled, refused, goes_on, last_claimed, returning}
 use Rattle.core_machine.specs.Seat.{Seat, need}
-use Rattle.core_rule.specs.Owners.{Owner, bears_bit}
-use Rattle.core_rule.specs.Holding.{Holding, whole_hand}
 use Rattle.core_rule.specs.Gathers.{GathersRight}
-use Rattle.core_rule.proofs.Tallies.{tally-append, tally_parts}
-use Rattle.core_rule.proofs.GatherMoves.{nothing_tried}
+use Rattle.core_rule.specs.Holding.{Holding, whole_hand}
+use Rattle.core_rule.specs.Owners.{Owner, bears_bit}
+use Rattle.core_rule.proofs.Begins.{SameData, same_data}
 use Rattle.core_rule.proofs.Bodies.{whole_same}
+use Rattle.core_rule.proofs.GatherMoves.{nothing_tried}
+use Rattle.core_rule.proofs.Tallies.{tally-append, tally_parts}
 
 -- what holds of each of the three ways holds of the seat after it
 pub goes_on_cases : (P : Seat → Type 0) (heap : Heap) (seat : Seat)
@@ -70,23 +71,16 @@ gathers_goes_on heap owner q since seat none gathers =
     (λ few left. gathers)
     (λ few tried. gathers)
 
--- nothing else of the seat changes
-pub record IsSameBut (old new : Seat) : Type 0 where
-  pub registers : new.registers ≡ old.registers
-  pub stored : new.stored ≡ old.stored
-  pub made : new.made ≡ old.made
-  pub mine : new.mine ≡ old.mine
-  pub sets : new.sets ≡ old.sets
-  pub left : new.left ≡ old.left
-  pub answered : new.answered ≡ old.answered
-  pub command : new.command ≡ old.command
+-- nothing else of the seat changes, and it stands at a place of making
+pub record StaysMaking (old new : Seat) : Type 0 where
+  pub same : SameData old new
   pub making : Making
   pub placed : new.place ≡ places.Making making
 
 -- it is so on each way
-pub same_goes_on : (heap : Heap) (seat : Seat) → IsSameBut seat (goes_on heap seat)
+pub same_goes_on : (heap : Heap) (seat : Seat) → StaysMaking seat (goes_on heap seat)
 same_goes_on heap seat =
-    goes_on_cases (λ s. IsSameBut seat s) heap seat
-    (λ enough. record { registers = refl; stored = refl; made = refl; mine = refl; sets = refl; left = refl; answered = refl; command = refl; making = Storing; placed = refl })
-    (λ few left. record { registers = refl; stored = refl; made = refl; mine = refl; sets = refl; left = refl; answered = refl; command = refl; making = Gathering; placed = refl })
-    (λ few tried. record { registers = refl; stored = refl; made = refl; mine = refl; sets = refl; left = refl; answered = refl; command = refl; making = returning seat.hand; placed = refl })
+    goes_on_cases (λ s. StaysMaking seat s) heap seat
+    (λ enough. record { same = same_data seat _ _ _ _ _ _ _ _ _ _; making = Storing; placed = refl })
+    (λ few left. record { same = same_data seat _ _ _ _ _ _ _ _ _ _; making = Gathering; placed = refl })
+    (λ few tried. record { same = same_data seat _ _ _ _ _ _ _ _ _ _; making = returning seat.hand; placed = refl })

@@ -5,9 +5,9 @@ use Rattle.std.proofs.lemmas.List.{get_or-set_same, get_or-set_other}
 use Rattle.heap_model.specs.declared.id.Id.{Id}
 use Rattle.heap_model.specs.declared.id.Id.TheVariants.{Board, Made}
 use Rattle.heap_model.specs.declared.id.Value.TheVariants as values
+use Rattle.heap_model.specs.Changes.{add}
 use Rattle.heap_model.specs.Objects.{party, register, node, nobody}
 use Rattle.heap_model.specs.State.{State, Node, Party}
-use Rattle.heap_model.specs.Changes.{add}
 
 slice_get-push : {A : Type 0} (xs : List A) (x : A) → slice_get (xs ++ x ∷ []) (length xs) ≡ Some x
 slice_get-push [] x = refl
@@ -38,7 +38,7 @@ module _ (g : State) (q d : ℕ) (object : Node) (present : (party g q).left ≡
   grown_party = record (party g q) { registers = set (party g q).registers d (values.Object (Made q (length (party g q).objects))); objects = (party g q).objects ++ object ∷ [] }
 
   -- the seat's own part of the graph, and the others'
-  pub party_same : party (add g q d object) q ≡ grown_party
+  party_same : party (add g q d object) q ≡ grown_party
   party_same = get_or-set_same g.seats q grown_party nobody (present_below g q present)
 
   pub party_other : (r : ℕ) → r ≢ q → party (add g q d object) r ≡ party g r

@@ -3,21 +3,21 @@ use Rattle.std.proofs.Common.{◌≡◌, ℕ, ◌<◌, inl, inr, false, List, []
 use Rattle.std.proofs.lemmas.Bool.{cases_eq}
 use Rattle.std.proofs.lemmas.List.{get_or-set_same, get_or-set_other, length-set, length-replicate, get_or-replicate}
 use Rattle.heap_model.specs.declared.cell.Cell.{Cell}
+use Rattle.heap_model.specs.declared.command.Command.{Command}
+use Rattle.heap_model.specs.declared.command.Command.TheVariants as commands
+use Rattle.heap_model.specs.declared.entry.Entry.{Entry}
+use Rattle.heap_model.specs.declared.entry.Entry.TheVariants as entries
 use Rattle.heap_model.specs.declared.heap.Heap.{Heap}
 use Rattle.heap_model.specs.declared.id.Id.TheVariants.{Board, Made}
 use Rattle.heap_model.specs.declared.id.Value.{Value}
 use Rattle.heap_model.specs.declared.id.Value.TheVariants.{Nil, Number, Object}
-use Rattle.heap_model.specs.declared.command.Command.{Command}
-use Rattle.heap_model.specs.declared.command.Command.TheVariants as commands
 use Rattle.heap_model.specs.declared.reply.Reply.{Reply}
 use Rattle.heap_model.specs.declared.reply.Reply.TheVariants as replies
-use Rattle.heap_model.specs.declared.entry.Entry.{Entry}
-use Rattle.heap_model.specs.declared.entry.Entry.TheVariants as entries
-use Rattle.heap_model.specs.Objects.{party, nobody}
-use Rattle.heap_model.specs.State.{State, Party, Node, opening, opening_party}
-use Rattle.heap_model.specs.Growth.{after, after_reply, graph_after}
 use Rattle.heap_model.specs.Changes.{with_party, put, add, write, count_set}
 use Rattle.heap_model.specs.Cycles.{graph_of}
+use Rattle.heap_model.specs.Growth.{after, after_reply, graph_after}
+use Rattle.heap_model.specs.Objects.{party, nobody}
+use Rattle.heap_model.specs.State.{State, Party, Node, opening, opening_party}
 use Rattle.core_rule.proofs.GraphGrowth.{present_below}
 
 -- each seat of the graph has sixteen registers
@@ -50,21 +50,14 @@ sixteen_write g (Object (Made q count)) i cell is = sixteen_with g q _ (λ here.
 
 sixteen_reply : (g : State) (s : ℕ) (command : Command) (reply : Reply) → Sixteen g → Sixteen (after_reply g s command reply)
 sixteen_reply g s (commands.New d fields) (replies.Made id) is = sixteen_add g s d _ is
-sixteen_reply g s (commands.New d fields) _ is = is
 sixteen_reply g s (commands.Array d cells) (replies.Made id) is = sixteen_add g s d _ is
-sixteen_reply g s (commands.Array d cells) _ is = is
 sixteen_reply g s (commands.Get d r i) (replies.Got value stamp) is = sixteen_put g s d value is
-sixteen_reply g s (commands.Get d r i) _ is = is
 sixteen_reply g s (commands.Set r i v) (replies.Was stamp) is = sixteen_write (count_set g s) _ i _ (sixteen_with g s _ (λ here. is.each s here) is)
-sixteen_reply g s (commands.Set r i v) _ is = is
 sixteen_reply g s (commands.Num d n) reply is = sixteen_put g s d (Number n) is
 sixteen_reply g s (commands.Nil d) reply is = sixteen_put g s d Nil is
 sixteen_reply g s (commands.Copy d r) reply is = sixteen_put g s d _ is
 sixteen_reply g s commands.Leave reply is = sixteen_with g s _ (λ here. length-replicate 16 Nil) is
-sixteen_reply g s (commands.Same a b) reply is = is
-sixteen_reply g s (commands.Len r) reply is = is
-sixteen_reply g s commands.Poll reply is = is
-sixteen_reply g s commands.Collect reply is = is
+sixteen_reply g s _ _ is = is
 
 sixteen_after : (g : State) (entry : Entry) → Sixteen g → Sixteen (after g entry)
 sixteen_after g (entries.Said s command reply) is = sixteen_reply g s command reply is

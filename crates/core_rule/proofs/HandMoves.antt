@@ -3,14 +3,14 @@ use Rattle.std.proofs.Common.{◌≡◌, ◌≢◌, ℕ, ◌+◌, ◌*◌, ◌<�
 use Rattle.std.proofs.lemmas.Bool.Decides.{leb_tells}
 use Rattle.heap_model.specs.declared.heap.Heap.{Heap}
 use Rattle.core_machine.specs.Fragments.{tally, part_in, part_out}
-use Rattle.core_rule.specs.Owners.{Owner, Free, Holds, Bears, holds_bit, bears_bit, handed}
 use Rattle.core_rule.specs.ControlWords.{Bits}
 use Rattle.core_rule.specs.Holding.{Holding, whole_hand}
+use Rattle.core_rule.specs.Owners.{Owner, Free, Holds, Bears, holds_bit, bears_bit, handed}
+use Rattle.core_rule.proofs.Bodies.{whole_empty, whole_full}
 use Rattle.core_rule.proofs.Handed.{gains, loses, stays}
 use Rattle.core_rule.proofs.OwnerLemmas.{is_held, holds_once, one_owner}
 use Rattle.core_rule.proofs.Parts.{parts_tally}
 use Rattle.core_rule.proofs.Tallies.{tally-append, one_at_same, one_at_other}
-use Rattle.core_rule.proofs.Bodies.{whole_empty, whole_full}
 
 -- what a seat holds is the heap's
 pub held_within : (heap : Heap) (words : List ℕ) (owner : ℕ → Owner) → Bits heap words owner → (q : ℕ) (fs : List ℕ) → ((f : ℕ) → 1 ≤ tally f fs → owner f ≡ Holds q)
@@ -25,6 +25,9 @@ none_borne : (owner : ℕ → Owner) (q : ℕ) (reserve hand body : List ℕ) �
 none_borne owner q reserve hand body none holding f =
     let same : tally f (whole_hand hand body) ≡ tally f hand = rw none refl in
     omega (arith, holding.borne f, same)
+
+pub bears_nothing : (owner : ℕ → Owner) (q : ℕ) (reserve hand body : List ℕ) → body ≡ [] → Holding owner q reserve hand body → (f : ℕ) → owner f ≢ Bears q
+bears_nothing owner q reserve hand body none holding f bears = let one : bears_bit q (owner f) ≡ 1 = ap (bears_bit q) bears ∙ one_at_same q q refl in omega (arith, none_borne owner q reserve hand body none holding f, one)
 
 -- another seat's fragments stay
 holding_stays : (owner now : ℕ → Owner) (r : ℕ) (reserve hand body : List ℕ) → ((f : ℕ) → holds_bit r (now f) ≡ holds_bit r (owner f)) → ((f : ℕ) → bears_bit r (now f) ≡ bears_bit r (owner f))

@@ -3,14 +3,14 @@ use Rattle.std.proofs.Common.{◌≡◌, ◌≢◌, ℕ, ◌+◌, ◌<◌, inl, 
 use Rattle.std.proofs.lemmas.Bool.{cases_lt, false≢true}
 use Rattle.heap_model.specs.declared.id.Id.{Id}
 use Rattle.heap_model.specs.Objects.{node}
-use Rattle.heap_model.specs.State.{State, Node}
 use Rattle.heap_model.specs.Reach.{IsMade}
+use Rattle.heap_model.specs.State.{State, Node}
 use Rattle.core_rule.specs.Book.{number_of, id_at}
 use Rattle.core_rule.specs.Objects.{FitsName, AreMade}
 use Rattle.core_rule.proofs.Numbering.{id_tells, number_of-le, id_at-number_of, number_of-append, number_of-new, id_at-append, id_at-new, slice_get-append}
 
 -- an id with no object wasn't made
-pub not_made : (g : State) (id : Id) → node g id ≡ None → IsMade g id → ⊥
+not_made : (g : State) (id : Id) → node g id ≡ None → IsMade g id → ⊥
 not_made g id none is = false≢true (subst (λ (o : Option Node). IsSome o) none is)
 
 -- the ids of a graph that has one object more
@@ -27,13 +27,13 @@ module _ (g now : State) (made : List Id) (id : Id) (object : Node) (ids : AreMa
     | inr past ↦ omega (arith, past, number_of-le made id)
   ]
 
-  pub other_id : (i : ℕ) → i < length made → id_at made i ≢ id
+  other_id : (i : ℕ) → i < length made → id_at made i ≢ id
   other_id i below e = not_made g id more.none (subst (λ x. IsMade g x) e (ids.in_graph i below))
 
   pub node_at : (i : ℕ) → i < length made → node now (id_at (made ++ id ∷ []) i) ≡ node g (id_at made i)
   node_at i below = ap (node now) (id_at-append made id i below) ∙ more.others (id_at made i) (other_id i below)
 
-  pub length_more : length (made ++ id ∷ []) ≡ length made + 1
+  length_more : length (made ++ id ∷ []) ≡ length made + 1
   length_more = omega (arith, length-append made (id ∷ []))
 
   -- a number below the new length is an old one or the new

@@ -1,14 +1,14 @@
 -- A call in flight: its place, and where it began.
 use Rattle.std.proofs.Common.{◌≡◌, ℕ, ◌*◌, ◌≤◌, false, List, [], ◌∷◌, ◌++◌, length, drop, refl, subst, arith}
 use Rattle.std.proofs.lemmas.List.{drop-append-le, length-append}
-use Rattle.heap_model.specs.declared.heap.Heap.{Heap}
 use Rattle.heap_model.specs.declared.entry.Entry.{Entry}
+use Rattle.heap_model.specs.declared.heap.Heap.{Heap}
 use Rattle.heap_model.specs.Windows.{is_reply_to}
 use Rattle.heap_model.proofs.Windows.{any-more}
-use Rattle.core_machine.specs.declared.place.Place.{Place}
-use Rattle.core_machine.specs.declared.place.Place.TheVariants as places
 use Rattle.core_machine.specs.declared.place.Making.{Making}
 use Rattle.core_machine.specs.declared.place.Making.TheVariants.{Gathering, Returning, Refusing, Storing, Bearing}
+use Rattle.core_machine.specs.declared.place.Place.{Place}
+use Rattle.core_machine.specs.declared.place.Place.TheVariants as places
 use Rattle.core_machine.specs.Fits.{FitsPlace}
 use Rattle.core_machine.specs.Seat.{Seat}
 use Rattle.core_rule.specs.Gathers.{Began, IsAnswered}
@@ -25,28 +25,22 @@ awaits_none making place d r is awaited = subst (λ p. IsAwaited p d r) is await
 -- no more groups are tried than there are
 pub tried_within : (heap : Heap) (seat : Seat) (place : Place) → FitsPlace heap seat place → seat.tried ≤ heap.groups
 tried_within heap seat places.Idle fits = omega (arith, fits.none_tried)
-tried_within heap seat places.Telling fits = omega (arith, fits.0.none_tried)
 tried_within heap seat (places.Reaching place) fits = omega (arith, fits.none_tried)
 tried_within heap seat (places.Polling place) fits = omega (arith, fits.none_tried)
-tried_within heap seat (places.Leaving place) fits = omega (arith, fits.0.none_tried)
 tried_within heap seat (places.Making Gathering) fits = omega (arith, fits.groups_left)
 tried_within heap seat (places.Making Returning) fits = omega (arith, fits.0.all_tried)
 tried_within heap seat (places.Making Refusing) fits = omega (arith, fits.0.all_tried)
-tried_within heap seat (places.Making Storing) fits = omega (arith, fits.0.none_tried)
-tried_within heap seat (places.Making Bearing) fits = omega (arith, fits.0.none_tried)
+tried_within heap seat _ fits = omega (arith, fits.0.none_tried)
 
 -- no more is stored than the object has
 pub stored_within : (heap : Heap) (seat : Seat) (place : Place) → FitsPlace heap seat place → seat.stored ≤ 4 * length seat.body
-stored_within heap seat places.Idle fits = omega (arith, fits.none_stored)
 stored_within heap seat places.Telling fits = omega (arith, fits.0.none_stored)
-stored_within heap seat (places.Reaching place) fits = omega (arith, fits.none_stored)
-stored_within heap seat (places.Polling place) fits = omega (arith, fits.none_stored)
 stored_within heap seat (places.Leaving place) fits = omega (arith, fits.0.none_stored)
-stored_within heap seat (places.Making Gathering) fits = omega (arith, fits.none_stored)
 stored_within heap seat (places.Making Returning) fits = omega (arith, fits.0.none_stored)
 stored_within heap seat (places.Making Refusing) fits = omega (arith, fits.0.none_stored)
 stored_within heap seat (places.Making Storing) fits = omega (arith, fits.2)
 stored_within heap seat (places.Making Bearing) fits = omega (arith, fits.3)
+stored_within heap seat _ fits = omega (arith, fits.none_stored)
 
 -- the window of a call grows by the entry
 pub window_more : (history : List Entry) (begun : ℕ) (entry : Entry) → begun ≤ length history → drop begun (history ++ entry ∷ []) ≡ drop begun history ++ entry ∷ []

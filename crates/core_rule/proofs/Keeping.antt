@@ -2,10 +2,10 @@
 use Rattle.std.proofs.Common.{◌≡◌, ◌≢◌, ℕ, ◌<◌, ◌≤◌, ◌==◌, if◌then◌else◌, nat_lt, ◌⊎◌, inl, inr, List, length, sym, ap, ◌∙◌, subst, arith}
 use Rattle.std.proofs.lemmas.Bool.Decides.{nat_tests}
 use Rattle.core_machine.specs.Fragments.{tally}
-use Rattle.core_rule.specs.Owners.{Owner, Keeps}
 use Rattle.core_rule.specs.Book.{fragment_at}
-use Rattle.core_rule.proofs.Members.{place_of, tally_at, place_within, place_of-at}
+use Rattle.core_rule.specs.Owners.{Owner, Keeps}
 use Rattle.core_rule.proofs.Handed.{none_or_some}
+use Rattle.core_rule.proofs.Members.{place_of, tally_at, place_within, place_of-at}
 
 -- the fragments of the body are kept by the object of this number
 abbrev pub kept_by : ℕ → List ℕ → (ℕ → Owner) → ℕ → Owner
@@ -24,10 +24,10 @@ object_old fragments n body i apart = grind (arith, nat_tests, apart)
 
 module _ (n : ℕ) (body : List ℕ) (owner : ℕ → Owner) where
   -- a fragment of the body is kept then, another its owner's
-  pub kept_in : (f : ℕ) → 1 ≤ tally f body → kept_by n body owner f ≡ Keeps n (place_of f body)
+  kept_in : (f : ℕ) → 1 ≤ tally f body → kept_by n body owner f ≡ Keeps n (place_of f body)
   kept_in f there = grind (arith, nat_tests, there)
 
-  pub kept_out : (f : ℕ) → tally f body ≡ 0 → kept_by n body owner f ≡ owner f
+  kept_out : (f : ℕ) → tally f body ≡ 0 → kept_by n body owner f ≡ owner f
   kept_out f away = grind (arith, nat_tests, away)
 
   pub kept_cases : (P : Owner → Type 0) (f : ℕ) → (1 ≤ tally f body → P (Keeps n (place_of f body))) → (tally f body ≡ 0 → P (owner f)) → P (kept_by n body owner f)

@@ -1,19 +1,19 @@
 -- Whose the fragments are once a seat's object keeps its own.
-use Rattle.std.proofs.Common.{◌≡◌, ◌≢◌, ℕ, ◌+◌, ◌≤◌, List, [], length, refl, sym, ap, arith, ◌<◌, Bool, true, bit_or, ◌∙◌}
-use Rattle.core_machine.specs.Fragments.{tally, in_group, part_in, mask}
-use Rattle.core_rule.specs.Owners.{Owner, Free, taken_bit, free_bit, born_bit, holds_bit, bears_bit}
-use Rattle.core_rule.specs.Holding.{Holding, whole_hand}
-use Rattle.core_rule.proofs.Keeping.{kept_by, kept_cases}
-use Rattle.core_rule.proofs.OwnerLemmas.{own_once, own_taken, own_not_free, own_born, own_none}
-use Rattle.core_rule.proofs.Bodies.{body_borne, body_once, body_own}
 use Rattle.std.specs.List.{list_all}
+use Rattle.std.proofs.Common.{◌≡◌, ◌≢◌, ℕ, ◌+◌, ◌≤◌, List, [], length, refl, sym, ap, arith, ◌<◌, Bool, true, bit_or, ◌∙◌}
 use Rattle.heap_model.specs.declared.heap.Heap.{Heap}
 use Rattle.core_machine.specs.declared.address.Address.TheVariants.{Control}
+use Rattle.core_machine.specs.Fragments.{tally, in_group, part_in, mask}
 use Rattle.core_machine.specs.Layout.{at, put, table_length}
 use Rattle.core_machine.specs.Operation.{birth_bits}
 use Rattle.core_rule.specs.ControlWords.{Bits}
+use Rattle.core_rule.specs.Holding.{Holding, whole_hand}
+use Rattle.core_rule.specs.Owners.{Owner, Free, taken_bit, free_bit, born_bit, holds_bit, bears_bit}
+use Rattle.core_rule.proofs.Bodies.{body_borne, body_once, body_own}
 use Rattle.core_rule.proofs.ControlSteps.{birth_word_bits}
 use Rattle.core_rule.proofs.HandMoves.{hand_once, hand_held}
+use Rattle.core_rule.proofs.Keeping.{kept_by, kept_cases}
+use Rattle.core_rule.proofs.OwnerLemmas.{own_once, own_taken, own_not_free, own_born, own_none}
 use Rattle.core_rule.proofs.Parts.{filter_all}
 
 module _ (owner : ℕ → Owner) (q : ℕ) (reserve hand body : List ℕ) (holding : Holding owner q reserve hand body) (some : 1 ≤ length body) where
@@ -34,7 +34,7 @@ module _ (owner : ℕ → Owner) (q : ℕ) (reserve hand body : List ℕ) (holdi
         (λ away. omega (arith, away, body_borne owner q reserve hand body holding some f))
 
     -- past the heap's fragments nothing is anyone's
-    pub kept_outside : (f : ℕ) → owner f ≡ Free → kept_by n body owner f ≡ Free
+    kept_outside : (f : ℕ) → owner f ≡ Free → kept_by n body owner f ≡ Free
     kept_outside f free = kept_cases n body owner (λ o. o ≡ Free) f
         (λ there. absurd (omega (arith, body_own owner q reserve hand body holding f there, ap (holds_bit q) free, ap (bears_bit q) free))) (λ away. free)
 

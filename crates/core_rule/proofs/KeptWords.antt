@@ -3,24 +3,24 @@ use Rattle.std.proofs.Common.{◌≡◌, ℕ, zero, suc, ◌+◌, ◌*◌, ◌^�
 use Rattle.std.proofs.lemmas.Bool.{cases_lt}
 use Rattle.std.proofs.lemmas.List.{get_or_past}
 use Rattle.std.proofs.lemmas.Option.{slice_get_within}
-use Rattle.heap_model.specs.declared.heap.Heap.{Heap}
+use Rattle.heap_words.specs.declared.name.Name.{Name}
+use Rattle.heap_words.specs.Name.{name_word}
 use Rattle.heap_model.specs.declared.cell.Cell.{Cell}
+use Rattle.heap_model.specs.declared.heap.Heap.{Heap}
 use Rattle.heap_model.specs.declared.id.Id.{Id}
 use Rattle.heap_model.specs.declared.id.Value.{Value}
 use Rattle.heap_model.specs.declared.id.Value.TheVariants as values
 use Rattle.heap_model.specs.Heap.{IsHeap}
 use Rattle.heap_model.specs.State.{State}
-use Rattle.heap_words.specs.declared.name.Name.{Name}
-use Rattle.heap_words.specs.Name.{name_word}
 use Rattle.core_machine.specs.declared.address.Address.TheVariants.{Word}
 use Rattle.core_machine.specs.Layout.{at}
 use Rattle.core_machine.specs.Loaded.{link_in, length_in, id_in}
 use Rattle.core_machine.specs.Newborn.{record_meta, link_after}
 use Rattle.core_machine.specs.Reaching.{row_of, part_of}
-use Rattle.core_rule.specs.Owners.{Owner, Keeps}
 use Rattle.core_rule.specs.Book.{fragment_at, id_at, head_of}
 use Rattle.core_rule.specs.ControlWords.{Bits}
 use Rattle.core_rule.specs.Objects.{AreMade, Objects, KeptObject, NamesKept, IsKept, cells_at, value_word, object_word}
+use Rattle.core_rule.specs.Owners.{Owner, Keeps}
 use Rattle.core_rule.proofs.Rows.{field_back, part_within, cell_there, row_within}
 use Rattle.core_rule.proofs.Told.{HasRoom, length_in-meta, link_in-meta, link_in-link, id_in-name}
 

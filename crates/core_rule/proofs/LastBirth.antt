@@ -1,31 +1,30 @@
 -- What the last birth of an object changes of the seat that made it.
-use Rattle.std.proofs.Common.{◌≡◌, ◌≢◌, ℕ, ◌+◌, ◌*◌, ◌/◌, ◌%◌, ◌<◌, ◌≤◌, inl, inr, false, List, [], ◌∷◌, ◌++◌, length, None, get_or, set, refl, sym, ap, ◌∙◌, subst, arith, length-append}
-use Rattle.std.proofs.lemmas.Bool.{cases_eq}
-use Rattle.std.proofs.lemmas.List.{get_or-set_same, get_or-set_other}
+use Rattle.std.proofs.Common.{◌≡◌, ◌≢◌, ℕ, ◌+◌, ◌*◌, ◌/◌, ◌%◌, ◌<◌, ◌≤◌, false, List, [], ◌∷◌, ◌++◌, length, None, get_or, set, refl, sym, ap, ◌∙◌, subst, arith, length-append}
 use Rattle.heap_model.specs.declared.heap.Heap.{Heap}
 use Rattle.heap_model.specs.declared.id.Id.{Id}
 use Rattle.heap_model.specs.declared.id.Id.TheVariants.{Made}
 use Rattle.heap_model.specs.declared.id.Value.{Value}
 use Rattle.heap_model.specs.declared.id.Value.TheVariants as values
+use Rattle.heap_model.specs.Changes.{add}
 use Rattle.heap_model.specs.Objects.{node, party, register}
 use Rattle.heap_model.specs.State.{State, Node}
-use Rattle.heap_model.specs.Changes.{add}
 use Rattle.core_machine.specs.declared.address.Address.TheVariants.{Word}
 use Rattle.core_machine.specs.declared.place.Place.{Place}
 use Rattle.core_machine.specs.declared.register.Register.{Register}
 use Rattle.core_machine.specs.declared.register.Register.TheVariants as registers
 use Rattle.core_machine.specs.Fragments.{tally}
 use Rattle.core_machine.specs.Layout.{at}
-use Rattle.core_rule.specs.Owners.{Owner, Keeps}
 use Rattle.core_rule.specs.Book.{fragment_at, number_of}
 use Rattle.core_rule.specs.Objects.{IsKept}
-use Rattle.core_rule.specs.Registers as regs
+use Rattle.core_rule.specs.Owners.{Owner, Keeps}
 use Rattle.core_rule.specs.Registers.{Registers}
+use Rattle.core_rule.specs.Registers as regs
 use Rattle.core_rule.proofs.GraphGrowth.{node_none, node_new, node_other, register_target, register_rest, register_other}
 use Rattle.core_rule.proofs.IdsGrowth.{OneMore}
 use Rattle.core_rule.proofs.Keeping.{kept_by, with_object, object_new}
 use Rattle.core_rule.proofs.NamesGrowth.{kept_new, holds_old}
 use Rattle.core_rule.proofs.Numbering.{number_of-new}
+use Rattle.core_rule.proofs.PutRegister.{registers_with}
 
 -- the graph has one object more
 pub one_more : (g : State) (q d : ℕ) (object : Node) (count : ℕ) → (party g q).left ≡ false → count ≡ length (party g q).objects
@@ -75,10 +74,7 @@ module _ (g : State) (q d : ℕ) (object : Node) (present : (party g q).left ≡
     pub registers_own : (held : List Register) → d < length held → d < length (party g q).registers → id ≡ Made q (length (party g q).objects)
         → ((i : ℕ) → regs.Holds made owner fragments (get_or held i registers.Nil) (register g q i))
         → (i : ℕ) → Now (get_or (set held d (registers.Object (get_or body 0 0) id)) i registers.Nil) (register (add g q d object) q i)
-    registers_own held within there next old i = elim (cases_eq i d) [
-      | inl e ↦ subst (λ r. Now (get_or (set held d (registers.Object (get_or body 0 0) id)) r registers.Nil) (register (add g q d object) q r)) (sym e)
-          (subst (λ v. Now (get_or (set held d (registers.Object (get_or body 0 0) id)) d registers.Nil) v) (ap values.Object next ∙ sym (register_target g q d object present there))
-          (subst (λ h. Now h (values.Object id)) (sym (get_or-set_same held d (registers.Object (get_or body 0 0) id) registers.Nil within)) holds_new))
-      | inr apart ↦ subst (λ v. Now (get_or (set held d (registers.Object (get_or body 0 0) id)) i registers.Nil) v) (sym (register_rest g q d object present i apart))
-          (subst (λ h. Now h (register g q i)) (sym (get_or-set_other held d i (registers.Object (get_or body 0 0) id) registers.Nil apart)) (holds_old made id owner fragments body free _ _ (old i)))
-    ]
+    registers_own held within there next old =
+        registers_with (made ++ id ∷ []) now_owner now_fragments (add g q d object) q d held (registers.Object (get_or body 0 0) id) within
+        (subst (Now (registers.Object (get_or body 0 0) id)) (ap values.Object next ∙ sym (register_target g q d object present there)) holds_new)
+        (λ i apart. subst (Now (get_or held i registers.Nil)) (sym (register_rest g q d object present i apart)) (holds_old made id owner fragments body free _ _ (old i)))

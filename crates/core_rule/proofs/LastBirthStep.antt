@@ -1,60 +1,64 @@
 -- The last birth of an object keeps the rule.
-use Rattle.std.proofs.Common.{eq-eqb, ◌≡◌, ℕ, ◌-◌, ◌*◌, ◌<◌, ◌≤◌, false, List, [], ◌∷◌, ◌++◌, length, drop, bit_or, refl, sym, ap, ◌∙◌, subst, arith, true}
+use Rattle.std.proofs.Common.{eq-eqb, ◌≡◌, ℕ, ◌*◌, ◌<◌, ◌≤◌, Bool, false, List, [], ◌∷◌, ◌++◌, length, drop, bit_or, refl, sym, ap, ◌∙◌, subst, arith, true}
+use Rattle.heap_model.specs.declared.entry.Entry.{Entry}
 use Rattle.heap_model.specs.declared.heap.Heap.{Heap}
 use Rattle.heap_model.specs.declared.id.Id.{Id}
 use Rattle.heap_model.specs.declared.id.Id.TheVariants.{Made}
-use Rattle.heap_model.specs.declared.entry.Entry.{Entry}
-use Rattle.heap_model.specs.State.{State as Graph, fresh}
-use Rattle.heap_model.specs.Cycles.{graph_of}
 use Rattle.heap_model.specs.Changes.{add}
-use Rattle.core_machine.specs.declared.place.Place.TheVariants as places
-use Rattle.core_machine.specs.declared.place.Making.TheVariants.{Bearing}
+use Rattle.heap_model.specs.Cycles.{graph_of}
+use Rattle.heap_model.specs.PhaseCounts.{phase, answered, has_left}
+use Rattle.heap_model.specs.State.{State as Graph, fresh}
 use Rattle.core_machine.specs.declared.address.Address.TheVariants.{Control}
-use Rattle.core_machine.specs.Commands.{target_of, fields_of}
+use Rattle.core_machine.specs.declared.place.Making.TheVariants.{Bearing}
+use Rattle.core_machine.specs.declared.place.Place.TheVariants as places
+use Rattle.core_machine.specs.Commands.{target_of, fields_of, IsRecord}
 use Rattle.core_machine.specs.Fits.{HasBody}
 use Rattle.core_machine.specs.Fragments.{mask, tally}
-use Rattle.core_machine.specs.Layout.{at, put}
+use Rattle.core_machine.specs.Layout.{at}
 use Rattle.core_machine.specs.Machine.{State, seat_at, stepped, found_by}
 use Rattle.core_machine.specs.Making.{last_group, next_id, newborn_word}
 use Rattle.core_machine.specs.Moves.{bears_black, last_birth_move, last_part, made_entry, seat_after, is_last_birth}
 use Rattle.core_machine.specs.Operation.{birth_bits}
 use Rattle.core_machine.specs.Seat.{Seat}
-use Rattle.core_machine.proofs.Owned.{group_within}
-use Rattle.core_rule.specs.Book.{Book}
-use Rattle.core_rule.specs.Objects.{AreMade}
-use Rattle.core_rule.specs.Gathers.{GathersRight}
-use Rattle.core_rule.specs.Rule.{Rule}
-use Rattle.core_rule.proofs.SeatLists.{making_list, whole_list, list_stays}
-use Rattle.core_rule.proofs.WayFrames.{ways_stay}
-use Rattle.core_rule.proofs.NamesGrowth.{names_grown, object_grows}
-use Rattle.core_rule.proofs.Resting.{rests_put, rests_more, quiet_more}
-use Rattle.core_rule.specs.Objects.{cells_at}
 use Rattle.core_machine.specs.Value.{IsMachine}
-use Rattle.core_rule.proofs.OwnEntries.{own_grows}
+use Rattle.core_machine.proofs.Addresses.{length-put}
+use Rattle.core_rule.specs.Book.{Book}
+use Rattle.core_rule.specs.Colours.{birth_colour}
+use Rattle.core_rule.specs.Gathers.{GathersRight}
+use Rattle.core_rule.specs.Objects.{AreMade, cells_at}
+use Rattle.core_rule.specs.Rule.{Rule}
 use Rattle.core_rule.proofs.Assemble.{fit_after, present_at, Keeps, seat_steps}
+use Rattle.core_rule.proofs.BirthColours.{painted}
+use Rattle.core_rule.proofs.BirthCycle.{words_born, group_born, some_born, marks_born, heap_born}
+use Rattle.core_rule.proofs.Bodies.{body_once, body_own}
+use Rattle.core_rule.proofs.CountMoves.{used_same}
+use Rattle.core_rule.proofs.CycleHistory.{heap_cycle_more, cycle_own, cycle_other}
+use Rattle.core_rule.proofs.EmptyHand.{nothing_together}
+use Rattle.core_rule.proofs.GatherMoves.{nothing_tried, gathers_same}
 use Rattle.core_rule.proofs.GraphGrowth.{register_other, party_other}
 use Rattle.core_rule.proofs.GraphRegisters.{registers_length}
 use Rattle.core_rule.proofs.IdsGrowth.{OneMore, ids_grown, number_new}
+use Rattle.core_rule.proofs.InFlight.{awaits_none, began_idle}
 use Rattle.core_rule.proofs.Keeping.{kept_by, with_object}
 use Rattle.core_rule.proofs.KeptOwners.{kept_free, kept_taken, kept_holding, kept_others, kept_bits}
 use Rattle.core_rule.proofs.LastBirth.{one_more, all_stored, registers_own, registers_others}
+use Rattle.core_rule.proofs.LastColours.{kept_bears, kept_own, kept_borne, kept_first}
 use Rattle.core_rule.proofs.MadeEntry.{graph_grown, used_made, counts_made, made_legal}
+use Rattle.core_rule.proofs.MakingCycle.{answer_after_control, cycle_control}
+use Rattle.core_rule.proofs.MakingSeats.{none_shaded}
+use Rattle.core_rule.proofs.NamesGrowth.{names_grown, object_grows, old_apart}
 use Rattle.core_rule.proofs.ObjectFrames.{objects_control}
 use Rattle.core_rule.proofs.ObjectsGrowth.{NewBody, objects_grown}
-use Rattle.core_rule.proofs.Others.{own-other, counts_stay, began_stays, gathers_stay, of_other}
-use Rattle.core_rule.proofs.RecordCommands.{need_made, ranges_made}
-use Rattle.core_rule.proofs.StoredFrames.{stored_control}
+use Rattle.core_rule.proofs.Others.{own-other, began_stays, gathers_stay, of_other}
+use Rattle.core_rule.proofs.OwnEntries.{own_grows}
 use Rattle.core_rule.proofs.OwnerLemmas.{own_keeps_none}
-use Rattle.core_rule.proofs.GatherMoves.{nothing_tried, gathers_same}
-use Rattle.core_rule.proofs.CountMoves.{used_same}
-use Rattle.core_machine.proofs.Addresses.{length-put}
-use Rattle.core_rule.proofs.Bodies.{body_once, body_own}
-use Rattle.core_rule.proofs.InFlight.{awaits_none, began_idle}
-
--- the words after it
-abbrev words_born : Heap → List ℕ → Seat → List ℕ
-words_born heap words seat =
-    put heap words (Control (last_group seat.hand)) (bit_or (at heap words (Control (last_group seat.hand))) (birth_bits (bears_black seat) (mask (last_part seat))))
+use Rattle.core_rule.proofs.PhaseEntries.{no_leave_told}
+use Rattle.core_rule.proofs.RecordCommands.{need_made, ranges_made}
+use Rattle.core_rule.proofs.SeatFrames.{counts_stay, same_party}
+use Rattle.core_rule.proofs.SeatLists.{making_list, whole_list, list_stays}
+use Rattle.core_rule.proofs.StoredFrames.{stored_control}
+use Rattle.core_rule.proofs.Unwatched.{cycle_apart}
+use Rattle.core_rule.proofs.WayFrames.{ways_stay}
 
 -- the book after it: the object keeps its fragments, and has a number
 abbrev book_born : Book → ℕ → Seat → Book
@@ -63,6 +67,7 @@ book_born book q seat = record book {
   made = book.made ++ next_id q seat ∷ [];
   owner = kept_by (length book.made) seat.body book.owner;
   fragments = with_object book.fragments (length book.made) seat.body;
+  colour = painted (birth_colour (bears_black seat)) book.colour (last_part seat);
 }
 
 -- the last birth keeps the rule
@@ -78,7 +83,7 @@ last_birth_keeps heap state book q rule here place last machine =
     let group : ℕ = last_group seat.hand in
     let found : ℕ = at heap state.words (Control group) in
     let word : ℕ = bit_or found (birth_bits (bears_black seat) (mask (last_part seat))) in
-    let words : List ℕ = words_born heap state.words seat in
+    let words : List ℕ = words_born heap state book q rule here place in
     let entry : Entry = made_entry q seat in
     let id : Id = next_id q seat in
     let now : Book = book_born book q seat in
@@ -87,8 +92,8 @@ last_birth_keeps heap state book q rule here place last machine =
     let list = making_list (graph_of heap book.history) book.history book.made book.owner book.fragments q seat Bearing place stands.list in
     let at_place : HasBody seat × (0 < length seat.hand) × (length seat.hand ≤ length body) × (seat.stored ≡ 4 * length body) = rw place at stands.fits.at_place in
     let has = at_place.0 in
-    let below : group < heap.groups = group_within heap seat.hand (length seat.hand - 1) (omega (arith, at_place.1)) stands.fits.hand_within in
-    let some : 1 ≤ length body = omega (arith, at_place.1, at_place.2) in
+    let below = group_born heap state book q rule here place in
+    let some = some_born heap state book q rule here place in
     let d : ℕ = target_of seat.command in
     let fields : ℕ = fields_of seat.command in
     let ranges = ranges_made seat.command has.makes.a_record has.makes.in_range in
@@ -99,13 +104,16 @@ last_birth_keeps heap state book q rule here place last machine =
     let more : OneMore g grown id (fresh false fields) = one_more g q d (fresh false fields) seat.made present stands.counts.numbered in
     let once = body_once book.owner q seat.reserve seat.hand body stands.holding some in
     let unkept = λ (f i k : ℕ) (there : 1 ≤ tally f body). own_keeps_none q i k (book.owner f) (body_own book.owner q seat.reserve seat.hand body stands.holding f there) in
+    let stored = all_stored heap state.words body (newborn_word q seat) seat.stored at_place.3 stands.stored in
     let new : NewBody heap state.words book.owner id fields body = record {
       sized = (ranges.2, ranges.3);
       whole = has.whole ∙ need_made seat.command has.makes.a_record;
       once = once;
       unkept = unkept;
-      newborn = all_stored heap state.words body (newborn_word q seat) seat.stored at_place.3 stands.stored;
+      newborn = stored;
     } in
+    let black : Bool = bears_black seat in
+    let marks = marks_born heap state book q rule here place in
     seat_steps heap state book q words (seat_after (last_birth_move q seat) found) now (entry ∷ []) rule here machine refl refl
     record {
       table = length-put heap state.words (Control group) word ∙ rule.heap_stands.table;
@@ -117,7 +125,11 @@ last_birth_keeps heap state book q rule here place last machine =
       used = used_made heap now.owner book.history q seat (used_same heap book.owner now.owner book.history
           (kept_taken book.owner q seat.reserve seat.hand body stands.holding some (length book.made)) rule.heap_stands.used);
       legal = made_legal g book.history q seat stands.counts has.whole some present heap refl has.makes.a_record has.makes.in_range stands.fits.small_reserve rule.heap_stands.legal;
-      rests = rests_put heap state.words now.history (Control group) word (λ e. omega (arith, e)) (rests_more heap state.words book.history entry refl rule.heap_stands.rests);
+      cycle = heap_cycle_more heap words now.owner now.colour book.history entry refl now.fragments
+          (heap_born heap state book q rule here place now.owner now.fragments
+          (kept_bears book.owner book.colour q seat.reserve seat.hand body stands.holding some group (length book.made) last black stands.cycle.births)
+          (kept_first book.owner book.colour q seat.reserve seat.hand body stands.holding some group (length book.made) last black stands.cycle.births
+          heap state.words book.fragments (phase book.history) rule.heap_stands.cycle.coloured marks (λ f i k keeps. old_apart book.made i (rule.heap_stands.objects.back f i k keeps).0)));
     }
     record {
       fits = fit_after heap state book q rule here machine;
@@ -130,7 +142,13 @@ last_birth_keeps heap state book q rule here place last machine =
       list = whole_list (graph_of heap now.history) now.history now.made now.owner now.fragments q (seat_after (last_birth_move q seat) found) refl
           (own_grows q book.history seat.mine entry (eq-eqb q q refl) list);
       way = tt;
-      quiet = quiet_more book.history q seat (seat_after (last_birth_move q seat) found) refl stands.quiet entry refl;
+      cycle = cycle_own heap words now.owner now.colour book.history entry refl q (seat_after (last_birth_move q seat) found)
+          (cycle_apart heap state.words words book.owner now.owner book.colour now.colour (phase book.history) (answered q book.history) (has_left q book.history) q
+          seat (seat_after (last_birth_move q seat) found) record { answered = refl; left = refl; asked = refl } tt (none_shaded heap seat Bearing stands.fits place)
+          (answer_after_control heap state.words word group q (omega (arith, here, rule.limits.seats_fit)))
+          (kept_own book.owner book.colour q seat.reserve seat.hand body stands.holding some group (length book.made) last black stands.cycle.births) stands.cycle)
+          refl (no_leave_told q q seat.command _ (λ leaves. subst IsRecord leaves has.makes.a_record));
+      together = nothing_together heap seat.cursor seat.tried [] [] refl refl;
       counts = rw graph (counts_made g book.history q seat stands.counts has.whole some present d (fresh false fields) found);
       began = began_idle book.history entry q (book.begun q) seat.place stands.began;
       gathers = subst (λ n. GathersRight heap now.owner q (drop (book.begun q) now.history) seat.cursor n seat.given) (sym has.none_tried)
@@ -149,9 +167,12 @@ last_birth_keeps heap state book q rule here place last machine =
           (own-other r book.history entry (of_other q r apart)) other.list);
       way = rw graph (ways_stay (cells_at g book.made) (cells_at grown now.made) book.made now.made book.owner now.owner book.fragments now.fragments
           (object_grows g grown book.made id book.owner book.fragments (fresh false fields) body unkept ids more) (seat_at state r) (seat_at state r).place other.way);
-      quiet = quiet_more book.history r (seat_at state r) (seat_at state r) refl other.quiet entry refl;
-      counts = rw graph (counts_stay g grown book.history entry r (seat_at state r) (of_other q r apart)
-          (party_other g q d (fresh false fields) present r apart) other.counts);
+      cycle = cycle_other heap words now.owner now.colour book.history entry refl r (seat_at state r)
+          (cycle_control heap state.words book.owner now.owner book.colour now.colour (phase book.history) (answered r book.history) (has_left r book.history) r (seat_at state r) group word below
+          (omega (arith, less, rule.limits.seats_fit)) marks
+          (kept_borne book.owner book.colour q seat.reserve seat.hand body stands.holding some group (length book.made) last black stands.cycle.births r) other.cycle) (of_other q r apart);
+      together = other.together;
+      counts = rw graph (counts_stay g grown r (same_party g grown r (party_other g q d (fresh false fields) present r apart)) book.history entry (seat_at state r) (of_other q r apart) other.counts);
       began = began_stays book.history entry r (book.begun r) (seat_at state r).place (of_other q r apart) other.began;
       gathers = gathers_stay heap now.owner r book.history (book.begun r) entry (seat_at state r).cursor (seat_at state r).tried (seat_at state r).given other.began.earlier
           (gathers_same heap book.owner now.owner r (drop (book.begun r) book.history) (seat_at state r).cursor (seat_at state r).tried (seat_at state r).given

@@ -1,7 +1,9 @@
 -- A seat's leave keeps the rule.
 use Rattle.std.proofs.Common.{◌≡◌, ◌≢◌, ℕ, zero, suc, ◌<◌, true, false, List, [], length, filter, get_or, replicate, refl, sym, ap, ◌∙◌, subst, arith}
+use Rattle.std.proofs.lemmas.Bool.{eq-eqb}
 use Rattle.heap_words.specs.declared.phase.TheConstants.{LEFT}
 use Rattle.heap_model.specs.declared.command.Command.TheVariants as commands
+use Rattle.heap_model.specs.declared.entry.Entry.{Entry}
 use Rattle.heap_model.specs.declared.entry.Entry.TheVariants as entries
 use Rattle.heap_model.specs.declared.heap.Heap.{Heap}
 use Rattle.heap_model.specs.declared.id.Value.{Value}
@@ -13,51 +15,42 @@ use Rattle.heap_model.specs.Cycles.{graph_of}
 use Rattle.heap_model.specs.Effects.{is_of}
 use Rattle.heap_model.specs.Growth.{after_reply}
 use Rattle.heap_model.specs.Objects.{party}
+use Rattle.heap_model.specs.PhaseCounts.{phase, is_leave_of}
 use Rattle.heap_model.specs.Phases.{ShowsPhases}
 use Rattle.heap_model.specs.Replies.{Says}
 use Rattle.heap_model.specs.State.{State as Graph, Party}
-use Rattle.core_machine.specs.declared.address.Address.TheVariants.{Answer, Phase, Control, Word}
-use Rattle.core_machine.specs.declared.place.Place.TheVariants as places
+use Rattle.core_machine.specs.declared.address.Address.TheVariants.{Answer}
 use Rattle.core_machine.specs.declared.place.Leaving.TheVariants.{Parting}
+use Rattle.core_machine.specs.declared.place.Place.TheVariants as places
 use Rattle.core_machine.specs.declared.register.Register.TheVariants as registers
 use Rattle.core_machine.specs.AnsweringMoves.{leave_move}
-use Rattle.core_machine.specs.Fits.{IsAtRest}
+use Rattle.core_machine.specs.Fits.{IsAtRest, IsSilent}
 use Rattle.core_machine.specs.Layout.{at, put}
 use Rattle.core_machine.specs.Machine.{State, seat_at, stepped, found_by}
 use Rattle.core_machine.specs.Moves.{seat_after}
 use Rattle.core_machine.specs.Seat.{Seat}
 use Rattle.core_machine.specs.Value.{IsMachine}
+use Rattle.core_machine.proofs.Addresses.{at-put_same}
 use Rattle.core_rule.specs.Book.{Book}
 use Rattle.core_rule.specs.Objects.{Objects}
-use Rattle.core_rule.specs.Owners.{Owner}
 use Rattle.core_rule.specs.Registers as regs
 use Rattle.core_rule.specs.Rule.{Rule}
-use Rattle.core_rule.proofs.Addresses.{at-put_apart}
+use Rattle.core_rule.proofs.AnswerWords.{fragments_answer, heap_cycle_answer, leaves_answer}
 use Rattle.core_rule.proofs.Assemble.{Keeps}
-use Rattle.core_rule.proofs.GraphSeats.{SeatChanges, party_is, one_changes, graph_replies}
-use Rattle.core_rule.proofs.Legality.{legal_more}
+use Rattle.core_rule.proofs.AtRest.{in_flight, own_reserve, spent_own}
+use Rattle.core_rule.proofs.EntryFrames.{SameFragments}
+use Rattle.core_rule.proofs.GraphSeats.{SeatChanges, party_is, one_changes}
+use Rattle.core_rule.proofs.Legality.{legal_more, keeps_said}
 use Rattle.core_rule.proofs.ObjectFrames.{objects_words}
-use Rattle.core_rule.proofs.ReplyEntries.{said_keeps}
-use Rattle.core_rule.proofs.ReplyStep.{SameUnkept, reply_keeps}
-use Rattle.core_rule.proofs.AtRest.{in_flight, all_told, own_reserve, spent_own}
+use Rattle.core_rule.proofs.PhaseEntries.{phase_stays, answered_stays, left_once}
+use Rattle.core_rule.proofs.ReplyStep.{reply_keeps, graph_replies}
+use Rattle.core_rule.proofs.SeatLists.{all_told}
 
 -- each register of such a list is nil
 all_nil : {A : Type 0} (x : A) (n i : ℕ) → get_or (replicate n x) i x ≡ x
 all_nil x zero i = refl
 all_nil x (suc n) zero = refl
 all_nil x (suc n) (suc i) = all_nil x n i
-
--- a seat's answer is neither the phase, nor a control word, nor a fragment's
-module _ (heap : Heap) (words : List ℕ) (q n : ℕ) (small : q < 16) where
-  pub answer_leaves : (f part : ℕ) → at heap (put heap words (Answer q) n) (Word f part) ≡ at heap words (Word f part)
-  answer_leaves f part = at-put_apart heap words (Answer q) (Word f part) n (λ e. omega (arith, e, small))
-
-  pub answer_unkept : (owner : ℕ → Owner) → SameUnkept heap owner words (put heap words (Answer q) n)
-  answer_unkept owner = record {
-    phase = at-put_apart heap words (Answer q) Phase n (λ e. omega (arith, e));
-    controls = λ group below. at-put_apart heap words (Answer q) (Control group) n (λ e. omega (arith, e, small));
-    unkept = λ f part free within. answer_leaves f part;
-  }
 
 -- the party that has left
 abbrev gone : Graph → ℕ → Party
@@ -84,26 +77,44 @@ leave_keeps heap state book q rule here place machine =
     let changes : SeatChanges g now q = rw grown (one_changes g q (gone g q) present refl refl) in
     let party_now : party now q ≡ gone g q = ap (λ x. party x q) grown ∙ party_is g q (gone g q) present in
     let empty : length seat.reserve ≡ 0 = ap length at_place.2 in
+    let same : SameFragments heap state.words words = fragments_answer heap state.words q LEFT small in
     let objects : Objects heap words g book.made book.owner book.fragments
-    = objects_words heap state.words words g book.made book.owner book.fragments (λ f i k part is within. answer_leaves heap state.words q LEFT small f part) rule.heap_stands.objects in
+    = objects_words heap state.words words g book.made book.owner book.fragments (λ f i k part is within. same.parts f part) rule.heap_stands.objects in
+    let left : Entry = entries.Said q seat.command replies.Done in
+    let leaves : is_leave_of q left ≡ true = ap (λ c. is_leave_of q (entries.Said q c replies.Done)) at_place.1 ∙ eq-eqb q q refl in
+    let silent : IsSilent seat = rw place at stands.fits.answer_at_place in
+    let told = stands.cycle.answers_told in
     reply_keeps heap state book q words (seat_after (leave_move q seat) (at heap state.words (Answer q))) seat.command replies.Done rule here machine
     refl at_place.0 (all_told seat.mine stands.list.awaited (filter (is_of q) book.history) stands.list.own awaits)
     (legal_more heap false book.history (entries.Said q seat.command replies.Done) rule.heap_stands.legal
     (present, subst IsCommand (sym at_place.1) tt, subst (λ c. Says g q c replies.Done) (sym at_place.1) refl)
-    (said_keeps book.history q seat.command replies.Done refl heap false tt tt (subst (λ c. ShowsPhases heap false book.history q c replies.Done) (sym at_place.1) tt)
+    (keeps_said heap false book.history q seat.command replies.Done refl tt tt (subst (λ c. ShowsPhases heap false book.history q c replies.Done) (sym at_place.1) tt)
     (spent_own heap state book q rule here at_place.0) (omega (arith, empty, own_reserve heap state book q rule here at_place.0))))
-    (answer_unkept heap state.words q LEFT small book.owner)
+    record { controls = same.controls; unkept = λ f part free within. same.parts f part }
     (graph_replies g now q changes heap words book rule.heap_stands.ids objects)
     record {
       idle = refl;
       reserve = refl;
       mine = refl;
-      answered = refl;
       made = stands.counts.numbered ∙ sym changes.objects;
       sets = stands.counts.stamped ∙ sym changes.sets;
       left = ap (λ (p : Party). p.left) party_now;
       registers = λ i. all_holds i (ap (λ (p : Party). get_or p.registers i values.Nil) party_now ∙ all_nil values.Nil 16 i);
     }
+    (heap_cycle_answer heap state.words q LEFT small (phase book.history) book.owner book.colour book.fragments rule.heap_stands.cycle)
+    record {
+      answers_told = record {
+        told = answered_stays book.history left q refl ∙ told.told;
+        leaves = left_once book.history left q leaves;
+        word = at-put_same heap state.words (Answer q) LEFT rule.heap_stands.table small;
+        near = λ present. absurd (cc present);
+        loaded = omega (arith, told.loaded, phase_stays book.history left refl);
+      };
+      answer = tt;
+      flight = record { set = λ marking snapped. tt; shaded = λ marking. tt; roots = λ marking j less. absurd (omega (arith, less, silent.none_shaded)) };
+      births = stands.cycle.births;
+    }
+    (λ r below apart. leaves_answer heap state.words q LEFT small book.owner book.colour (phase book.history) r (seat_at state r) apart)
   where
     all_holds : (i : ℕ) {value : Value} → value ≡ values.Nil → regs.Holds book.made book.owner book.fragments (get_or (replicate 16 registers.Nil) i registers.Nil) value
     all_holds i {value} is = subst (λ h. regs.Holds book.made book.owner book.fragments h value) (sym (all_nil registers.Nil 16 i)) is

@@ -1,18 +1,21 @@
 -- Which entries of the machine may stand after a legal history.
-use Rattle.std.proofs.Common.{ℕ, ◌+◌, ◌*◌, ◌<◌, ◌≤◌, Bool, List, [], ◌∷◌, ◌++◌, refl, arith}
-use Rattle.heap_model.specs.declared.heap.Heap.{Heap}
-use Rattle.heap_model.specs.declared.id.Id.{Id}
+use Rattle.std.proofs.Common.{ℕ, ◌+◌, ◌*◌, ◌<◌, ◌≤◌, Bool, List, [], ◌∷◌, ◌++◌, refl, arith, ◌≡◌}
+use Rattle.heap_model.specs.declared.command.Command.{Command}
 use Rattle.heap_model.specs.declared.command.Command.TheVariants as commands
-use Rattle.heap_model.specs.declared.reply.Reply.TheVariants as replies
 use Rattle.heap_model.specs.declared.entry.Entry.{Entry}
 use Rattle.heap_model.specs.declared.entry.Entry.TheVariants as entries
-use Rattle.heap_model.specs.State.{opening}
-use Rattle.heap_model.specs.Legal.{Accepts}
+use Rattle.heap_model.specs.declared.heap.Heap.{Heap}
+use Rattle.heap_model.specs.declared.id.Id.{Id}
+use Rattle.heap_model.specs.declared.reply.Reply.{Reply}
+use Rattle.heap_model.specs.declared.reply.Reply.TheVariants as replies
+use Rattle.heap_model.specs.Account.{KeepsSpace, IsLegal, most_kept}
 use Rattle.heap_model.specs.Cycles.{graph_of}
+use Rattle.heap_model.specs.Legal.{Accepts}
+use Rattle.heap_model.specs.Needs.{record_fragments, made_by}
+use Rattle.heap_model.specs.Phases.{ShowsPhases}
+use Rattle.heap_model.specs.Refusals.{FindsSpace, ShowsSpace, ShowsSpine}
 use Rattle.heap_model.specs.Space.{gained, lost, taken_of, spent_of}
-use Rattle.heap_model.specs.Needs.{record_fragments}
-use Rattle.heap_model.specs.Account.{KeepsSpace, IsLegal}
-use Rattle.heap_model.specs.Refusals.{FindsSpace}
+use Rattle.heap_model.specs.State.{opening}
 use Rattle.heap_model.proofs.Histories.{AcceptsAll-more, KeepsSpaceAfter-more}
 
 -- a legal history with one more entry that keeps the rules
@@ -68,18 +71,25 @@ module _ (heap : Heap) (play : Bool) (before : List Entry) (q : ℕ) where
     shows = tt;
   }
 
-  -- it is refused, where it shows what was found
-  pub keeps_full : (d fields found : ℕ) → spent_of q before ≤ taken_of q before → taken_of q before ≤ spent_of q before + 15
-      → found < record_fragments fields → FindsSpace heap play before q found
-      → KeepsSpace heap play before (entries.Said q (commands.New d fields) (replies.Full (record_fragments fields) found))
-  keeps_full d fields found own little less finds = record {
+  -- it tells a reply that makes nothing, where it keeps little
+  pub keeps_said : (command : Command) (reply : Reply) → made_by command reply ≡ 0 → ShowsSpace heap play before q command reply → ShowsSpine heap play before q command reply
+      → ShowsPhases heap play before q command reply → spent_of q before ≤ taken_of q before → taken_of q before ≤ spent_of q before + most_kept command
+      → KeepsSpace heap play before (entries.Said q command reply)
+  keeps_said command reply none space spine phases own little = record {
     takes = tt;
-    makes = (omega (arith, own), omega (arith, little));
-    refuses = (refl, less, finds);
-    refuses_spine = tt;
+    makes = (omega (arith, none, own), omega (arith, none, little));
+    refuses = space;
+    refuses_spine = spine;
     answers = tt;
     begins = tt;
     sweeps = tt;
     ends = tt;
-    shows = tt;
+    shows = phases;
   }
+
+  -- it is refused, where it shows what was found
+  pub keeps_full : (d fields found : ℕ) → spent_of q before ≤ taken_of q before → taken_of q before ≤ spent_of q before + 15
+      → found < record_fragments fields → FindsSpace heap play before q found
+      → KeepsSpace heap play before (entries.Said q (commands.New d fields) (replies.Full (record_fragments fields) found))
+  keeps_full d fields found own little less finds =
+      keeps_said (commands.New d fields) (replies.Full (record_fragments fields) found) refl (refl, less, finds) tt tt own little

@@ -1,16 +1,17 @@
 -- What the entry of a made record adds to the counts, and that it may stand.
 use Rattle.std.proofs.Common.{◌≡◌, ℕ, ◌+◌, ◌≤◌, false, true, List, [], ◌∷◌, ◌++◌, length, refl, sym, ap, ◌∙◌, arith}
 use Rattle.std.proofs.lemmas.Bool.{eq-eqb}
-use Rattle.heap_model.specs.declared.heap.Heap.{Heap}
 use Rattle.heap_model.specs.declared.entry.Entry.{Entry}
+use Rattle.heap_model.specs.declared.heap.Heap.{Heap}
 use Rattle.heap_model.specs.declared.id.Id.TheVariants.{Made}
 use Rattle.heap_model.specs.Account.{IsLegal}
+use Rattle.heap_model.specs.Changes.{add}
 use Rattle.heap_model.specs.Command.{IsCommand}
 use Rattle.heap_model.specs.Cycles.{graph_of}
-use Rattle.heap_model.specs.Changes.{add}
-use Rattle.heap_model.specs.State.{State, Node, fresh, opening}
-use Rattle.heap_model.specs.Space.{taken_of, spent_of}
 use Rattle.heap_model.specs.Effects.{is_of}
+use Rattle.heap_model.specs.Objects.{party}
+use Rattle.heap_model.specs.Space.{taken_of, spent_of}
+use Rattle.heap_model.specs.State.{State, Node, fresh, opening}
 use Rattle.heap_model.proofs.Histories.{graph_after-more, total-more}
 use Rattle.core_machine.specs.Commands.{IsRecord, target_of, fields_of}
 use Rattle.core_machine.specs.Making.{next_id}
@@ -18,15 +19,14 @@ use Rattle.core_machine.specs.Moves.{made_entry, last_birth_move, seat_after}
 use Rattle.core_machine.specs.Seat.{Seat, need}
 use Rattle.core_rule.specs.Counts.{OwnCounts, AreUsed}
 use Rattle.core_rule.specs.Owners.{Owner}
+use Rattle.core_rule.proofs.Bodies.{whole_body}
 use Rattle.core_rule.proofs.GraphGrowth.{objects_more, left_same, sets_same}
 use Rattle.core_rule.proofs.Legality.{legal_more}
 use Rattle.core_rule.proofs.OwnEntries.{counts_own}
 use Rattle.core_rule.proofs.RecordCommands.{graph_made, accepts_made, made_keeps}
-use Rattle.core_rule.proofs.Bodies.{whole_body}
-use Rattle.heap_model.specs.Objects.{party}
 
 -- the entry is its seat's
-pub made_own : (q : ℕ) (seat : Seat) → is_of q (made_entry q seat) ≡ true
+made_own : (q : ℕ) (seat : Seat) → is_of q (made_entry q seat) ≡ true
 made_own q seat = eq-eqb q q refl
 
 -- the graph after it
@@ -43,7 +43,7 @@ used_made heap owner history q seat used =
 
 module _ (g : State) (history : List Entry) (q : ℕ) (seat : Seat) (counts : OwnCounts g history q seat) (whole : length seat.body ≡ need seat) (some : 1 ≤ length seat.body) (present : (party g q).left ≡ false) where
   -- it has its reserve, and what the object is made of
-  pub all_own : length seat.reserve + need seat + spent_of q history ≡ taken_of q history
+  all_own : length seat.reserve + need seat + spent_of q history ≡ taken_of q history
   all_own =
       let body = ap length (whole_body seat.hand seat.body some) in
       omega (arith, counts.unborn, body, whole)

@@ -18,12 +18,10 @@ tally_at (x ∷ xs) zero below = omega (arith, one_at_same x x refl)
 tally_at (x ∷ xs) (suc k) below = omega (arith, tally_at xs k (omega arith))
 
 -- a number at two places stands there twice
-pub tally_pair : (fs : List ℕ) (j k : ℕ) → j < k → k < length fs → get_or fs j 0 ≡ get_or fs k 0 → 2 ≤ tally (get_or fs k 0) fs
-tally_pair [] j k less below same = absurd (omega arith)
-tally_pair (x ∷ xs) zero zero less below same = absurd (omega arith)
+tally_pair : (fs : List ℕ) (j k : ℕ) → j < k → k < length fs → get_or fs j 0 ≡ get_or fs k 0 → 2 ≤ tally (get_or fs k 0) fs
 tally_pair (x ∷ xs) zero (suc k) less below same = omega (arith, one_at_same x (get_or xs k 0) same, tally_at xs k (omega arith))
-tally_pair (x ∷ xs) (suc j) zero less below same = absurd (omega arith)
 tally_pair (x ∷ xs) (suc j) (suc k) less below same = omega (arith, tally_pair xs j k (omega arith) (omega arith) same)
+tally_pair _ _ _ less below same = absurd (omega arith)
 
 not_before : (fs : List ℕ) (j k : ℕ) → ((f : ℕ) → tally f fs ≤ 1) → j < k → k < length fs → get_or fs j 0 ≡ get_or fs k 0 → ⊥
 not_before fs j k once less below same =

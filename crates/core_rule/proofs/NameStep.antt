@@ -1,12 +1,12 @@
 -- Loading the name of what a get refers to keeps the rule.
-use Rattle.std.proofs.Common.{◌≡◌, ℕ, ◌<◌, List, [], ◌++◌, length, slice_set, Option, IsSome, refl, sym, ap, ◌∙◌, subst, arith}
 use Rattle.std.specs.Prelude.{unwrap_or}
+use Rattle.std.proofs.Common.{◌≡◌, ℕ, ◌<◌, List, [], ◌++◌, length, slice_set, Option, IsSome, refl, sym, ap, ◌∙◌, subst, arith}
 use Rattle.std.proofs.lemmas.List.{append-nil}
+use Rattle.heap_model.specs.declared.entry.Entry.{Entry}
 use Rattle.heap_model.specs.declared.heap.Heap.{Heap}
 use Rattle.heap_model.specs.declared.id.Id.{Id}
 use Rattle.heap_model.specs.declared.id.Value.TheVariants as values
 use Rattle.heap_model.specs.declared.reply.Reply.TheVariants.{Got}
-use Rattle.heap_model.specs.declared.entry.Entry.{Entry}
 use Rattle.heap_model.specs.Cycles.{graph_of}
 use Rattle.heap_model.specs.Objects.{register}
 use Rattle.heap_model.specs.State.{State as Graph}
@@ -27,11 +27,11 @@ use Rattle.core_rule.specs.Counts.{AwaitsName}
 use Rattle.core_rule.specs.Registers.{Registers, Holds}
 use Rattle.core_rule.specs.Rule.{Rule}
 use Rattle.core_rule.proofs.Assemble.{Keeps}
-use Rattle.core_rule.proofs.FilledRegisters.{registers_with}
-use Rattle.core_rule.proofs.GetStep.{target_within}
 use Rattle.core_rule.proofs.KeptWords.{name_found}
-use Rattle.core_rule.proofs.Loads.{load_goes}
+use Rattle.core_rule.proofs.Loads.{went_cycle, load_goes}
 use Rattle.core_rule.proofs.Numbering.{id_at-number_of}
+use Rattle.core_rule.proofs.ObjectReplies.{target_within}
+use Rattle.core_rule.proofs.PutRegister.{registers_with}
 
 -- loading the name keeps the rule
 pub name_keeps : (heap : Heap) (state : State) (book : Book) (q : ℕ) → Rule heap state book → q < heap.seats
@@ -71,3 +71,5 @@ name_keeps heap state book q rule here place machine =
     })
     tt
     (record { earlier = stands.began.earlier; unanswered = λ busy. absurd (busy tt) })
+    (went_cycle heap state book q rule here (Word at_name 1) (slice_set seat.registers d (registers.Object at_name (id_in found))) 0 0 0 places.Idle added machine
+    (rw place at stands.fits.answer_at_place) tt)

@@ -5,19 +5,18 @@ use Rattle.heap_model.specs.declared.cell.Cell.{Cell}
 use Rattle.heap_model.specs.declared.id.Id.{Id}
 use Rattle.heap_model.specs.declared.id.Value.{Value}
 use Rattle.heap_model.specs.declared.id.Value.TheVariants as values
-use Rattle.core_machine.specs.Fragments.{tally}
-use Rattle.core_machine.specs.Newborn.{record_word}
+use Rattle.heap_model.specs.State.{State, Node}
 use Rattle.core_machine.specs.declared.register.Register.{Register}
 use Rattle.core_machine.specs.declared.register.Register.TheVariants as registers
-use Rattle.core_rule.specs.Owners.{Owner, Keeps}
+use Rattle.core_machine.specs.Fragments.{tally}
+use Rattle.core_machine.specs.Newborn.{record_word}
 use Rattle.core_rule.specs.Book.{fragment_at, number_of, head_of}
-use Rattle.core_rule.specs.Objects.{IsKept, NamesKept, value_word, field_word, is_cell, object_word}
+use Rattle.core_rule.specs.Objects.{IsKept, NamesKept, value_word, field_word, is_cell, object_word, AreMade, cells_at, cells_in}
+use Rattle.core_rule.specs.Owners.{Owner, Keeps}
 use Rattle.core_rule.specs.Registers as regs
-use Rattle.core_rule.proofs.Numbering.{id_at-append, number_of-append}
-use Rattle.core_rule.proofs.Keeping.{kept_by, with_object, object_old, object_new, kept_stays, kept_was, kept_part}
-use Rattle.heap_model.specs.State.{State, Node}
-use Rattle.core_rule.specs.Objects.{AreMade, cells_at, cells_in}
 use Rattle.core_rule.proofs.IdsGrowth.{OneMore, node_at}
+use Rattle.core_rule.proofs.Keeping.{kept_by, with_object, object_old, object_new, kept_stays, kept_was, kept_part}
+use Rattle.core_rule.proofs.Numbering.{id_at-append, number_of-append}
 use Rattle.core_rule.proofs.SeatLists.{NamesStay}
 use Rattle.core_rule.proofs.WayFrames.{ObjectStays}
 
@@ -55,7 +54,7 @@ module _ (made : List Id) (id : Id) (owner : ℕ → Owner) (fragments : ℕ →
         subst (λ i. IsKept now_owner now_fragments i) (sym same) (kept_old (number_of made x) names.0 names.1),
       )
 
-  pub head_old : (x : Id) → number_of made x < length made → head_of (made ++ id ∷ []) now_fragments x ≡ head_of made fragments x
+  head_old : (x : Id) → number_of made x < length made → head_of (made ++ id ∷ []) now_fragments x ≡ head_of made fragments x
   head_old x below =
       ap (λ i. fragment_at (now_fragments i) 0) (number_of-append made id x below)
       ∙ ap (λ fs. fragment_at fs 0) (object_old fragments (length made) body (number_of made x) (old_apart made (number_of made x) below))

@@ -1,7 +1,7 @@
 -- The words with which a record is stored are those of its cells, which were never set.
 use Rattle.std.proofs.Common.{◌≡◌, ℕ, zero, suc, ◌+◌, ◌-◌, ◌*◌, Bool, true, false, List, replicate, cond, slice_get, refl, arith}
-use Rattle.std.proofs.lemmas.List.{length-replicate}
 use Rattle.std.proofs.lemmas.Bool.Decides.{nat_tests}
+use Rattle.std.proofs.lemmas.List.{length-replicate}
 use Rattle.heap_words.specs.declared.name.Name.{Name}
 use Rattle.heap_model.specs.declared.id.Id.{Id}
 use Rattle.heap_model.specs.State.{unset}
@@ -9,13 +9,13 @@ use Rattle.core_machine.specs.Newborn.{record_word}
 use Rattle.core_rule.specs.Objects.{field_word, is_cell, object_word}
 
 -- a cell that was never set has the word 0
-pub unset_word : (head : Id → ℕ) (n i : ℕ) → field_word head (slice_get (replicate n unset) i) ≡ 0
+unset_word : (head : Id → ℕ) (n i : ℕ) → field_word head (slice_get (replicate n unset) i) ≡ 0
 unset_word head zero i = refl
 unset_word head (suc n) zero = refl
 unset_word head (suc n) (suc i) = unset_word head n i
 
 -- a cell's word of a newborn record is 0
-pub no_cell_word : (name : Name) (fields : ℕ) (fragments : List ℕ) (k part : ℕ) → is_cell k part ≡ true → record_word name fields fragments k part ≡ 0
+no_cell_word : (name : Name) (fields : ℕ) (fragments : List ℕ) (k part : ℕ) → is_cell k part ≡ true → record_word name fields fragments k part ≡ 0
 no_cell_word name fields fragments k part cell = grind (arith, nat_tests, cell)
 
 by_test : (b : Bool) (cell word : ℕ) → (b ≡ true → cell ≡ word) → cond b cell word ≡ word

@@ -3,7 +3,8 @@ use Rattle.std.proofs.Common.{◌≡◌, ◌≢◌, ℕ, zero, suc, ◌+◌, ◌
 use Rattle.std.proofs.lemmas.Bool.Decides.{eqb_tells}
 use Rattle.heap_model.specs.declared.id.Id.{Id}
 use Rattle.heap_model.specs.declared.id.Id.TheVariants.{Board, Made}
-use Rattle.core_rule.specs.Book.{is_same_id, number_of, id_at}
+use Rattle.core_machine.specs.Registers.{is_same_id}
+use Rattle.core_rule.specs.Book.{number_of, id_at}
 
 -- the test tells whether two ids are the same
 pub id_tells : (a b : Id) → ((is_same_id a b ≡ true) × (a ≡ b)) ⊎ ((is_same_id a b ≡ false) × (a ≢ b))

@@ -1,5 +1,5 @@
 -- The objects stand as before where no word of a kept fragment changes, and the same fragments are kept.
-use Rattle.std.proofs.Common.{◌≡◌, ◌≢◌, ℕ, ◌<◌, ◌≤◌, List, ◌∙◌, subst}
+use Rattle.std.proofs.Common.{◌≡◌, ◌≢◌, ℕ, ◌<◌, ◌≤◌, List, ◌∙◌, subst, sym}
 use Rattle.heap_model.specs.declared.heap.Heap.{Heap}
 use Rattle.heap_model.specs.declared.id.Id.{Id}
 use Rattle.heap_model.specs.declared.id.Value.{Value}
@@ -11,8 +11,8 @@ use Rattle.core_machine.specs.declared.register.Register.{Register}
 use Rattle.core_machine.specs.declared.register.Register.TheVariants as registers
 use Rattle.core_machine.specs.Fragments.{tally}
 use Rattle.core_machine.specs.Layout.{at, put}
-use Rattle.core_rule.specs.Owners.{Owner, Free, Holds, Bears, Keeps, handed}
 use Rattle.core_rule.specs.Objects.{NamesKept, Objects}
+use Rattle.core_rule.specs.Owners.{Owner, Free, Holds, Bears, Keeps, handed}
 use Rattle.core_rule.specs.Registers.{Registers}
 use Rattle.core_rule.specs.Registers as regs
 use Rattle.core_rule.proofs.Addresses.{word_after_control, fragment_other}
@@ -68,6 +68,10 @@ bears_keeps_none q i k e = cc
 
 pub free_keeps_none : (i k : ℕ) → Free ≢ Keeps i k
 free_keeps_none i k e = cc
+
+-- so where fragments that a seat holds do, the same are kept
+pub part_kept : (owner : ℕ → Owner) (q : ℕ) (fs : List ℕ) (o : Owner) → ((i k : ℕ) → o ≢ Keeps i k) → ((f : ℕ) → 1 ≤ tally f fs → owner f ≡ Holds q) → SameKept owner (handed o owner fs)
+part_kept owner q fs o none held = handed_kept o owner fs none (λ f i k there is. holds_keeps_none q i k (sym (held f there) ∙ is))
 
 module _ (owner now : ℕ → Owner) (same : SameKept owner now) (made : List Id) (fragments : ℕ → List ℕ) where
   pub names_kept : (value : Value) → NamesKept made owner fragments value → NamesKept made now fragments value

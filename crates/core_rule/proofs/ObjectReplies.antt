@@ -1,33 +1,34 @@
 -- The replies to commands that read or write an object, and that their entries may stand.
-use Rattle.std.proofs.Common.{◌≡◌, ℕ, ◌+◌, ◌≤◌, Bool, List, length, slice_get, Option, Some, None, IsSome, refl, arith}
+use Rattle.std.proofs.Common.{◌≡◌, ℕ, ◌+◌, ◌≤◌, Bool, List, length, slice_get, Option, Some, None, IsSome, refl, arith, ◌<◌}
 use Rattle.std.proofs.lemmas.Bool.{false≢true}
 use Rattle.std.proofs.lemmas.Option.{slice_get_past}
-use Rattle.heap_model.specs.declared.heap.Heap.{Heap}
 use Rattle.heap_model.specs.declared.cell.Cell.{Cell}
+use Rattle.heap_model.specs.declared.command.Command.{Command}
+use Rattle.heap_model.specs.declared.command.Command.TheVariants as commands
+use Rattle.heap_model.specs.declared.entry.Entry.{Entry}
+use Rattle.heap_model.specs.declared.entry.Entry.TheVariants.{Said}
+use Rattle.heap_model.specs.declared.heap.Heap.{Heap}
 use Rattle.heap_model.specs.declared.id.Id.{Id}
 use Rattle.heap_model.specs.declared.id.Value.{Value}
 use Rattle.heap_model.specs.declared.id.Value.TheVariants.{Object}
-use Rattle.heap_model.specs.declared.command.Command.{Command}
-use Rattle.heap_model.specs.declared.command.Command.TheVariants as commands
 use Rattle.heap_model.specs.declared.reply.Reply.{Reply}
 use Rattle.heap_model.specs.declared.reply.Reply.TheVariants as replies
-use Rattle.heap_model.specs.declared.entry.Entry.{Entry}
-use Rattle.heap_model.specs.declared.entry.Entry.TheVariants.{Said}
 use Rattle.heap_model.specs.Account.{KeepsSpace, most_kept}
-use Rattle.heap_model.specs.Needs.{made_by}
-use Rattle.heap_model.specs.Phases.{ShowsPhases}
-use Rattle.heap_model.specs.Refusals.{ShowsSpace, ShowsSpine}
 use Rattle.heap_model.specs.Changes.{put}
 use Rattle.heap_model.specs.Command.{IsCommand}
 use Rattle.heap_model.specs.Growth.{after_reply}
 use Rattle.heap_model.specs.Legal.{Accepts, IsPresent}
+use Rattle.heap_model.specs.Needs.{made_by}
 use Rattle.heap_model.specs.Objects.{register, node, cell_of, or_no_field}
+use Rattle.heap_model.specs.Phases.{ShowsPhases}
+use Rattle.heap_model.specs.Refusals.{ShowsSpace, ShowsSpine}
 use Rattle.heap_model.specs.Replies.{length_reply}
 use Rattle.heap_model.specs.Space.{taken_of, spent_of}
 use Rattle.heap_model.specs.State.{State, Node}
 use Rattle.core_machine.specs.Commands.{target_of, object_of, field_of}
-use Rattle.core_machine.specs.FitsReaching.{NamesObject, NamesField, IsGet}
+use Rattle.core_machine.specs.FitsReaching.{NamesField, IsGet}
 use Rattle.core_rule.specs.Objects.{cells_in}
+use Rattle.core_rule.proofs.Legality.{keeps_said}
 
 -- the command asks for a length
 abbrev pub IsLen : Command → Type 0
@@ -35,29 +36,22 @@ IsLen (commands.Len r) = Unit {0}
 IsLen _ = ⊥
 
 -- what holds of these commands
-pub get_only : (P : Command → Type 0) → ((d r i : ℕ) → P (commands.Get d r i)) → (command : Command) → IsGet command → P command
+get_only : (P : Command → Type 0) → ((d r i : ℕ) → P (commands.Get d r i)) → (command : Command) → IsGet command → P command
 get_only P get (commands.Get d r i) is = get d r i
 get_only P get _ is = absurd is
 
-pub len_only : (P : Command → Type 0) → ((r : ℕ) → P (commands.Len r)) → (command : Command) → IsLen command → P command
+len_only : (P : Command → Type 0) → ((r : ℕ) → P (commands.Len r)) → (command : Command) → IsLen command → P command
 len_only P len (commands.Len r) is = len r
 len_only P len _ is = absurd is
 
-pub field_only : (P : Command → Type 0) → ((d r i : ℕ) → P (commands.Get d r i)) → ((r i v : ℕ) → P (commands.Set r i v)) → (command : Command) → NamesField command → P command
+field_only : (P : Command → Type 0) → ((d r i : ℕ) → P (commands.Get d r i)) → ((r i v : ℕ) → P (commands.Set r i v)) → (command : Command) → NamesField command → P command
 field_only P get set (commands.Get d r i) is = get d r i
 field_only P get set (commands.Set r i v) is = set r i v
 field_only P get set _ is = absurd is
 
--- a command on an object asks for its length, or names a field
-pub object_only : (P : Command → Type 0) → ((command : Command) → IsLen command → P command) → ((command : Command) → NamesField command → P command)
-    → (command : Command) → NamesObject command → P command
-object_only P len field (commands.Get d r i) is = field (commands.Get d r i) tt
-object_only P len field (commands.Set r i v) is = field (commands.Set r i v) tt
-object_only P len field (commands.Len r) is = len (commands.Len r) tt
-object_only P len field _ is = absurd is
-
-pub get_is_field : (command : Command) → IsGet command → NamesField command
-get_is_field command is = get_only NamesField (λ d r i. tt) command is
+-- a get's register is one of sixteen
+pub target_within : (command : Command) → IsGet command → IsCommand command → target_of command < 16
+target_within command is = get_only (λ c. IsCommand c → target_of c < 16) (λ d r i fits. omega (arith, fits.0)) command is
 
 -- an object that is there has its cells
 cell_there : (object : Option Node) (i : ℕ) → IsSome object → cell_of object i ≡ or_no_field (slice_get (cells_in object) i)
@@ -105,17 +99,7 @@ module _ (heap : Heap) (play : Bool) (before : List Entry) (q : ℕ) (own : spen
   -- a reply that makes nothing and shows no space and no phase keeps the rules of space
   keeps_bare : (command : Command) (reply : Reply) → made_by command reply ≡ 0 → most_kept command ≡ 15 → ShowsSpace heap play before q command reply
       → ShowsSpine heap play before q command reply → ShowsPhases heap play before q command reply → KeepsSpace heap play before (Said q command reply)
-  keeps_bare command reply none most space spine phases = record {
-    takes = tt;
-    makes = rw (none, most) (omega (arith, own), omega (arith, little));
-    refuses = space;
-    refuses_spine = spine;
-    answers = tt;
-    begins = tt;
-    sweeps = tt;
-    ends = tt;
-    shows = phases;
-  }
+  keeps_bare command reply none most space spine phases = keeps_said heap play before q command reply none space spine phases own (omega (arith, most, little))
 
   -- so these do
   pub keeps_length : (n : ℕ) (command : Command) → IsLen command → KeepsSpace heap play before (Said q command (replies.Length n))

@@ -4,16 +4,16 @@ use Rattle.std.proofs.lemmas.List.{length-replicate}
 use Rattle.heap_model.specs.declared.cell.Cell.{Cell}
 use Rattle.heap_model.specs.declared.heap.Heap.{Heap}
 use Rattle.heap_model.specs.declared.id.Id.{Id}
+use Rattle.heap_model.specs.Needs.{record_fragments}
 use Rattle.heap_model.specs.Objects.{node}
 use Rattle.heap_model.specs.State.{State, fresh, unset}
-use Rattle.heap_model.specs.Needs.{record_fragments}
 use Rattle.core_machine.specs.declared.address.Address.TheVariants.{Word}
 use Rattle.core_machine.specs.Fragments.{tally}
 use Rattle.core_machine.specs.Layout.{at}
 use Rattle.core_machine.specs.Newborn.{record_word}
-use Rattle.core_rule.specs.Owners.{Owner, Keeps}
 use Rattle.core_rule.specs.Book.{fragment_at, id_at, head_of}
 use Rattle.core_rule.specs.Objects.{AreMade, IsKept, NamesKept, KeptObject, Objects, cells_in, cells_at, name_of}
+use Rattle.core_rule.specs.Owners.{Owner, Keeps}
 use Rattle.core_rule.proofs.IdsGrowth.{OneMore, old_or_new, node_at}
 use Rattle.core_rule.proofs.Keeping.{kept_by, with_object, object_new, object_old, kept_stays, kept_part, kept_back}
 use Rattle.core_rule.proofs.NamesGrowth.{old_apart, kept_old, kept_before, kept_new, names_old, words_old}

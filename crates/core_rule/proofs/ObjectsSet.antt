@@ -8,17 +8,17 @@ use Rattle.heap_model.specs.declared.id.Id.{Id}
 use Rattle.heap_model.specs.Needs.{record_fragments}
 use Rattle.heap_model.specs.Objects.{node}
 use Rattle.heap_model.specs.State.{State as Graph, Node}
-use Rattle.core_machine.specs.declared.address.Address.TheVariants.{Phase, Word}
+use Rattle.core_machine.specs.declared.address.Address.TheVariants.{Word}
 use Rattle.core_machine.specs.Layout.{at, put, table_length}
 use Rattle.core_machine.specs.Reaching.{row_of, part_of}
 use Rattle.core_rule.specs.Book.{fragment_at, id_at, head_of, number_of}
 use Rattle.core_rule.specs.Objects.{AreMade, IsKept, NamesKept, KeptObject, Objects, cells_in, cells_at, name_of, value_word, object_word}
 use Rattle.core_rule.specs.Owners.{Owner, Keeps}
-use Rattle.core_rule.proofs.Addresses.{at-put_apart, control_after_word, fragment_other, part_other, word_same}
+use Rattle.core_rule.proofs.Addresses.{control_after_word, fragment_other, part_other, word_same}
 use Rattle.core_rule.proofs.CellSet.{Sets, slice_get-set_same, slice_get-set_other}
 use Rattle.core_rule.proofs.CellWords.{word_of_cell, word_of_set, word_stays}
 use Rattle.core_rule.proofs.Numbering.{id_tells}
-use Rattle.core_rule.proofs.ReplyStep.{SameUnkept}
+use Rattle.core_rule.proofs.StoredFrames.{SameUnkept}
 
 -- an object that was made is there
 pub made_node : (o : Option Node) → IsSome o → (object : Node) × (o ≡ Some object)
@@ -182,7 +182,6 @@ module _ (heap : Heap) (words : List ℕ) (g now : Graph) (q : ℕ) (made : List
   -- no word but an object's changes
   pub set_unkept : SameUnkept heap owner words now_words
   set_unkept = record {
-    phase = at-put_apart heap words (Word target (part_of i)) Phase word (λ e. omega (arith, e));
     controls = λ group less. control_after_word heap words word target (part_of i) group less;
     unkept = λ f part free fits. fragment_other heap words word target (part_of i) f part part_fits fits (λ e. free n (row_of i) (ap owner e ∙ target_owned));
   }

@@ -1,56 +1,49 @@
 -- The way after a fragment's first word was found.
-use Rattle.std.proofs.Common.{◌≡◌, ℕ, ◌+◌, ◌-◌, ◌<◌, false, eqb, inl, inr, List, refl, sym, ap, ◌∙◌, arith}
+use Rattle.std.proofs.Common.{◌≡◌, ℕ, ◌+◌, ◌-◌, ◌<◌, false, eqb, inl, inr, List, sym, ap, ◌∙◌, arith, true}
 use Rattle.std.proofs.lemmas.Bool.{cond_both, eqb-true, eqb-false}
 use Rattle.std.proofs.lemmas.Bool.Decides.{eqb_tells}
-use Rattle.heap_model.specs.declared.heap.Heap.{Heap}
 use Rattle.heap_model.specs.declared.cell.Cell.{Cell}
 use Rattle.heap_model.specs.declared.command.Command.{Command}
 use Rattle.heap_model.specs.declared.command.Command.TheVariants as commands
 use Rattle.heap_model.specs.declared.entry.Entry.{Entry}
+use Rattle.heap_model.specs.declared.heap.Heap.{Heap}
 use Rattle.heap_model.specs.declared.id.Id.{Id}
 use Rattle.heap_model.specs.Heap.{IsHeap}
 use Rattle.heap_model.specs.State.{State}
 use Rattle.core_machine.specs.declared.address.Address.TheVariants.{Word}
 use Rattle.core_machine.specs.declared.place.Place.TheVariants as places
 use Rattle.core_machine.specs.declared.place.Reaching.{Reaching}
-use Rattle.core_machine.specs.declared.place.Reaching.TheVariants.{Walking, Getting, Swapping}
+use Rattle.core_machine.specs.declared.place.Reaching.TheVariants.{Walking, Getting, Swapping, LoadingOld}
 use Rattle.core_machine.specs.Commands.{field_of}
 use Rattle.core_machine.specs.Layout.{at}
 use Rattle.core_machine.specs.Loaded.{link_in}
 use Rattle.core_machine.specs.Reaching.{row_of, has_barrier, field_place, way_place, stepped_on, onward, reaching}
 use Rattle.core_machine.specs.Seat.{Seat}
-use Rattle.core_rule.specs.Owners.{Owner}
 use Rattle.core_rule.specs.Book.{fragment_at}
 use Rattle.core_rule.specs.ControlWords.{Bits}
 use Rattle.core_rule.specs.Objects.{AreMade, Objects, cells_at}
+use Rattle.core_rule.specs.Owners.{Owner}
 use Rattle.core_rule.specs.Ways.{Finds, ReachingStands}
 use Rattle.core_rule.proofs.KeptWords.{link_found, row_there}
+use Rattle.core_rule.proofs.Unwatched.{IsUnwatched}
 
--- a seat that has answered no phase has no barrier
-pub no_barrier : (seat : Seat) → seat.answered ≡ 0 → has_barrier seat ≡ false
-no_barrier seat none = rw none refl
+-- a command gets its field, or loads or swaps it by the barrier
+field_cases : (P : Reaching → Type 0) (seat : Seat) (command : Command) → P Getting → (has_barrier seat ≡ true → P LoadingOld) → (has_barrier seat ≡ false → P Swapping)
+    → P (field_place seat command)
+field_cases P seat (commands.Get d r i) gets loads swaps = gets
+field_cases P seat _ gets loads swaps = cond_both (has_barrier seat) LoadingOld Swapping P loads swaps
 
--- without a barrier a command gets or swaps its field
-field_cases : (P : Reaching → Type 0) (seat : Seat) (command : Command) → has_barrier seat ≡ false → P Getting → P Swapping → P (field_place seat command)
-field_cases P seat (commands.Get d r i) none gets swaps = gets
-field_cases P seat (commands.New d fields) none gets swaps = rw none swaps
-field_cases P seat (commands.Array d n) none gets swaps = rw none swaps
-field_cases P seat (commands.Set r i v) none gets swaps = rw none swaps
-field_cases P seat (commands.Num d n) none gets swaps = rw none swaps
-field_cases P seat (commands.Nil d) none gets swaps = rw none swaps
-field_cases P seat (commands.Copy d r) none gets swaps = rw none swaps
-field_cases P seat (commands.Same a b) none gets swaps = rw none swaps
-field_cases P seat (commands.Len r) none gets swaps = rw none swaps
-field_cases P seat commands.Poll none gets swaps = rw none swaps
-field_cases P seat commands.Collect none gets swaps = rw none swaps
-field_cases P seat commands.Leave none gets swaps = rw none swaps
-
--- so the way leads to one of three places
-pub way_cases : (P : Reaching → Type 0) (seat : Seat) → has_barrier seat ≡ false → P Walking → P Getting → P Swapping → P (way_place seat)
-way_cases P seat none walks gets swaps = elim (eqb_tells seat.links 0) as (λ _. P (way_place seat)) [
-  | inl e ↦ rw e.0 (field_cases P seat seat.command none gets swaps)
+-- so the way leads to one of four places
+pub way_cases : (P : Reaching → Type 0) (seat : Seat) → P Walking → P Getting → (has_barrier seat ≡ true → P LoadingOld) → (has_barrier seat ≡ false → P Swapping)
+    → P (way_place seat)
+way_cases P seat walks gets loads swaps = elim (eqb_tells seat.links 0) as (λ _. P (way_place seat)) [
+  | inl e ↦ rw e.0 (field_cases P seat seat.command gets loads swaps)
   | inr e ↦ rw e.0 walks
 ]
+
+-- none of which is watched
+pub way_unwatched : (seat : Seat) → IsUnwatched (has_barrier seat) (way_place seat)
+way_unwatched seat = way_cases (IsUnwatched (has_barrier seat)) seat tt tt (λ on. tt) (λ off. off)
 
 -- what holds of a seat that stands at its field's fragment, and of one that follows a link, holds of the seat that goes on
 pub onward_cases : (P : Seat → Type 0) (seat : Seat) (found : ℕ) → (seat.links ≡ 0 → P (reaching seat (way_place seat)))
@@ -62,9 +55,8 @@ onward_cases P seat found arrived more =
 
 module _ (cells : ℕ → List Cell) (made : List Id) (owner : ℕ → Owner) (fragments : ℕ → List ℕ) where
   -- a field that is found is found at the place that comes next
-  pub way_stands : (seat reached : Seat) → has_barrier reached ≡ false → Finds cells made owner fragments seat
-      → ReachingStands cells made owner fragments seat (way_place reached)
-  way_stands seat reached none finds = way_cases (λ place. ReachingStands cells made owner fragments seat place) reached none finds finds finds
+  pub way_stands : (seat reached : Seat) → Finds cells made owner fragments seat → ReachingStands cells made owner fragments seat (way_place reached)
+  way_stands seat reached finds = way_cases (λ place. ReachingStands cells made owner fragments seat place) reached finds finds (λ on. finds) (λ off. finds)
 
   -- it is found wherever the call stands
   pub finds_at : (seat : Seat) (loaded : ℕ) (place : Reaching) (mine : List Entry) → Finds cells made owner fragments seat

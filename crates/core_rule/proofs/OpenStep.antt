@@ -1,19 +1,20 @@
 -- Loading an object's length keeps the rule.
 use Rattle.std.proofs.Common.{◌≡◌, ℕ, ◌-◌, ◌<◌, ◌≤◌, ltb, false, [], ◌∷◌, length, Option, Some, None, refl, sym, ap, ◌∙◌, subst, arith}
 use Rattle.std.proofs.lemmas.Bool.{cond_both, ltb-true, ltb-false, eq-eqb}
-use Rattle.heap_model.specs.declared.heap.Heap.{Heap}
 use Rattle.heap_model.specs.declared.command.Command.{Command}
 use Rattle.heap_model.specs.declared.command.Command.TheVariants as commands
+use Rattle.heap_model.specs.declared.entry.Entry.{Entry}
+use Rattle.heap_model.specs.declared.entry.Entry.TheVariants.{Said}
+use Rattle.heap_model.specs.declared.heap.Heap.{Heap}
 use Rattle.heap_model.specs.declared.id.Id.{Id}
 use Rattle.heap_model.specs.declared.reply.Reply.{Reply}
 use Rattle.heap_model.specs.declared.reply.Reply.TheVariants as replies
-use Rattle.heap_model.specs.declared.entry.Entry.{Entry}
-use Rattle.heap_model.specs.declared.entry.Entry.TheVariants.{Said}
 use Rattle.heap_model.specs.Account.{KeepsSpace}
 use Rattle.heap_model.specs.Cycles.{graph_of}
 use Rattle.heap_model.specs.Effects.{effect_of, no_effect}
 use Rattle.heap_model.specs.Growth.{after_reply}
 use Rattle.heap_model.specs.Legal.{Accepts}
+use Rattle.heap_model.specs.PhaseCounts.{is_leave_of}
 use Rattle.heap_model.specs.State.{State as Graph}
 use Rattle.core_machine.specs.declared.address.Address.TheVariants.{Word}
 use Rattle.core_machine.specs.declared.place.Place.TheVariants as places
@@ -36,12 +37,13 @@ use Rattle.core_rule.specs.Ways.{SetsOut}
 use Rattle.core_rule.proofs.Assemble.{Keeps}
 use Rattle.core_rule.proofs.AtObject.{is_present, has_enough, has_little, way_object}
 use Rattle.core_rule.proofs.KeptWords.{length_found}
-use Rattle.core_rule.proofs.Loads.{went, loaded_state, load_tells}
+use Rattle.core_rule.proofs.Loads.{went_cycle, went, loaded_state, load_tells}
 use Rattle.core_rule.proofs.ObjectReplies.{IsLen, accepts_length, accepts_no_field, graph_length, graph_no_field, keeps_length, keeps_no_field}
 use Rattle.core_rule.proofs.OnwardStep.{onward_keeps}
 use Rattle.core_rule.proofs.OwnEntries.{own_entries}
-use Rattle.core_rule.proofs.MoreEntries.{list_more}
+use Rattle.core_rule.proofs.PhaseEntries.{no_leave_told}
 use Rattle.core_rule.proofs.PutRegister.{only_none}
+use Rattle.core_rule.proofs.SeatLists.{list_more}
 
 -- a meta answers a question for the length; a field goes on, or is none of the object's
 meta_cases : (P : Option Reply → Type 0) (command : Command) (found : ℕ) → NamesObject command → (IsLen command → P (Some (replies.Length (length_in found))))
@@ -67,11 +69,12 @@ module _ (heap : Heap) (state : State) (book : Book) (q : ℕ) (rule : Rule heap
       → after_reply (graph_of heap book.history) q (seat_at state q).command reply ≡ graph_of heap book.history
       → Accepts (graph_of heap book.history) (Said q (seat_at state q).command reply)
       → KeepsSpace heap false book.history (Said q (seat_at state q).command reply)
+      → is_leave_of q (Said q (seat_at state q).command reply) ≡ false
       → IsMachine heap (loaded_state heap state q (Word (seat_at state q).reached 0)
       (went (seat_at state q) (seat_at state q).registers 0 0 0 places.Idle (said q (seat_at state q) reply)))
       → Keeps heap (loaded_state heap state q (Word (seat_at state q).reached 0)
       (went (seat_at state q) (seat_at state q).registers 0 0 0 places.Idle (said q (seat_at state q) reply))) book book.begun (said q (seat_at state q) reply)
-  met_keeps reply nothing stays accepts keeps machine =
+  met_keeps reply nothing stays accepts keeps stays_here machine =
       let seat : Seat = seat_at state q in
       let g : Graph = graph_of heap book.history in
       let stands = rule.seats_stand q here in
@@ -81,7 +84,8 @@ module _ (heap : Heap) (state : State) (book : Book) (q : ℕ) (rule : Rule heap
       (λ r unawaited. stands.registers r (free (target_of seat.command) r))
       (list_more g book.made book.owner book.fragments q seat book.history busy stands.list g _ _ (entry ∷ []) [] (entry ∷ []) refl refl
       (own_entries q book.history entry (eq-eqb q q refl)) refl)
-      tt tt
+      tt tt stays_here
+      (went_cycle heap state book q rule here (Word seat.reached 0) seat.registers 0 0 0 places.Idle (entry ∷ []) machine (rw place at stands.fits.answer_at_place) tt)
 
 -- loading the length keeps the rule
 pub open_keeps : (heap : Heap) (state : State) (book : Book) (q : ℕ) → Rule heap state book → q < heap.seats
@@ -109,15 +113,16 @@ open_keeps heap state book q rule here place machine =
     let held = way_object heap state book q rule here Opening place (free heap state book q rule here place) number way in
     let enough = has_enough heap state book q rule here Opening place in
     let little = has_little heap state book q rule here Opening place in
+    let leaves_none = λ (reply : Reply). no_leave_told q q seat.command reply (λ leaves. subst NamesObject leaves opens.names) in
     meta_cases (λ reply. IsMachine heap (loaded_state heap state q (Word seat.reached 0) (with_entries (met seat found reply) (said_some q seat reply)))
     → Keeps heap (loaded_state heap state q (Word seat.reached 0) (with_entries (met seat found reply) (said_some q seat reply))) book book.begun (said_some q seat reply))
     seat.command found opens.names
     (λ len. met_keeps heap state book q rule here place (replies.Length (length_in found)) refl (graph_length g q (length_in found) seat.command len)
     (subst (λ n. Accepts g (Said q seat.command (replies.Length n))) (sym size) (accepts_length g q id seat.command opens.works.in_range present made held len))
-    (keeps_length heap false book.history q enough little (length_in found) seat.command len))
+    (keeps_length heap false book.history q enough little (length_in found) seat.command len) (leaves_none (replies.Length (length_in found))))
     (λ field more. onward_keeps heap state book q rule here (busy heap state book q rule here place) (free heap state book q rule here place)
-    (record { number = number; way = way; within = omega (arith, more, size) }))
+    (rw place at stands.fits.answer_at_place) (record { number = number; way = way; within = omega (arith, more, size) }))
     (λ field past. met_keeps heap state book q rule here place replies.NoField refl (graph_no_field g q seat.command field)
     (accepts_no_field g q id seat.command opens.works.in_range present made held field (omega (arith, past, size)))
-    (keeps_no_field heap false book.history q enough little seat.command field))
+    (keeps_no_field heap false book.history q enough little seat.command field) (leaves_none replies.NoField))
     machine

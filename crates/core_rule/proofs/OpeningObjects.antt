@@ -1,29 +1,30 @@
 -- The board is the one object when a heap opens.
-use Rattle.std.proofs.Common.{◌≡◌, ◌^◌, ℕ, ◌+◌, ◌*◌, ◌/◌, ◌%◌, ◌<◌, ◌≤◌, inl, inr, true, List, [], ◌∷◌, length, nat_lt, replicate, slice_get, Some, IsSome, refl, sym, ap, ◌∙◌, subst, arith}
 use Rattle.std.specs.Int.{bit_at}
+use Rattle.std.proofs.Common.{◌≡◌, ◌^◌, ℕ, ◌+◌, ◌*◌, ◌/◌, ◌%◌, ◌<◌, ◌≤◌, inl, inr, true, List, [], ◌∷◌, length, nat_lt, replicate, slice_get, Some, IsSome, refl, sym, ap, ◌∙◌, subst, arith}
 use Rattle.std.proofs.lemmas.Bool.{cases_lt, false≢true}
 use Rattle.std.proofs.lemmas.Bool.Decides.{nat_tests, eqb_tells}
 use Rattle.std.proofs.lemmas.List.{get_or_past, length-replicate}
+use Rattle.std.proofs.lemmas.Nat.Bits.{bit_at-zero}
 use Rattle.heap_model.specs.declared.cell.Cell.{Cell}
 use Rattle.heap_model.specs.declared.heap.Heap.{Heap}
 use Rattle.heap_model.specs.declared.id.Id.{Id}
 use Rattle.heap_model.specs.declared.id.Id.TheVariants.{Board, Made}
 use Rattle.heap_model.specs.Objects.{nobody, party}
-use Rattle.heap_model.specs.State.{Party, opening, opening_party, unset}
 use Rattle.heap_model.specs.Reach.{IsMade}
+use Rattle.heap_model.specs.State.{Party, opening, opening_party, unset}
 use Rattle.core_machine.specs.declared.address.Address.{Address}
 use Rattle.core_machine.specs.declared.address.Address.TheVariants.{Control, Word}
 use Rattle.core_machine.specs.Layout.{at, InTable}
 use Rattle.core_machine.specs.Opening.{board, board_name, opening_word}
-use Rattle.core_rule.specs.Owners.{Keeps, taken_bit, born_bit}
-use Rattle.core_rule.specs.Book.{fragment_at, id_at, number_of, head_of}
+use Rattle.core_rule.specs.Book.{White, fragment_at, id_at, number_of, head_of}
+use Rattle.core_rule.specs.Colours.{Marks}
 use Rattle.core_rule.specs.ControlWords.{Bits}
 use Rattle.core_rule.specs.Objects.{FitsName, AreMade, IsKept, NamesKept, KeptObject, Objects, cells_at}
+use Rattle.core_rule.specs.Owners.{Keeps, taken_bit, born_bit}
 use Rattle.core_rule.proofs.GraphRegisters.{opening_at}
 use Rattle.core_rule.proofs.Newborn.{newborn_is}
 use Rattle.core_rule.proofs.ObjectsGrowth.{unset_cell}
-use Rattle.core_rule.proofs.OpeningOwners.{opening_owner, opening_cases, nobodys, board_at, board_taken, board_born}
-use Rattle.std.proofs.lemmas.Nat.Bits.{bit_at-zero}
+use Rattle.core_rule.proofs.OpeningOwners.{opening_owner, opening_cases, nobodys, board_at, board_taken, board_born, board_plain}
 
 -- the board is all that was made
 abbrev pub opening_made : List Id
@@ -72,6 +73,20 @@ module _ (heap : Heap) (words : List ℕ) (some : 1 ≤ heap.groups) (open_words
     taken = λ f within. rw (open_words (Control (f / 16)) (omega arith)) (group_taken f within);
     born = λ f within. rw (open_words (Control (f / 16)) (omega arith)) (group_born f within);
     outside = λ f past. nobodys f (omega (arith, past, some));
+  }
+
+  -- nothing is marked or scanned
+  plain : (g i : ℕ) → 32 ≤ i → bit_at (opening_word heap (Control g)) i ≡ 0
+  plain g i past = elim (eqb_tells g 0) as (λ _. bit_at (opening_word heap (Control g)) i ≡ 0) [
+    | inl first ↦ rw first.0 (board_plain i past)
+    | inr later ↦ rw later.0 (bit_at-zero i)
+  ]
+
+  pub opening_marks : Marks heap words (λ f. White)
+  opening_marks = record {
+    marked = λ f within. rw (open_words (Control (f / 16)) (omega (arith, within))) (plain (f / 16) (32 + f % 16) (omega arith));
+    scanned = λ f within. rw (open_words (Control (f / 16)) (omega (arith, within))) (plain (f / 16) (48 + f % 16) (omega arith));
+    outside = λ f past. refl;
   }
 
   board_kept : KeptObject heap words opening_owner (head_of opening_made opening_fragments) 0 Board (replicate 32 unset) board

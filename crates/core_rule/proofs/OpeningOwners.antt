@@ -1,21 +1,22 @@
 -- Whose the fragments are when a heap opens: the board's are its own, the others nobody's.
-use Rattle.std.proofs.Common.{◌≡◌, ℕ, suc, ◌+◌, ◌-◌, ◌*◌, ◌<◌, ◌≤◌, nat_lt, if◌then◌else◌, inl, inr, [], refl, sym, ap, ◌∙◌, subst, arith}
 use Rattle.std.specs.Int.{bit_at}
+use Rattle.std.proofs.Common.{◌≡◌, ℕ, suc, ◌+◌, ◌-◌, ◌*◌, ◌<◌, ◌≤◌, nat_lt, if◌then◌else◌, inl, inr, [], refl, sym, ap, ◌∙◌, subst, arith}
 use Rattle.std.proofs.lemmas.Bool.{cases_lt}
 use Rattle.std.proofs.lemmas.Bool.Decides.{nat_tests}
+use Rattle.std.proofs.lemmas.Nat.Bits.{bit_at_above}
 use Rattle.heap_model.specs.declared.heap.Heap.{Heap}
 use Rattle.core_machine.specs.Opening.{board, board_group}
 use Rattle.core_machine.specs.Sums.{sum_upto}
-use Rattle.core_rule.specs.Owners.{Owner, Free, Keeps, taken_bit, born_bit}
 use Rattle.core_rule.specs.Book.{fragment_at}
 use Rattle.core_rule.specs.Counts.{AreUsed}
+use Rattle.core_rule.specs.Owners.{Owner, Free, Keeps, taken_bit, born_bit}
 use Rattle.core_rule.proofs.SumLemmas.{sum_parts, sum_ones, sum_nothing}
 
 -- the first eleven fragments are the board's
 abbrev pub opening_owner : ℕ → Owner
 opening_owner f = if nat_lt f 11 then Keeps 0 f else Free
 
-pub boards : (f : ℕ) → f < 11 → opening_owner f ≡ Keeps 0 f
+boards : (f : ℕ) → f < 11 → opening_owner f ≡ Keeps 0 f
 boards f below = grind (arith, nat_tests, below)
 
 pub nobodys : (f : ℕ) → 11 ≤ f → opening_owner f ≡ Free
@@ -58,6 +59,10 @@ board_taken = first_sixteen (λ f. bit_at board_group f ≡ taken_bit (opening_o
 pub board_born : (f : ℕ) → f < 16 → bit_at board_group (16 + f) ≡ born_bit (opening_owner f)
 board_born = first_sixteen (λ f. bit_at board_group (16 + f) ≡ born_bit (opening_owner f))
     (first_eleven (λ f. bit_at board_group (16 + f) ≡ born_bit (opening_owner f)) refl refl refl refl refl refl refl refl refl refl refl) refl refl refl refl refl
+
+-- none of the group is marked or scanned
+pub board_plain : (i : ℕ) → 32 ≤ i → bit_at board_group i ≡ 0
+board_plain i past = bit_at_above board_group 32 i (omega arith) past
 
 -- eleven are in use
 pub opening_used : (heap : Heap) → 1 ≤ heap.groups → AreUsed heap opening_owner []

@@ -1,25 +1,21 @@
 -- What stays of a seat's counts when the history grows by an entry that isn't its own.
-use Rattle.std.proofs.Common.{◌≡◌, ◌≢◌, ℕ, ◌+◌, ◌≤◌, List, [], ◌∷◌, ◌++◌, length, filter, drop, refl, sym, ap, ◌∙◌, false, zero-add, arith, ◌==◌, inl, inr}
 use Rattle.std.specs.Prelude.{if◌then◌else◌, sum_by}
-use Rattle.std.proofs.lemmas.List.Sums.{sum_by-append}
+use Rattle.std.proofs.Common.{◌≡◌, ◌≢◌, ℕ, ◌+◌, ◌≤◌, List, [], ◌∷◌, ◌++◌, length, filter, drop, refl, sym, ap, ◌∙◌, false, zero-add, arith, ◌==◌, inl, inr}
+use Rattle.std.proofs.lemmas.Bool.Decides.{eqb_tells}
 use Rattle.std.proofs.lemmas.List.{append-nil}
 use Rattle.std.proofs.lemmas.List.Elements.{filter-append}
-use Rattle.heap_model.specs.declared.heap.Heap.{Heap}
+use Rattle.std.proofs.lemmas.List.Sums.{sum_by-append}
+use Rattle.heap_model.specs.declared.effect.Effect.{Effect}
 use Rattle.heap_model.specs.declared.entry.Entry.{Entry}
 use Rattle.heap_model.specs.declared.entry.Entry.TheVariants as entries
-use Rattle.heap_model.specs.declared.effect.Effect.{Effect}
-use Rattle.heap_model.specs.Objects.{party}
-use Rattle.heap_model.specs.State.{State}
-use Rattle.heap_model.specs.Space.{total_of}
+use Rattle.heap_model.specs.declared.heap.Heap.{Heap}
 use Rattle.heap_model.specs.Effects.{effect_of, is_of}
+use Rattle.heap_model.specs.Space.{total_of}
 use Rattle.heap_model.specs.Windows.{is_reply_to}
 use Rattle.heap_model.proofs.Histories.{total_of-more}
 use Rattle.core_machine.specs.declared.place.Place.{Place}
-use Rattle.core_machine.specs.Seat.{Seat}
-use Rattle.core_rule.specs.Counts.{OwnCounts}
 use Rattle.core_rule.specs.Gathers.{Began, GathersRight}
 use Rattle.core_rule.specs.Owners.{Owner}
-use Rattle.std.proofs.lemmas.Bool.Decides.{eqb_tells}
 use Rattle.core_rule.proofs.InFlight.{window_more, began_past}
 
 -- an entry of a seat is no other's
@@ -30,17 +26,9 @@ of_other q r apart = elim (eqb_tells q r) as (λ _. (q == r) ≡ false) [
 ]
 
 -- another's entry is no reply to the seat
-pub no_reply : (r : ℕ) (entry : Entry) → is_of r entry ≡ false → is_reply_to r entry ≡ false
+no_reply : (r : ℕ) (entry : Entry) → is_of r entry ≡ false → is_reply_to r entry ≡ false
 no_reply r (entries.Said q command reply) other = other
-no_reply r (entries.Takes q count) other = refl
-no_reply r (entries.GivesBack q count) other = refl
-no_reply r (entries.Answers q phase) other = refl
-no_reply r (entries.Advance phase) other = refl
-no_reply r (entries.Frees count) other = refl
-no_reply r (entries.Returns count) other = refl
-no_reply r (entries.Swings id) other = refl
-no_reply r (entries.Ends cycle kept) other = refl
-no_reply r (entries.Turned command reply) other = refl
+no_reply r _ other = refl
 
 -- nothing is added to what the seat did
 pub total_of-other : (r : ℕ) (part : Effect → ℕ) (history : List Entry) (entry : Entry) → is_of r entry ≡ false → total_of r part (history ++ entry ∷ []) ≡ total_of r part history
@@ -50,17 +38,7 @@ total_of-other r part history entry other = rw (total_of-more r part history ent
 pub own-other : (r : ℕ) (history : List Entry) (entry : Entry) → is_of r entry ≡ false → filter (is_of r) (history ++ entry ∷ []) ≡ filter (is_of r) history
 own-other r history entry other = rw (filter-append (is_of r) history (entry ∷ []), other, append-nil (filter (is_of r) history)) refl
 
--- the seat's counts stay
-pub counts_stay : (g now : State) (history : List Entry) (entry : Entry) (r : ℕ) (seat : Seat) → is_of r entry ≡ false → party now r ≡ party g r
-    → OwnCounts g history r seat → OwnCounts now (history ++ entry ∷ []) r seat
-counts_stay g now history entry r seat other same counts = record {
-  numbered = rw same counts.numbered;
-  stamped = rw same counts.stamped;
-  leaves = rw same counts.leaves;
-  unborn = rw (total_of-other r (λ e. e.given) history entry other, total_of-other r (λ e. e.born) history entry other, total_of-other r (λ e. e.taken) history entry other) counts.unborn;
-}
-
--- its call began where it did, and isn't answered by the entry
+-- a seat's call began where it did, and isn't answered by the entry
 pub began_stays : (history : List Entry) (entry : Entry) (r begun : ℕ) (place : Place) → is_of r entry ≡ false → Began history r begun place
     → Began (history ++ entry ∷ []) r begun place
 began_stays history entry r begun place other began = began_past history entry r begun place place (no_reply r entry other) (λ busy. busy) began

@@ -3,11 +3,11 @@ use Rattle.std.proofs.Common.{◌≡◌, ℕ, ◌+◌, List, [], ◌∷◌, ◌+
 use Rattle.std.proofs.lemmas.List.Elements.{filter-append}
 use Rattle.heap_model.specs.declared.effect.Effect.{Effect}
 use Rattle.heap_model.specs.declared.entry.Entry.{Entry}
-use Rattle.heap_model.specs.Space.{total_of}
 use Rattle.heap_model.specs.Effects.{effect_of, is_of}
-use Rattle.heap_model.proofs.Histories.{total_of-more}
-use Rattle.heap_model.specs.State.{State}
 use Rattle.heap_model.specs.Objects.{party}
+use Rattle.heap_model.specs.Space.{total_of}
+use Rattle.heap_model.specs.State.{State}
+use Rattle.heap_model.proofs.Histories.{total_of-more}
 use Rattle.core_machine.specs.Seat.{Seat}
 use Rattle.core_rule.specs.Counts.{OwnCounts}
 use Rattle.core_rule.specs.Holding.{whole_hand}

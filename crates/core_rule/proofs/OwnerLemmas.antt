@@ -6,25 +6,16 @@ use Rattle.core_rule.proofs.Tallies.{one_at_some, one_at_bit}
 -- what isn't taken is nobody's
 pub is_free : (o : Owner) → taken_bit o ≡ 0 → o ≡ Free
 is_free Free none = refl
-is_free (Holds q) none = absurd (omega (arith, none))
-is_free (Bears q) none = absurd (omega (arith, none))
-is_free (Keeps i k) none = absurd (omega (arith, none))
-is_free (Dead i k) none = absurd (omega (arith, none))
+is_free _ none = absurd (omega (arith, none))
 
 -- what a seat holds is its own, once
 pub is_held : (q : ℕ) (o : Owner) → 1 ≤ holds_bit q o → o ≡ Holds q
 is_held q (Holds r) some = ap Holds (one_at_some r q some)
-is_held q Free some = absurd (omega (arith, some))
-is_held q (Bears r) some = absurd (omega (arith, some))
-is_held q (Keeps i k) some = absurd (omega (arith, some))
-is_held q (Dead i k) some = absurd (omega (arith, some))
+is_held q _ some = absurd (omega (arith, some))
 
 pub holds_once : (q : ℕ) (o : Owner) → holds_bit q o ≤ 1
 holds_once q (Holds r) = one_at_bit r q
-holds_once q Free = omega arith
-holds_once q (Bears r) = omega arith
-holds_once q (Keeps i k) = omega arith
-holds_once q (Dead i k) = omega arith
+holds_once q _ = omega arith
 
 pub born_once : (o : Owner) → born_bit o ≤ 1
 born_once Free = omega arith
@@ -55,11 +46,9 @@ IsOwn q o = holds_bit q o + bears_bit q o ≡ 1
 
 -- a fragment is a seat's once, and then no object's
 pub own_once : (q : ℕ) (o : Owner) → holds_bit q o + bears_bit q o ≤ 1
-own_once q Free = omega arith
 own_once q (Holds r) = omega (arith, one_at_bit r q)
 own_once q (Bears r) = omega (arith, one_at_bit r q)
-own_once q (Keeps i k) = omega arith
-own_once q (Dead i k) = omega arith
+own_once q _ = omega arith
 
 pub own_keeps_none : (q i k : ℕ) (o : Owner) → IsOwn q o → o ≢ Keeps i k
 own_keeps_none q i k o own e = let none : holds_bit q o + bears_bit q o ≡ 0 = ap (λ x. holds_bit q x + bears_bit q x) e in omega arith
@@ -68,24 +57,18 @@ own_keeps_none q i k o own e = let none : holds_bit q o + bears_bit q o ≡ 0 = 
 pub own_not_others : (q r : ℕ) (o : Owner) → IsOwn q o → IsOwn r o → q ≡ r
 own_not_others q r (Holds s) p e = omega (arith, p, e, one_at_some s q (omega (arith, p)), one_at_some s r (omega (arith, e)))
 own_not_others q r (Bears s) p e = omega (arith, p, e, one_at_some s q (omega (arith, p)), one_at_some s r (omega (arith, e)))
-own_not_others q r Free p e = absurd (omega (arith, p))
-own_not_others q r (Keeps i k) p e = absurd (omega (arith, p))
-own_not_others q r (Dead i k) p e = absurd (omega (arith, p))
+own_not_others q r _ p e = absurd (omega (arith, p))
 
 -- it is taken, and not free
 pub own_taken : (q : ℕ) (o : Owner) → IsOwn q o → taken_bit o ≡ 1
 own_taken q (Holds r) own = refl
 own_taken q (Bears r) own = refl
-own_taken q Free own = absurd (omega (arith, own))
-own_taken q (Keeps i k) own = absurd (omega (arith, own))
-own_taken q (Dead i k) own = absurd (omega (arith, own))
+own_taken q _ own = absurd (omega (arith, own))
 
 pub own_not_free : (q : ℕ) (o : Owner) → IsOwn q o → free_bit o ≡ 0
 own_not_free q (Holds r) own = refl
 own_not_free q (Bears r) own = refl
-own_not_free q Free own = absurd (omega (arith, own))
-own_not_free q (Keeps i k) own = absurd (omega (arith, own))
-own_not_free q (Dead i k) own = absurd (omega (arith, own))
+own_not_free q _ own = absurd (omega (arith, own))
 
 -- of a seat's own fragments those are born that it bears
 pub own_born : (q : ℕ) (o : Owner) → IsOwn q o → born_bit o ≡ bears_bit q o

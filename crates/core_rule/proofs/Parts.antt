@@ -1,16 +1,16 @@
 -- The fragments of a list that pass a test, and those of a group.
-use Rattle.std.proofs.Common.{◌≡◌, ◌≢◌, ℕ, zero, suc, ◌+◌, ◌/◌, ◌<◌, ◌≤◌, ◌⊎◌, inl, inr, Bool, true, false, not, cond, List, [], ◌∷◌, length, filter, refl, sym, ap, ◌∙◌, arith, ◌*◌}
 use Rattle.std.specs.List.{range_with_len, list_all}
+use Rattle.std.proofs.Common.{◌≡◌, ◌≢◌, ℕ, zero, suc, ◌+◌, ◌/◌, ◌<◌, ◌≤◌, ◌⊎◌, inl, inr, Bool, true, false, not, cond, List, [], ◌∷◌, length, filter, refl, sym, ap, ◌∙◌, arith, ◌*◌}
 use Rattle.std.proofs.lemmas.Bool.{false≢true, true≢false, eq-eqb}
 use Rattle.std.proofs.lemmas.Bool.Decides.{eqb_tells}
 use Rattle.std.proofs.lemmas.List.Filters.{length-filter_both}
 use Rattle.core_machine.specs.Fragments.{in_group, out_of_group, part_in, part_out, tally}
-use Rattle.core_rule.specs.Owners.{one_at}
-use Rattle.core_rule.proofs.Tallies.{one_at_same, one_at_other, sum_tally}
-use Rattle.core_machine.specs.Sums.{sum_upto}
-use Rattle.core_rule.proofs.SumLemmas.{sum_parts, sum_nothing}
 use Rattle.core_machine.specs.Making.{first_group}
+use Rattle.core_machine.specs.Sums.{sum_upto}
 use Rattle.core_machine.proofs.Bits.{bool_tells}
+use Rattle.core_rule.specs.Owners.{one_at}
+use Rattle.core_rule.proofs.SumLemmas.{sum_parts, sum_nothing}
+use Rattle.core_rule.proofs.Tallies.{one_at_same, one_at_other, sum_tally}
 
 -- a number of things is none where it isn't one or more
 pub not_there : (n : ℕ) → (1 ≤ n → ⊥) → n ≡ 0

@@ -1,73 +1,79 @@
 -- What a step adds to the history may stand in a play, where no other seat made a step since the call began.
-use Rattle.std.proofs.Common.{◌≡◌, ◌==◌, ℕ, ◌+◌, ◌<◌, Bool, true, false, inl, inr, List, [], ◌∷◌, length, drop, refl, subst, arith}
 use Rattle.std.specs.List.{list_all}
-use Rattle.std.specs.Prelude.{if◌then◌else◌}
+use Rattle.std.specs.Prelude.{if◌then◌else◌, Option, None, Some, IfSome}
+use Rattle.std.proofs.Common.{◌≡◌, ◌==◌, ℕ, ◌+◌, ◌<◌, Bool, true, false, inl, inr, List, [], ◌∷◌, ◌++◌, length, drop, refl, subst, arith}
 use Rattle.std.proofs.lemmas.Bool.{eq-eqb}
 use Rattle.std.proofs.lemmas.Bool.Decides.{eqb_tells}
-use Rattle.heap_model.specs.declared.heap.Heap.{Heap}
+use Rattle.heap_model.specs.declared.command.Command.{Command}
 use Rattle.heap_model.specs.declared.command.Command.TheVariants as commands
-use Rattle.heap_model.specs.declared.reply.Reply.TheVariants as replies
 use Rattle.heap_model.specs.declared.entry.Entry.{Entry}
 use Rattle.heap_model.specs.declared.entry.Entry.TheVariants as entries
+use Rattle.heap_model.specs.declared.heap.Heap.{Heap}
+use Rattle.heap_model.specs.declared.reply.Reply.{Reply}
+use Rattle.heap_model.specs.declared.reply.Reply.TheVariants as replies
 use Rattle.heap_model.specs.Account.{KeepsSpace}
+use Rattle.heap_model.specs.Effects.{is_of}
 use Rattle.heap_model.specs.Refusals.{FindsSpace}
 use Rattle.heap_model.specs.Space.{taken_of, spent_of}
-use Rattle.heap_model.specs.Effects.{is_of}
+use Rattle.core_machine.specs.declared.address.Address.TheVariants.{Word, Phase}
+use Rattle.core_machine.specs.declared.place.Leaving.TheVariants.{Emptying, Parting}
+use Rattle.core_machine.specs.declared.place.Making.TheVariants.{Gathering, Returning, Refusing, Storing, Bearing}
 use Rattle.core_machine.specs.declared.place.Place.{Place}
 use Rattle.core_machine.specs.declared.place.Place.TheVariants as places
-use Rattle.core_machine.specs.declared.place.Making.TheVariants.{Gathering, Returning, Refusing, Storing, Bearing}
+use Rattle.core_machine.specs.declared.place.Polling.TheVariants.{Asking, Answering}
+use Rattle.core_machine.specs.declared.place.Reaching.TheVariants.{Opening, Walking, Getting, Swapping}
+use Rattle.core_machine.specs.declared.register.Register.{Register}
 use Rattle.core_machine.specs.Fits.{Refuses}
 use Rattle.core_machine.specs.Fragments.{in_group}
+use Rattle.core_machine.specs.Layout.{at}
+use Rattle.core_machine.specs.Loaded.{head_in}
 use Rattle.core_machine.specs.Machine.{State, seat_at, shown, found_by}
 use Rattle.core_machine.specs.Making.{last_group, next_id}
 use Rattle.core_machine.specs.Moves.{move_at, takes_some, full_entry, last_birth_move, birth_move}
+use Rattle.core_machine.specs.Reaching.{meta_reply}
+use Rattle.core_machine.specs.ReachingMoves.{said_some, got_shows, field_part}
+use Rattle.core_machine.specs.Registers.{register_in, value_of, is_same_value}
 use Rattle.core_machine.specs.Seat.{Seat, need}
+use Rattle.core_machine.specs.Telling.{answer_of, local_reply}
 use Rattle.core_rule.specs.Book.{Book}
 use Rattle.core_rule.specs.Gathers.{GathersRight}
 use Rattle.core_rule.specs.Rule.{Rule}
-use Rattle.core_rule.proofs.Plays.{IsPlainReply, taking, giving, saying, plain_keeps, finds_in_play}
-use Rattle.std.specs.Prelude.{Option, None, Some, IfSome}
-use Rattle.heap_model.specs.declared.command.Command.{Command}
-use Rattle.heap_model.specs.declared.reply.Reply.{Reply}
-use Rattle.heap_model.specs.Cycles.{graph_of}
-use Rattle.core_machine.specs.declared.place.Reaching.TheVariants.{Opening, Walking, Getting, Naming, LoadingOld, ShadingOld, ShadingNew, Swapping}
-use Rattle.core_machine.specs.declared.place.Polling.TheVariants.{Asking, Shading, Answering}
-use Rattle.core_machine.specs.declared.place.Leaving.TheVariants.{Emptying, Parting}
-use Rattle.core_machine.specs.declared.register.Register.{Register}
-use Rattle.core_machine.specs.declared.address.Address.TheVariants.{Word, Phase}
-use Rattle.core_machine.specs.Layout.{at}
-use Rattle.core_machine.specs.Reaching.{meta_reply}
-use Rattle.core_machine.specs.ReachingMoves.{said_some, got_shows, field_part}
-use Rattle.core_machine.specs.Loaded.{head_in}
-use Rattle.core_machine.specs.Registers.{register_in, value_of, is_same_value}
-use Rattle.core_machine.specs.Telling.{answer_of, local_reply}
-use Rattle.core_rule.specs.Objects.{cells_at}
-use Rattle.core_rule.specs.Ways.{WayStands}
 use Rattle.core_rule.proofs.Bodies.{bare_hand}
+use Rattle.core_rule.proofs.Plays.{IsPlainReply, MayPlay, taking, giving, answering, saying, plain_keeps, finds_in_play}
 use Rattle.core_rule.proofs.RecordCommands.{full_keeps}
 
--- there is no entry, or one of the seat's that may stand in a play where it may in a run
-pub record MayPlay (heap : Heap) (before : List Entry) (q : ℕ) (entry : Entry) : Type 0 where
-  pub own : is_of q entry ≡ true
-  pub keeps : KeepsSpace heap false before entry → KeepsSpace heap true before entry
-
-pub data AddsPlay (heap : Heap) (before : List Entry) (q : ℕ) : List Entry → Type 0 where
-  nothing : AddsPlay heap before q []
-  one : (entry : Entry) → MayPlay heap before q entry → AddsPlay heap before q (entry ∷ [])
+-- the entries are the seat's, and may stand in a play where they may in a run
+pub record AddsPlay (heap : Heap) (before : List Entry) (q : ℕ) (added : List Entry) : Type 0 where
+  pub own : list_all (is_of q) added ≡ true
+  pub may : MayPlay heap before added
 
 module _ (heap : Heap) (before : List Entry) (q : ℕ) where
+  nothing : AddsPlay heap before q []
+  nothing = record { own = refl; may = tt }
+
+  one : (entry : Entry) → is_of q entry ≡ true → (KeepsSpace heap false before entry → KeepsSpace heap true before entry) → AddsPlay heap before q (entry ∷ [])
+  one entry own keeps = record { own = rw own refl; may = (keeps, tt) }
+
   took : (count : ℕ) → AddsPlay heap before q (takes_some q count)
   took count = elim (eqb_tells count 0) as (λ _. AddsPlay heap before q (takes_some q count)) [
     | inl none ↦ rw none.0 nothing
-    | inr some ↦ rw some.0 (one (entries.Takes q count) record { own = eq-eqb q q refl; keeps = plain_keeps heap before (entries.Takes q count) (taking q count) })
+    | inr some ↦ rw some.0 (one (entries.Takes q count) (eq-eqb q q refl) (plain_keeps heap before (entries.Takes q count) (taking q count)))
   ]
 
   gave : (count : ℕ) → AddsPlay heap before q (entries.GivesBack q count ∷ [])
-  gave count = one (entries.GivesBack q count) record { own = eq-eqb q q refl; keeps = plain_keeps heap before (entries.GivesBack q count) (giving q count) }
+  gave count = one (entries.GivesBack q count) (eq-eqb q q refl) (plain_keeps heap before (entries.GivesBack q count) (giving q count))
 
   says : (command : Command) (reply : Reply) → IsPlainReply reply → AddsPlay heap before q (entries.Said q command reply ∷ [])
-  says command reply plain =
-      one (entries.Said q command reply) record { own = eq-eqb q q refl; keeps = plain_keeps heap before (entries.Said q command reply) (saying q command reply plain) }
+  says command reply plain = one (entries.Said q command reply) (eq-eqb q q refl) (plain_keeps heap before (entries.Said q command reply) (saying q command reply plain))
+
+  answers : (command : Command) (p : ℕ) → AddsPlay heap before q (entries.Answers q p ∷ entries.Said q command (replies.Phase p) ∷ [])
+  answers command p = record {
+    own = rw (eq-eqb q q refl) refl;
+    may = (
+      plain_keeps heap before (entries.Answers q p) (answering q p),
+      (plain_keeps heap (before ++ entries.Answers q p ∷ []) (entries.Said q command (replies.Phase p)) (saying q command (replies.Phase p) tt), tt),
+    );
+  }
 
   polls : (command : Command) (b : Bool) (p : ℕ) → AddsPlay heap before q (if b then entries.Said q command (replies.Phase p) ∷ [] else [])
   polls command true p = says command (replies.Phase p) tt
@@ -112,20 +118,18 @@ refusal heap state book q rule here placed alone =
     rule.heap_stands.used own alone
     (subst (λ n. GathersRight heap book.owner q (drop (book.begun q) book.history) seat.cursor n seat.given) refuses.0.all_tried stands.gathers) in
     let less : length seat.reserve + seat.given < need seat = omega (arith, refuses.0.too_few) in
-    one (full_entry q seat) record {
-      own = eq-eqb q q refl;
-      keeps = λ run. full_keeps seat.command refuses.0.makes.a_record heap true book.history q (length seat.reserve + seat.given)
-          (omega (arith, own)) (omega (arith, own, fits.small_reserve)) less finds;
-    }
+    one heap book.history q (full_entry q seat) (eq-eqb q q refl)
+    (λ run. full_keeps seat.command refuses.0.makes.a_record heap true book.history q (length seat.reserve + seat.given)
+    (omega (arith, own)) (omega (arith, own, fits.small_reserve)) less finds)
 
 -- what the step due of a seat adds, where all entries since its call began are its own
 pub adds_play : (heap : Heap) (state : State) (book : Book) (q : ℕ) (place : Place) → Rule heap state book → q < heap.seats → (seat_at state q).place ≡ place
     → list_all (is_of q) (drop (book.begun q) book.history) ≡ true
     → AddsPlay heap book.history q (shown heap state (move_at heap q (seat_at state q) place))
-adds_play heap state book q places.Idle rule here placed alone = nothing
+adds_play heap state book q places.Idle rule here placed alone = nothing heap book.history q
 adds_play heap state book q (places.Making Gathering) rule here placed alone = took heap book.history q _
 adds_play heap state book q (places.Making Returning) rule here placed alone = gave heap book.history q _
-adds_play heap state book q (places.Making Storing) rule here placed alone = nothing
+adds_play heap state book q (places.Making Storing) rule here placed alone = nothing heap book.history q
 adds_play heap state book q (places.Making Bearing) rule here placed alone =
     bearing (list_all (in_group (last_group seat.hand)) seat.hand)
   where
@@ -135,28 +139,20 @@ adds_play heap state book q (places.Making Bearing) rule here placed alone =
     bearing : (last : Bool)
         → AddsPlay heap book.history q ((if last then last_birth_move q seat else birth_move seat).shows state.words (found_by heap state (if last then last_birth_move q seat else birth_move seat).step))
     bearing true = says heap book.history q seat.command (replies.Made (next_id q seat)) tt
-    bearing false = nothing
+    bearing false = nothing heap book.history q
 adds_play heap state book q (places.Making Refusing) rule here placed alone = refusal heap state book q rule here placed alone
 adds_play heap state book q places.Telling rule here placed alone =
     says heap book.history q (seat_at state q).command (local_reply (seat_at state q).registers (seat_at state q).command) (local_plain (seat_at state q).registers (seat_at state q).command)
 adds_play heap state book q (places.Reaching Opening) rule here placed alone = says_some heap book.history q (seat_at state q)
     (meta_reply (seat_at state q).command (at heap state.words (Word (seat_at state q).reached 0)))
     (meta_plain (seat_at state q).command (at heap state.words (Word (seat_at state q).reached 0)))
-adds_play heap state book q (places.Reaching Walking) rule here placed alone = nothing
+adds_play heap state book q (places.Reaching Walking) rule here placed alone = nothing heap book.history q
 adds_play heap state book q (places.Reaching Getting) rule here placed alone = gets heap book.history q (seat_at state q) state.words
     (at heap state.words (Word (seat_at state q).reached (field_part (seat_at state q))))
     (head_in (at heap state.words (Word (seat_at state q).reached (field_part (seat_at state q)))))
-adds_play heap state book q (places.Reaching Naming) rule here placed alone = nothing
-adds_play heap state book q (places.Reaching LoadingOld) rule here placed alone = nothing
-adds_play heap state book q (places.Reaching ShadingOld) rule here placed alone = nothing
-adds_play heap state book q (places.Reaching ShadingNew) rule here placed alone = nothing
 adds_play heap state book q (places.Reaching Swapping) rule here placed alone = says heap book.history q (seat_at state q).command _ tt
 adds_play heap state book q (places.Polling Asking) rule here placed alone = polls heap book.history q (seat_at state q).command (at heap state.words Phase == (seat_at state q).answered) (at heap state.words Phase)
-adds_play heap state book q (places.Polling Shading) rule here placed alone = nothing
-adds_play heap state book q (places.Polling Answering) rule here placed alone = absurd (polling (seat_at state q).place placed (rule.seats_stand q here).way)
-  where
-    polling : (place : Place) → place ≡ places.Polling Answering
-        → WayStands (cells_at (graph_of heap book.history) book.made) book.made book.owner book.fragments (seat_at state q) place → ⊥
-    polling place is way = subst (λ p. WayStands (cells_at (graph_of heap book.history) book.made) book.made book.owner book.fragments (seat_at state q) p) is way
+adds_play heap state book q (places.Polling Answering) rule here placed alone = answers heap book.history q (seat_at state q).command (seat_at state q).asked
 adds_play heap state book q (places.Leaving Emptying) rule here placed alone = gave heap book.history q _
 adds_play heap state book q (places.Leaving Parting) rule here placed alone = says heap book.history q (seat_at state q).command replies.Done tt
+adds_play heap state book q _ rule here placed alone = nothing heap book.history q

@@ -1,49 +1,38 @@
 -- A run of whole calls, one after another, has a history that is legal as a play.
-use Rattle.std.proofs.Common.{◌≡◌, ◌≢◌, ℕ, zero, suc, ◌<◌, ◌≤◌, true, false, inl, inr, List, [], ◌∷◌, ◌++◌, length, drop, refl, sym, ap, ◌∙◌, subst, append_assoc}
-use Rattle.std.specs.Prelude.{Option, None, Some, IsSome}
 use Rattle.std.specs.List.{list_all}
+use Rattle.std.specs.Prelude.{Option, None, Some, IsSome}
+use Rattle.std.proofs.Common.{◌≡◌, ◌≢◌, ℕ, zero, suc, ◌+◌, ◌<◌, ◌≤◌, true, false, inl, inr, List, [], ◌∷◌, ◌++◌, length, drop, refl, sym, ap, ◌∙◌, subst, append_assoc}
 use Rattle.std.proofs.lemmas.Bool.{eq-eqb}
 use Rattle.std.proofs.lemmas.Bool.Decides.{eqb_tells}
 use Rattle.std.proofs.lemmas.List.{append-nil, get_or-set_other, drop-append-le}
 use Rattle.std.proofs.lemmas.List.Folds.{list_all-append}
-use Rattle.heap_model.specs.declared.heap.Heap.{Heap}
 use Rattle.heap_model.specs.declared.command.Command.{Command}
 use Rattle.heap_model.specs.declared.entry.Entry.{Entry}
+use Rattle.heap_model.specs.declared.entry.Entry.TheVariants.{Advance}
+use Rattle.heap_model.specs.declared.heap.Heap.{Heap}
 use Rattle.heap_model.specs.Account.{IsLegal}
-use Rattle.heap_model.specs.State.{opening}
 use Rattle.heap_model.specs.Effects.{is_of}
-use Rattle.heap_model.proofs.Histories.{KeepsSpaceAfter-more}
+use Rattle.heap_model.specs.State.{opening}
 use Rattle.core_machine.specs.declared.place.Place.TheVariants as places
+use Rattle.core_machine.specs.declared.stage.Stage.{Stage}
+use Rattle.core_machine.specs.declared.stage.Stage.TheVariants.{Looking, Advancing}
+use Rattle.core_machine.specs.Collector.{Collector, turn_at}
 use Rattle.core_machine.specs.Machine.{State, seat_at, moved, Event, Begins, Steps, Turns, Can, after, entries, Run, history}
 use Rattle.core_machine.specs.Moves.{Move, move_at, next_move}
 use Rattle.core_machine.specs.Seat.{Seat, nobody}
 use Rattle.core_rule.specs.Book.{Book}
+use Rattle.core_rule.specs.Laws.{IsAlone, AllIdle, OneCallAtATime, WholeCallsPlay, HappensAlone}
 use Rattle.core_rule.specs.Rule.{Rule}
-use Rattle.core_rule.specs.Laws.{IsAlone, OneCallAtATime, WholeCallsPlay, HappensAlone}
-use Rattle.core_rule.proofs.BeginStep.{begins}
-use Rattle.core_rule.proofs.Runs.{MachineStays, OpeningStands, EachStepKeeps, EachBeginKeeps, seat_of_step}
-use Rattle.core_rule.proofs.Plays.{last_keeps}
-use Rattle.core_rule.proofs.PlayEntries.{AddsPlay, nothing, one, adds_play}
+use Rattle.core_rule.proofs.Begins.{begins}
+use Rattle.core_rule.proofs.PlayEntries.{AddsPlay, adds_play}
+use Rattle.core_rule.proofs.Plays.{MayPlay, play_more, advancing, plain_keeps}
+use Rattle.core_rule.proofs.Runs.{MachineStays, OpeningStands, EachStepKeeps, EachBeginKeeps, EachTurnKeeps, seat_of_step}
 
 -- the history is a play's, and since the call of a seat began all entries are its own
 pub record PlaysOn (heap : Heap) (state : State) (book : Book) : Type 0 where
   pub rule : Rule heap state book
   pub legal : IsLegal heap true book.history
   pub own : (q : ℕ) → q < heap.seats → (seat_at state q).place ≢ places.Idle → list_all (is_of q) (drop (book.begun q) book.history) ≡ true
-
--- a play's history with what a step adds
-play_more : (heap : Heap) (q : ℕ) (before added : List Entry) → AddsPlay heap before q added → IsLegal heap true before → IsLegal heap false (before ++ added)
-    → IsLegal heap true (before ++ added)
-play_more heap q before _ nothing play run = subst (IsLegal heap true) (sym (append-nil before)) play
-play_more heap q before _ (one entry may) play run = record {
-  objects = run.objects;
-  space = KeepsSpaceAfter-more heap {play = true} [] before entry play.space (may.keeps (last_keeps heap false [] before entry run.space));
-}
-
--- they are all the seat's
-own_added : (heap : Heap) (q : ℕ) (before added : List Entry) → AddsPlay heap before q added → list_all (is_of q) added ≡ true
-own_added heap q before _ nothing = refl
-own_added heap q before _ (one entry may) = rw may.own refl
 
 own_more : (q begun : ℕ) (before added : List Entry) → begun ≤ length before → list_all (is_of q) (drop begun before) ≡ true → list_all (is_of q) added ≡ true
     → list_all (is_of q) (drop begun (before ++ added)) ≡ true
@@ -75,14 +64,14 @@ step_plays stays steps heap state book q plays alone can =
     = adds_play heap state book q (seat_at state q).place plays.rule here refl (plays.own q here active) in
     let earlier : book.begun q ≤ length book.history = (plays.rule.seats_stand q here).began.earlier in
     let own_now : list_all (is_of q) (drop (keeps.now.begun q) keeps.now.history) ≡ true
-    = rw (keeps.calls, keeps.grown) (own_more q (book.begun q) book.history (entries heap state (Steps q)) earlier (plays.own q here active) (own_added heap q book.history (entries heap state (Steps q)) adds)) in
+    = rw (keeps.calls, keeps.grown) (own_more q (book.begun q) book.history (entries heap state (Steps q)) earlier (plays.own q here active) adds.own) in
     record {
       now = keeps.now;
       grown = keeps.grown;
       plays = record {
         rule = keeps.rule;
         legal = subst (IsLegal heap true) (sym keeps.grown)
-            (play_more heap q book.history (entries heap state (Steps q)) adds plays.legal (subst (IsLegal heap false) keeps.grown keeps.rule.heap_stands.legal));
+            (play_more heap book.history (entries heap state (Steps q)) adds.may plays.legal (subst (IsLegal heap false) keeps.grown keeps.rule.heap_stands.legal));
         own = λ r below active_now. elim (eqb_tells r q) as (λ _. list_all (is_of r) (drop (keeps.now.begun r) keeps.now.history) ≡ true) [
           | inl same ↦ subst (λ n. list_all (is_of n) (drop (keeps.now.begun n) keeps.now.history) ≡ true) (sym same.1) own_now
           | inr apart ↦ absurd (active_now (ap (λ s. s.place) (moved_other heap state q r (next_move heap q (seat_at state q)) apart.1) ∙ alone r (rw plays.rule.all_seats below) apart.1))
@@ -115,12 +104,33 @@ begin_plays stays begin heap state book q command plays alone can =
       };
     }
 
-module _ (stays : MachineStays) (steps : EachStepKeeps) (begin : EachBeginKeeps) where
+-- what a turn of the collector adds may stand in a play
+turn_may : (heap : Heap) (before : List Entry) (collector : Collector) (stage : Stage) → MayPlay heap before (turn_at heap collector stage).adds
+turn_may heap before collector Looking = tt
+turn_may heap before collector Advancing = (plain_keeps heap before (Advance (collector.phase + 1)) (advancing (collector.phase + 1)), tt)
+
+turn_plays : MachineStays → EachTurnKeeps → (heap : Heap) (state : State) (book : Book) → PlaysOn heap state book → AllIdle state → Can heap state Turns
+    → PlaysNext heap (after heap state Turns) book.history (entries heap state Turns)
+turn_plays stays turn heap state book plays idle can =
+    let keeps = turn heap state book plays.rule can (stays heap state Turns plays.rule.machine can) in
+    record {
+      now = keeps.now;
+      grown = keeps.grown;
+      plays = record {
+        rule = keeps.rule;
+        legal = subst (IsLegal heap true) (sym keeps.grown)
+            (play_more heap book.history (entries heap state Turns) (turn_may heap book.history state.collector state.collector.stage) plays.legal
+            (subst (IsLegal heap false) keeps.grown keeps.rule.heap_stands.legal));
+        own = λ r below active. absurd (active (idle r (rw plays.rule.all_seats below)));
+      };
+    }
+
+module _ (stays : MachineStays) (steps : EachStepKeeps) (begin : EachBeginKeeps) (turn : EachTurnKeeps) where
   event_plays : (heap : Heap) (state : State) (book : Book) (event : Event) → PlaysOn heap state book → HappensAlone state event → Can heap state event
       → PlaysNext heap (after heap state event) book.history (entries heap state event)
   event_plays heap state book (Begins q command) plays alone can = begin_plays stays begin heap state book q command plays alone can
   event_plays heap state book (Steps q) plays alone can = step_plays stays steps heap state book q plays alone can
-  event_plays heap state book Turns plays alone can = absurd alone
+  event_plays heap state book Turns plays alone can = turn_plays stays turn heap state book plays alone can
 
   run_plays : (heap : Heap) (state : State) (book : Book) (events : List Event) → PlaysOn heap state book → Run heap state events → OneCallAtATime heap state events
       → IsLegal heap true (book.history ++ history heap state events)

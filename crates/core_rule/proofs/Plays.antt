@@ -1,25 +1,27 @@
 -- What may stand in a play: the entries by which nothing is refused, and what a gather finds while no other makes a step.
+use Rattle.std.specs.List.{list_all}
 use Rattle.std.proofs.Common.{◌≡◌, ℕ, ◌+◌, ◌*◌, ◌<◌, Bool, true, false, ◌&&◌, List, [], ◌∷◌, ◌++◌, drop, refl, sym, subst, cond, append_assoc, arith}
 use Rattle.std.proofs.lemmas.List.{append-nil}
-use Rattle.std.specs.List.{list_all}
 use Rattle.std.proofs.lemmas.List.Sums.{sum_by-cons}
-use Rattle.heap_model.specs.declared.heap.Heap.{Heap}
-use Rattle.heap_model.specs.declared.effect.Effect.{Effect}
+use Rattle.heap_model.specs.declared.command.Command.{Command}
 use Rattle.heap_model.specs.declared.command.Command.TheVariants as commands
-use Rattle.heap_model.specs.declared.reply.Reply.TheVariants as replies
+use Rattle.heap_model.specs.declared.effect.Effect.{Effect}
 use Rattle.heap_model.specs.declared.entry.Entry.{Entry}
 use Rattle.heap_model.specs.declared.entry.Entry.TheVariants as entries
-use Rattle.heap_model.specs.Account.{KeepsSpace, KeepsSpaceAfter}
-use Rattle.heap_model.specs.Refusals.{FindsSpace, ShowsSpace, ShowsSpine}
-use Rattle.heap_model.specs.Phases.{ShowsPhases}
-use Rattle.heap_model.specs.declared.command.Command.{Command}
+use Rattle.heap_model.specs.declared.heap.Heap.{Heap}
 use Rattle.heap_model.specs.declared.reply.Reply.{Reply}
-use Rattle.heap_model.specs.Space.{taken_of, spent_of, total, total_but}
+use Rattle.heap_model.specs.declared.reply.Reply.TheVariants as replies
+use Rattle.heap_model.specs.Account.{KeepsSpace, KeepsSpaceAfter, IsLegal}
 use Rattle.heap_model.specs.Effects.{effect_of, is_of}
-use Rattle.core_rule.specs.Owners.{Owner}
+use Rattle.heap_model.specs.Phases.{ShowsPhases}
+use Rattle.heap_model.specs.Refusals.{FindsSpace, ShowsSpace, ShowsSpine}
+use Rattle.heap_model.specs.Space.{taken_of, spent_of, total, total_but}
+use Rattle.heap_model.proofs.Histories.{KeepsSpaceAfter-more}
 use Rattle.core_rule.specs.Counts.{AreUsed}
 use Rattle.core_rule.specs.Gathers.{GathersRight}
+use Rattle.core_rule.specs.Owners.{Owner}
 use Rattle.core_rule.proofs.FreeSums.{taken_and_free, passed_all}
+use Rattle.core_rule.proofs.Legality.{keeps_takes, keeps_gives}
 
 -- a reply that refuses nothing for want of space, and waits for nobody
 abbrev pub IsPlainReply : Reply → Type 0
@@ -32,6 +34,8 @@ IsPlainReply _ = Unit {0}
 pub data IsPlain : Entry → Type 0 where
   taking : (q count : ℕ) → IsPlain (entries.Takes q count)
   giving : (q count : ℕ) → IsPlain (entries.GivesBack q count)
+  answering : (q p : ℕ) → IsPlain (entries.Answers q p)
+  advancing : (p : ℕ) → IsPlain (entries.Advance p)
   saying : (q : ℕ) (command : Command) (reply : Reply) → IsPlainReply reply → IsPlain (entries.Said q command reply)
 
 shows_no_space : (heap : Heap) (before : List Entry) (q : ℕ) (command : Command) (reply : Reply) → IsPlainReply reply → ShowsSpace heap true before q command reply
@@ -49,24 +53,26 @@ shows_same heap before q _ _ plain shows = shows
 
 -- the rules for it are those of a run
 pub plain_keeps : (heap : Heap) (before : List Entry) (entry : Entry) → IsPlain entry → KeepsSpace heap false before entry → KeepsSpace heap true before entry
-plain_keeps heap before _ (taking q count) keeps = record {
-  takes = keeps.takes;
+plain_keeps heap before _ (taking q count) keeps = keeps_takes heap true before q count keeps.takes.0 keeps.takes.1
+plain_keeps heap before _ (giving q count) keeps = keeps_gives heap true before q count keeps.takes.0 keeps.takes.1
+plain_keeps heap before _ (answering q p) keeps = record {
+  takes = tt;
   makes = tt;
   refuses = tt;
   refuses_spine = tt;
-  answers = tt;
+  answers = keeps.answers;
   begins = tt;
   sweeps = tt;
   ends = tt;
   shows = tt;
 }
-plain_keeps heap before _ (giving q count) keeps = record {
-  takes = keeps.takes;
+plain_keeps heap before _ (advancing p) keeps = record {
+  takes = tt;
   makes = tt;
   refuses = tt;
   refuses_spine = tt;
   answers = tt;
-  begins = tt;
+  begins = keeps.begins;
   sweeps = tt;
   ends = tt;
   shows = tt;
@@ -83,12 +89,30 @@ plain_keeps heap before _ (saying q command reply plain) keeps = record {
   shows = shows_same heap before q command reply plain keeps.shows;
 }
 
--- the last entry of a legal history keeps the rules after those before it
-pub last_keeps : (heap : Heap) (play : Bool) (before history : List Entry) (entry : Entry) → KeepsSpaceAfter heap play before (history ++ entry ∷ [])
+-- each entry of a legal history keeps the rules after those before it
+keeps_there : (heap : Heap) (play : Bool) (before history rest : List Entry) (entry : Entry) → KeepsSpaceAfter heap play before (history ++ entry ∷ rest)
     → KeepsSpace heap play (before ++ history) entry
-last_keeps heap play before [] entry kept = subst (λ es. KeepsSpace heap play es entry) (sym (append-nil before)) kept.0
-last_keeps heap play before (first ∷ history) entry kept =
-    subst (λ es. KeepsSpace heap play es entry) (append_assoc before (first ∷ []) history) (last_keeps heap play (before ++ first ∷ []) history entry kept.1)
+keeps_there heap play before [] rest entry kept = subst (λ es. KeepsSpace heap play es entry) (sym (append-nil before)) kept.0
+keeps_there heap play before (first ∷ history) rest entry kept =
+    subst (λ es. KeepsSpace heap play es entry) (append_assoc before (first ∷ []) history) (keeps_there heap play (before ++ first ∷ []) history rest entry kept.1)
+
+-- each entry may stand in a play where it may in a run
+abbrev pub MayPlay : Heap → List Entry → List Entry → Type 0
+MayPlay heap before [] = Unit {0}
+MayPlay heap before (entry ∷ rest) = (KeepsSpace heap false before entry → KeepsSpace heap true before entry) × MayPlay heap (before ++ entry ∷ []) rest
+
+-- a play's history with such entries
+pub play_more : (heap : Heap) (before added : List Entry) → MayPlay heap before added → IsLegal heap true before → IsLegal heap false (before ++ added) → IsLegal heap true (before ++ added)
+play_more heap before added may play run = record { objects = run.objects; space = space_more before added may play.space run.space }
+  where
+    space_more : (before added : List Entry) → MayPlay heap before added → KeepsSpaceAfter heap true [] before → KeepsSpaceAfter heap false [] (before ++ added)
+        → KeepsSpaceAfter heap true [] (before ++ added)
+    space_more before [] may play run = subst (KeepsSpaceAfter heap true []) (sym (append-nil before)) play
+    space_more before (entry ∷ rest) may play run =
+        subst (KeepsSpaceAfter heap true []) (append_assoc before (entry ∷ []) rest)
+        (space_more (before ++ entry ∷ []) rest may.1
+        (KeepsSpaceAfter-more heap {play = true} [] before entry play (may.0 (keeps_there heap false [] before rest entry run)))
+        (subst (KeepsSpaceAfter heap false []) (sym (append_assoc before (entry ∷ []) rest)) run))
 
 -- where all entries are the seat's, the others did nothing, and nothing was freed
 others_nothing : (q : ℕ) (part : Effect → ℕ) (since : List Entry) → list_all (is_of q) since ≡ true → total_but q part since ≡ 0
@@ -101,16 +125,8 @@ others_nothing q part (entry ∷ since) own = rw (sum_by-cons (λ e. cond (is_of
 
 -- a seat's own entry frees nothing
 own_frees : (q : ℕ) (entry : Entry) → is_of q entry ≡ true → (effect_of entry).freed ≡ 0
-own_frees q (entries.Said r command reply) own = refl
-own_frees q (entries.Takes r count) own = refl
-own_frees q (entries.GivesBack r count) own = refl
-own_frees q (entries.Answers r phase) own = refl
-own_frees q (entries.Advance phase) own = refl
 own_frees q (entries.Frees count) own = cc
-own_frees q (entries.Returns count) own = refl
-own_frees q (entries.Swings id) own = refl
-own_frees q (entries.Ends cycle kept) own = refl
-own_frees q (entries.Turned command reply) own = refl
+own_frees q _ own = refl
 
 none_freed : (q : ℕ) (since : List Entry) → list_all (is_of q) since ≡ true → total (λ e. e.freed) since ≡ 0
 none_freed q [] own = refl

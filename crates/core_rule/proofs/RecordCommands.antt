@@ -1,28 +1,28 @@
 -- What the commands that make records do to the graph, and that their entries may stand.
 use Rattle.std.proofs.Common.{◌≡◌, ℕ, ◌+◌, ◌≤◌, Bool, false, List, length, refl, ◌<◌}
+use Rattle.heap_model.specs.declared.command.Command.{Command}
+use Rattle.heap_model.specs.declared.command.Command.TheVariants as commands
+use Rattle.heap_model.specs.declared.entry.Entry.{Entry}
+use Rattle.heap_model.specs.declared.entry.Entry.TheVariants as entries
 use Rattle.heap_model.specs.declared.heap.Heap.{Heap}
 use Rattle.heap_model.specs.declared.id.Id.{Id}
 use Rattle.heap_model.specs.declared.id.Id.TheVariants.{Made}
-use Rattle.heap_model.specs.declared.command.Command.{Command}
-use Rattle.heap_model.specs.declared.command.Command.TheVariants as commands
 use Rattle.heap_model.specs.declared.reply.Reply.TheVariants as replies
-use Rattle.heap_model.specs.declared.entry.Entry.{Entry}
-use Rattle.heap_model.specs.declared.entry.Entry.TheVariants as entries
 use Rattle.heap_model.specs.Account.{KeepsSpace}
+use Rattle.heap_model.specs.Changes.{add}
 use Rattle.heap_model.specs.Command.{IsCommand}
 use Rattle.heap_model.specs.Growth.{after}
-use Rattle.heap_model.specs.Changes.{add}
 use Rattle.heap_model.specs.Legal.{Accepts, IsPresent}
-use Rattle.heap_model.specs.Objects.{party}
-use Rattle.heap_model.specs.State.{State, fresh}
-use Rattle.heap_model.specs.Space.{taken_of, spent_of}
 use Rattle.heap_model.specs.Needs.{need_of, record_fragments}
+use Rattle.heap_model.specs.Objects.{party}
+use Rattle.heap_model.specs.Refusals.{FindsSpace}
+use Rattle.heap_model.specs.Space.{taken_of, spent_of}
+use Rattle.heap_model.specs.State.{State, fresh}
 use Rattle.core_machine.specs.Commands.{IsRecord, target_of, fields_of}
 use Rattle.core_rule.proofs.Legality.{keeps_made, keeps_full}
-use Rattle.heap_model.specs.Refusals.{FindsSpace}
 
 -- a command that makes a record is a `new`
-pub record_only : (P : Command → Type 0) → ((d fields : ℕ) → P (commands.New d fields)) → (command : Command) → IsRecord command → P command
+record_only : (P : Command → Type 0) → ((d fields : ℕ) → P (commands.New d fields)) → (command : Command) → IsRecord command → P command
 record_only P new (commands.New d fields) made = new d fields
 record_only P new _ made = absurd made
 

@@ -1,19 +1,19 @@
 -- What a refusal shows is right: what a gather over all groups found.
-use Rattle.std.proofs.Common.{◌≡◌, ℕ, ◌+◌, ◌*◌, ◌<◌, false, List, arith}
 use Rattle.std.specs.List.{list_any}
-use Rattle.heap_model.specs.declared.heap.Heap.{Heap}
+use Rattle.std.specs.Prelude.{drop}
+use Rattle.std.proofs.Common.{◌≡◌, ℕ, ◌+◌, ◌*◌, ◌<◌, false, List, arith}
 use Rattle.heap_model.specs.declared.entry.Entry.{Entry}
+use Rattle.heap_model.specs.declared.heap.Heap.{Heap}
+use Rattle.heap_model.specs.Effects.{effect_of}
 use Rattle.heap_model.specs.Refusals.{FindsSpace}
 use Rattle.heap_model.specs.Space.{taken_of, spent_of}
-use Rattle.heap_model.specs.Effects.{effect_of}
 use Rattle.heap_model.specs.Windows.{is_reply_to}
-use Rattle.core_rule.specs.Owners.{Owner}
 use Rattle.core_rule.specs.Counts.{AreUsed}
 use Rattle.core_rule.specs.Gathers.{GathersRight}
-use Rattle.core_rule.proofs.SinceCall.{since_call}
-use Rattle.std.specs.Prelude.{drop}
+use Rattle.core_rule.specs.Owners.{Owner}
 use Rattle.core_rule.proofs.FreeSums.{taken_and_free, passed_all}
 use Rattle.core_rule.proofs.Others.{part_but}
+use Rattle.core_rule.proofs.SinceCall.{since_call}
 
 -- after a gather over all groups that found too little, what was found is right, in a run
 pub finds_in_run : (heap : Heap) (owner : ℕ → Owner) (history : List Entry) (q begun cursor given reserve : ℕ) → cursor < heap.groups

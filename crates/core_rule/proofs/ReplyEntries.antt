@@ -1,17 +1,13 @@
--- The entry of a reply that makes no object and tells no refusal: what it adds to the counts, and that it keeps the rules of space.
-use Rattle.std.proofs.Common.{◌≡◌, ℕ, ◌+◌, ◌≤◌, Bool, true, List, [], ◌∷◌, ◌++◌, refl, arith}
+-- The entry of a reply that makes no object and tells no refusal: what it adds to the counts.
+use Rattle.std.proofs.Common.{◌≡◌, ℕ, true, List, [], ◌∷◌, ◌++◌, refl, arith}
 use Rattle.std.proofs.lemmas.Bool.{eq-eqb}
 use Rattle.heap_model.specs.declared.command.Command.{Command}
 use Rattle.heap_model.specs.declared.entry.Entry.{Entry}
 use Rattle.heap_model.specs.declared.entry.Entry.TheVariants as entries
 use Rattle.heap_model.specs.declared.heap.Heap.{Heap}
 use Rattle.heap_model.specs.declared.reply.Reply.{Reply}
-use Rattle.heap_model.specs.Account.{KeepsSpace, most_kept}
 use Rattle.heap_model.specs.Effects.{is_of}
 use Rattle.heap_model.specs.Needs.{made_by}
-use Rattle.heap_model.specs.Phases.{ShowsPhases}
-use Rattle.heap_model.specs.PhaseCounts.{phase, answered}
-use Rattle.heap_model.specs.Refusals.{ShowsSpace, ShowsSpine}
 use Rattle.heap_model.specs.Space.{taken_of, spent_of}
 use Rattle.heap_model.proofs.Histories.{total-more}
 use Rattle.core_rule.specs.Counts.{AreUsed}
@@ -26,16 +22,10 @@ module _ (history : List Entry) (q : ℕ) (command : Command) (reply : Reply) wh
   pub said_own : is_of q entry ≡ true
   said_own = eq-eqb q q refl
 
-  -- it neither takes nor gives, and answers no phase and begins none
+  -- it neither takes nor gives
   pub said_used : (heap : Heap) (owner : ℕ → Owner) → AreUsed heap owner history → AreUsed heap owner (history ++ entry ∷ [])
   said_used heap owner used =
       rw (total-more (λ e. e.given) history entry, total-more (λ e. e.freed) history entry, total-more (λ e. e.taken) history entry) (omega (arith, used))
-
-  pub said_phase : phase (history ++ entry ∷ []) ≡ phase history
-  said_phase = omega (arith, total-more (λ e. e.phases) history entry)
-
-  pub said_answered : answered q (history ++ entry ∷ []) ≡ answered q history
-  said_answered = omega (arith, total_of-own q (λ e. e.answers) history entry said_own)
 
   -- and spends nothing where it makes no object
   module _ (none : made_by command reply ≡ 0) where
@@ -44,18 +34,3 @@ module _ (history : List Entry) (q : ℕ) (command : Command) (reply : Reply) wh
 
     pub said_spent : spent_of q (history ++ entry ∷ []) ≡ spent_of q history
     said_spent = omega (arith, none, total_of-own q (λ e. e.given) history entry said_own, total_of-own q (λ e. e.born) history entry said_own)
-
-    -- it keeps the rules where its seat keeps little
-    pub said_keeps : (heap : Heap) (play : Bool) → ShowsSpace heap play history q command reply → ShowsSpine heap play history q command reply → ShowsPhases heap play history q command reply
-        → spent_of q history ≤ taken_of q history → taken_of q history ≤ spent_of q history + most_kept command → KeepsSpace heap play history entry
-    said_keeps heap play space spine phases own little = record {
-      takes = tt;
-      makes = (omega (arith, none, own), omega (arith, none, little));
-      refuses = space;
-      refuses_spine = spine;
-      answers = tt;
-      begins = tt;
-      sweeps = tt;
-      ends = tt;
-      shows = phases;
-    }

@@ -1,22 +1,22 @@
 -- The laws over runs, from what each step keeps.
-use Rattle.std.proofs.Common.{◌≡◌, ℕ, ◌<◌, inl, inr, List, [], ◌∷◌, ◌++◌, length, sym, ap, ◌∙◌, subst, append_assoc}
 use Rattle.std.specs.Prelude.{IsSome, None}
+use Rattle.std.proofs.Common.{◌≡◌, ℕ, ◌<◌, inl, inr, List, [], ◌∷◌, ◌++◌, length, sym, ap, ◌∙◌, subst, append_assoc}
+use Rattle.std.proofs.lemmas.Bool.Decides.{leb_tells}
 use Rattle.std.proofs.lemmas.List.{append-nil}
 use Rattle.std.proofs.Math.ListN.{get_or-eq_default}
-use Rattle.std.proofs.lemmas.Bool.Decides.{leb_tells}
-use Rattle.heap_model.specs.declared.heap.Heap.{Heap}
 use Rattle.heap_model.specs.declared.command.Command.{Command}
+use Rattle.heap_model.specs.declared.heap.Heap.{Heap}
 use Rattle.heap_model.specs.Heap.{IsHeap}
 use Rattle.core_machine.specs.Machine.{State, seat_at, Event, Begins, Steps, Turns, Can, after, entries, Run, after_all, history}
 use Rattle.core_machine.specs.Moves.{Move, next_move}
 use Rattle.core_machine.specs.Opening.{IsOpening}
-use Rattle.core_machine.specs.Value.{IsMachine}
 use Rattle.core_machine.specs.Seat.{Seat, nobody}
+use Rattle.core_machine.specs.Value.{IsMachine}
 use Rattle.core_rule.specs.Book.{Book}
+use Rattle.core_rule.specs.Laws.{StandsFor, EachEventKeeps, EveryRunKeeps}
 use Rattle.core_rule.specs.Rule.{Rule}
-use Rattle.core_rule.specs.Laws.{StandsFor, EachEventKeeps, EveryRunKeeps, AreSeats}
 use Rattle.core_rule.proofs.Assemble.{Keeps, stands_for}
-use Rattle.core_rule.proofs.BeginStep.{begins}
+use Rattle.core_rule.proofs.Begins.{begins}
 
 -- each step of a seat keeps the rule
 abbrev pub EachStepKeeps : Type 0
@@ -27,6 +27,11 @@ EachStepKeeps = (heap : Heap) (state : State) (book : Book) (q : ℕ) → Rule h
 abbrev pub EachBeginKeeps : Type 0
 EachBeginKeeps = (heap : Heap) (state : State) (book : Book) (q : ℕ) (command : Command) → Rule heap state book → Can heap state (Begins q command)
     → IsMachine heap (after heap state (Begins q command)) → Keeps heap (after heap state (Begins q command)) book (begins q (length book.history) book.begun) []
+
+-- and each turn of the collector
+abbrev pub EachTurnKeeps : Type 0
+EachTurnKeeps = (heap : Heap) (state : State) (book : Book) → Rule heap state book → Can heap state Turns
+    → IsMachine heap (after heap state Turns) → Keeps heap (after heap state Turns) book book.begun (entries heap state Turns)
 
 no_move : IsSome {T = Move} None → ⊥
 no_move none = cc
@@ -50,22 +55,24 @@ abbrev pub OpeningStands : Type 0
 OpeningStands = (heap : Heap) (state : State) → IsHeap heap → IsOpening heap state → StandsFor heap state [] []
 
 -- so each event does
-pub each_event_keeps : MachineStays → EachStepKeeps → EachBeginKeeps → EachEventKeeps
-each_event_keeps stays steps begin heap state book (Begins q command) rule can seats =
+pub each_event_keeps : MachineStays → EachStepKeeps → EachBeginKeeps → EachTurnKeeps → EachEventKeeps
+each_event_keeps stays steps begin turn heap state book (Begins q command) rule can =
     stands_for heap (after heap state (Begins q command)) book (begins q (length book.history) book.begun) []
     (begin heap state book q command rule can (stays heap state (Begins q command) rule.machine can))
-each_event_keeps stays steps begin heap state book (Steps q) rule can seats =
+each_event_keeps stays steps begin turn heap state book (Steps q) rule can =
     stands_for heap (after heap state (Steps q)) book book.begun (entries heap state (Steps q))
     (steps heap state book q rule (seat_of_step heap state book q rule can) (stays heap state (Steps q) rule.machine can))
-each_event_keeps stays steps begin heap state book Turns rule can seats = absurd seats
+each_event_keeps stays steps begin turn heap state book Turns rule can =
+    stands_for heap (after heap state Turns) book book.begun (entries heap state Turns)
+    (turn heap state book rule can (stays heap state Turns rule.machine can))
 
 -- each run keeps the rule
-pub run_keeps : EachEventKeeps → (heap : Heap) (state : State) (book : Book) (events : List Event) → Rule heap state book → Run heap state events → AreSeats events
+run_keeps : EachEventKeeps → (heap : Heap) (state : State) (book : Book) (events : List Event) → Rule heap state book → Run heap state events
     → StandsFor heap (after_all heap state events) book.history (history heap state events)
-run_keeps each heap state book [] rule run seats = record { book = book; grown = sym (append-nil book.history); rule = rule }
-run_keeps each heap state book (event ∷ events) rule run seats =
-    let first = each heap state book event rule run.0 seats.0 in
-    let rest = run_keeps each heap (after heap state event) first.book events first.rule run.1 seats.1 in
+run_keeps each heap state book [] rule run = record { book = book; grown = sym (append-nil book.history); rule = rule }
+run_keeps each heap state book (event ∷ events) rule run =
+    let first = each heap state book event rule run.0 in
+    let rest = run_keeps each heap (after heap state event) first.book events first.rule run.1 in
     record {
       book = rest.book;
       grown = rest.grown ∙ ap (λ es. es ++ history heap (after heap state event) events) first.grown
@@ -75,7 +82,7 @@ run_keeps each heap state book (event ∷ events) rule run seats =
 
 -- from the opening on
 pub every_run_keeps : EachEventKeeps → OpeningStands → EveryRunKeeps
-every_run_keeps each opens heap state events limits opening run seats =
+every_run_keeps each opens heap state events limits opening run =
     let first = opens heap state limits opening in
-    let rest = run_keeps each heap state first.book events first.rule run seats in
+    let rest = run_keeps each heap state first.book events first.rule run in
     record { book = rest.book; grown = rest.grown ∙ ap (λ es. es ++ history heap state events) first.grown; rule = rest.rule }

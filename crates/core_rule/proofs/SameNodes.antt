@@ -1,25 +1,20 @@
 -- What stays where the graph's objects do.
-use Rattle.std.proofs.Common.{◌≡◌, ℕ, List, length, Option, IsSome, slice_get, refl, sym, ap, ◌∙◌, subst}
+use Rattle.std.proofs.Common.{◌≡◌, ℕ, List, Option, IsSome, slice_get, sym, ap, ◌∙◌, subst}
 use Rattle.heap_model.specs.declared.heap.Heap.{Heap}
-use Rattle.heap_model.specs.declared.cell.Cell.{Cell}
 use Rattle.heap_model.specs.declared.id.Id.{Id}
 use Rattle.heap_model.specs.Objects.{node}
 use Rattle.heap_model.specs.State.{State, Node}
-use Rattle.core_machine.specs.declared.place.Place.{Place}
-use Rattle.core_machine.specs.Seat.{Seat}
-use Rattle.core_rule.specs.Owners.{Owner}
 use Rattle.core_rule.specs.Book.{id_at}
 use Rattle.core_rule.specs.Objects.{AreMade, Objects, cells_in, cells_at}
-use Rattle.core_rule.specs.Ways.{WayStands}
-use Rattle.core_rule.proofs.WayFrames.{ways_stay}
+use Rattle.core_rule.specs.Owners.{Owner}
 
 -- each object is as it was
 pub record SameNodes (g now : State) : Type 0 where
   pub nodes : (id : Id) → node now id ≡ node g id
 
--- no object changes at all
-pub nodes_stay : (g : State) → SameNodes g g
-nodes_stay g = record { nodes = λ id. refl }
+-- so it is where nothing changes
+pub nodes_same : (g now : State) → now ≡ g → SameNodes g now
+nodes_same g now same = record { nodes = λ id. ap (λ (x : State). node x id) same }
 
 module _ (g now : State) (made : List Id) (same : SameNodes g now) where
   pub cells_stay : (number : ℕ) → cells_at now made number ≡ cells_at g made number
@@ -43,9 +38,3 @@ module _ (g now : State) (made : List Id) (same : SameNodes g now) where
       named = λ i j below is cell there. objects.named i j below is cell (sym (ap (λ cells. slice_get cells j) (cells_stay i)) ∙ there);
       back = objects.back;
     }
-
-    -- a way leads to the same field
-    pub way_stays : (seat : Seat) (place : Place) → WayStands (cells_at g made) made owner fragments seat place → WayStands (cells_at now made) made owner fragments seat place
-    way_stays seat place way =
-        ways_stay (cells_at g made) (cells_at now made) made made owner owner fragments fragments
-        (λ i below kept. record { below = below; kept = kept; id = refl; fragments_stay = refl; cells_stay = ap (λ (cells : List Cell). length cells) (cells_stay i) }) seat place way

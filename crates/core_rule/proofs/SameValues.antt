@@ -1,8 +1,7 @@
 -- What registers hold, and whether two of them hold the same.
-use Rattle.std.proofs.Common.{◌≡◌, ◌≢◌, ℕ, ◌==◌, true, false, ◌⊎◌, inl, inr, List, None, refl, sym, subst}
+use Rattle.std.proofs.Common.{◌≡◌, ◌≢◌, ℕ, true, false, ◌⊎◌, inl, inr, List, None, refl, sym, subst}
 use Rattle.std.proofs.lemmas.Bool.Decides.{eqb_tells}
 use Rattle.heap_model.specs.declared.id.Id.{Id}
-use Rattle.heap_model.specs.declared.id.Id.TheVariants.{Board, Made}
 use Rattle.heap_model.specs.declared.id.Value.{Value}
 use Rattle.heap_model.specs.declared.id.Value.TheVariants as values
 use Rattle.heap_model.specs.Objects.{target}
@@ -10,23 +9,11 @@ use Rattle.heap_model.specs.Replies.{Compares}
 use Rattle.heap_model.specs.State.{State}
 use Rattle.core_machine.specs.declared.register.Register.{Register}
 use Rattle.core_machine.specs.declared.register.Register.TheVariants as registers
-use Rattle.core_machine.specs.Registers.{value_of, head_of, is_same_id, is_same_value}
+use Rattle.core_machine.specs.Registers.{value_of, head_of, is_same_value}
 use Rattle.core_machine.specs.Telling.{answer_of}
 use Rattle.core_rule.specs.Owners.{Owner}
 use Rattle.core_rule.specs.Registers.{Holds}
-
--- the test tells whether two ids are the same, and two values
-same_id_tells : (a b : Id) → ((is_same_id a b ≡ true) × (a ≡ b)) ⊎ ((is_same_id a b ≡ false) × (a ≢ b))
-same_id_tells Board Board = inl (refl, refl)
-same_id_tells Board (Made t n) = inr (refl, λ e. cc)
-same_id_tells (Made s m) Board = inr (refl, λ e. cc)
-same_id_tells (Made s m) (Made t n) = elim (eqb_tells s t) as (λ _. ((is_same_id (Made s m) (Made t n) ≡ true) × (Made s m ≡ Made t n)) ⊎ ((is_same_id (Made s m) (Made t n) ≡ false) × (Made s m ≢ Made t n))) [
-  | inl seat ↦ rw seat.0 (elim (eqb_tells m n) as (λ _. (((m == n) ≡ true) × (Made s m ≡ Made t n)) ⊎ (((m == n) ≡ false) × (Made s m ≢ Made t n))) [
-    | inl count ↦ inl (count.0, cc (seat.1, count.1))
-    | inr count ↦ inr (count.0, λ e. count.1 (cc))
-  ])
-  | inr seat ↦ rw seat.0 (inr (refl, λ e. seat.1 (cc)))
-]
+use Rattle.core_rule.proofs.Numbering.{id_tells}
 
 abbrev Tells : Value → Value → Type 0
 Tells u v = ((is_same_value u v ≡ true) × (u ≡ v)) ⊎ ((is_same_value u v ≡ false) × (u ≢ v))
@@ -43,7 +30,7 @@ same_tells (values.Number n) (values.Number m) = elim (eqb_tells n m) as (λ _. 
 same_tells (values.Number n) (values.Object b) = inr (refl, λ e. cc)
 same_tells (values.Object a) values.Nil = inr (refl, λ e. cc)
 same_tells (values.Object a) (values.Number m) = inr (refl, λ e. cc)
-same_tells (values.Object a) (values.Object b) = elim (same_id_tells a b) as (λ _. Tells (values.Object a) (values.Object b)) [
+same_tells (values.Object a) (values.Object b) = elim (id_tells a b) as (λ _. Tells (values.Object a) (values.Object b)) [
   | inl e ↦ inl (e.0, cc (e.1))
   | inr e ↦ inr (e.0, λ same. e.1 (cc))
 ]
@@ -56,7 +43,7 @@ compares u v = elim (same_tells u v) as (λ _. Compares u v (answer_of (is_same_
 
 module _ (made : List Id) (owner : ℕ → Owner) (fragments : ℕ → List ℕ) where
   -- a register's value is the one that it holds
-  pub held_value : (held : Register) (value : Value) → Holds made owner fragments held value → value ≡ value_of held
+  held_value : (held : Register) (value : Value) → Holds made owner fragments held value → value ≡ value_of held
   held_value registers.Nil value holds = holds
   held_value (registers.Number n) value holds = holds.0
   held_value (registers.Object head id) value holds = holds.0

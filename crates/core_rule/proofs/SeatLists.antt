@@ -1,6 +1,6 @@
 -- A seat's own list, and what it awaits.
-use Rattle.std.proofs.Common.{◌≡◌, ℕ, List, [], ◌++◌, filter, refl, sym, ap, ◌∙◌, subst}
 use Rattle.std.specs.Prelude.{Some}
+use Rattle.std.proofs.Common.{◌≡◌, ℕ, List, [], ◌++◌, filter, refl, sym, ap, ◌∙◌, subst, append_assoc}
 use Rattle.std.proofs.lemmas.List.{append-nil}
 use Rattle.heap_model.specs.declared.entry.Entry.{Entry}
 use Rattle.heap_model.specs.declared.id.Id.{Id}
@@ -8,13 +8,14 @@ use Rattle.heap_model.specs.declared.id.Value.TheVariants as values
 use Rattle.heap_model.specs.Effects.{is_of}
 use Rattle.heap_model.specs.Objects.{register}
 use Rattle.heap_model.specs.State.{State}
+use Rattle.core_machine.specs.declared.place.Making.{Making}
 use Rattle.core_machine.specs.declared.place.Place.{Place}
 use Rattle.core_machine.specs.declared.place.Place.TheVariants as places
-use Rattle.core_machine.specs.declared.place.Making.{Making}
-use Rattle.core_machine.specs.declared.place.Reaching.TheVariants.{Opening, Walking, Getting, Naming, LoadingOld, ShadingOld, ShadingNew, Swapping}
+use Rattle.core_machine.specs.declared.place.Reaching.TheVariants.{Naming}
 use Rattle.core_machine.specs.Seat.{Seat}
 use Rattle.core_rule.specs.Book.{head_of}
 use Rattle.core_rule.specs.Counts.{OwnList, Awaits}
+use Rattle.core_rule.specs.Gathers.{IsAnswered}
 use Rattle.core_rule.specs.Objects.{NamesKept}
 use Rattle.core_rule.specs.Owners.{Owner}
 use Rattle.core_rule.proofs.ObjectFrames.{SameKept, names_kept}
@@ -34,18 +35,7 @@ module _ (g now : State) (made now_made : List Id) (owner now_owner : ℕ → Ow
     held = same _ ∙ waits.held;
     told = waits.told;
   }
-  awaits_stay places.Idle awaited waits = waits
-  awaits_stay (places.Making place) awaited waits = waits
-  awaits_stay places.Telling awaited waits = waits
-  awaits_stay (places.Reaching Opening) awaited waits = waits
-  awaits_stay (places.Reaching Walking) awaited waits = waits
-  awaits_stay (places.Reaching Getting) awaited waits = waits
-  awaits_stay (places.Reaching LoadingOld) awaited waits = waits
-  awaits_stay (places.Reaching ShadingOld) awaited waits = waits
-  awaits_stay (places.Reaching ShadingNew) awaited waits = waits
-  awaits_stay (places.Reaching Swapping) awaited waits = waits
-  awaits_stay (places.Polling place) awaited waits = waits
-  awaits_stay (places.Leaving place) awaited waits = waits
+  awaits_stay _ awaited waits = waits
 
   -- another seat's list stays, and what it awaits
   pub list_stays : (history more : List Entry) → filter (is_of q) more ≡ filter (is_of q) history
@@ -56,18 +46,20 @@ module _ (g now : State) (made now_made : List Id) (owner now_owner : ℕ → Ow
     awaits = awaits_stay seat.place list.awaited list.awaits;
   }
 
+-- where nothing is awaited, a seat's own list has all of its entries
+pub all_told : (mine awaited own : List Entry) → mine ++ awaited ≡ own → awaited ≡ [] → mine ≡ own
+all_told mine awaited own both none = sym (append-nil mine) ∙ (rw none at both)
+
 module _ (g : State) (history : List Entry) (made : List Id) (owner : ℕ → Owner) (fragments : ℕ → List ℕ) (q : ℕ) (seat : Seat) where
   -- a seat that makes an object awaits nothing
   pub making_list : (making : Making) → seat.place ≡ places.Making making → OwnList g history made owner fragments q seat → seat.mine ≡ filter (is_of q) history
   making_list making placed list =
-      let none : list.awaited ≡ [] = subst (λ p. Awaits g made owner fragments q seat p list.awaited) placed list.awaits in
-      sym (append-nil seat.mine) ∙ ap (λ es. seat.mine ++ es) (sym none) ∙ list.own
+      all_told seat.mine list.awaited (filter (is_of q) history) list.own (subst (λ p. Awaits g made owner fragments q seat p list.awaited) placed list.awaits)
 
   -- an idle seat awaits nothing
   pub idle_list : seat.place ≡ places.Idle → OwnList g history made owner fragments q seat → seat.mine ≡ filter (is_of q) history
   idle_list idle list =
-      let none : list.awaited ≡ [] = subst (λ p. Awaits g made owner fragments q seat p list.awaited) idle list.awaits in
-      sym (append-nil seat.mine) ∙ ap (λ es. seat.mine ++ es) (sym none) ∙ list.own
+      all_told seat.mine list.awaited (filter (is_of q) history) list.own (subst (λ p. Awaits g made owner fragments q seat p list.awaited) idle list.awaits)
 
   -- a list that awaits nothing
   pub whole_list : Awaits g made owner fragments q seat seat.place [] → seat.mine ≡ filter (is_of q) history → OwnList g history made owner fragments q seat
@@ -88,3 +80,26 @@ module _ (g : State) (owner now : ℕ → Owner) (same : SameKept owner now) (ma
   list_owners history more entries list =
       list_stays g g made made owner now fragments fragments q seat
       record { names = λ id kept. names_kept owner now same made fragments (values.Object id) kept; heads = λ id kept. refl } (λ r. refl) history more entries list
+
+module _ (g : State) (made : List Id) (owner : ℕ → Owner) (fragments : ℕ → List ℕ) (q : ℕ) (seat : Seat) where
+  -- a call that isn't answered awaits nothing
+  nothing_awaited : (place : Place) (awaited : List Entry) → ¬ IsAnswered place → Awaits g made owner fragments q seat place awaited → awaited ≡ []
+  nothing_awaited (places.Reaching Naming) awaited busy awaits = absurd (busy tt)
+  nothing_awaited _ awaited busy awaits = awaits
+
+  module _ (history : List Entry) (busy : ¬ IsAnswered seat.place) (list : OwnList g history made owner fragments q seat) where
+    -- so its own list has all of its entries
+    has_all : seat.mine ≡ filter (is_of q) history
+    has_all =
+        all_told seat.mine list.awaited (filter (is_of q) history) list.own (nothing_awaited seat.place list.awaited busy list.awaits)
+
+    -- what is shown then is told at once, or awaited
+    pub list_more : (now : State) (later : List Entry) (new : Seat) (added awaited shown : List Entry) → new.mine ≡ seat.mine ++ added
+        → added ++ awaited ≡ shown → filter (is_of q) later ≡ filter (is_of q) history ++ shown → Awaits now made owner fragments q new new.place awaited
+        → OwnList now later made owner fragments q new
+    list_more now later new added awaited shown mine parts grown awaits = record {
+      awaited = awaited;
+      own = ap (λ (own : List Entry). own ++ awaited) mine ∙ append_assoc seat.mine added awaited ∙ ap (λ (x : List Entry). seat.mine ++ x) parts
+          ∙ ap (λ (own : List Entry). own ++ shown) has_all ∙ sym grown;
+      awaits = awaits;
+    }

@@ -1,6 +1,6 @@
 -- Sums over what came since a call began are at most those over what came since its seat's last reply.
-use Rattle.std.proofs.Common.{◌≡◌, ℕ, zero, suc, ◌≤◌, Bool, true, false, cond, List, [], ◌∷◌, length, drop, refl, arith}
 use Rattle.std.specs.List.{list_any, sum_by}
+use Rattle.std.proofs.Common.{◌≡◌, ℕ, zero, suc, ◌≤◌, Bool, true, false, cond, List, [], ◌∷◌, length, drop, refl, arith}
 use Rattle.std.proofs.lemmas.List.Sums.{sum_by-cons}
 use Rattle.heap_model.specs.declared.entry.Entry.{Entry}
 use Rattle.heap_model.specs.Windows.{after_last, is_reply_to, since_reply}
@@ -11,7 +11,7 @@ sum_dropped f (suc n) [] = omega arith
 sum_dropped f (suc n) (entry ∷ history) = rw (sum_by-cons f entry history) (omega (arith, sum_dropped f n history))
 
 -- where no entry of the end passes the test, the end is a part of what comes after the last that does
-pub sum_after_last : (test : Entry → Bool) (f : Entry → ℕ) (n : ℕ) (history : List Entry) → list_any test (drop n history) ≡ false
+sum_after_last : (test : Entry → Bool) (f : Entry → ℕ) (n : ℕ) (history : List Entry) → list_any test (drop n history) ≡ false
     → sum_by f (drop n history) ≤ sum_by f (after_last test history)
 sum_after_last test f zero [] none = omega arith
 sum_after_last test f (suc n) [] none = omega arith

@@ -1,13 +1,13 @@
 -- The entries of a claim and a give back: the graph after them, and that they may stand.
 use Rattle.std.proofs.Common.{◌≡◌, ℕ, ◌+◌, ◌*◌, ◌≤◌, false, List, [], ◌∷◌, ◌++◌}
-use Rattle.heap_model.specs.declared.heap.Heap.{Heap}
 use Rattle.heap_model.specs.declared.entry.Entry.{Entry}
 use Rattle.heap_model.specs.declared.entry.Entry.TheVariants as entries
+use Rattle.heap_model.specs.declared.heap.Heap.{Heap}
 use Rattle.heap_model.specs.Account.{IsLegal}
 use Rattle.heap_model.specs.Cycles.{graph_of}
 use Rattle.heap_model.specs.Legal.{IsPresent}
-use Rattle.heap_model.specs.State.{opening}
 use Rattle.heap_model.specs.Space.{gained, lost, taken_of, spent_of}
+use Rattle.heap_model.specs.State.{opening}
 use Rattle.heap_model.proofs.Histories.{graph_after-more}
 use Rattle.core_rule.proofs.Legality.{legal_more, keeps_takes, keeps_gives}
 

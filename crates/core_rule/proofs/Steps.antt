@@ -1,27 +1,30 @@
--- Each step and each begin of a seat keeps the rule, by the place of its call.
-use Rattle.std.proofs.Common.{◌≡◌, ℕ, ◌<◌, Bool, true, false, [], length, refl, sym, subst}
+-- Each step and each begin of a seat keeps the rule, by the place of its call, and so does each turn of the collector.
 use Rattle.std.specs.Prelude.{if◌then◌else◌}
+use Rattle.std.proofs.Common.{◌≡◌, ℕ, ◌<◌, Bool, true, false, [], length, refl, sym}
 use Rattle.std.proofs.lemmas.List.{append-nil}
-use Rattle.heap_model.specs.declared.heap.Heap.{Heap}
 use Rattle.heap_model.specs.declared.command.Command.{Command}
 use Rattle.heap_model.specs.declared.command.Command.TheVariants as commands
-use Rattle.heap_model.specs.Cycles.{graph_of}
+use Rattle.heap_model.specs.declared.heap.Heap.{Heap}
+use Rattle.core_machine.specs.declared.place.Leaving.TheVariants.{Emptying, Parting}
+use Rattle.core_machine.specs.declared.place.Making.TheVariants.{Gathering, Returning, Refusing, Storing, Bearing}
 use Rattle.core_machine.specs.declared.place.Place.{Place}
 use Rattle.core_machine.specs.declared.place.Place.TheVariants as places
-use Rattle.core_machine.specs.declared.place.Making.TheVariants.{Gathering, Returning, Refusing, Storing, Bearing}
-use Rattle.core_machine.specs.declared.place.Reaching.TheVariants.{Opening, Walking, Getting, Naming, LoadingOld, ShadingOld, ShadingNew, Swapping}
 use Rattle.core_machine.specs.declared.place.Polling.TheVariants.{Asking, Shading, Answering}
-use Rattle.core_machine.specs.declared.place.Leaving.TheVariants.{Emptying, Parting}
-use Rattle.core_machine.specs.Machine.{State, seat_at, moved, shown, stepped, found_by, after, Begins, Can}
+use Rattle.core_machine.specs.declared.place.Reaching.TheVariants.{Opening, Walking, Getting, Naming, LoadingOld, ShadingOld, ShadingNew, Swapping}
+use Rattle.core_machine.specs.declared.stage.Stage.{Stage}
+use Rattle.core_machine.specs.declared.stage.Stage.TheVariants.{Looking, Advancing}
+use Rattle.core_machine.specs.Collector.{turn_at, next_turn, MayTurn}
+use Rattle.core_machine.specs.Machine.{State, seat_at, moved, shown, stepped, found_by, after, Begins, Can, turned}
 use Rattle.core_machine.specs.Moves.{move_at, is_last_birth, last_birth_move, birth_move}
 use Rattle.core_machine.specs.Value.{IsMachine}
 use Rattle.core_rule.specs.Book.{Book}
-use Rattle.core_rule.specs.Objects.{cells_at}
 use Rattle.core_rule.specs.Rule.{Rule}
-use Rattle.core_rule.specs.Ways.{WayStands}
+use Rattle.core_rule.proofs.AdvanceStep.{advance_keeps}
+use Rattle.core_rule.proofs.AnswerStep.{answer_keeps}
 use Rattle.core_rule.proofs.Assemble.{Keeps}
 use Rattle.core_rule.proofs.BeginOthers.{begin_others_keep}
-use Rattle.core_rule.proofs.BeginStep.{begins, begin_keeps}
+use Rattle.core_rule.proofs.Begins.{begins}
+use Rattle.core_rule.proofs.BeginStep.{begin_keeps}
 use Rattle.core_rule.proofs.BirthStep.{birth_keeps}
 use Rattle.core_rule.proofs.ClaimStep.{claim_keeps}
 use Rattle.core_rule.proofs.EmptyStep.{empty_keeps}
@@ -29,22 +32,22 @@ use Rattle.core_rule.proofs.GetStep.{get_keeps}
 use Rattle.core_rule.proofs.GiveBackStep.{give_back_keeps}
 use Rattle.core_rule.proofs.LastBirthStep.{last_birth_keeps}
 use Rattle.core_rule.proofs.LeaveStep.{leave_keeps}
+use Rattle.core_rule.proofs.LookStep.{look_keeps}
 use Rattle.core_rule.proofs.NameStep.{name_keeps}
+use Rattle.core_rule.proofs.OldStep.{old_keeps}
 use Rattle.core_rule.proofs.OnwardStep.{walk_keeps}
 use Rattle.core_rule.proofs.OpenStep.{open_keeps}
 use Rattle.core_rule.proofs.PollStep.{poll_keeps}
 use Rattle.core_rule.proofs.RefusalStep.{refusal_keeps}
+use Rattle.core_rule.proofs.RootStep.{root_keeps}
 use Rattle.core_rule.proofs.Runs.{EachStepKeeps, EachBeginKeeps}
+use Rattle.core_rule.proofs.ShadeNewStep.{shade_new_keeps}
+use Rattle.core_rule.proofs.ShadeOldStep.{shade_old_keeps}
 use Rattle.core_rule.proofs.StoreStep.{store_keeps}
 use Rattle.core_rule.proofs.SwapStep.{swap_keeps}
 use Rattle.core_rule.proofs.TellingStep.{telling_keeps}
 
 module _ (heap : Heap) (state : State) (book : Book) (q : ℕ) (rule : Rule heap state book) (here : q < heap.seats) where
-  -- a seat is at no place at which nothing can be true of its way
-  way_at : (place : Place) → (seat_at state q).place ≡ place → WayStands (cells_at (graph_of heap book.history) book.made) book.made book.owner book.fragments (seat_at state q) place
-  way_at place placed = subst (λ p. WayStands (cells_at (graph_of heap book.history) book.made) book.made book.owner book.fragments (seat_at state q) p) placed
-      (rule.seats_stand q here).way
-
   -- the step due at this place keeps the rule
   keeps_at : (place : Place) → (seat_at state q).place ≡ place → IsMachine heap (moved heap state q (move_at heap q (seat_at state q) place))
       → Keeps heap (moved heap state q (move_at heap q (seat_at state q) place)) book book.begun (shown heap state (move_at heap q (seat_at state q) place))
@@ -68,13 +71,13 @@ module _ (heap : Heap) (state : State) (book : Book) (q : ℕ) (rule : Rule heap
   keeps_at (places.Reaching Walking) placed machine = walk_keeps heap state book q rule here placed machine
   keeps_at (places.Reaching Getting) placed machine = get_keeps heap state book q rule here placed machine
   keeps_at (places.Reaching Naming) placed machine = name_keeps heap state book q rule here placed machine
-  keeps_at (places.Reaching LoadingOld) placed machine = absurd (way_at (places.Reaching LoadingOld) placed)
-  keeps_at (places.Reaching ShadingOld) placed machine = absurd (way_at (places.Reaching ShadingOld) placed)
-  keeps_at (places.Reaching ShadingNew) placed machine = absurd (way_at (places.Reaching ShadingNew) placed)
+  keeps_at (places.Reaching LoadingOld) placed machine = old_keeps heap state book q rule here placed machine
+  keeps_at (places.Reaching ShadingOld) placed machine = shade_old_keeps heap state book q rule here placed machine
+  keeps_at (places.Reaching ShadingNew) placed machine = shade_new_keeps heap state book q rule here placed machine
   keeps_at (places.Reaching Swapping) placed machine = swap_keeps heap state book q rule here placed machine
   keeps_at (places.Polling Asking) placed machine = poll_keeps heap state book q rule here placed machine
-  keeps_at (places.Polling Shading) placed machine = absurd (way_at (places.Polling Shading) placed)
-  keeps_at (places.Polling Answering) placed machine = absurd (way_at (places.Polling Answering) placed)
+  keeps_at (places.Polling Shading) placed machine = root_keeps heap state book q rule here placed machine
+  keeps_at (places.Polling Answering) placed machine = answer_keeps heap state book q rule here placed machine
   keeps_at (places.Leaving Emptying) placed machine = empty_keeps heap state book q rule here placed machine
   keeps_at (places.Leaving Parting) placed machine = leave_keeps heap state book q rule here placed machine
 
@@ -89,3 +92,14 @@ begins_at heap state book q command rule here can machine = begin_others_keep he
 
 pub each_begin_keeps : EachBeginKeeps
 each_begin_keeps heap state book q command rule can machine = begins_at heap state book q command rule (rw (← rule.all_seats) can.0) can machine
+
+-- each turn of the collector keeps the rule
+pub each_turn_keeps : (heap : Heap) (state : State) (book : Book) → Rule heap state book → MayTurn state.collector state.collector.stage
+    → IsMachine heap (turned heap state (next_turn heap state.collector))
+    → Keeps heap (turned heap state (next_turn heap state.collector)) book book.begun (next_turn heap state.collector).adds
+each_turn_keeps heap state book rule may machine = at_stage state.collector.stage refl machine
+  where
+    at_stage : (stage : Stage) → state.collector.stage ≡ stage → IsMachine heap (turned heap state (turn_at heap state.collector stage))
+        → Keeps heap (turned heap state (turn_at heap state.collector stage)) book book.begun (turn_at heap state.collector stage).adds
+    at_stage Looking looking after = look_keeps heap state book rule looking after
+    at_stage Advancing advancing after = advance_keeps heap state book rule advancing after

@@ -6,9 +6,9 @@ use Rattle.core_machine.specs.declared.address.Address.TheVariants.{Word}
 use Rattle.core_machine.specs.Fits.{AreFragments}
 use Rattle.core_machine.specs.Fragments.{tally}
 use Rattle.core_machine.specs.Layout.{at, put, table_length}
-use Rattle.core_rule.specs.Owners.{Owner}
 use Rattle.core_rule.specs.Book.{fragment_at}
 use Rattle.core_rule.specs.ControlWords.{Bits}
+use Rattle.core_rule.specs.Owners.{Owner}
 use Rattle.core_rule.proofs.Addresses.{word_same, control_after_word, fragment_other, part_other}
 use Rattle.core_rule.proofs.Members.{same_place, all_at}
 

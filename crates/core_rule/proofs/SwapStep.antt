@@ -18,6 +18,7 @@ use Rattle.heap_model.specs.Cycles.{graph_of}
 use Rattle.heap_model.specs.Effects.{is_of}
 use Rattle.heap_model.specs.Growth.{after_reply}
 use Rattle.heap_model.specs.Objects.{party, register, node, target, cell_of, cell_at, or_no_field}
+use Rattle.heap_model.specs.PhaseCounts.{phase, answered, has_left}
 use Rattle.heap_model.specs.Phases.{ShowsPhases}
 use Rattle.heap_model.specs.Replies.{Says}
 use Rattle.heap_model.specs.Replies as says
@@ -26,12 +27,12 @@ use Rattle.core_machine.specs.declared.address.Address.TheVariants.{Word}
 use Rattle.core_machine.specs.declared.place.Place.TheVariants as places
 use Rattle.core_machine.specs.declared.place.Reaching.TheVariants.{Swapping}
 use Rattle.core_machine.specs.Commands.{object_of, source_of, field_of, target_of}
-use Rattle.core_machine.specs.Fits.{IsAtRest}
+use Rattle.core_machine.specs.Fits.{IsAtRest, IsSilent}
 use Rattle.core_machine.specs.FitsReaching.{IsSet, Sets as FitsSets}
 use Rattle.core_machine.specs.Layout.{at, put}
+use Rattle.core_machine.specs.Loaded.{stamp_in}
 use Rattle.core_machine.specs.Machine.{State, seat_at, stepped, found_by}
 use Rattle.core_machine.specs.Move.{seat_after}
-use Rattle.core_machine.specs.Loaded.{stamp_in}
 use Rattle.core_machine.specs.Reaching.{has_barrier, row_of}
 use Rattle.core_machine.specs.ReachingMoves.{swap_move, field_part, new_word}
 use Rattle.core_machine.specs.Registers.{register_in}
@@ -43,13 +44,18 @@ use Rattle.core_rule.specs.Registers.{Holds}
 use Rattle.core_rule.specs.Rule.{Rule}
 use Rattle.core_rule.specs.Ways.{Finds}
 use Rattle.core_rule.proofs.Assemble.{Keeps}
+use Rattle.core_rule.proofs.AtRest.{in_flight, spent_own, few_own, none_awaited}
 use Rattle.core_rule.proofs.CellSet.{Sets, sets_cell}
 use Rattle.core_rule.proofs.CellWords.{stamp_of_value, register_is_value, register_names}
-use Rattle.core_rule.proofs.Legality.{legal_more}
+use Rattle.core_rule.proofs.CycleHistory.{cycle_own}
+use Rattle.core_rule.proofs.Legality.{legal_more, keeps_said}
 use Rattle.core_rule.proofs.ObjectsSet.{made_node, ids_set, lengths_stay, found_is, objects_set, set_unkept}
-use Rattle.core_rule.proofs.ReplyEntries.{said_keeps}
-use Rattle.core_rule.proofs.ReplyStep.{SameUnkept, reply_keeps}
-use Rattle.core_rule.proofs.AtRest.{in_flight, all_told, spent_own, few_own, none_awaited}
+use Rattle.core_rule.proofs.PhaseEntries.{no_leave_told}
+use Rattle.core_rule.proofs.ReplyStep.{reply_keeps}
+use Rattle.core_rule.proofs.SeatLists.{all_told}
+use Rattle.core_rule.proofs.StoredFrames.{SameUnkept}
+use Rattle.core_rule.proofs.SwapCycle.{heap_swapped, answer_swapped, leaves_swapped}
+use Rattle.core_rule.proofs.Unwatched.{cycle_apart}
 
 -- a command that sets a field is a `set`
 set_only : (P : Command → Type 0) → ((r i v : ℕ) → P (commands.Set r i v)) → (command : Command) → IsSet command → P command
@@ -99,6 +105,7 @@ swap_keeps heap state book q rule here place machine =
     let busy : seat.place ≢ places.Idle = λ idle. absurd (cc (place, idle)) in
     let present : (party g q).left ≡ false = stands.counts.leaves ∙ in_flight heap seat stands.fits busy in
     let awaits = rw place at stands.list.awaits in
+    let silent : IsSilent seat = rw place at stands.fits.answer_at_place in
     let holds : (r : ℕ) → Holds book.made book.owner book.fragments (register_in seat.registers r) (register g q r)
     = λ r. stands.registers r (none_awaited seat.place (places.Reaching Swapping) (target_of seat.command) r place (λ none. none)) in
     let n : ℕ = finds.number in
@@ -141,7 +148,7 @@ swap_keeps heap state book q rule here place machine =
     refl rest (all_told seat.mine stands.list.awaited (filter (is_of q) book.history) stands.list.own awaits)
     (legal_more heap false book.history (entries.Said q seat.command (replies.Was stamp)) rule.heap_stands.legal
     (present, fits.0.0.in_range, set_says seat.command a_set g q id there.0 old stamp refers there.1 cells_there old_stamp few)
-    (said_keeps book.history q seat.command (replies.Was stamp) refl heap false tt tt (set_shows seat.command a_set heap book.history q stamp)
+    (keeps_said heap false book.history q seat.command (replies.Was stamp) refl tt tt (set_shows seat.command a_set heap book.history q stamp)
     (spent_own heap state book q rule here rest) (omega (arith, set_most seat.command a_set, few_own heap state book q rule here rest))))
     (subst (λ f. SameUnkept heap book.owner state.words (put heap state.words (Word f part) word)) (sym arrived)
     (set_unkept heap state.words g now q book.made book.owner book.fragments n i cell word ids objects finds.way.below finds.way.kept sets finds.within))
@@ -157,12 +164,19 @@ swap_keeps heap state book q rule here place machine =
       idle = refl;
       reserve = refl;
       mine = refl;
-      answered = refl;
       made = stands.counts.numbered ∙ sym sets.objects;
       sets = ap (λ s. s + 1) stands.counts.stamped ∙ sym sets.sets;
       left = sets.left ∙ stands.counts.leaves;
       registers = λ r. subst (λ (vs : List Value). Holds book.made book.owner book.fragments (register_in seat.registers r) (get_or vs r values.Nil)) (sym sets.registers) (holds r);
     }
+    (heap_swapped heap state book q rule here place cell.value cell.stamp (holds (source_of seat.command)) names.0 small word is_word)
+    (cycle_own heap (put heap state.words (Word seat.reached part) word) book.owner book.colour book.history (entries.Said q seat.command (replies.Was stamp)) refl q
+    (seat_after (swap_move q seat) found)
+    (cycle_apart heap state.words (put heap state.words (Word seat.reached part) word) book.owner book.owner book.colour book.colour (phase book.history) (answered q book.history) (has_left q book.history)
+    q seat (seat_after (swap_move q seat) found) record { answered = refl; left = refl; asked = refl } tt silent.none_shaded
+    (answer_swapped heap state book q rule here place cell.value cell.stamp (holds (source_of seat.command)) names.0 small word is_word q here) stands.cycle.births stands.cycle)
+    refl (no_leave_told q q seat.command (replies.Was stamp) (λ leaves. subst IsSet leaves a_set)))
+    (leaves_swapped heap state book q rule here place cell.value cell.stamp (holds (source_of seat.command)) names.0 small word is_word)
   where
     no_links : (row links : ℕ) → links ≡ 0 → row - links ≡ row
     no_links row links none = omega (arith, none)

@@ -1,8 +1,8 @@
 -- How often a number stands in a list.
 use Rattle.std.proofs.Common.{◌≡◌, ◌≢◌, ℕ, zero, suc, ◌+◌, ◌<◌, ◌≤◌, inl, inr, List, [], ◌∷◌, ◌++◌, length, take, drop, refl, arith}
 use Rattle.std.proofs.lemmas.Bool.Decides.{eqb_tells}
-use Rattle.core_machine.specs.Sums.{sum_upto}
 use Rattle.core_machine.specs.Fragments.{tally}
+use Rattle.core_machine.specs.Sums.{sum_upto}
 use Rattle.core_rule.specs.Owners.{one_at}
 use Rattle.core_rule.proofs.SumLemmas.{sum-suc, sum_plus, sum_nothing}
 
@@ -33,7 +33,7 @@ sum_one : (n x : ℕ) → n ≤ x → sum_upto n (λ f. one_at x f) ≡ 0
 sum_one n x above = sum_nothing n (λ f. one_at x f) (λ f below. one_at_other x f (λ e. omega (arith, e)))
 
 -- one number below n is counted once
-pub sum_one_at : (n x : ℕ) → x < n → sum_upto n (λ f. one_at x f) ≡ 1
+sum_one_at : (n x : ℕ) → x < n → sum_upto n (λ f. one_at x f) ≡ 1
 sum_one_at zero x below = omega arith
 sum_one_at (suc n) x below = rw (sum-suc n (λ f. one_at x f)) (elim (eqb_tells x n) as (λ _. sum_upto n (λ f. one_at x f) + one_at x n ≡ 1) [
   | inl e ↦ omega (arith, sum_one n x (omega (arith, e.1)), one_at_same x n e.1)

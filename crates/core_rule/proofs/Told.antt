@@ -1,6 +1,6 @@
 -- What the words of an object tell.
-use Rattle.std.proofs.Common.{◌≡◌, ℕ, ◌+◌, ◌-◌, ◌%◌, ◌^◌, ◌<◌, false, cond, eqb, List, length, get_or, Option, Some, None, inl, inr, refl, sym, ap, ◌∙◌, arith}
 use Rattle.std.specs.Prelude.{unwrap_or}
+use Rattle.std.proofs.Common.{◌≡◌, ℕ, ◌+◌, ◌-◌, ◌%◌, ◌^◌, ◌<◌, false, cond, eqb, List, length, get_or, Option, Some, None, inl, inr, refl, sym, ap, ◌∙◌, arith}
 use Rattle.std.proofs.lemmas.Bool.{lt-ltb}
 use Rattle.std.proofs.lemmas.Bool.Decides.{eqb_tells}
 use Rattle.heap_words.specs.declared.cell.Cell.{Cell}
@@ -14,8 +14,8 @@ use Rattle.core_machine.specs.declared.register.Register.{Register}
 use Rattle.core_machine.specs.declared.register.Register.TheVariants as registers
 use Rattle.core_machine.specs.Loaded.{head_in, link_in, length_in, id_in, id_of_owner, stamp_in, plain_in, first_lead, referred, plain_register}
 use Rattle.core_machine.specs.Newborn.{record_meta, link_after}
-use Rattle.core_rule.specs.Objects.{FitsName, name_of, value_word}
 use Rattle.core_machine.proofs.CellWords.{cell_of-cell_word}
+use Rattle.core_rule.specs.Objects.{FitsName, name_of, value_word}
 
 -- the length in a record's meta
 pub length_in-meta : (fields : ℕ) (fragments : List ℕ) → fields < 2 ^ 13 → get_or fragments 1 0 < 2 ^ 32 → length_in (record_meta fields fragments) ≡ fields

@@ -4,14 +4,13 @@ use Rattle.heap_model.specs.declared.cell.Cell.{Cell}
 use Rattle.heap_model.specs.declared.id.Id.{Id}
 use Rattle.core_machine.specs.declared.place.Place.{Place}
 use Rattle.core_machine.specs.declared.place.Place.TheVariants as places
-use Rattle.core_machine.specs.declared.place.Polling.TheVariants.{Asking, Shading, Answering}
-use Rattle.core_machine.specs.declared.place.Reaching.TheVariants.{Opening, Walking, Getting, Naming, LoadingOld, ShadingOld, ShadingNew, Swapping}
+use Rattle.core_machine.specs.declared.place.Reaching.TheVariants.{Opening, Walking, Getting, LoadingOld, ShadingOld, ShadingNew, Swapping}
 use Rattle.core_machine.specs.Seat.{Seat}
 use Rattle.core_rule.specs.Book.{id_at}
 use Rattle.core_rule.specs.Objects.{IsKept}
 use Rattle.core_rule.specs.Owners.{Owner}
+use Rattle.core_rule.specs.Ways.{LoadedKept, OnWay, Finds, WayStands}
 use Rattle.core_rule.proofs.ObjectFrames.{SameKept}
-use Rattle.core_rule.specs.Ways.{OnWay, Finds, WayStands}
 
 -- the object of this number is kept as before: under its id, in its fragments, with as many cells
 pub record ObjectStays (cells now_cells : ℕ → List Cell) (made now_made : List Id) (owner now_owner : ℕ → Owner) (fragments now_fragments : ℕ → List ℕ) (i : ℕ) : Type 0 where
@@ -23,7 +22,7 @@ pub record ObjectStays (cells now_cells : ℕ → List Cell) (made now_made : Li
 
 module _ (cells now_cells : ℕ → List Cell) (made now_made : List Id) (owner now_owner : ℕ → Owner) (fragments now_fragments : ℕ → List ℕ)
     (stay : (i : ℕ) → i < length made → IsKept owner fragments i → ObjectStays cells now_cells made now_made owner now_owner fragments now_fragments i) where
-  pub way_stays : (seat : Seat) (number : ℕ) → OnWay made owner fragments seat number → OnWay now_made now_owner now_fragments seat number
+  way_stays : (seat : Seat) (number : ℕ) → OnWay made owner fragments seat number → OnWay now_made now_owner now_fragments seat number
   way_stays seat number way =
       let one = stay number way.below way.kept in
       record {
@@ -41,23 +40,21 @@ module _ (cells now_cells : ℕ → List Cell) (made now_made : List Id) (owner 
     within = rw (stay finds.number finds.way.below finds.way.kept).cells_stay finds.within;
   }
 
+  loaded_stays : (seat : Seat) → LoadedKept made owner fragments seat → LoadedKept now_made now_owner now_fragments seat
+  loaded_stays seat loaded =
+      let one = stay loaded.number loaded.below loaded.kept in
+      record { number = loaded.number; below = one.below; kept = one.kept; loads = rw one.fragments_stay loaded.loads }
+
   -- a seat's way stays at its place
   pub ways_stay : (seat : Seat) (place : Place) → WayStands cells made owner fragments seat place → WayStands now_cells now_made now_owner now_fragments seat place
-  ways_stay seat places.Idle way = way
-  ways_stay seat (places.Making place) way = way
-  ways_stay seat places.Telling way = way
   ways_stay seat (places.Reaching Opening) way = record { number = way.number; way = way_stays seat way.number way.way }
   ways_stay seat (places.Reaching Walking) way = finds_stays seat way
   ways_stay seat (places.Reaching Getting) way = finds_stays seat way
-  ways_stay seat (places.Reaching Naming) way = way
-  ways_stay seat (places.Reaching LoadingOld) way = way
-  ways_stay seat (places.Reaching ShadingOld) way = way
-  ways_stay seat (places.Reaching ShadingNew) way = way
+  ways_stay seat (places.Reaching LoadingOld) way = finds_stays seat way
+  ways_stay seat (places.Reaching ShadingOld) way = (finds_stays seat way.0, loaded_stays seat way.1)
+  ways_stay seat (places.Reaching ShadingNew) way = finds_stays seat way
   ways_stay seat (places.Reaching Swapping) way = finds_stays seat way
-  ways_stay seat (places.Polling Asking) way = way
-  ways_stay seat (places.Polling Shading) way = way
-  ways_stay seat (places.Polling Answering) way = way
-  ways_stay seat (places.Leaving place) way = way
+  ways_stay seat _ way = way
 
 -- a way stays where the same fragments are kept
 pub way_owners : (cells : ℕ → List Cell) (owner now : ℕ → Owner) → SameKept owner now → (made : List Id) (fragments : ℕ → List ℕ) (seat : Seat)

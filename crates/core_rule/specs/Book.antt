@@ -1,9 +1,16 @@
 -- What the rule keeps beside the state: the history so far, and whose each fragment is.
-use Rattle.std.specs.Prelude.{ℕ, ◌+◌, ◌==◌, Bool, true, false, if◌then◌else◌, List, [], ◌∷◌, slice_index_or}
+use Rattle.std.specs.Prelude.{ℕ, ◌+◌, if◌then◌else◌, List, [], ◌∷◌, slice_index_or}
 use Rattle.heap_model.specs.declared.entry.Entry.{Entry}
 use Rattle.heap_model.specs.declared.id.Id.{Id}
-use Rattle.heap_model.specs.declared.id.Id.TheVariants.{Board, Made}
+use Rattle.heap_model.specs.declared.id.Id.TheVariants.{Board}
+use Rattle.core_machine.specs.Registers.{is_same_id}
 use Rattle.core_rule.specs.Owners.{Owner}
+
+-- a fragment is white while nothing has marked it; grey once it is marked; black once all that it leads to is
+pub data Colour : Type 0 where
+  White : Colour
+  Grey : Colour
+  Black : Colour
 
 pub record Book : Type 0 where
   -- the entries so far, the oldest first
@@ -14,6 +21,8 @@ pub record Book : Type 0 where
   pub owner : ℕ → Owner
   -- the fragments of each object, by its number in the order of making
   pub fragments : ℕ → List ℕ
+  -- the colour of each fragment
+  pub colour : ℕ → Colour
   -- how long the history was when each seat last began a call
   pub begun : ℕ → ℕ
 
@@ -24,13 +33,6 @@ fragment_at fragments k = slice_index_or fragments k 0
 -- the id that was made at this place
 abbrev pub id_at : List Id → ℕ → Id
 id_at made i = slice_index_or made i Board
-
--- whether two ids are the same
-abbrev pub is_same_id : Id → Id → Bool
-is_same_id Board Board = true
-is_same_id Board (Made t n) = false
-is_same_id (Made s m) Board = false
-is_same_id (Made s m) (Made t n) = if s == t then m == n else false
 
 -- the number of an id in the order of making; how many were made where it is none of them
 abbrev pub number_of : List Id → Id → ℕ

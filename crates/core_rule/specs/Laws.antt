@@ -18,37 +18,32 @@ pub record StandsFor (heap : Heap) (state : State) (before added : List Entry) :
   pub grown : book.history ≡ before ++ added
   pub rule : Rule heap state book
 
--- the event is a seat's: the collector makes no turn yet
-abbrev pub IsSeats : Event → Type 0
-IsSeats Turns = ⊥
-IsSeats _ = Unit {0}
-
-abbrev pub AreSeats : List Event → Type 0
-AreSeats [] = Unit {0}
-AreSeats (event ∷ events) = IsSeats event × AreSeats events
-
--- from any state and book that meet the rule, whatever led to them, each event of a seat that may happen gives a state that some book
+-- from any state and book that meet the rule, whatever led to them, each event that may happen gives a state that some book
 -- stands for, whose history is the old one and then the event's entries
 abbrev pub EachEventKeeps : Type 0
-EachEventKeeps = (heap : Heap) (state : State) (book : Book) (event : Event) → Rule heap state book → Can heap state event → IsSeats event
+EachEventKeeps = (heap : Heap) (state : State) (book : Book) (event : Event) → Rule heap state book → Can heap state event
     → StandsFor heap (after heap state event) book.history (entries heap state event)
 
--- so does every run of seats from the opening
+-- so does every run from the opening
 abbrev pub EveryRunKeeps : Type 0
-EveryRunKeeps = (heap : Heap) (state : State) (events : List Event) → IsHeap heap → IsOpening heap state → Run heap state events → AreSeats events
+EveryRunKeeps = (heap : Heap) (state : State) (events : List Event) → IsHeap heap → IsOpening heap state → Run heap state events
     → StandsFor heap (after_all heap state events) [] (history heap state events)
 
 -- no other seat has a call in flight
 abbrev pub IsAlone : State → ℕ → Type 0
 IsAlone state number = (other : ℕ) → other < length state.seats → other ≢ number → (seat_at state other).place ≡ Idle
 
--- the event is that of a seat that is alone
+-- no seat has a call in flight
+abbrev pub AllIdle : State → Type 0
+AllIdle state = (number : ℕ) → number < length state.seats → (seat_at state number).place ≡ Idle
+
+-- the event is that of a seat that is alone, or a turn between two calls
 abbrev pub HappensAlone : State → Event → Type 0
 HappensAlone state (Begins number command) = IsAlone state number
 HappensAlone state (Steps number) = IsAlone state number
-HappensAlone state Turns = ⊥
+HappensAlone state Turns = AllIdle state
 
--- whole calls, one after another
+-- whole calls, one after another, and turns of the collector between them
 abbrev pub OneCallAtATime : Heap → State → List Event → Type 0
 OneCallAtATime heap state [] = Unit {0}
 OneCallAtATime heap state (event ∷ events) = HappensAlone state event × OneCallAtATime heap (after heap state event) events

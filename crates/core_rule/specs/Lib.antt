@@ -6,7 +6,11 @@ pub mod Registers
 pub mod Holding
 pub mod Counts
 pub mod Gathers
-pub mod Phases
 pub mod Ways
+pub mod Colours
+pub mod Phases
+pub mod Flight
+pub mod Together
+pub mod Cycle
 pub mod Rule
 pub mod Laws

@@ -1,18 +1,55 @@
--- No phase has begun yet, and none was answered.
-use Rattle.std.specs.Prelude.{◌≡◌, ℕ, List}
+-- The phase, and what the seats have answered.
+use Rattle.std.specs.Prelude.{◌≡◌, ℕ, ◌+◌, ◌<◌, ◌≤◌, ◌⊎◌, Bool, false, if◌then◌else◌, List, filter}
+use Rattle.heap_words.specs.declared.phase.TheConstants.{LEFT}
 use Rattle.heap_model.specs.declared.heap.Heap.{Heap}
 use Rattle.heap_model.specs.declared.entry.Entry.{Entry}
-use Rattle.heap_model.specs.PhaseCounts.{phase, answered}
-use Rattle.core_machine.specs.declared.address.Address.TheVariants.{Phase}
+use Rattle.heap_model.specs.PhaseCounts.{phase, answered, has_left}
+use Rattle.core_machine.specs.declared.address.Address.TheVariants.{Answer}
+use Rattle.core_machine.specs.declared.place.Place.{Place}
+use Rattle.core_machine.specs.declared.place.Place.TheVariants as places
+use Rattle.core_machine.specs.declared.place.Polling.{Polling}
+use Rattle.core_machine.specs.declared.place.Polling.TheVariants.{Asking, Shading, Answering}
+use Rattle.core_machine.specs.declared.stage.Stage.TheVariants.{Advancing}
+use Rattle.core_machine.specs.Collector.{Collector}
 use Rattle.core_machine.specs.Layout.{at}
-use Rattle.core_machine.specs.Seat.{Seat}
+use Rattle.core_rule.specs.Counts.{is_collectors}
 
--- the phase is 0, in the words and in the history
-pub record Rests (heap : Heap) (words : List ℕ) (history : List Entry) : Type 0 where
-  pub word : at heap words Phase ≡ 0
-  pub none_begun : phase history ≡ 0
+-- the last answer of a seat is to the phase, or to the one before it
+abbrev pub IsNear : ℕ → ℕ → Type 0
+IsNear phase answer = (answer ≡ phase) ⊎ (answer + 1 ≡ phase)
 
--- the seat has answered no phase but that
-pub record IsQuiet (history : List Entry) (q : ℕ) (seat : Seat) : Type 0 where
-  pub none_answered : answered q history ≡ 0
-  pub answer : seat.answered ≡ 0
+-- what stands in a seat's own word
+abbrev pub answer_word : Bool → ℕ → ℕ
+answer_word left answer = if left then LEFT else answer
+
+-- the seat has answered and left as the history says, its word says so too, it isn't behind by more than one phase, and the phase
+-- that it has loaded last has begun
+pub record Answers (heap : Heap) (words : List ℕ) (phase answers : ℕ) (gone : Bool) (q : ℕ) (left : Bool) (answer asked : ℕ) : Type 0 where
+  pub told : answers ≡ answer
+  pub leaves : gone ≡ left
+  pub word : at heap words (Answer q) ≡ answer_word left answer
+  pub near : left ≡ false → IsNear phase answer
+  pub loaded : asked ≤ phase
+
+-- the phase that is about to be answered is the phase, which comes after the seat's last answer
+pub record Asks (phase answer asked : ℕ) : Type 0 where
+  pub now : asked ≡ phase
+  pub next : asked ≡ answer + 1
+
+abbrev pub PollingStands : ℕ → ℕ → ℕ → Polling → Type 0
+PollingStands phase answer asked Asking = Unit {0}
+PollingStands phase answer asked Shading = Asks phase answer asked
+PollingStands phase answer asked Answering = Asks phase answer asked
+
+-- what is about to be answered at a place
+abbrev pub AnswerStands : ℕ → ℕ → ℕ → Place → Type 0
+AnswerStands phase answer asked (places.Polling place) = PollingStands phase answer asked place
+AnswerStands phase answer asked _ = Unit {0}
+
+-- the collector's entries and phase are the history's, and the seats that it has seen have answered the phase or left. It doesn't go on from the
+-- third phase yet
+pub record CollectorStands (heap : Heap) (collector : Collector) (history : List Entry) : Type 0 where
+  pub log : collector.log ≡ filter is_collectors history
+  pub phase_told : collector.phase ≡ phase history
+  pub looked : (q : ℕ) → q < collector.looked → q < heap.seats → has_left q history ≡ false → answered q history ≡ phase history
+  pub goes_on : collector.stage ≡ Advancing → phase history < 3

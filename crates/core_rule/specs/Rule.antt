@@ -1,5 +1,5 @@
 -- The rule: a book stands for a state.
-use Rattle.std.specs.Prelude.{◌≡◌, ℕ, ◌<◌, false, List, length, drop, filter}
+use Rattle.std.specs.Prelude.{◌≡◌, ℕ, ◌<◌, false, List, length, drop}
 use Rattle.heap_model.specs.declared.heap.Heap.{Heap}
 use Rattle.heap_model.specs.Heap.{IsHeap}
 use Rattle.heap_model.specs.Account.{IsLegal}
@@ -15,8 +15,11 @@ use Rattle.core_rule.specs.ControlWords.{Bits}
 use Rattle.core_rule.specs.Objects.{AreMade, Objects, cells_at}
 use Rattle.core_rule.specs.Registers.{Registers}
 use Rattle.core_rule.specs.Holding.{Holding, IsStored}
-use Rattle.core_rule.specs.Counts.{OwnCounts, OwnList, AreUsed, is_collectors}
-use Rattle.core_rule.specs.Phases.{Rests, IsQuiet}
+use Rattle.core_rule.specs.Counts.{OwnCounts, OwnList, AreUsed}
+use Rattle.heap_model.specs.PhaseCounts.{phase, answered, has_left}
+use Rattle.core_rule.specs.Phases.{CollectorStands}
+use Rattle.core_rule.specs.Cycle.{HeapInCycle, SeatInCycle}
+use Rattle.core_rule.specs.Together.{AreTogether}
 use Rattle.core_rule.specs.Ways.{WayStands}
 use Rattle.core_rule.specs.Gathers.{GathersRight, Began}
 
@@ -27,7 +30,7 @@ pub record HeapStands (heap : Heap) (words : List ℕ) (book : Book) : Type 0 wh
   pub ids : AreMade (graph_of heap book.history) book.made
   pub objects : Objects heap words (graph_of heap book.history) book.made book.owner book.fragments
   pub used : AreUsed heap book.owner book.history
-  pub rests : Rests heap words book.history
+  pub cycle : HeapInCycle heap words (phase book.history) book.owner book.colour book.fragments
   pub legal : IsLegal heap false book.history
 
 -- what is true of a seat
@@ -38,7 +41,8 @@ pub record SeatStands (heap : Heap) (words : List ℕ) (book : Book) (q : ℕ) (
   pub registers : Registers (graph_of heap book.history) book.made book.owner book.fragments q seat.registers seat.place (target_of seat.command)
   pub list : OwnList (graph_of heap book.history) book.history book.made book.owner book.fragments q seat
   pub way : WayStands (cells_at (graph_of heap book.history) book.made) book.made book.owner book.fragments seat seat.place
-  pub quiet : IsQuiet book.history q seat
+  pub cycle : SeatInCycle heap words (phase book.history) (answered q book.history) (has_left q book.history) book.owner book.colour q seat
+  pub together : AreTogether heap seat.cursor seat.tried seat.hand seat.body
   pub counts : OwnCounts (graph_of heap book.history) book.history q seat
   pub began : Began book.history q (book.begun q) seat.place
   pub gathers : GathersRight heap book.owner q (drop (book.begun q) book.history) seat.cursor seat.tried seat.given
@@ -49,4 +53,4 @@ pub record Rule (heap : Heap) (state : State) (book : Book) : Type 0 where
   pub all_seats : length state.seats ≡ heap.seats
   pub heap_stands : HeapStands heap state.words book
   pub seats_stand : (q : ℕ) → q < heap.seats → SeatStands heap state.words book q (seat_at state q)
-  pub collector_log : state.collector.log ≡ filter is_collectors book.history
+  pub collector_stands : CollectorStands heap state.collector book.history

@@ -1,15 +1,14 @@
 -- Where a seat stands on the way to a field.
-use Rattle.std.specs.Prelude.{◌≡◌, ℕ, ◌-◌, ◌<◌, ◌≤◌, List, length}
+use Rattle.std.specs.Prelude.{◌≡◌, ℕ, ◌-◌, ◌<◌, ◌≤◌, List, length, Some}
 use Rattle.heap_model.specs.declared.cell.Cell.{Cell}
 use Rattle.heap_model.specs.declared.id.Id.{Id}
 use Rattle.core_machine.specs.declared.place.Place.{Place}
 use Rattle.core_machine.specs.declared.place.Place.TheVariants as places
-use Rattle.core_machine.specs.declared.place.Polling.{Polling}
-use Rattle.core_machine.specs.declared.place.Polling.TheVariants.{Asking, Shading, Answering}
 use Rattle.core_machine.specs.declared.place.Reaching.{Reaching}
 use Rattle.core_machine.specs.declared.place.Reaching.TheVariants.{Opening, Walking, Getting, Naming, LoadingOld, ShadingOld, ShadingNew, Swapping}
 use Rattle.core_machine.specs.declared.register.Register.TheVariants.{Object}
 use Rattle.core_machine.specs.Commands.{object_of, field_of}
+use Rattle.core_machine.specs.Loaded.{head_in}
 use Rattle.core_machine.specs.Reaching.{row_of}
 use Rattle.core_machine.specs.Registers.{register_in}
 use Rattle.core_machine.specs.Seat.{Seat}
@@ -36,25 +35,24 @@ pub record Finds (cells : ℕ → List Cell) (made : List Id) (owner : ℕ → O
   pub way : OnWay made owner fragments seat number
   pub within : field_of seat.command < length (cells number)
 
--- while the phase is 0 no barrier is on, and nothing is shaded
+-- the object that a set has loaded from its field is a kept one
+pub record LoadedKept (made : List Id) (owner : ℕ → Owner) (fragments : ℕ → List ℕ) (seat : Seat) : Type 0 where
+  pub number : ℕ
+  pub below : number < length made
+  pub kept : IsKept owner fragments number
+  pub loads : head_in seat.loaded ≡ Some (fragment_at (fragments number) 0)
+
 abbrev pub ReachingStands : (ℕ → List Cell) → List Id → (ℕ → Owner) → (ℕ → List ℕ) → Seat → Reaching → Type 0
 ReachingStands cells made owner fragments seat Opening = SetsOut made owner fragments seat
 ReachingStands cells made owner fragments seat Walking = Finds cells made owner fragments seat
 ReachingStands cells made owner fragments seat Getting = Finds cells made owner fragments seat
 ReachingStands cells made owner fragments seat Naming = Unit {0}
-ReachingStands cells made owner fragments seat LoadingOld = ⊥
-ReachingStands cells made owner fragments seat ShadingOld = ⊥
-ReachingStands cells made owner fragments seat ShadingNew = ⊥
+ReachingStands cells made owner fragments seat LoadingOld = Finds cells made owner fragments seat
+ReachingStands cells made owner fragments seat ShadingOld = Finds cells made owner fragments seat × LoadedKept made owner fragments seat
+ReachingStands cells made owner fragments seat ShadingNew = Finds cells made owner fragments seat
 ReachingStands cells made owner fragments seat Swapping = Finds cells made owner fragments seat
-
--- while the phase is 0 none is answered anew
-abbrev pub PollingStands : Polling → Type 0
-PollingStands Asking = Unit {0}
-PollingStands Shading = ⊥
-PollingStands Answering = ⊥
 
 -- what is true of a seat's way at its place
 abbrev pub WayStands : (ℕ → List Cell) → List Id → (ℕ → Owner) → (ℕ → List ℕ) → Seat → Place → Type 0
 WayStands cells made owner fragments seat (places.Reaching place) = ReachingStands cells made owner fragments seat place
-WayStands cells made owner fragments seat (places.Polling place) = PollingStands place
 WayStands cells made owner fragments seat _ = Unit {0}

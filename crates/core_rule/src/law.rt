@@ -1,6 +1,6 @@
 ghost use Rattle.core_rule.specs.Laws.{EachEventKeeps, EveryRunKeeps, WholeCallsPlay, FreeIsUnused};
 
-/// The rule holds after every list of begins and steps, over every heap.
+/// The rule holds after every list of begins, steps and turns of the collector, over every heap.
 pub fn law_every_run()
     ensures step { EachEventKeeps }
     ensures run { EveryRunKeeps }

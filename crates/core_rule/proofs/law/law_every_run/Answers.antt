@@ -3,17 +3,17 @@ use Rattle.core_rule.proofs.FreeSums.{free_is_unused}
 use Rattle.core_rule.proofs.OpeningStands.{opening_stands}
 use Rattle.core_rule.proofs.PlayRuns.{whole_calls_play}
 use Rattle.core_rule.proofs.Runs.{each_event_keeps, every_run_keeps}
-use Rattle.core_rule.proofs.Steps.{each_step_keeps, each_begin_keeps}
+use Rattle.core_rule.proofs.Steps.{each_step_keeps, each_begin_keeps, each_turn_keeps}
 use Rattle.core_rule.proofs.law.law_every_run.Goals as goal
 
 pub returns-clause-step : goal.returns-clause-step
-returns-clause-step c = each_event_keeps machine_after each_step_keeps each_begin_keeps
+returns-clause-step c = each_event_keeps machine_after each_step_keeps each_begin_keeps each_turn_keeps
 
 pub returns-clause-run : goal.returns-clause-run
-returns-clause-run c = every_run_keeps (each_event_keeps machine_after each_step_keeps each_begin_keeps) opening_stands
+returns-clause-run c = every_run_keeps (each_event_keeps machine_after each_step_keeps each_begin_keeps each_turn_keeps) opening_stands
 
 pub returns-clause-play : goal.returns-clause-play
-returns-clause-play c = whole_calls_play machine_after each_step_keeps each_begin_keeps opening_stands
+returns-clause-play c = whole_calls_play machine_after each_step_keeps each_begin_keeps each_turn_keeps opening_stands
 
 pub returns-clause-free : goal.returns-clause-free
 returns-clause-free c = free_is_unused

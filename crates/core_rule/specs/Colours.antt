@@ -1,0 +1,60 @@
+-- The colours of fragments: their bits in the control words, and what is true of them in each phase of a cycle.
+use Rattle.std.specs.Prelude.{◌≡◌, ◌≢◌, ℕ, ◌+◌, ◌*◌, ◌%◌, ◌<◌, ◌≤◌, Bool, if◌then◌else◌, List, Some}
+use Rattle.std.specs.Int.{bit_at}
+use Rattle.heap_model.specs.declared.heap.Heap.{Heap}
+use Rattle.core_machine.specs.declared.address.Address.TheVariants.{Word}
+use Rattle.core_machine.specs.Layout.{at}
+use Rattle.core_machine.specs.Loaded.{lead_of}
+use Rattle.core_rule.specs.Owners.{Owner, Bears, Keeps, born_bit}
+use Rattle.core_rule.specs.Book.{Colour, White, Grey, Black, fragment_at}
+use Rattle.core_rule.specs.ControlWords.{control_of}
+
+-- whether a fragment of the colour is marked
+abbrev pub marked_bit : Colour → ℕ
+marked_bit White = 0
+marked_bit Grey = 1
+marked_bit Black = 1
+
+-- whether it is scanned
+abbrev pub scanned_bit : Colour → ℕ
+scanned_bit White = 0
+scanned_bit Grey = 0
+scanned_bit Black = 1
+
+-- the fragment is grey or black
+abbrev pub IsMarked : (ℕ → Colour) → ℕ → Type 0
+IsMarked colour f = colour f ≢ White
+
+-- the marked and the scanned bits of the control words are those of the colours
+pub record Marks (heap : Heap) (words : List ℕ) (colour : ℕ → Colour) : Type 0 where
+  pub marked : (f : ℕ) → f < 16 * heap.groups → bit_at (control_of heap words f) (32 + f % 16) ≡ marked_bit (colour f)
+  pub scanned : (f : ℕ) → f < 16 * heap.groups → bit_at (control_of heap words f) (48 + f % 16) ≡ scanned_bit (colour f)
+  pub outside : (f : ℕ) → 16 * heap.groups ≤ f → colour f ≡ White
+
+-- word `part` of the fragment leads to the fragment g, by a link or a reference
+pub record Leads (heap : Heap) (words : List ℕ) (f part g : ℕ) : Type 0 where
+  pub within : f < 16 * heap.groups
+  pub below : part < 4
+  pub to : lead_of part (at heap words (Word f part)) ≡ Some g
+
+-- the phase is one of its cycle's phases from the one to the other
+pub record IsBetween (low high phase : ℕ) : Type 0 where
+  pub from : low ≤ phase % 7
+  pub upto : phase % 7 ≤ high
+
+-- at rest all is white, and nothing is black in the first phase; what is marked is born; while black fragments are made, they lead to
+-- marked ones alone; and a kept object with a marked fragment is marked by its first
+pub record Coloured (heap : Heap) (words : List ℕ) (owner : ℕ → Owner) (colour : ℕ → Colour) (fragments : ℕ → List ℕ) (phase : ℕ) : Type 0 where
+  pub rest : phase % 7 ≡ 0 → (f : ℕ) → colour f ≡ White
+  pub early : phase % 7 ≡ 1 → (f : ℕ) → colour f ≢ Black
+  pub born : (f : ℕ) → IsMarked colour f → born_bit (owner f) ≡ 1
+  pub black : IsBetween 2 5 phase → (f part g : ℕ) → colour f ≡ Black → Leads heap words f part g → IsMarked colour g
+  pub first : IsBetween 1 5 phase → (f i k : ℕ) → owner f ≡ Keeps i k → IsMarked colour f → IsMarked colour (fragment_at (fragments i) 0)
+
+-- the colour of a birth
+abbrev pub birth_colour : Bool → Colour
+birth_colour black = if black then Black else White
+
+-- what a seat has borne of the object that it makes has the colour of its births
+abbrev pub BornColours : (ℕ → Owner) → (ℕ → Colour) → ℕ → Bool → Type 0
+BornColours owner colour q black = (f : ℕ) → owner f ≡ Bears q → colour f ≡ birth_colour black
