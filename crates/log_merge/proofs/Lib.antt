@@ -3,3 +3,4 @@ mod LegalLemmas
 mod PassingLemmas
 mod SpelledLemmas
 mod TotalLemmas
+pub mod LoneLemmas

@@ -2,3 +2,4 @@ pub mod Checking
 pub mod Legal
 pub mod Lines
 pub mod Totals
+pub mod LoneSeat

@@ -10,7 +10,7 @@ mod judging;
 mod passing;
 
 /// Goes over the lines of a history, by a graph and, in a play, an account of the entries so far.
-#[derive(Debug, Drop)]
+#[derive(Drop)]
 pub struct Checker {
     heap: Heap,
     /// The number of the next line.

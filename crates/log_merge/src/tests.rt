@@ -1,3 +1,8 @@
+mod account;
+mod collector_calls;
+mod graph;
+mod seat_calls;
+
 use crate::{CheckFault, check};
 use reply_text::read_history;
 use script_text::ScriptFault;

@@ -4,9 +4,5 @@ pub mod Serving
 pub mod Verdict
 pub mod Works
 pub mod Outcome
-pub mod Places
-pub mod Stands
-pub mod Changes
+pub mod Calls
 pub mod Playing
-pub mod Opening
-pub mod Leaving

@@ -1,5 +1,5 @@
 -- What the program's statuses say of what it read and wrote.
-use Rattle.std.specs.Prelude.{◌≡◌, ℕ, ◌+◌, ◌≤◌, List, length, Option}
+use Rattle.std.specs.Prelude.{ℕ, ◌+◌, ◌≤◌, List, length, Option}
 use Rattle.script_text.specs.declared.cause.Cause.{Cause}
 use Rattle.io_edge.specs.Left.{GivesAll, LosesNext}
 use Rattle.io_edge.specs.Taken.{Takes, TakesFront}

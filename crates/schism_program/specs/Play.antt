@@ -1,6 +1,6 @@
 -- What a play is.
-use Rattle.std.specs.Prelude.{◌≡◌, ℕ, ◌⊎◌, List, [], ◌∷◌, ◌++◌, drop, take, IsSomeAnd}
-use Rattle.std.specs.List.{flat_map}
+use Rattle.std.specs.Prelude.{◌≡◌, ℕ, ◌⊎◌, ◌==◌, if◌then◌else◌, List, [], ◌∷◌, ◌++◌, drop, take, IsSomeAnd}
+use Rattle.std.specs.List.{flat_map, range_with_len}
 use Rattle.heap_model.specs.declared.command.Command.{Command}
 use Rattle.heap_model.specs.declared.command.Command.TheVariants.{Leave}
 use Rattle.heap_model.specs.declared.reply.Reply.{Reply}
@@ -25,14 +25,18 @@ EndsInReply entries =
     (entries ≡ []) ⊎ ((earlier : List Entry) × (seat : ℕ) × (command : Command) × (reply : Reply) × (entries ≡ earlier ++ Said seat command reply ∷ []))
 
 -- a seat gives back what it has left over, if anything, and leaves
-abbrev pub IsLeave : ℕ → List Entry → Type 0
-IsLeave s entries = (entries ≡ Said s Leave Done ∷ []) ⊎ ((count : ℕ) × (entries ≡ GivesBack s count ∷ Said s Leave Done ∷ []))
+abbrev pub leave_of : ℕ → ℕ → List Entry
+leave_of seat left = (if left == 0 then [] else GivesBack seat left ∷ []) ++ Said seat Leave Done ∷ []
 
--- the entries before the mark answer the script's lines in order, each once, and those behind it are the seat's leave
-pub record IsParted (script : Script) (front leave : List Entry) : Type 0 where
+-- each seat does so, in the order of their numbers
+abbrev pub AreLeaves : ℕ → List Entry → Type 0
+AreLeaves seats entries = (left : ℕ → ℕ) × (entries ≡ flat_map (λ seat. leave_of seat (left seat)) (range_with_len 0 seats))
+
+-- the entries before the mark answer the script's lines in order, each once, and those behind it are the seats' leaves
+pub record IsParted (script : Script) (front behind : List Entry) : Type 0 where
   pub commands : flat_map replied front ≡ script.lines
   pub last : EndsInReply front
-  pub leaves : IsLeave 0 leave
+  pub leaves : AreLeaves script.heap.seats behind
 
 -- the history is a play of the script: it is legal, in full, and parted by its mark
 pub record IsPlay (script : Script) (history : History) : Type 0 where

@@ -1,94 +1,79 @@
-ghost use Rattle.std.specs.Prelude.{true, ◌≡◌, ℕ, ◌+◌, ◌<◌, ◌≤◌, ◌^◌, List, [], ◌∷◌, ◌++◌, length, OnOk, IfOk};
-ghost use Rattle.heap_model.specs.declared.heap.Heap.{Heap as AHeap};
-ghost use Rattle.heap_model.specs.Command.{IsCommand};
+ghost use Rattle.std.specs.Prelude.{◌≡◌, ◌*◌, [], length, OnOk, IfOk};
 ghost use Rattle.script_text.specs.declared.script.Form.TheVariants.{Play};
-ghost use Rattle.script_text.specs.declared.script.Line.{Line as ALine};
-ghost use Rattle.script_text.specs.declared.script.Line.TheVariants as lines;
-ghost use Rattle.script_text.specs.Built.{IsBuilt, is_built_command};
+ghost use Rattle.script_text.specs.Built.{IsBuilt};
 ghost use Rattle.script_text.specs.Writing.{IsOfForm};
-ghost use Rattle.log_merge.specs.Legal.{ShowsCounts};
-ghost use Rattle.schism_program.specs.Changes.{RepliesFor};
-ghost use Rattle.schism_program.specs.Play.{EndsInReply, IsPlay};
-ghost use Rattle.schism_program.specs.Playing.{Playing, ReadiesFor};
-ghost use Rattle.schism_program.specs.Stands.{AnswersFor};
+ghost use Rattle.core_machine.specs.Opening.{IsOpening};
+ghost use Rattle.schism_program.specs.Calls.{Played, ArePresent};
+ghost use Rattle.schism_program.specs.Play.{IsPlay};
+ghost use Rattle.schism_program.specs.Playing.{HasAnswered, HaveLeft, IsInUse};
 
-use crate::leaving::leave;
-use crate::store::Store;
-use heap_model::{Command, Entry, Heap, Memory, Reply};
+use crate::calls::note_call;
+use core_machine::Machine;
+use core_rule::law_every_run;
+use heap_model::{Command, Entry, Memory};
 use reply_text::{Entries, History, SpaceMark};
 use script_text::{Form, Line, Script};
 use std::alloc::Global;
 
-/// The reply to a command, of fragments that were claimed before.
-fn reply_to(store: &mut Store, command: Command) -> Reply
-    requires command { IsCommand command }
-    requires built { is_built_command command ≡ true }
-    requires sets { store.old.sets + 1 < 2 ^ 26 }
-    ensures answers { AnswersFor store.old store.new command result }
-    ensures replies { RepliesFor store.old store.new command result }
-    ensures few { store.new.sets ≤ store.old.sets + 1 }
+/// Answers the lines of the script on a heap that has just been opened, and notes the entries.
+fn answer_lines(
+    machine: &mut Machine,
+    history: &mut Vec<Entry>,
+    script: &Script,
+) -> Result<(), Memory>
+    requires form { IsOfForm Play script.now }
+    requires built { IsBuilt script.now }
+    requires heap { machine.old.heap ≡ script.now.heap }
+    requires opening { IsOpening machine.old.heap machine.old.state }
+    requires nothing { history.old.items ≡ [] }
+    ensures heap { machine.new.heap ≡ machine.old.heap }
+    ensures answered { OnOk result (HasAnswered machine.new.heap machine.new.state history.new.items script.now.lines) }
 {
-    match command {
-        Command::New { d, fields } => store.new_record(d, fields),
-        Command::Num { d, n } => store.num(d, n),
-        Command::Get { d, r, i } => store.get(d, r, i),
-        Command::Set { r, i, v } => store.set(r, i, v),
-        Command::Nil { d } => store.nil(d),
-        Command::Copy { d, r } => store.copy(d, r),
-        Command::Same { a, b } => store.same(a, b),
-        Command::Len { r } => store.len(r),
-        Command::Poll => store.poll(),
-        Command::Array { .. } | Command::Collect | Command::Leave => Reply::Done,
-    }
-}
-
-/// Claims fragments if the command needs one and none is left, and notes how many.
-fn claim_for(store: &mut Store, history: &mut Vec<Entry>, command: Command) -> Result<(), Memory>
-    ensures ready { OnOk result (ReadiesFor store.old store.new history.old.items history.new.items command) }
-    ensures sets { store.new.sets ≡ store.old.sets }
-{
-    let Command::New { .. } = command else {
-        return Ok(());
-    };
-    let count = store.claim();
-    if count > 0 {
-        history.push(Entry::Takes { seat: 0, count })?;
+    for line in script.lines.as_slice() {
+        let Line::Seat { seat, command } = *line else {
+            continue;
+        };
+        note_call(machine, history, seat, command)?;
     }
     Ok(())
 }
 
-/// Answers a command, and notes what was claimed for it and the reply.
-fn answer(store: &mut Store, history: &mut Vec<Entry>, command: Command) -> Result<(), Memory>
-    requires command { IsCommand command }
-    requires built { is_built_command command ≡ true }
-    requires sets { store.old.sets + 1 < 2 ^ 26 }
-    ensures plays { (heap : AHeap) (read : List ALine) → Playing heap 15 store.old history.old.items read →
-        OnOk result (Playing heap 15 store.new history.new.items (read ++ lines.Seat 0 command ∷ [])) }
-    ensures last { OnOk result (EndsInReply history.new.items) }
-    ensures few { store.new.sets ≤ store.old.sets + 1 }
+/// Lets each seat give back what it has left over and leave, in the order of their numbers, and notes the entries.
+fn leave_all(machine: &mut Machine, history: &mut Vec<Entry>) -> Result<(), Memory>
+    requires played { Played machine.old.heap machine.old.state history.old.items }
+    requires present { ArePresent machine.old.heap machine.old.state }
+    ensures heap { machine.new.heap ≡ machine.old.heap }
+    ensures left { OnOk result (HaveLeft machine.old.heap machine.old.state machine.new.state history.old.items history.new.items machine.old.heap.seats) }
 {
-    claim_for(store, history, command)?;
-    let reply = reply_to(store, command);
-    history.push(Entry::Said {
-        seat: 0,
-        command,
-        reply,
-    })?;
+    for seat in 0..machine.heap().seats {
+        note_call(machine, history, seat, Command::Leave)?;
+    }
     Ok(())
 }
 
-/// What is taken when the script is done.
-fn mark_of(store: &Store, history: &[Entry], heap: &Heap) -> SpaceMark
+/// How many fragments are in use.
+fn in_use(machine: &Machine) -> u64
+    ensures { IsInUse machine.now.heap machine.now.state result }
+{
+    let total = 16 * machine.heap().groups as usize;
+    (total - machine.free()) as u64
+}
+
+/// What is in use when the script is done.
+fn mark_of(machine: &Machine, history: &[Entry]) -> SpaceMark
     ensures before { result.before ≡ length history.now }
-    ensures shows { (read : List ALine) → Playing heap.now 15 store.now history.now read →
-        heap.now.spine ≡ 0 → ShowsCounts heap.now history.now result }
+    ensures used { IsInUse machine.now.heap machine.now.state result.used }
+    ensures total { result.total ≡ 16 * machine.now.heap.groups }
+    ensures spine { result.spine ≡ 0 }
+    ensures budget { result.budget ≡ machine.now.heap.spine }
 {
+    let heap = machine.heap();
     SpaceMark {
         before: history.len(),
-        used: store.end as u64,
+        used: in_use(machine),
         total: 16 * u64::from(heap.groups),
         spine: 0,
-        budget: 0,
+        budget: u64::from(heap.spine),
     }
 }
 
@@ -98,21 +83,17 @@ pub fn play(alloc: Global, script: &Script) -> Result<History, Memory>
     requires built { IsBuilt script.now }
     ensures { IfOk result (IsPlay script.now) }
 {
-    let mut store = Store::new(alloc, script.heap.groups)?;
+    law_every_run();
+    let mut machine = Machine::make(alloc, script.heap)?;
     let mut history = Vec::new(alloc);
-    for line in script.lines.as_slice() {
-        let Line::Seat { command, .. } = *line else {
-            continue;
-        };
-        answer(&mut store, &mut history, command)?;
-    }
-    let mark = mark_of(&store, &history, &script.heap);
-    leave(&store, &mut history)?;
+    answer_lines(&mut machine, &mut history, script)?;
+    let mark = mark_of(&machine, &history);
+    leave_all(&mut machine, &mut history)?;
     Ok(History {
         form: Form::Play,
         heap: script.heap,
         entries: Entries::from_vec(history),
         mark: Some(mark),
-        end_used: store.next as u64,
+        end_used: in_use(&machine),
     })
 }

@@ -1,4 +1,6 @@
 mod judged;
+mod machine;
+mod several_seats;
 
 use crate::status::{Status, status_text};
 use crate::top::schism;
@@ -87,6 +89,24 @@ fn plays_scripts_and_checks_the_plays(rt: HostRuntime) -> Result<(), Fail> {
             "history 1 play\nheap 17 0 1\n0 num 1 1073741823 = ok\n0 set 0 31 1 = was -\n0 nil 1 = ok\n0 get 2 0 31 = number 1073741823 at 0:1\nspace used 11 of 272 spine 0 of 0\n0 leave = ok\nend used 11\n",
             "legal 5\n",
         ),
+        (
+            "schism 1\nheap 1 0 1\n0 new 1 2\n0 new 2 47\n0 len 1\n",
+            Status::Done,
+            "history 1 play\nheap 1 0 1\n0 takes 5\n0 new 1 2 = 0.0\n0 new 2 47 = full need 16 found 4\n0 len 1 = 2\nspace used 16 of 16 spine 0 of 0\n0 gives back 4\n0 leave = ok\nend used 12\n",
+            "legal 6\n",
+        ),
+        (
+            "schism 1\nheap 4 0 1\n0 new 1 47\n0 num 2 9\n0 set 1 46 2\n0 get 3 1 46\n0 set 1 47 2\n",
+            Status::Done,
+            "history 1 play\nheap 4 0 1\n0 takes 5\n0 takes 16\n0 new 1 47 = 0.0\n0 num 2 9 = ok\n0 set 1 46 2 = was -\n0 get 3 1 46 = number 9 at 0:1\n0 set 1 47 2 = no field\nspace used 32 of 64 spine 0 of 0\n0 gives back 5\n0 leave = ok\nend used 27\n",
+            "legal 9\n",
+        ),
+        (
+            "schism 1\nheap 4 0 2\n0 new 1 2\n1 new 1 2\n0 num 2 7\n0 set 0 3 2\n1 get 3 0 3\n1 set 0 3 1\n0 get 4 0 3\n",
+            Status::Done,
+            "history 1 play\nheap 4 0 2\n0 takes 5\n0 new 1 2 = 0.0\n1 takes 16\n1 new 1 2 = 1.0\n0 num 2 7 = ok\n0 set 0 3 2 = was -\n1 get 3 0 3 = number 7 at 0:1\n1 set 0 3 1 = was 0:1\n0 get 4 0 3 = object 1.0 at 1:1\nspace used 32 of 64 spine 0 of 0\n0 gives back 4\n0 leave = ok\n1 gives back 15\n1 leave = ok\nend used 13\n",
+            "legal 13\n",
+        ),
     ] {
         let alloc = rt.alloc();
         let (end, taken) = ended(alloc, &["play"], text.as_bytes(), &[], &[])?;
@@ -103,10 +123,16 @@ fn plays_scripts_and_checks_the_plays(rt: HostRuntime) -> Result<(), Fail> {
 fn refuses_scripts(rt: HostRuntime) -> Result<(), Fail> {
     for (text, line, cause) in [
         (
-            "schism 1\nheap 1 0 1\n0 nil 1\n0 new 1 3\n",
+            "schism 1\nheap 1 0 1\n0 nil 1\n0 array 1 3\n",
             4,
             Cause::Unbuilt,
         ),
+        (
+            "schism 1\nheap 4 0 2\n1 new 1 3\n1 collect\n",
+            4,
+            Cause::Unbuilt,
+        ),
+        ("schism 1\nheap 4 0 2\nc turns 1\n", 3, Cause::Unbuilt),
         ("schism 1\nheap 17 1 1\n0 nil 1\n", 2, Cause::Unbuilt),
         (
             "schism 1\nheap 1 0 1\n0 poll\n0 num 1 01\n",

@@ -1,15 +1,14 @@
 -- The scripts that the program serves so far.
-use Rattle.std.specs.Prelude.{◌≡◌, ℕ, ◌+◌, ◌==◌, ◌&&◌, Bool, true, false, not, nat_le, if◌then◌else◌, All, Option, Some, option_map, position}
+use Rattle.std.specs.Prelude.{◌≡◌, ℕ, ◌+◌, ◌==◌, Bool, true, false, not, if◌then◌else◌, All, Option, Some, option_map, position}
 use Rattle.heap_model.specs.declared.command.Command.{Command}
-use Rattle.heap_model.specs.declared.command.Command.TheVariants.{New, Array, Collect, Leave}
+use Rattle.heap_model.specs.declared.command.Command.TheVariants.{Array, Collect, Leave}
 use Rattle.heap_model.specs.declared.heap.Heap.{Heap}
 use Rattle.script_text.specs.declared.script.Line.{Line}
 use Rattle.script_text.specs.declared.script.Line.TheVariants.{Seat}
 use Rattle.script_text.specs.declared.script.Script.{Script}
 
--- small records, and what takes neither spine words nor a collector
+-- what needs neither spine words nor a collector
 abbrev pub is_built_command : Command → Bool
-is_built_command (New d fields) = nat_le fields 2
 is_built_command (Array d cells) = false
 is_built_command Collect = false
 is_built_command Leave = false
@@ -20,9 +19,9 @@ abbrev pub is_built_line : Line → Bool
 is_built_line (Seat seat command) = is_built_command command
 is_built_line _ = false
 
--- a heap without spine words, for one seat
+-- a heap without spine words
 abbrev pub is_built_heap : Heap → Bool
-is_built_heap heap = heap.spine == 0 && heap.seats == 1
+is_built_heap heap = heap.spine == 0
 
 -- the first line that isn't served: the heap line is the second, and the others follow it
 abbrev pub unbuilt_line : Script → Option ℕ
@@ -32,5 +31,4 @@ unbuilt_line script =
 -- each line of the script is served
 pub record IsBuilt (script : Script) : Type 0 where
   pub spine : script.heap.spine ≡ 0
-  pub seats : script.heap.seats ≡ 1
   pub lines : All (λ line. is_built_line line ≡ true) script.lines

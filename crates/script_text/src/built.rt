@@ -12,11 +12,10 @@ fn is_built(line: &Line) -> bool
     ensures { result ≡ is_built_line line.now }
 {
     match *line {
-        Line::Seat { command, .. } => match command {
-            Command::New { fields, .. } => fields <= 2,
-            Command::Array { .. } | Command::Collect | Command::Leave => false,
-            _ => true,
-        },
+        Line::Seat { command, .. } => !matches!(
+            command,
+            Command::Array { .. } | Command::Collect | Command::Leave
+        ),
         Line::Turns { .. } => false,
     }
 }
@@ -24,7 +23,7 @@ fn is_built(line: &Line) -> bool
 fn has_built_heap(heap: &Heap) -> bool
     ensures { result ≡ is_built_heap heap.now }
 {
-    heap.spine == 0 && heap.seats == 1
+    heap.spine == 0
 }
 
 fn unbuilt_index(lines: &[Line]) -> Option<usize>

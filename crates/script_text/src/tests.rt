@@ -228,8 +228,8 @@ fn most_lines(rt: HostRuntime) -> Result<(), Fail> {
 
 #[test]
 fn built(rt: HostRuntime) -> Result<(), Fail> {
-    let scripts: [(&[u8], Option<u32>); 9] = [
-        (b"schism 1\nheap 4096 0 1\n", None),
+    let scripts: [(&[u8], Option<u32>); 10] = [
+        (b"schism 1\nheap 4096 0 16\n", None),
         (
             b"schism 1\nheap 16 0 1\n0 new 1 2\n0 num 2 9\n0 set 1 1 2\n0 get 3 1 0\n",
             None,
@@ -239,8 +239,9 @@ fn built(rt: HostRuntime) -> Result<(), Fail> {
             None,
         ),
         (b"schism 1\nheap 16 1 1\n0 collect\n", Some(2)),
-        (b"schism 1\nheap 16 0 2\n", Some(2)),
-        (b"schism 1\nheap 16 0 1\n0 new 1 3\n0 collect\n", Some(3)),
+        (b"schism 1\nheap 4 0 2\n0 new 1 47\n1 len 0\n", None),
+        (b"schism 1\nheap 4 0 2\n1 collect\n0 array 1 1\n", Some(3)),
+        (b"schism 1\nheap 16 0 1\n0 new 1 3\n0 collect\n", Some(4)),
         (b"schism 1\nheap 16 0 1\n0 num 2 9\n0 collect\n", Some(4)),
         (b"schism 1\nheap 16 0 1\nc cycle\n0 num 2 9\n", Some(3)),
         (

@@ -1,0 +1,140 @@
+-- What commands do to a seat that is alone on its heap.
+use Rattle.std.proofs.Common.{◌≡◌, ◌≢◌, ℕ, zero, suc, ◌+◌, ◌<◌, ◌≤◌, ◌^◌, Bool, false, List, [], ◌∷◌, ◌++◌, length, get_or, set, map, slice_get, option_map, Option, Some, None, IfSome, refl, sym, ap, ◌∙◌, subst, arith, length-set, append_assoc}
+use Rattle.std.specs.Option.{unwrap_or}
+use Rattle.std.proofs.lemmas.List.{get_or-set_same, get_or-set_other, get_or_past}
+use Rattle.std.proofs.lemmas.Option.{slice_get-map}
+use Rattle.heap_model.specs.declared.id.Id.{Id}
+use Rattle.heap_model.specs.declared.id.Id.TheVariants.{Board, Made}
+use Rattle.heap_model.specs.declared.id.Value.{Value}
+use Rattle.heap_model.specs.declared.id.Value.TheVariants.{Nil, Number, Object}
+use Rattle.heap_model.specs.declared.cell.Cell.{Cell}
+use Rattle.heap_model.specs.declared.command.Command.{Command}
+use Rattle.heap_model.specs.declared.command.Command.TheVariants as commands
+use Rattle.heap_model.specs.declared.reply.Reply.{Reply}
+use Rattle.heap_model.specs.declared.reply.Reply.TheVariants as replies
+use Rattle.heap_model.specs.declared.entry.Entry.{Entry}
+use Rattle.heap_model.specs.declared.entry.Entry.TheVariants.{Said, Takes}
+use Rattle.heap_model.specs.Objects.{party, register, target, nobody}
+use Rattle.heap_model.specs.State.{State, Node, Party, opening, fresh}
+use Rattle.heap_model.specs.Growth.{after_reply}
+use Rattle.heap_model.specs.Changes.{with_party, write, with_cell, with_object_cell, count_set, set_cell}
+use Rattle.heap_model.specs.Space.{taken_of, spent_of}
+use Rattle.heap_model.specs.Needs.{made_by, record_fragments}
+use Rattle.heap_model.specs.SeatState.{SeatState, own_graph}
+use Rattle.heap_model.specs.SeatCalls.{Adds, ComesBefore}
+use Rattle.heap_model.specs.SeatReplies.{LacksFragments}
+use Rattle.log_merge.specs.LoneSeat.{lone_heap, lone_graph, lone_length, IsLoneGraph, IsLone}
+use Rattle.heap_model.proofs.Histories.{graph_after-more, total_of-more}
+
+-- the one seat is another now
+IsLoneGraph-updated : (g : State) (p : Party) {registers : List Value} {lengths : List ℕ} {sets : ℕ} {left : Bool} → length g.seats ≡ 1 → length g.board.cells ≡ 32 → p.registers ≡ registers → map (λ object. length object.cells) p.objects ≡ lengths → p.sets ≡ sets → p.left ≡ left → IsLoneGraph (with_party g 0 p) registers lengths sets left
+IsLoneGraph-updated g p alone board registers lengths sets left =
+    let there : 0 < length g.seats = omega arith in
+    let here : party (with_party g 0 p) 0 ≡ p = get_or-set_same g.seats 0 p nobody there in
+    record {
+      alone = length-set g.seats 0 p ∙ alone;
+      board = board;
+      same_registers = ap (λ (q : Party). q.registers) here ∙ registers;
+      same_lengths = ap (λ (q : Party). map (λ object. length object.cells) q.objects) here ∙ lengths;
+      same_sets = ap (λ (q : Party). q.sets) here ∙ sets;
+      same_left = ap (λ (q : Party). q.left) here ∙ left;
+    }
+
+count_set-lone : (g : State) {registers : List Value} {lengths : List ℕ} {sets : ℕ} {left : Bool} → IsLoneGraph g registers lengths sets left → IsLoneGraph (count_set g 0) registers lengths (sets + 1) left
+count_set-lone g is = IsLoneGraph-updated g _ is.alone is.board is.same_registers is.same_lengths (ap (λ n. n + 1) is.same_sets) is.same_left
+
+-- an element that is put in its own place changes nothing
+map-set_own : {A B : Type 0} (f : A → B) (xs : List A) (i : ℕ) (d y : A) → f y ≡ f (get_or xs i d) → map f (set xs i y) ≡ map f xs
+map-set_own f [] i d y same = refl
+map-set_own f (x ∷ xs) zero d y same = ap (λ z. z ∷ map f xs) same
+map-set_own f (x ∷ xs) (suc i) d y same = ap (λ zs. f x ∷ zs) (map-set_own f xs i d y same)
+
+-- a cell that is set changes no length
+write-lone : (g : State) (value : Value) (i : ℕ) (cell : Cell) {registers : List Value} {lengths : List ℕ} {sets : ℕ} {left : Bool} → IsLoneGraph g registers lengths sets left → IsLoneGraph (write g value i cell) registers lengths sets left
+write-lone g Nil i cell is = is
+write-lone g (Number n) i cell is = is
+write-lone g (Object Board) i cell is = record {
+  alone = is.alone;
+  board = length-set g.board.cells i cell ∙ is.board;
+  same_registers = is.same_registers;
+  same_lengths = is.same_lengths;
+  same_sets = is.same_sets;
+  same_left = is.same_left;
+}
+write-lone g (Object (Made zero count)) i cell is =
+    let old = get_or (party g 0).objects count (fresh false 0) in
+    IsLoneGraph-updated g _ is.alone is.board is.same_registers
+    (map-set_own (λ object. length object.cells) (party g 0).objects count (fresh false 0) (with_cell old i cell) (length-set old.cells i cell) ∙ is.same_lengths)
+    is.same_sets is.same_left
+write-lone g (Object (Made (suc q) count)) i cell is =
+    let new = with_object_cell (party g (suc q)) count i cell in
+    let other : 0 ≢ suc q = λ h. cc in
+    let here : party (with_party g (suc q) new) 0 ≡ party g 0 = get_or-set_other g.seats (suc q) 0 new nobody other in
+    record {
+      alone = length-set g.seats (suc q) new ∙ is.alone;
+      board = is.board;
+      same_registers = ap (λ (p : Party). p.registers) here ∙ is.same_registers;
+      same_lengths = ap (λ (p : Party). map (λ object. length object.cells) p.objects) here ∙ is.same_lengths;
+      same_sets = ap (λ (p : Party). p.sets) here ∙ is.same_sets;
+      same_left = ap (λ (p : Party). p.left) here ∙ is.same_left;
+    }
+
+pub IsLoneGraph-set : (g : State) (r i v : ℕ) {registers : List Value} {lengths : List ℕ} {sets : ℕ} {left : Bool} → IsLoneGraph g registers lengths sets left → IsLoneGraph (set_cell g 0 r i v) registers lengths (sets + 1) left
+IsLoneGraph-set g r i v is = write-lone (count_set g 0) (register g 0 r) i _ (count_set-lone g is)
+
+-- the seat keeps nothing after a reply without an object
+pub IsLone-said : (mine : List Entry) (command : Command) (reply : Reply) {registers registers' : List Value} {lengths lengths' : List ℕ} {sets sets' : ℕ} {left left' : Bool} → IsLone mine registers lengths sets left → made_by command reply ≡ 0 → IsLoneGraph (after_reply (lone_graph mine) 0 command reply) registers' lengths' sets' left' → length lengths' < 2 ^ 32 → sets' < 2 ^ 26 → IsLone (mine ++ Said 0 command reply ∷ []) registers' lengths' sets' left'
+IsLone-said mine command reply {registers} {registers'} {lengths} {lengths'} {sets} {sets'} {left} {left'} is none graph objects few = record {
+  graph = subst (λ g. IsLoneGraph g registers' lengths' sets' left') (sym (graph_after-more (opening lone_heap) mine (Said 0 command reply))) graph;
+  nothing_kept = omega (arith, is.nothing_kept, none, total_of-more 0 (λ e. e.taken) mine (Said 0 command reply), total_of-more 0 (λ e. e.given) mine (Said 0 command reply), total_of-more 0 (λ e. e.born) mine (Said 0 command reply));
+  few_objects = objects;
+  few_sets = few;
+}
+
+-- the lengths are those of the objects that values refer to
+lone_length-target : (g : State) (value : Value) {registers : List Value} {lengths : List ℕ} {sets : ℕ} {left : Bool} → IsLoneGraph g registers lengths sets left → option_map (λ object. length object.cells) (target g value) ≡ lone_length lengths value
+lone_length-target g Nil is = refl
+lone_length-target g (Number n) is = refl
+lone_length-target g (Object Board) is = ap Some is.board
+lone_length-target g (Object (Made zero count)) is =
+    sym (slice_get-map (λ object. length object.cells) (party g 0).objects count) ∙ ap (λ xs. slice_get xs count) is.same_lengths
+lone_length-target g (Object (Made (suc q) count)) is =
+    let past : length g.seats ≤ suc q = omega (arith, is.alone) in
+    ap (λ (p : Party). option_map (λ object. length object.cells) (slice_get p.objects count)) (get_or_past g.seats (suc q) nobody past)
+
+-- what holds of the length of a value's object holds of the object
+pub own_length : (seat : SeatState) (mine : List Entry) (spare : ℕ) {registers : List Value} {lengths : List ℕ} {sets : ℕ} {left : Bool} → record { heap = lone_heap; number = 0; mine = mine; spare = spare } ≡ seat → IsLone mine registers lengths sets left → (value : Value) (P : ℕ → Type 0) → IfSome (lone_length lengths value) P → IfSome (target (own_graph seat) value) (λ object. P (length object.cells))
+own_length seat mine spare {registers} {lengths} same is value P holds =
+    subst (λ (s : SeatState). IfSome (target (own_graph s) value) (λ object. P (length object.cells))) same
+    (of_object (target (lone_graph mine) value) (subst (λ o. IfSome o P) (sym (lone_length-target (lone_graph mine) value is.graph)) holds))
+  where
+    of_object : (object : Option Node) → IfSome (option_map (λ o. length o.cells) object) P → IfSome object (λ o. P (length o.cells))
+    of_object None h = tt
+    of_object (Some object) h = h
+
+pub IfSome-unwrap_or : (o : Option ℕ) (d : ℕ) → IfSome o (λ n. unwrap_or o d ≡ n)
+IfSome-unwrap_or None d = tt
+IfSome-unwrap_or (Some n) d = refl
+
+-- a seat that keeps nothing finds nothing
+pub LacksFragments-none : (old new : SeatState) (d fields need : ℕ) → old.number ≡ 0 → spent_of 0 old.mine ≡ taken_of 0 old.mine → new.mine ≡ old.mine ++ Said 0 (commands.New d fields) (replies.Full need 0) ∷ [] → need ≡ record_fragments fields → LacksFragments old new (record_fragments fields) need 0
+LacksFragments-none old new d fields need number kept mine needed =
+    let said = Said 0 (commands.New d fields) (replies.Full need 0) in
+    let taken : taken_of 0 new.mine ≡ taken_of 0 old.mine = ap (taken_of 0) mine ∙ omega (arith, total_of-more 0 (λ e. e.taken) old.mine said) in
+    let spent : spent_of 0 new.mine ≡ spent_of 0 old.mine =
+    ap (spent_of 0) mine ∙ omega (arith, total_of-more 0 (λ e. e.given) old.mine said, total_of-more 0 (λ e. e.born) old.mine said) in
+    record {
+      needed = needed;
+      too_few = omega (arith, needed);
+      all_found = rw number (omega (arith, kept, taken));
+      given_back = rw number (omega (arith, kept, taken, spent));
+    }
+
+-- an object of what was taken for it
+pub Adds-taken : (old new : SeatState) (count : ℕ) (command : Command) (id : Id) → new.heap ≡ old.heap → new.number ≡ old.number → new.mine ≡ (old.mine ++ Takes old.number count ∷ []) ++ Said old.number command (replies.Made id) ∷ [] → old.spare + length old.mine ≤ new.spare + length new.mine → ComesBefore old.number command (replies.Made id) (Takes old.number count ∷ []) → Adds old new command (replies.Made id)
+Adds-taken old new count command id heap number mine spare comes = record {
+  heap = heap;
+  number = number;
+  entries = (Takes old.number count ∷ [], comes, mine ∙ append_assoc old.mine (Takes old.number count ∷ []) (Said old.number command (replies.Made id) ∷ []));
+  spare = spare;
+}

@@ -1,0 +1,5 @@
+mod calls;
+mod fields;
+mod making;
+mod steps_alike;
+mod turns;
