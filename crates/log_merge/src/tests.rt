@@ -4,6 +4,7 @@ mod graph;
 mod seat_calls;
 
 use crate::{CheckFault, check};
+use heap_model::Entry;
 use reply_text::read_history;
 use script_text::ScriptFault;
 use std::alloc::Global;
@@ -13,6 +14,16 @@ use std::test::Fail;
 fn checked(alloc: Global, text: &str) -> Result<Result<u64, CheckFault>, ScriptFault> {
     let history = read_history(alloc, text.as_bytes())?;
     Ok(check(alloc, &history))
+}
+
+// The one entry that the line is in a play.
+fn entry_of(alloc: Global, line: &str) -> Result<Entry, Fail> {
+    let text = format!(in alloc;
+        "history 1 play\nheap 1 0 16\n{line}\nspace used 0 of 0 spine 0 of 0\nend used 0\n"
+    )?;
+    let history = read_history(alloc, text.as_bytes())?;
+    let entry = history.entries.as_slice().first().copied();
+    Ok(entry.ok_or("no entry")?)
 }
 
 fn illegal(line: u32) -> Result<u64, CheckFault> {

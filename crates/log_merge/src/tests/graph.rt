@@ -1,215 +1,158 @@
-use heap_model::Command::{
-    self, Array, Collect, Copy, Get, Leave, Len, New, Nil, Num, Poll, Same, Set,
-};
-use heap_model::Reply::{
-    self, Cycle, Done, Full, Got, Length, Made, No, NoField, NoObject, Phase, SpineFull, Waits,
-    Was, Yes,
-};
-use heap_model::{ApplyFault, Entry, Graph, Heap, Id, TurnCommand, TurnReply, Value};
+use super::entry_of;
+use heap_model::Command::{self, Array, Collect, Get, Leave, Len, New, Num, Poll, Set};
+use heap_model::Reply::{self, Cycle, Done, Got, Made, NoObject, SpineFull, Was, Yes};
+use heap_model::{ApplyFault, Entry, Graph, Heap, Id, Value};
 use std::test::Fail;
 
 mod reach;
 
 const FIRST: Id = Id::Made { seat: 0, count: 0 };
 
-const SECOND: Id = Id::Made { seat: 0, count: 1 };
-
-const OTHER: Id = Id::Made { seat: 1, count: 0 };
-
-const AT_FIRST: Value = Value::Object(FIRST);
-
-const BOARD: Value = Value::Object(Id::Board);
-
-const RECORD: Command = New { d: 1, fields: 2 };
-
-const ARRAY: Command = Array { d: 2, cells: 5 };
-
-const GET: Command = Get { d: 4, r: 1, i: 0 };
-
-const LOAD: Command = Get { d: 1, r: 0, i: 31 };
-
-const SET: Command = Set { r: 1, i: 0, v: 3 };
-
-const GET_FAR: Command = Get {
-    d: 4,
-    r: 3,
-    i: 4096,
-};
-
-const GET_PAST: Command = Get {
-    d: 4,
-    r: 3,
-    i: 4097,
-};
-
-const NUM: Command = Num {
-    d: 3,
-    n: 1073741823,
-};
-
-const NUM_PAST: Command = Num {
-    d: 3,
-    n: 1073741824,
-};
-
-const NO_ROOM: Reply = Full { need: 16, found: 4 };
-
 const NO_SPINE: Reply = SpineFull { need: 12, used: 0 };
 
-const WAITS: Reply = Waits {
-    seat: 0,
-    answered: 1,
-    phase: 2,
-};
-
-// Stamps: the first seat's two sets are 2^26 + 1 and 2^26 + 2, the second seat's is 2^27 + 1.
+// No set gives the stamp 1.
 const NIL_LATER: Reply = Got {
     value: Value::Nil,
     stamp: 1,
 };
 
-const NIL: Reply = Got {
-    value: Value::Nil,
-    stamp: 0,
-};
-
-const NUMBER_UNSET: Reply = Got {
-    value: Value::Number(1073741823),
-    stamp: 0,
-};
-
-const NUMBER: Reply = Got {
-    value: Value::Number(1073741823),
-    stamp: 67108865,
-};
-
-const RECORD_GOT: Reply = Got {
-    value: AT_FIRST,
-    stamp: 67108866,
-};
-
-const BOARD_GOT: Reply = Got {
-    value: BOARD,
-    stamp: 134217729,
-};
-
-/// A seat, its command, a reply, and whether that reply may stand after those above that may.
-const SAID: [(u8, Command, Reply, bool); 62] = [
-    (0, RECORD, Made(SECOND), false),
-    (0, RECORD, Made(OTHER), false),
-    (0, RECORD, Made(Id::Board), false),
-    (0, RECORD, Done, false),
-    (0, New { d: 0, fields: 2 }, Made(FIRST), false),
-    (0, New { d: 16, fields: 2 }, Made(FIRST), false),
-    (0, New { d: 1, fields: 0 }, Made(FIRST), false),
-    (0, New { d: 1, fields: 48 }, Made(FIRST), false),
-    (0, RECORD, Made(FIRST), true),
-    (0, RECORD, Made(FIRST), false),
-    (0, New { d: 2, fields: 47 }, NO_SPINE, false),
-    (0, New { d: 2, fields: 47 }, NO_ROOM, true),
-    (0, Array { d: 2, cells: 4096 }, NO_SPINE, true),
-    (0, Array { d: 2, cells: 4097 }, NO_SPINE, false),
-    (0, ARRAY, NO_ROOM, true),
-    (0, Len { r: 2 }, NoObject, true),
-    (0, ARRAY, Made(SECOND), true),
-    (0, Len { r: 2 }, Length(5), true),
-    (0, Len { r: 2 }, Length(4), false),
-    (0, Len { r: 2 }, NoObject, false),
-    (0, Len { r: 0 }, Length(32), true),
-    (0, Len { r: 3 }, Length(0), false),
-    (0, Len { r: 16 }, NoObject, false),
-    (0, NUM_PAST, Done, false),
-    (0, NUM, Yes, false),
-    (0, NUM, Done, true),
-    (0, GET, NIL_LATER, false),
-    (0, GET, NIL, true),
-    (0, SET, Was(1), false),
-    (0, SET, Done, false),
-    (0, SET, Was(0), true),
-    (0, SET, Was(0), false),
-    (0, GET, NUMBER_UNSET, false),
-    (0, GET, NUMBER, true),
-    (0, Same { a: 3, b: 4 }, No, false),
-    (0, Same { a: 3, b: 4 }, Yes, true),
-    (0, Same { a: 1, b: 2 }, Yes, false),
-    (0, Same { a: 1, b: 2 }, No, true),
-    (0, Get { d: 4, r: 1, i: 2 }, NoObject, false),
-    (0, Get { d: 4, r: 1, i: 2 }, NoField, true),
-    (0, GET_FAR, NoField, false),
-    (0, GET_FAR, NoObject, true),
-    (0, GET_PAST, NoObject, false),
-    (0, Set { r: 0, i: 32, v: 2 }, NoField, true),
-    (0, Set { r: 0, i: 31, v: 1 }, Was(0), true),
-    (1, LOAD, RECORD_GOT, true),
-    (1, Set { r: 1, i: 0, v: 0 }, Was(67108865), true),
-    (0, GET, BOARD_GOT, true),
-    (1, Copy { d: 2, r: 1 }, Done, true),
-    (1, Nil { d: 1 }, Done, true),
-    (1, Len { r: 1 }, NoObject, true),
-    (1, Len { r: 2 }, Length(2), true),
-    (1, Poll, Phase(7), true),
-    (1, Poll, Cycle(1), false),
-    (1, Collect, Cycle(1), true),
-    (1, Collect, WAITS, true),
-    (1, Collect, Done, false),
-    (2, Poll, Phase(7), false),
-    (0, Leave, Yes, false),
-    (0, Leave, Done, true),
-    (0, Leave, Done, false),
-    (0, Poll, Phase(7), false),
+/// A command out of its range, or a reply that it can't have. No history has such a line. With another reply, or in its
+/// range, each may stand first.
+const UNWRITTEN: [(Command, Reply); 17] = [
+    (New { d: 1, fields: 2 }, Done),
+    (New { d: 0, fields: 2 }, Made(FIRST)),
+    (New { d: 16, fields: 2 }, Made(FIRST)),
+    (New { d: 1, fields: 0 }, Made(FIRST)),
+    (New { d: 1, fields: 48 }, Made(FIRST)),
+    (New { d: 2, fields: 47 }, NO_SPINE),
+    (Array { d: 2, cells: 4097 }, NO_SPINE),
+    (Get { d: 4, r: 0, i: 0 }, NIL_LATER),
+    (
+        Get {
+            d: 4,
+            r: 3,
+            i: 4097,
+        },
+        NoObject,
+    ),
+    (Set { r: 0, i: 0, v: 3 }, Done),
+    (Set { r: 0, i: 0, v: 3 }, Was(1)),
+    (
+        Num {
+            d: 3,
+            n: 1073741824,
+        },
+        Done,
+    ),
+    (Num { d: 3, n: 7 }, Yes),
+    (Len { r: 16 }, NoObject),
+    (Poll, Cycle(1)),
+    (Collect, Done),
+    (Leave, Yes),
 ];
 
-/// An entry, and whether it may stand where the first of two seats has left.
-const OTHERS: [(Entry, bool); 12] = [
-    (Entry::Takes { seat: 0, count: 1 }, false),
-    (Entry::Takes { seat: 1, count: 1 }, true),
-    (Entry::Takes { seat: 2, count: 1 }, false),
-    (Entry::GivesBack { seat: 0, count: 1 }, false),
-    (Entry::GivesBack { seat: 1, count: 1 }, true),
-    (Entry::Answers { seat: 1, phase: 1 }, true),
-    (Entry::Answers { seat: 2, phase: 1 }, false),
-    (Entry::Advance(1), true),
-    (Entry::Frees(3), true),
-    (Entry::Swings(SECOND), true),
-    (Entry::Ends { cycle: 0, kept: 14 }, true),
-    (
-        Entry::Turned {
-            command: TurnCommand::Cycle,
-            reply: TurnReply::Cycle(0),
-        },
-        true,
-    ),
+/// An entry, and whether it may stand after those above that may. The heap has two seats.
+const ENTRIES: &[&str] = &[
+    "0 new 1 2 = 0.1 => not legal",
+    "0 new 1 2 = 1.0 => not legal",
+    "0 new 1 2 = board => not legal",
+    "0 new 1 2 = 0.0 => legal",
+    "0 new 1 2 = 0.0 => not legal",
+    "0 new 2 47 = full need 16 found 4 => legal",
+    "0 array 2 4096 = spine need 12 used 0 => legal",
+    "0 array 2 5 = full need 16 found 4 => legal",
+    "0 len 2 = no object => legal",
+    "0 array 2 5 = 0.1 => legal",
+    "0 len 2 = 5 => legal",
+    "0 len 2 = 4 => not legal",
+    "0 len 2 = no object => not legal",
+    "0 len 0 = 32 => legal",
+    "0 len 3 = 0 => not legal",
+    "0 num 3 1073741823 = ok => legal",
+    "0 get 4 1 0 = nil at 0:1 => not legal",
+    "0 get 4 1 0 = nil at - => legal",
+    "0 set 1 0 3 = was 0:1 => not legal",
+    "0 set 1 0 3 = was - => legal",
+    "0 set 1 0 3 = was - => not legal",
+    "0 get 4 1 0 = number 1073741823 at - => not legal",
+    "0 get 4 1 0 = number 1073741823 at 0:1 => legal",
+    "0 same 3 4 = no => not legal",
+    "0 same 3 4 = yes => legal",
+    "0 same 1 2 = yes => not legal",
+    "0 same 1 2 = no => legal",
+    "0 get 4 1 2 = no object => not legal",
+    "0 get 4 1 2 = no field => legal",
+    "0 get 4 3 4096 = no field => not legal",
+    "0 get 4 3 4096 = no object => legal",
+    "0 set 0 32 2 = no field => legal",
+    "0 set 0 31 1 = was - => legal",
+    "1 get 1 0 31 = object 0.0 at 0:2 => legal",
+    "1 set 1 0 0 = was 0:1 => legal",
+    "0 get 4 1 0 = object board at 1:1 => legal",
+    "1 copy 2 1 = ok => legal",
+    "1 nil 1 = ok => legal",
+    "1 len 1 = no object => legal",
+    "1 len 2 = 2 => legal",
+    "1 poll = 7 => legal",
+    "1 collect = cycle 1 => legal",
+    "1 collect = waits 0 answered 1 phase 2 => legal",
+    "2 poll = 7 => not legal",
+    "0 leave = ok => legal",
+    "0 leave = ok => not legal",
+    "0 poll = 7 => not legal",
+    // From here on the first seat has left.
+    "0 takes 1 => not legal",
+    "1 takes 1 => legal",
+    "2 takes 1 => not legal",
+    "0 gives back 1 => not legal",
+    "1 gives back 1 => legal",
+    "1 answers 1 => legal",
+    "2 answers 1 => not legal",
+    "c phase 1 => legal",
+    "c frees 3 => legal",
+    "c swings 0.1 => legal",
+    "c ends 0 kept 14 => legal",
+    "c cycle = cycle 0 => legal",
 ];
 
 #[test]
-fn accepts_what_a_growing_heap_says(rt: HostRuntime) -> Result<(), Fail> {
+fn accepts_no_other_commands_and_replies(rt: HostRuntime) -> Result<(), Fail> {
     let heap = Heap::make(1, 0, 2).ok_or("the limits")?;
     let mut graph = Graph::new(rt.alloc(), heap)?;
-    for (seat, command, reply, legal) in SAID {
+    for (command, reply) in UNWRITTEN {
         let given = graph.apply(&Entry::Said {
-            seat,
+            seat: 0,
             command,
             reply,
         });
-        let wanted = if legal {
-            Ok(())
-        } else {
-            Err(ApplyFault::NotLegal)
-        };
-        assert_eq!(rt; given, wanted, "seat {seat}: {command:?} = {reply:?}");
+        assert_eq!(rt; given, Err(ApplyFault::NotLegal), "{command:?} = {reply:?}");
     }
-    for (entry, legal) in OTHERS {
-        let wanted = if legal {
+    Ok(())
+}
+
+#[test]
+fn accepts_what_a_growing_heap_says(rt: HostRuntime) -> Result<(), Fail> {
+    let alloc = rt.alloc();
+    let heap = Heap::make(1, 0, 2).ok_or("the limits")?;
+    let mut graph = Graph::new(alloc, heap)?;
+    for line in ENTRIES {
+        let (line, verdict) = line.split_once(" => ").ok_or("an entry has a verdict")?;
+        let wanted = if verdict == "legal" {
             Ok(())
         } else {
             Err(ApplyFault::NotLegal)
         };
-        assert_eq!(rt; graph.apply(&entry), wanted, "{entry:?}");
+        let given = graph.apply(&entry_of(alloc, line)?);
+        assert_eq!(rt; given, wanted, "{line}");
     }
     assert_eq!(rt; graph.seats(), 2);
-    assert_eq!(rt; graph.value(0, 0), Value::Nil);
-    assert_eq!(rt; graph.value(1, 0), BOARD);
-    assert_eq!(rt; graph.value(1, 1), Value::Nil);
-    assert_eq!(rt; graph.value(1, 2), AT_FIRST);
+    for (seat, register, value) in [
+        (0, 0, Value::Nil),
+        (1, 0, Value::Object(Id::Board)),
+        (1, 1, Value::Nil),
+        (1, 2, Value::Object(FIRST)),
+    ] {
+        assert_eq!(rt; graph.value(seat, register), value);
+    }
     Ok(())
 }
