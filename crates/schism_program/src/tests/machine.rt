@@ -1,5 +1,6 @@
 mod calls;
 mod fields;
 mod making;
-mod steps_alike;
+mod texts;
+mod trial;
 mod turns;

@@ -1,203 +1,137 @@
-use super::calls::{
-    begin, call, get_of, log, machine_of, old_of, record_of, shade, steps, swap, turn, walk, word,
-};
-use core_machine::{Address, ReachingStep, Step};
-use heap_model::{Command, Entry, Id, Reply, Value};
+use super::trial::tries;
 use std::test::Fail;
 
 /// A record of twelve fields in the fragments 11 to 15: its last field is reached by three links.
+const LAST_FIELD: &[&str] = &[
+    "0 new 1 12 => 0 takes 5; 0 new 1 12 = 0.0",
+    "0 num 2 5 => 0 num 2 5 = ok",
+    "0 begin set 1 11 2 => true",
+    "0 step => walk 11 found c000000c0000000c",
+    "0 step => walk 12 found 8000000d00000000",
+    "0 step => walk 13 found 8000000e00000000",
+    "0 step => walk 14 found 8000000f00000000",
+    "0 step => swap 15.1 4000000504000001 found 0; 0 set 1 11 2 = was -",
+    "0 begin get 3 1 11 => true",
+    "0 step => walk 11 found c000000c0000000c",
+    "0 step => walk 12 found 8000000d00000000",
+    "0 step => walk 13 found 8000000e00000000",
+    "0 step => walk 14 found 8000000f00000000",
+    "0 step => get 15.1 found 4000000504000001; 0 get 3 1 11 = number 5 at 0:1",
+];
+
 #[test]
 fn walks_to_the_last_field(rt: HostRuntime) -> Result<(), Fail> {
-    let mut machine = machine_of(rt.alloc(), 1, 0, 1)?;
-    let made = Reply::Made(Id::Made { seat: 0, count: 0 });
-    assert_eq!(rt; call(&mut machine, 0, &record_of(12))?, made);
-    let num = Command::Num { d: 2, n: 5 };
-    assert_eq!(rt; call(&mut machine, 0, &num)?, Reply::Done);
-    let way = [
-        (walk(11), 0xc000_000c_0000_000c),
-        (walk(12), 0x8000_000d_0000_0000),
-        (walk(13), 0x8000_000e_0000_0000),
-        (walk(14), 0x8000_000f_0000_0000),
-    ];
-    begin(&mut machine, 0, &Command::Set { r: 1, i: 11, v: 2 })?;
-    steps(&mut machine, 0, &way)?;
-    steps(&mut machine, 0, &[(swap(15, 1, 0x4000_0005_0400_0001), 0)])?;
-    begin(&mut machine, 0, &Command::Get { d: 3, r: 1, i: 11 })?;
-    steps(&mut machine, 0, &way)?;
-    steps(&mut machine, 0, &[(get_of(15, 1), 0x4000_0005_0400_0001)])?;
-    let entries = log(&machine, 0)?;
-    let set = Entry::Said {
-        seat: 0,
-        command: Command::Set { r: 1, i: 11, v: 2 },
-        reply: Reply::Was(0),
-    };
-    let get = Entry::Said {
-        seat: 0,
-        command: Command::Get { d: 3, r: 1, i: 11 },
-        reply: Reply::Got {
-            value: Value::Number(5),
-            stamp: 0x0400_0001,
-        },
-    };
-    assert_eq!(rt; entries.get(3).copied(), Some(set));
-    assert_eq!(rt; entries.get(4).copied(), Some(get));
-    Ok(())
+    tries(&rt, (1, 0, 1), LAST_FIELD)
 }
 
 /// The first fields stand beside the head's name, the third in the second fragment's first cell.
+const PLACES: &[&str] = &[
+    "0 new 1 6 => 0 takes 5; 0 new 1 6 = 0.0",
+    "0 begin get 2 1 0 => true",
+    "0 step => walk 11 found c00000060000000c",
+    "0 step => get 11.2 found 0; 0 get 2 1 0 = nil at -",
+    "0 begin get 2 1 1 => true",
+    "0 step => walk 11 found c00000060000000c",
+    "0 step => get 11.3 found 0; 0 get 2 1 1 = nil at -",
+    "0 begin get 2 1 2 => true",
+    "0 step => walk 11 found c00000060000000c",
+    "0 step => get 12.1 found 0; 0 get 2 1 2 = nil at -",
+    "0 begin get 2 1 3 => true",
+    "0 step => walk 11 found c00000060000000c",
+    "0 step => get 12.2 found 0; 0 get 2 1 3 = nil at -",
+    "0 begin get 2 1 4 => true",
+    "0 step => walk 11 found c00000060000000c",
+    "0 step => get 12.3 found 0; 0 get 2 1 4 = nil at -",
+    "0 begin get 2 1 5 => true",
+    "0 step => walk 11 found c00000060000000c",
+    "0 step => walk 12 found 8000000d00000000",
+    "0 step => get 13.1 found 0; 0 get 2 1 5 = nil at -",
+];
+
 #[test]
 fn finds_each_field_in_its_place(rt: HostRuntime) -> Result<(), Fail> {
-    let mut machine = machine_of(rt.alloc(), 1, 0, 1)?;
-    call(&mut machine, 0, &record_of(6))?;
-    for (i, row, part) in [
-        (0, 0, 2),
-        (1, 0, 3),
-        (2, 1, 1),
-        (3, 1, 2),
-        (4, 1, 3),
-        (5, 2, 1),
-    ] {
-        begin(&mut machine, 0, &Command::Get { d: 2, r: 1, i })?;
-        steps(&mut machine, 0, &[(walk(11), 0xc000_0006_0000_000c)])?;
-        if row == 2 {
-            steps(&mut machine, 0, &[(walk(12), 0x8000_000d_0000_0000)])?;
-        }
-        steps(&mut machine, 0, &[(get_of(11 + row, part), 0)])?;
-    }
-    Ok(())
+    tries(&rt, (1, 0, 1), PLACES)
 }
 
 /// A get of an object waits for its name: until then the seat's own list lacks its entry.
+const NAMED: &[&str] = &[
+    "0 new 1 2 => 0 takes 5; 0 new 1 2 = 0.0",
+    "0 nil 2 => 0 nil 2 = ok",
+    "0 set 1 0 2 => 0 set 1 0 2 = was -",
+    "0 begin set 1 0 1 => true",
+    "0 step => walk 11 found c000000200000000",
+    "0 step => swap 11.2 8000000b04000002 found 4000001; 0 set 1 0 1 = was 0:1",
+    "0 begin get 4 1 0 => true",
+    "0 step => walk 11 found c000000200000000",
+    "0 step => get 11.2 found 8000000b04000002",
+    "0 step => name 11 found c000000100000000; 0 get 4 1 0 = object 0.0 at 0:2",
+];
+
 #[test]
 fn waits_for_a_name(rt: HostRuntime) -> Result<(), Fail> {
-    let mut machine = machine_of(rt.alloc(), 1, 0, 1)?;
-    call(&mut machine, 0, &record_of(2))?;
-    call(&mut machine, 0, &Command::Nil { d: 2 })?;
-    call(&mut machine, 0, &Command::Set { r: 1, i: 0, v: 2 })?;
-    begin(&mut machine, 0, &Command::Set { r: 1, i: 0, v: 1 })?;
-    steps(
-        &mut machine,
-        0,
-        &[
-            (walk(11), 0xc000_0002_0000_0000),
-            (swap(11, 2, 0x8000_000b_0400_0002), 0x0400_0001),
-        ],
-    )?;
-    let command = Command::Get { d: 4, r: 1, i: 0 };
-    begin(&mut machine, 0, &command)?;
-    steps(
-        &mut machine,
-        0,
-        &[
-            (walk(11), 0xc000_0002_0000_0000),
-            (get_of(11, 2), 0x8000_000b_0400_0002),
-        ],
-    )?;
-    let entries = log(&machine, 0)?.len();
-    let name = Step::Reaching(ReachingStep::NameLoad { head: 11 });
-    steps(&mut machine, 0, &[(name, 0xc000_0001_0000_0000)])?;
-    let reply = Reply::Got {
-        value: Value::Object(Id::Made { seat: 0, count: 0 }),
-        stamp: 0x0400_0002,
-    };
-    let entry = Entry::Said {
-        seat: 0,
-        command,
-        reply,
-    };
-    assert_eq!(rt; log(&machine, 0)?.get(entries).copied(), Some(entry));
-    assert_eq!(rt; log(&machine, 0)?.len(), entries + 1);
-    Ok(())
+    tries(&rt, (1, 0, 1), NAMED)
 }
 
-/// Local commands, and refusals.
+/// Local commands, and refusals. The reserve of 4 is given back before the seat leaves, and it begins nothing more.
+const LOCAL: &[&str] = &[
+    "0 new 1 2 => 0 takes 5; 0 new 1 2 = 0.0",
+    "0 len 0 => 0 len 0 = 32",
+    "0 len 1 => 0 len 1 = 2",
+    "0 len 2 => 0 len 2 = no object",
+    "0 get 3 2 0 => 0 get 3 2 0 = no object",
+    "0 set 2 4096 0 => 0 set 2 4096 0 = no object",
+    "0 get 3 1 2 => 0 get 3 1 2 = no field",
+    "0 set 1 2 0 => 0 set 1 2 0 = no field",
+    "0 num 2 7 => 0 num 2 7 = ok",
+    "0 num 3 8 => 0 num 3 8 = ok",
+    "0 same 2 3 => 0 same 2 3 = no",
+    "0 num 3 7 => 0 num 3 7 = ok",
+    "0 same 2 3 => 0 same 2 3 = yes",
+    "0 len 2 => 0 len 2 = no object",
+    "0 same 0 1 => 0 same 0 1 = no",
+    "0 copy 4 1 => 0 copy 4 1 = ok",
+    "0 same 4 1 => 0 same 4 1 = yes",
+    "0 nil 4 => 0 nil 4 = ok",
+    "0 same 4 5 => 0 same 4 5 = yes",
+    "0 same 4 2 => 0 same 4 2 = no",
+    "0 poll => 0 poll = 0",
+    "0 leave => 0 gives back 4; 0 leave = ok",
+    "0 begin poll => false",
+    "answer 0 => ffffffffffffffff at 1",
+    "control 0 => fff0fff at 19",
+];
+
 #[test]
 fn answers_by_the_registers_alone(rt: HostRuntime) -> Result<(), Fail> {
-    let mut machine = machine_of(rt.alloc(), 1, 0, 1)?;
-    call(&mut machine, 0, &record_of(2))?;
-    for (command, reply) in [
-        (Command::Len { r: 0 }, Reply::Length(32)),
-        (Command::Len { r: 1 }, Reply::Length(2)),
-        (Command::Len { r: 2 }, Reply::NoObject),
-        (Command::Get { d: 3, r: 2, i: 0 }, Reply::NoObject),
-        (
-            Command::Set {
-                r: 2,
-                i: 4096,
-                v: 0,
-            },
-            Reply::NoObject,
-        ),
-        (Command::Get { d: 3, r: 1, i: 2 }, Reply::NoField),
-        (Command::Set { r: 1, i: 2, v: 0 }, Reply::NoField),
-        (Command::Num { d: 2, n: 7 }, Reply::Done),
-        (Command::Num { d: 3, n: 8 }, Reply::Done),
-        (Command::Same { a: 2, b: 3 }, Reply::No),
-        (Command::Num { d: 3, n: 7 }, Reply::Done),
-        (Command::Same { a: 2, b: 3 }, Reply::Yes),
-        (Command::Len { r: 2 }, Reply::NoObject),
-        (Command::Same { a: 0, b: 1 }, Reply::No),
-        (Command::Copy { d: 4, r: 1 }, Reply::Done),
-        (Command::Same { a: 4, b: 1 }, Reply::Yes),
-        (Command::Nil { d: 4 }, Reply::Done),
-        (Command::Same { a: 4, b: 5 }, Reply::Yes),
-        (Command::Same { a: 4, b: 2 }, Reply::No),
-        (Command::Poll, Reply::Phase(0)),
-        (Command::Leave, Reply::Done),
-    ] {
-        assert_eq!(rt; call(&mut machine, 0, &command)?, reply);
-    }
-    // The reserve of 4 was given back before the seat left, and it begins nothing more.
-    assert!(rt; !machine.may_begin(0, &Command::Poll));
-    let gives = Entry::GivesBack { seat: 0, count: 4 };
-    assert!(rt; log(&machine, 0)?.iter().any(|entry| *entry == gives));
-    assert_eq!(rt; word(&machine, Address::Answer(0))?, 0xffff_ffff_ffff_ffff);
-    assert_eq!(rt; word(&machine, Address::Control(0))?, 0x0000_0000_0fff_0fff);
-    Ok(())
+    tries(&rt, (1, 0, 1), LOCAL)
 }
 
-/// With the barrier on a set loads the old value, shades it and the new one where they are objects, and then swaps.
+/// With the barrier on a set loads the old value, shades it and the new one where they are objects, and then swaps. The
+/// record is the fragment 11.
+const BARRIER: &[&str] = &[
+    "0 new 1 2 => 0 takes 5; 0 new 1 2 = 0.0",
+    "c turn => stepped",
+    "c turn => stepped; c phase 1",
+    "0 poll => 0 answers 1; 0 poll = 1",
+    "0 begin set 1 1 0 => true",
+    "0 step => walk 11 found c000000200000000",
+    "0 step => old 11.3 found 0",
+    "0 step => shade 0 found fffffff",
+    "0 step => swap 11.3 8000000004000001 found 0; 0 set 1 1 0 = was -",
+    "0 begin set 1 1 1 => true",
+    "0 step => walk 11 found c000000200000000",
+    "0 step => old 11.3 found 8000000004000001",
+    "0 step => shade 0 found 10fffffff",
+    "0 step => shade 11 found 10fffffff",
+    "0 step => swap 11.3 8000000b04000002 found 8000000004000001; 0 set 1 1 1 = was 0:1",
+    "0 begin set 1 1 2 => true",
+    "0 step => walk 11 found c000000200000000",
+    "0 step => old 11.3 found 8000000b04000002",
+    "0 step => shade 11 found 8010fffffff",
+    "0 step => swap 11.3 4000003 found 8000000b04000002; 0 set 1 1 2 = was 0:2",
+];
+
 #[test]
 fn shades_behind_the_barrier(rt: HostRuntime) -> Result<(), Fail> {
-    let mut machine = machine_of(rt.alloc(), 2, 0, 1)?;
-    call(&mut machine, 0, &record_of(2))?; // fragment 11
-    turn(&mut machine)?;
-    turn(&mut machine)?;
-    call(&mut machine, 0, &Command::Poll)?;
-    let (meta, control) = (0xc000_0002_0000_0000, 0x0fff_ffff);
-    begin(&mut machine, 0, &Command::Set { r: 1, i: 1, v: 0 })?;
-    steps(
-        &mut machine,
-        0,
-        &[
-            (walk(11), meta),
-            (old_of(11, 3), 0),
-            (shade(0), control),
-            (swap(11, 3, 0x8000_0000_0400_0001), 0),
-        ],
-    )?;
-    let control = control + (1 << 32);
-    begin(&mut machine, 0, &Command::Set { r: 1, i: 1, v: 1 })?;
-    steps(
-        &mut machine,
-        0,
-        &[
-            (walk(11), meta),
-            (old_of(11, 3), 0x8000_0000_0400_0001),
-            (shade(0), control),
-            (shade(11), control),
-            (swap(11, 3, 0x8000_000b_0400_0002), 0x8000_0000_0400_0001),
-        ],
-    )?;
-    begin(&mut machine, 0, &Command::Set { r: 1, i: 1, v: 2 })?;
-    steps(
-        &mut machine,
-        0,
-        &[
-            (walk(11), meta),
-            (old_of(11, 3), 0x8000_000b_0400_0002),
-            (shade(11), control + (1 << 43)),
-            (swap(11, 3, 0x0400_0003), 0x8000_000b_0400_0002),
-        ],
-    )
+    tries(&rt, (2, 0, 1), BARRIER)
 }

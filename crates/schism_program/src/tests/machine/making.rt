@@ -1,209 +1,157 @@
-use super::calls::{begin, call, has_word, log, machine_of, record_of, step, steps, store};
-use super::steps_alike::same;
-use core_machine::{Address, Machine, MakingStep, Step};
-use heap_model::{Command, Entry, Id, Reply};
+use super::trial::tries;
 use std::test::Fail;
 
-/// Where each word stands in the table, and what it is at the opening.
+/// Where each word stands in the table, and what it is at the opening: the seats 0 and 1 have answered phase 0 and no other
+/// seat is there, no spine word is granted and the next stands first in half 0, and the board is in the fragments 0 to 10.
+const OPENING: &[&str] = &[
+    "free => 21",
+    "phase => 0 at 0",
+    "answer 0 => 0 at 1",
+    "answer 1 => 0 at 2",
+    "answer 2 => ffffffffffffffff at 3",
+    "answer 15 => ffffffffffffffff at 16",
+    "budget => 0 at 17",
+    "spot => c000000000000000 at 18",
+    "control 0 => 7ff07ff at 19",
+    "control 1 => 0 at 20",
+    "word 0 0 => c000002000000001 at 21",
+    "word 0 1 => c000000000000000 at 22",
+    "word 0 2 => 0 at 23",
+    "word 1 0 => 8000000200000000 at 25",
+    "word 9 0 => 8000000a00000000 at 57",
+    "word 10 0 => 0 at 61",
+    "word 11 0 => 0 at 65",
+    "spine 7 1 => 0 at 164",
+];
+
 #[test]
 fn opens_with_the_board(rt: HostRuntime) -> Result<(), Fail> {
-    let machine = machine_of(rt.alloc(), 2, 4, 2)?;
-    let heap = machine.heap();
-    assert_eq!(rt; machine.free(), 21);
-    let part = |fragment: u16, part: u8| Address::Word { fragment, part };
-    for (address, index, word) in [
-        (Address::Phase, 0, 0),
-        (Address::Answer(0), 1, 0), // seat 0 answered it
-        (Address::Answer(1), 2, 0), // seat 1 too
-        (Address::Answer(2), 3, 0xffff_ffff_ffff_ffff), // number 2 has left
-        (Address::Answer(15), 16, 0xffff_ffff_ffff_ffff), // number 15 has left
-        (Address::Budget, 17, 0), // no spine word is granted
-        (Address::Spot, 18, 0xc000_0000_0000_0000), // the next stands first in half 0
-        (Address::Control(0), 19, 0x0000_0000_07ff_07ff), // the board's fragments in group 0
-        (Address::Control(1), 20, 0),
-        (part(0, 0), 21, 0xc000_0020_0000_0001), // the board's meta
-        (part(0, 1), 22, 0xc000_0000_0000_0000), // its name
-        (part(0, 2), 23, 0), // its field 0
-        (part(1, 0), 25, 0x8000_0002_0000_0000), // the link from fragment 1
-        (part(9, 0), 21 + 4 * 9, 0x8000_000a_0000_0000), // from fragment 9
-        (part(10, 0), 21 + 4 * 10, 0), // and from the last
-        (part(11, 0), 21 + 4 * 11, 0),
-        (LAST, 18 + 65 * 2 + 4 * 4, 0),
-    ] {
-        assert!(rt; has_word(&heap, &address), "word {index}");
-        assert_eq!(rt; address.index(&heap), index);
-        assert_eq!(rt; machine.word(address), word, "word {index}");
-    }
-    Ok(())
+    tries(&rt, (2, 4, 2), OPENING)
 }
 
-/// The last word of a heap of four spine words.
-const LAST: Address = Address::Spine { half: 1, offset: 7 };
+/// The reserve of 4, the fragments 12 to 15, stands where a record of 16 fragments is refused; a record of eleven fields is
+/// then stored there without a claim.
+const ONE_FRAGMENT: &[&str] = &[
+    "0 new 1 2 => 0 takes 5; 0 new 1 2 = 0.0",
+    "0 new 2 47 => 0 new 2 47 = full need 16 found 4",
+    "0 begin new 1 11 => true",
+    "0 step => store 12.0 c000000b0000000d found 0",
+    "0 step => store 12.1 c000000100000001 found 0",
+    "0 step => store 12.2 0 found 0",
+    "0 step => store 12.3 0 found 0",
+    "0 step => store 13.0 8000000e00000000 found 0",
+    "0 step => store 13.1 0 found 0",
+    "0 step => store 13.2 0 found 0",
+    "0 step => store 13.3 0 found 0",
+    "0 step => store 14.0 8000000f00000000 found 0",
+    "0 step => store 14.1 0 found 0",
+    "0 step => store 14.2 0 found 0",
+    "0 step => store 14.3 0 found 0",
+    "0 step => store 15.0 0 found 0",
+    "0 step => store 15.1 0 found 0",
+    "0 step => store 15.2 0 found 0",
+    "0 step => store 15.3 0 found 0",
+    "0 step => last birth 0 f000 white found fffffff; 0 new 1 11 = 0.1",
+];
 
 #[test]
 fn makes_a_record_of_one_fragment(rt: HostRuntime) -> Result<(), Fail> {
-    let mut machine = machine_of(rt.alloc(), 1, 0, 1)?;
-    let id = Id::Made { seat: 0, count: 0 };
-    let command = Command::New { d: 1, fields: 2 };
-    assert_eq!(rt; call(&mut machine, 0, &command)?, Reply::Made(id));
-
-    // The reserve of 4 stands where a record of 16 fragments is refused.
-    let large = Command::New { d: 2, fields: 47 };
-    let full = Reply::Full { need: 16, found: 4 };
-    assert_eq!(rt; call(&mut machine, 0, &large)?, full);
-    let entries = [
-        Entry::Takes { seat: 0, count: 5 },
-        Entry::Said {
-            seat: 0,
-            command,
-            reply: Reply::Made(id),
-        },
-        Entry::Said {
-            seat: 0,
-            command: large,
-            reply: full,
-        },
-    ];
-    assert_eq!(rt; log(&machine, 0)?, entries.as_slice());
-    uses_the_reserve(&mut machine, 0, 0xc000_0001_0000_0001)
-}
-
-/// The seat's reserve is the fragments 12 to 15: a record of eleven fields, which gets this name, is stored there without a claim.
-fn uses_the_reserve(machine: &mut Machine, seat: u8, name: u64) -> Result<(), Fail> {
-    begin(machine, seat, &record_of(11))?;
-    for (fragment, words) in [
-        (12, [0xc000_000b_0000_000d, name, 0, 0]),
-        (13, [0x8000_000e_0000_0000, 0, 0, 0]),
-        (14, [0x8000_000f_0000_0000, 0, 0, 0]),
-        (15, [0, 0, 0, 0]),
-    ] {
-        for (part, word) in (0..4).zip(words) {
-            steps(machine, seat, &[(store(fragment, part, word), 0)])?;
-        }
-    }
-    let birth = MakingStep::LastBirth {
-        group: 0,
-        bits: 0xf000,
-        black: false,
-    };
-    steps(machine, seat, &[(Step::Making(birth), 0x0fff_ffff)])
+    tries(&rt, (1, 0, 1), ONE_FRAGMENT)
 }
 
 #[test]
 fn makes_the_longest_record(rt: HostRuntime) -> Result<(), Fail> {
-    let mut machine = machine_of(rt.alloc(), 4, 0, 1)?;
-    let reply = Reply::Made(Id::Made { seat: 0, count: 0 });
-    assert_eq!(rt; call(&mut machine, 0, &record_of(47))?, reply);
-    let entries = [
-        Entry::Takes { seat: 0, count: 5 },
-        Entry::Takes { seat: 0, count: 16 },
-        Entry::Said {
-            seat: 0,
-            command: record_of(47),
-            reply,
-        },
-    ];
-    assert_eq!(rt; log(&machine, 0)?, entries.as_slice());
-    Ok(())
+    let longest = "0 new 1 47 => 0 takes 5; 0 takes 16; 0 new 1 47 = 0.0";
+    tries(&rt, (4, 0, 1), &[longest])
 }
 
 #[test]
 fn gives_back_what_is_too_little(rt: HostRuntime) -> Result<(), Fail> {
-    let mut machine = machine_of(rt.alloc(), 1, 8, 1)?;
-    let reply = Reply::Full { need: 16, found: 5 };
-    assert_eq!(rt; call(&mut machine, 0, &record_of(47))?, reply);
-    let entries = [
-        Entry::Takes { seat: 0, count: 5 },
-        Entry::GivesBack { seat: 0, count: 5 },
-        Entry::Said {
-            seat: 0,
-            command: record_of(47),
-            reply,
-        },
-    ];
-    assert_eq!(rt; log(&machine, 0)?, entries.as_slice());
-    Ok(())
+    let refused = "0 new 1 47 => 0 takes 5; 0 gives back 5; 0 new 1 47 = full need 16 found 5";
+    tries(&rt, (1, 8, 1), &[refused])
 }
 
-/// Two seats on two groups, whose steps alternate as written: which seat steps, its step, and the word found.
+/// Two seats on two groups, whose steps alternate as written.
+const BY_TURNS: &[&str] = &[
+    "0 begin new 1 2 => true",
+    "1 begin new 1 6 => true",
+    "0 step => claim 0 found 7ff07ff; 0 takes 5",
+    "1 step => claim 1 found 0; 1 takes 16",
+    "0 step => store 11.0 c000000200000000 found 0",
+    "1 step => store 16.0 c000000600000011 found 0",
+    "1 step => store 16.1 c000000200000000 found 0",
+    "0 step => store 11.1 c000000100000000 found 0",
+    "0 step => store 11.2 0 found 0",
+    "0 step => store 11.3 0 found 0",
+    "1 step => store 16.2 0 found 0",
+    "1 step => store 16.3 0 found 0",
+    "1 step => store 17.0 8000001200000000 found 0",
+    "0 step => last birth 0 800 white found 7ffffff; 0 new 1 2 = 0.0",
+    "1 step => store 17.1 0 found 0",
+    "1 step => store 17.2 0 found 0",
+    "1 step => store 17.3 0 found 0",
+    "1 step => store 18.0 0 found 0",
+    "1 step => store 18.1 0 found 0",
+    "1 step => store 18.2 0 found 0",
+    "1 step => store 18.3 0 found 0",
+    "1 step => last birth 1 7 white found ffff; 1 new 1 6 = 1.0",
+];
+
 #[test]
 fn steps_seats_by_turns(rt: HostRuntime) -> Result<(), Fail> {
-    let mut machine = machine_of(rt.alloc(), 2, 0, 2)?;
-    begin(&mut machine, 0, &record_of(2))?;
-    begin(&mut machine, 1, &record_of(6))?;
-    let claim = |group: u16| Step::Making(MakingStep::Claim { group });
-    let last = |group: u16, bits: u16| {
-        Step::Making(MakingStep::LastBirth {
-            group,
-            bits,
-            black: false,
-        })
-    };
-    for (seat, wanted, word) in [
-        (0, claim(0), 0x07ff_07ff),
-        (1, claim(1), 0),
-        (0, store(11, 0, 0xc000_0002_0000_0000), 0),
-        (1, store(16, 0, 0xc000_0006_0000_0011), 0),
-        (1, store(16, 1, 0xc000_0002_0000_0000), 0),
-        (0, store(11, 1, 0xc000_0001_0000_0000), 0),
-        (0, store(11, 2, 0), 0),
-        (0, store(11, 3, 0), 0),
-        (1, store(16, 2, 0), 0),
-        (1, store(16, 3, 0), 0),
-        (1, store(17, 0, 0x8000_0012_0000_0000), 0),
-        (0, last(0, 0x0800), 0x07ff_ffff),
-        (1, store(17, 1, 0), 0),
-        (1, store(17, 2, 0), 0),
-        (1, store(17, 3, 0), 0),
-        (1, store(18, 0, 0), 0),
-        (1, store(18, 1, 0), 0),
-        (1, store(18, 2, 0), 0),
-        (1, store(18, 3, 0), 0),
-        (1, last(1, 0x0007), 0x0000_ffff),
-    ] {
-        let (due, found) = step(&mut machine, seat)?;
-        assert!(rt; same(&due, &wanted));
-        assert_eq!(rt; found, word);
-    }
-    Ok(())
+    tries(&rt, (2, 0, 2), BY_TURNS)
 }
 
-/// A gather that begins at the last group and wraps to the first, and births from the last group back to the first.
+/// A gather that begins at the last group and wraps to the first, and births from the last group back to the first. The
+/// first record takes 13 fragments of group 1, so that 3 are left; the second has 4, the 3 and one of group 0. The rest of
+/// group 0, the fragments 12 to 15, is the reserve, and the cursor is group 0: there the claims of the record after the
+/// next begin.
+const WRAPPED: &[&str] = &[
+    "1 new 1 38 => 1 takes 16; 1 new 1 38 = 1.0",
+    "1 begin new 1 11 => true",
+    "1 step => claim 1 found 1fffffff",
+    "1 step => claim 0 found 7ff07ff; 1 takes 5",
+    "1 step => store 29.0 c000000b0000001e found 0",
+    "1 step => store 29.1 c000000200000001 found 0",
+    "1 step => store 29.2 0 found 0",
+    "1 step => store 29.3 0 found 0",
+    "1 step => store 30.0 8000001f00000000 found 0",
+    "1 step => store 30.1 0 found 0",
+    "1 step => store 30.2 0 found 0",
+    "1 step => store 30.3 0 found 0",
+    "1 step => store 31.0 8000000b00000000 found 0",
+    "1 step => store 31.1 0 found 0",
+    "1 step => store 31.2 0 found 0",
+    "1 step => store 31.3 0 found 0",
+    "1 step => store 11.0 0 found 0",
+    "1 step => store 11.1 0 found 0",
+    "1 step => store 11.2 0 found 0",
+    "1 step => store 11.3 0 found 0",
+    "1 step => birth 0 800 white found 7ffffff",
+    "1 step => last birth 1 e000 white found 1fffffff; 1 new 1 11 = 1.1",
+    "1 begin new 1 11 => true",
+    "1 step => store 12.0 c000000b0000000d found 0",
+    "1 step => store 12.1 c000000200000002 found 0",
+    "1 step => store 12.2 0 found 0",
+    "1 step => store 12.3 0 found 0",
+    "1 step => store 13.0 8000000e00000000 found 0",
+    "1 step => store 13.1 0 found 0",
+    "1 step => store 13.2 0 found 0",
+    "1 step => store 13.3 0 found 0",
+    "1 step => store 14.0 8000000f00000000 found 0",
+    "1 step => store 14.1 0 found 0",
+    "1 step => store 14.2 0 found 0",
+    "1 step => store 14.3 0 found 0",
+    "1 step => store 15.0 0 found 0",
+    "1 step => store 15.1 0 found 0",
+    "1 step => store 15.2 0 found 0",
+    "1 step => store 15.3 0 found 0",
+    "1 step => last birth 0 f000 white found fffffff; 1 new 1 11 = 1.2",
+    "1 begin new 1 2 => true",
+    "1 step => claim 0 found ffffffff",
+];
+
 #[test]
 fn wraps_at_the_last_group(rt: HostRuntime) -> Result<(), Fail> {
-    let mut machine = machine_of(rt.alloc(), 2, 0, 2)?;
-    call(&mut machine, 1, &record_of(38))?; // 13 fragments of group 1: 3 are left
-    begin(&mut machine, 1, &record_of(11))?; // 4 fragments: the 3, and one of group 0
-    let (claim, found) = step(&mut machine, 1)?;
-    assert!(rt; same(&claim, &Step::Making(MakingStep::Claim { group: 1 })));
-    assert_eq!(rt; found, 0x1fff_ffff);
-    let (claim, found) = step(&mut machine, 1)?;
-    assert!(rt; same(&claim, &Step::Making(MakingStep::Claim { group: 0 })));
-    assert_eq!(rt; found, 0x07ff_07ff);
-    for _ in 0..16 {
-        step(&mut machine, 1)?;
-    }
-    let (birth, found) = step(&mut machine, 1)?;
-    let first = MakingStep::Birth {
-        group: 0,
-        bits: 0x0800,
-        black: false,
-    };
-    assert!(rt; same(&birth, &Step::Making(first)));
-    assert_eq!(rt; found, 0x07ff_ffff);
-    let (birth, found) = step(&mut machine, 1)?;
-    let last = MakingStep::LastBirth {
-        group: 1,
-        bits: 0xe000,
-        black: false,
-    };
-    assert!(rt; same(&birth, &Step::Making(last)));
-    assert_eq!(rt; found, 0x1fff_ffff);
-    // The reserve is the rest of group 0, which is the cursor: the claims of the record after the next begin there.
-    uses_the_reserve(&mut machine, 1, 0xc000_0002_0000_0002)?;
-    begin(&mut machine, 1, &record_of(2))?;
-    let (claim, found) = step(&mut machine, 1)?;
-    assert!(rt; same(&claim, &Step::Making(MakingStep::Claim { group: 0 })));
-    assert_eq!(rt; found, 0xffff_ffff);
-    Ok(())
+    tries(&rt, (2, 0, 2), WRAPPED)
 }

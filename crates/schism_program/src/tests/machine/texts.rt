@@ -1,0 +1,79 @@
+use core_machine::{AnsweringStep, MakingStep, ReachingStep, Step, TurningStep};
+use heap_model::Turn;
+use std::alloc::{AllocError, Global};
+
+/// A step and the word that it found. Bits and words stand in hexadecimal digits.
+pub(super) fn step_text(alloc: Global, step: &Step, found: u64) -> Result<String, AllocError> {
+    let step = match *step {
+        Step::PollLoad => format!(in alloc; "load the phase")?,
+        Step::Making(step) => making_text(alloc, step)?,
+        Step::Reaching(step) => reaching_text(alloc, step)?,
+        Step::Answering(step) => answering_text(alloc, step)?,
+        Step::Turning(step) => turning_text(alloc, step)?,
+    };
+    format!(in alloc; "{step} found {found:x}")
+}
+
+fn making_text(alloc: Global, step: MakingStep) -> Result<String, AllocError> {
+    match step {
+        MakingStep::Claim { group } => format!(in alloc; "claim {group}"),
+        MakingStep::GiveBack { group, bits } => format!(in alloc; "give back {group} {bits:x}"),
+        MakingStep::NewbornStore {
+            fragment,
+            part,
+            word,
+        } => format!(in alloc; "store {fragment}.{part} {word:x}"),
+        MakingStep::Birth { group, bits, black } => {
+            format!(in alloc; "birth {group} {bits:x} {}", colour(black))
+        }
+        MakingStep::LastBirth { group, bits, black } => {
+            format!(in alloc; "last birth {group} {bits:x} {}", colour(black))
+        }
+    }
+}
+
+fn colour(black: bool) -> &'static str {
+    if black { "black" } else { "white" }
+}
+
+fn reaching_text(alloc: Global, step: ReachingStep) -> Result<String, AllocError> {
+    match step {
+        ReachingStep::WalkLoad { fragment } => format!(in alloc; "walk {fragment}"),
+        ReachingStep::NameLoad { head } => format!(in alloc; "name {head}"),
+        ReachingStep::GetLoad { fragment, part } => format!(in alloc; "get {fragment}.{part}"),
+        ReachingStep::OldLoad { fragment, part } => format!(in alloc; "old {fragment}.{part}"),
+        ReachingStep::Shade { fragment } => format!(in alloc; "shade {fragment}"),
+        ReachingStep::Swap {
+            fragment,
+            part,
+            word,
+        } => format!(in alloc; "swap {fragment}.{part} {word:x}"),
+    }
+}
+
+fn answering_text(alloc: Global, step: AnsweringStep) -> Result<String, AllocError> {
+    match step {
+        AnsweringStep::AnswerStore { seat, phase } => format!(in alloc; "answer {seat} {phase}"),
+        AnsweringStep::LeaveStore { seat } => format!(in alloc; "leave {seat}"),
+    }
+}
+
+fn turning_text(alloc: Global, step: TurningStep) -> Result<String, AllocError> {
+    match step {
+        TurningStep::LookLoad { seat } => format!(in alloc; "look {seat}"),
+        TurningStep::AdvanceStore { phase } => format!(in alloc; "advance {phase}"),
+    }
+}
+
+/// What a turn of the collector came to.
+pub(super) fn turn_text(alloc: Global, turn: &Turn) -> Result<String, AllocError> {
+    match *turn {
+        Turn::Stepped => format!(in alloc; "stepped"),
+        Turn::Waits {
+            seat,
+            answered,
+            phase,
+        } => format!(in alloc; "waits for {seat} at {answered} of {phase}"),
+        Turn::Ended { cycle, kept } => format!(in alloc; "ended {cycle} kept {kept}"),
+    }
+}

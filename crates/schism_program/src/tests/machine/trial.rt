@@ -1,0 +1,138 @@
+//! What is done on a machine and what is found there, as texts.
+
+use super::calls::{begin, call, log, machine_of, step, turn, word};
+use super::texts::{step_text, turn_text};
+use core_machine::{Address, Machine};
+use heap_model::{Command, Entry};
+use reply_text::render_entry;
+use script_text::{Form, Line, read_script};
+use std::alloc::Global;
+use std::process::Abort;
+use std::str;
+use std::test::Fail;
+
+/// Each line of a trial is "DEED => FOUND". A deed is one of these:
+///
+/// - `SEAT COMMAND`, a whole call, and `SEAT begin COMMAND`, where nothing more is done;
+/// - `PARTY step`, its due step; the collector is the party `c`;
+/// - `c turn`, a turn of the collector;
+/// - `free`, how many fragments nobody has, and `phase`;
+/// - a word, where it stands in the table and what it is: `answer SEAT`, `budget`, `spot`, `control GROUP`,
+///   `word FRAGMENT PART` and `spine OFFSET HALF`.
+///
+/// Of what a party did the entries are found too that it added. Words and bits stand in hexadecimal digits.
+pub(super) fn tries(
+    rt: &(impl Abort + AllocGlobal),
+    sizes: (u16, u16, u8),
+    lines: &[&str],
+) -> Result<(), Fail> {
+    let alloc = rt.alloc();
+    let (groups, spine, seats) = sizes;
+    let mut machine = machine_of(alloc, groups, spine, seats)?;
+    for line in lines {
+        let (deed, wanted) = line.split_once(" => ").ok_or("a deed has a finding")?;
+        let found = found(alloc, &mut machine, deed)?;
+        assert_eq!(rt; found.as_str(), wanted, "{line}");
+    }
+    Ok(())
+}
+
+/// What comes of the deed.
+fn found(alloc: Global, machine: &mut Machine, deed: &str) -> Result<String, Fail> {
+    if deed == "free" {
+        return Ok(format!(in alloc; "{}", machine.free())?);
+    }
+    if let Some(address) = address_of(deed) {
+        let (index, word) = word(machine, address)?;
+        return Ok(format!(in alloc; "{word:x} at {index}")?);
+    }
+    let (party, words) = deed.split_once(' ').ok_or("a party does something")?;
+    let party = if party == "c" {
+        machine.heap().seats
+    } else {
+        number(party)?
+    };
+    let before = log(machine, party)?.len();
+    let mut text = done(alloc, machine, party, words)?;
+    for entry in log(machine, party)?.iter().skip(before) {
+        if !text.is_empty() {
+            text.push_str("; ")?;
+        }
+        let line = render_entry(alloc, entry)?;
+        text.push_str(str::from_utf8(&line).ok().ok_or("no text")?)?;
+    }
+    Ok(text)
+}
+
+/// What the party does, and what comes of it but for its entries.
+fn done(alloc: Global, machine: &mut Machine, party: u8, words: &str) -> Result<String, Fail> {
+    if words == "step" {
+        let (step, found) = step(machine, party)?;
+        return Ok(step_text(alloc, &step, found)?);
+    }
+    if words == "turn" {
+        return Ok(turn_text(alloc, &turn(machine)?)?);
+    }
+    if let Some(command) = words.strip_prefix("begin ") {
+        let command = command_of(alloc, command)?;
+        let begun = begin(machine, party, &command)?;
+        return Ok(format!(in alloc; "{begun}")?);
+    }
+    let command = command_of(alloc, words)?;
+    let said = Entry::Said {
+        seat: party,
+        command,
+        reply: call(machine, party, &command)?,
+    };
+    if log(machine, party)?.last() == Some(&said) {
+        Ok(String::new(alloc))
+    } else {
+        Err("the last entry is another".into())
+    }
+}
+
+/// The command that these words are in a script, where no seat leaves.
+fn command_of(alloc: Global, words: &str) -> Result<Command, Fail> {
+    if words == "leave" {
+        return Ok(Command::Leave);
+    }
+    let text = format!(in alloc; "schism 1\nheap 1 0 1\n0 {words}\n")?;
+    let script = read_script(alloc, text.as_bytes(), Form::Play)?;
+    match script.lines.as_slice().first() {
+        Some(Line::Seat { command, .. }) => Ok(*command),
+        _ => Err("no command".into()),
+    }
+}
+
+fn address_of(words: &str) -> Option<Address> {
+    match words {
+        "phase" => return Some(Address::Phase),
+        "budget" => return Some(Address::Budget),
+        "spot" => return Some(Address::Spot),
+        _ => (),
+    }
+    let (kind, place) = words.split_once(' ')?;
+    let (first, second) = place.split_once(' ').unwrap_or((place, "0"));
+    numbered(kind, first.parse().ok()?, second.parse().ok()?)
+}
+
+/// The address of this kind with these numbers, of which some kinds have only the first.
+fn numbered(kind: &str, first: u16, second: u8) -> Option<Address> {
+    match kind {
+        "answer" => u8::try_from(first).ok().map(Address::Answer),
+        "control" => Some(Address::Control(first)),
+        "word" => Some(Address::Word {
+            fragment: first,
+            part: second,
+        }),
+        "spine" => Some(Address::Spine {
+            half: second,
+            offset: first.into(),
+        }),
+        _ => None,
+    }
+}
+
+fn number(word: &str) -> Result<u8, Fail> {
+    Ok(word.parse::<u8>().ok().ok_or("a number of a seat")?)
+}
