@@ -116,29 +116,42 @@ pub none_due : (due : Option Step) → ((step : Step) → due ≡ Some step → 
 none_due None not_ = refl
 none_due (Some step) not_ = absurd (not_ step refl)
 
+-- a loop that has no step left has none due
+pub none_left : {heap : Heap} (now : MachineValue) (number : ℕ) {due : Option Step} → now.heap ≡ heap → due ≡ due_step now.heap number (seat_at now.state number)
+    → ((step : Step) → due ≡ Some step → ⊥) → due_step heap number (seat_at now.state number) ≡ None
+none_left now number same is not_ =
+    ap (λ h. due_step h number (seat_at now.state number)) (sym same) ∙ sym is ∙ none_due _ not_
+
 -- a call that is over was made whole, and its last entry tells the answer
-pub call_over : (heap : Heap) (old : State) (now : MachineValue) (number : ℕ) (command : Command) (reply : Reply) → Playing heap old now.state number command
-    → due_step heap number (seat_at now.state number) ≡ None → last_reply (log_of now number) ≡ Some reply
-    → PlaysCall heap old now.state number command reply × CountsCall (seat_at old number) (seat_at now.state number) command × (command ≡ Leave → TellsLeave old now.state number) × (IsRecord command → AnswersNew heap old now.state number command reply) × (IsPlaceRefusal reply → LeavesAll old now.state number)
-call_over heap old now number command reply playing none last =
+pub record CallOver (heap : Heap) (old now : State) (number : ℕ) (command : Command) (reply : Reply) : Type 0 where
+  pub steps : PlaysCall heap old now number command reply
+  pub counts : CountsCall (seat_at old number) (seat_at now number) command
+  pub leave : command ≡ Leave → TellsLeave old now number
+  pub answer : IsRecord command → AnswersNew heap old now number command reply
+  pub refused : IsPlaceRefusal reply → LeavesAll old now number
+
+pub call_over : {heap : Heap} {old : State} (now : MachineValue) {number : ℕ} {command : Command} {reply : Reply} → Playing heap old now.state number command
+    → due_step heap number (seat_at now.state number) ≡ None → last_reply (log_of now number) ≡ Some reply → CallOver heap old now.state number command reply
+call_over {heap} {old} now {number} {command} {reply} playing none last =
     let answer = answered heap old now.state number command playing none in
     let ended = over heap old now.state number command playing none in
     let told = ap last_reply (log_of_seat now number playing.within) ∙ replied heap old now.state number command playing none in
-    let same : answer.reply ≡ reply = some_same answer.reply reply (sym told ∙ last) in (
-      subst (PlaysCall heap old now.state number command) same (plays_call heap old now.state number command playing none),
-      ended.counts,
-      (λ a_leave. all_mine heap old now.state number command playing none ∙ ap (λ (l : List Entry). (seat_at old number).mine ++ l) (ended.leave a_leave)),
-      (λ a_record. subst (AnswersNew heap old now.state number command) same (answer.answer a_record)),
-      (λ refusal. answer.refused (subst IsPlaceRefusal (sym same) refusal)),
-    )
+    let same : answer.reply ≡ reply = some_same answer.reply reply (sym told ∙ last) in
+    record {
+      steps = subst (PlaysCall heap old now.state number command) same (plays_call heap old now.state number command playing none);
+      counts = ended.counts;
+      leave = λ a_leave. all_mine heap old now.state number command playing none ∙ ap (λ (l : List Entry). (seat_at old number).mine ++ l) (ended.leave a_leave);
+      answer = λ a_record. subst (AnswersNew heap old now.state number command) same (answer.answer a_record);
+      refused = λ refusal. answer.refused (subst IsPlaceRefusal (sym same) refusal);
+    }
   where
     some_same : (a b : Reply) → Some a ≡ Some b → a ≡ b
     some_same a b e = cc
 
 -- and so it tells some reply
-pub call_replies : (heap : Heap) (old : State) (now : MachineValue) (number : ℕ) (command : Command) → Playing heap old now.state number command
+pub call_replies : {heap : Heap} {old : State} (now : MachineValue) {number : ℕ} {command : Command} → Playing heap old now.state number command
     → due_step heap number (seat_at now.state number) ≡ None → last_reply (log_of now number) ≡ None → ⊥
-call_replies heap old now number command playing none last =
+call_replies {heap} {old} now {number} {command} playing none last =
     no_reply (answered heap old now.state number command playing none).reply
     (sym (ap last_reply (log_of_seat now number playing.within) ∙ replied heap old now.state number command playing none) ∙ last)
   where

@@ -1,5 +1,5 @@
 -- A seat's own data go on fitting together in the calls that look at the phase, answer it, or leave.
-use Rattle.std.proofs.Common.{suc, ◌≡◌, ◌≢◌, ℕ, ◌+◌, ◌/◌, ◌^◌, ◌<◌, ◌≤◌, false, List, [], length, replicate, inl, inr, refl, subst, sym, ◌∙◌, arith}
+use Rattle.std.proofs.Common.{suc, ◌≡◌, ◌≢◌, ℕ, ◌+◌, ◌/◌, ◌^◌, ◌<◌, ◌≤◌, Bool, true, false, List, [], length, replicate, inl, inr, refl, subst, sym, ◌∙◌, arith}
 use Rattle.std.specs.List.{All}
 use Rattle.std.proofs.lemmas.Bool.Decides.{eqb_tells, leb_tells}
 use Rattle.std.proofs.lemmas.List.{length-set, get_or_past, length-replicate}
@@ -16,7 +16,7 @@ use Rattle.core_machine.specs.Seat.{Seat}
 use Rattle.core_machine.specs.Telling.{local_registers, told}
 use Rattle.core_machine.specs.Polling.{roots, shades_on, phase_found, shaded_more, answer_stored, emptied, parted}
 use Rattle.core_machine.specs.FitsReaching.{HasNoWay}
-use Rattle.core_machine.specs.Fits.{FitsRegister, FitsAnswer, IsAtRest, Fits, FitsPlace, FitsWay}
+use Rattle.core_machine.specs.Fits.{FitsRegister, FitsAnswer, IsAtRest, IsGone, Fits, FitsPlace, FitsWay}
 use Rattle.core_machine.proofs.Aside.{IsAside, gone_aside}
 use Rattle.core_machine.specs.declared.place.Place.{Place}
 
@@ -42,11 +42,15 @@ local_whole registers (commands.Nil d) = length-set registers d Nil
 local_whole registers (commands.Copy d r) = length-set registers d (register_in registers r)
 local_whole registers _ = refl
 
--- the reply of a local command was told
-pub fits_local : (heap : Heap) (seat : Seat) → Fits heap seat → IsAside heap seat → IsAtRest seat → IsCommand seat.command → Fits heap (told seat)
-fits_local heap seat fits aside rest range = record {
-  registers_whole = local_whole seat.registers seat.command ∙ fits.registers_whole;
-  registers_fit = local_fit heap seat.registers seat.command range fits.registers_fit;
+-- the seat after a call that leaves these registers
+abbrev over : Seat → List Register → Bool → Seat
+over seat registers left = record seat { registers = registers; left = left; place = places.Idle }
+
+fits_over : (heap : Heap) (seat : Seat) (registers : List Register) (left : Bool) → Fits heap seat → IsAside heap seat → IsAtRest seat → length registers ≡ 16
+    → All (FitsRegister heap) registers → (left ≡ true → IsGone (over seat registers left)) → Fits heap (over seat registers left)
+fits_over heap seat registers left fits aside rest whole fit gone = record {
+  registers_whole = whole;
+  registers_fit = fit;
   cursor_within = fits.cursor_within;
   small_reserve = fits.small_reserve;
   reserve_of_cursor = fits.reserve_of_cursor;
@@ -58,8 +62,14 @@ fits_local heap seat fits aside rest range = record {
   at_place = rest;
   way_at_place = aside.nowhere;
   answer_at_place = aside.silent;
-  gone = gone_aside aside.present;
+  gone = gone;
 }
+
+-- the reply of a local command was told
+pub fits_local : (heap : Heap) (seat : Seat) → Fits heap seat → IsAside heap seat → IsAtRest seat → IsCommand seat.command → Fits heap (told seat)
+fits_local heap seat fits aside rest range =
+    fits_over heap seat (local_registers seat.registers seat.command) seat.left fits aside rest (local_whole seat.registers seat.command ∙ fits.registers_whole)
+    (local_fit heap seat.registers seat.command range fits.registers_fit) (gone_aside aside.present)
 
 -- a call that answers the phase leaves these alone
 pub record Polls (heap : Heap) (seat : Seat) : Type 0 where
@@ -157,19 +167,5 @@ nils_fit heap n = All-replicate (FitsRegister heap) n Nil tt
 
 -- the seat has left
 pub fits_parted : (heap : Heap) (seat : Seat) → Fits heap seat → IsAside heap seat → IsAtRest seat → seat.reserve ≡ [] → Fits heap (parted seat)
-fits_parted heap seat fits aside rest empty = record {
-  registers_whole = length-replicate 16 Nil;
-  registers_fit = nils_fit heap 16;
-  cursor_within = fits.cursor_within;
-  small_reserve = fits.small_reserve;
-  reserve_of_cursor = fits.reserve_of_cursor;
-  hand_within = fits.hand_within;
-  body_within = fits.body_within;
-  reached_within = aside.reached_within;
-  loaded_within = aside.loaded_within;
-  asked_small = aside.asked_small;
-  at_place = rest;
-  way_at_place = aside.nowhere;
-  answer_at_place = aside.silent;
-  gone = λ left. record { idle = refl; no_reserve = empty };
-}
+fits_parted heap seat fits aside rest empty =
+    fits_over heap seat (replicate 16 Nil) true fits aside rest (length-replicate 16 Nil) (nils_fit heap 16) (λ left. record { idle = refl; no_reserve = empty })

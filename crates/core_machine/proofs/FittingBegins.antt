@@ -68,9 +68,6 @@ module _ (heap : Heap) (seat : Seat) (command : Command) (fits : Fits heap seat)
   local_none registers (commands.Len r) names none = none
   local_none registers _ names none = absurd names
 
-  commanded : Seat
-  commanded = record seat { command = command }
-
   fits_opened : (register : Register) → NamesObject command → register_in seat.registers (object_of command) ≡ register
       → Fits heap (opened (record seat { command = command }) register)
   fits_opened Nil names is = fits_telling (local_none seat.registers command names (ap head_of is))

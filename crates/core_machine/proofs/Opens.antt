@@ -26,17 +26,6 @@ use Rattle.core_machine.proofs.Leading.{record_leads, zero_leads}
 use Rattle.core_machine.specs.Value.{IsMachine}
 use Rattle.core_machine.proofs.Addresses.{index_within, length-put, at-put_same, at-put_other}
 
--- no number has left yet
-pub with_left-none : (heap : Heap) (a : Address) (word : ℕ) → with_left heap heap.seats a word ≡ word
-with_left-none heap (Answer number) word =
-    elim (leb_tells (suc number) heap.seats) as (λ _. with_left heap heap.seats (Answer number) word ≡ word) [ inl has ↦ rw has.0 refl | inr lacks ↦ rw lacks.0 refl ]
-with_left-none heap Phase word = refl
-with_left-none heap Budget word = refl
-with_left-none heap Spot word = refl
-with_left-none heap (Control group) word = refl
-with_left-none heap (Word fragment part) word = refl
-with_left-none heap (Spine half offset) word = refl
-
 -- another number hasn't
 with_left-other : (heap : Heap) (n number word : ℕ) → number ≢ n → with_left heap n (Answer number) word ≡ with_left heap (n + 1) (Answer number) word
 with_left-other heap n number word other =
@@ -63,16 +52,6 @@ with_left-more heap words n Spot word table past within there is = at-put_other 
 with_left-more heap words n (Control group) word table past within there is = at-put_other heap words (Answer n) (Control group) LEFT within there (λ e. cc) ∙ is
 with_left-more heap words n (Word fragment part) word table past within there is = at-put_other heap words (Answer n) (Word fragment part) LEFT within there (λ e. cc) ∙ is
 with_left-more heap words n (Spine half offset) word table past within there is = at-put_other heap words (Answer n) (Spine half offset) LEFT within there (λ e. cc) ∙ is
-
--- none of the board's words is written yet
-pub with_board-none : (a : Address) (word : ℕ) → with_board 0 a word ≡ word
-with_board-none (Answer number) word = refl
-with_board-none Phase word = refl
-with_board-none Budget word = refl
-with_board-none Spot word = refl
-with_board-none (Control group) word = refl
-with_board-none (Word fragment part) word = rw (le-ltb (4 * fragment + part) 0 (omega arith)) refl
-with_board-none (Spine half offset) word = refl
 
 -- the next of the board's words
 abbrev pub next_word : ℕ → ℕ

@@ -207,10 +207,6 @@ module _ (heap : Heap) (old : State) (number : ℕ) (command : Command) (now : S
   leave_makes_none : the_seat.command ≡ commands.Leave → IsRecord the_seat.command → ⊥
   leave_makes_none leaves a_record = rw leaves at a_record
 
-  shades_stage : (new : State) (seat : Seat) (more : List Entry) → seat.command ≡ command
-      → Stage heap old new number command (told_ ++ []) (with_entries (shades_on seat) more) (with_entries (shades_on seat) more).place
-  shades_stage new seat more same = same
-
   stage_polling : (place : Polling) → FitsPolling the_seat place → the_seat.command ≡ command → Leads (polling_move number the_seat place)
   stage_polling Asking is same = by (eqb (found_by heap now (poll_move number the_seat).step) the_seat.answered) where
     by : (known : Bool) → Stage heap old (stepped heap now number (poll_move number the_seat)) number command

@@ -3,11 +3,10 @@ use Rattle.std.proofs.Common.{◌≡◌, ℕ, List, refl, subst, sym, ap, ◌∙
 use Rattle.heap_model.specs.declared.heap.Heap.{Heap}
 use Rattle.core_machine.specs.declared.step.Step.{Step}
 use Rattle.core_machine.specs.Collector.{Collector, next_turn, collector_after, MayTurn}
-use Rattle.core_machine.specs.Layout.{put, InTable}
+use Rattle.core_machine.specs.Layout.{put}
 use Rattle.core_machine.specs.Operation.{address_of, written}
 use Rattle.core_machine.specs.Machine.{found_by, after, Turns}
 use Rattle.core_machine.specs.Value.{SeatWithRoom, MachineValue, IsMachine}
-use Rattle.core_machine.proofs.FittingTurns.{turn_in_table}
 use Rattle.core_machine.proofs.Parties.{state_of}
 use Rattle.core_machine.proofs.Runs.{machine_after}
 
@@ -38,7 +37,3 @@ module _ (heap : Heap) (words : List ℕ) (parties : List SeatWithRoom) (collect
   pub turn_machine : (now : List ℕ) (next : Collector) → MayTurn collector collector.stage → state_of now parties next ≡ after heap (state_of words parties collector) Turns
       → IsMachine heap (state_of words parties collector) → IsMachine heap (state_of now parties next)
   turn_machine now next may state machine = subst (IsMachine heap) (sym state) (machine_after heap (state_of words parties collector) Turns machine may)
-
-  -- the turn's step touches a word of the table
-  pub turn_within : (step : Step) → due ≡ step → IsMachine heap (state_of words parties collector) → InTable heap (address_of step)
-  turn_within step same machine = subst (λ (s : Step). InTable heap (address_of s)) same (turn_in_table heap collector machine.limits machine.collector_fit)

@@ -10,9 +10,7 @@ pub mod NoteLemmas
 pub mod Noting
 pub mod Opening
 pub mod OrderLemmas
-pub mod Refusals
 pub mod SearchLemmas
-pub mod SeatLemmas
 pub mod SeatsMore
 pub mod Snoc
 pub mod SwungLemmas

@@ -1,6 +1,5 @@
 mod LineLemmas
 mod LegalLemmas
 mod PassingLemmas
-mod SpelledLemmas
 mod TotalLemmas
 pub mod LoneLemmas

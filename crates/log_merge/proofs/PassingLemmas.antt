@@ -8,7 +8,7 @@ use Rattle.reply_text.specs.declared.line.HistoryLine.{HistoryLine}
 use Rattle.reply_text.specs.History.{body, space_line}
 use Rattle.log_merge.specs.declared.checker.Checker.{Checker}
 use Rattle.log_merge.specs.Legal.{ShowsCounts}
-use Rattle.log_merge.specs.Lines.{entry_of, entries_of, IsFirstIllegal, KeepsLine, KeepLines, BreaksAt}
+use Rattle.log_merge.specs.Lines.{entry_of, entries_of, IsFirstIllegal, KeepsLine, KeepLines}
 use Rattle.log_merge.specs.declared.fault.CheckFault.{CheckFault}
 use Rattle.log_merge.specs.declared.fault.CheckFault.TheVariants as faults
 use Rattle.log_merge.specs.Checking.{GoesOver, Judged, Passed, StopsIn}
@@ -23,12 +23,6 @@ Passed-more form old new passed line before same next judged keeps = record {
   judged = subst (λ es. Judged form new es) (sym (entries_of-more passed line)) judged;
   kept = subst (λ heap. KeepLines form heap [] (passed ++ line ∷ [])) (sym same) (KeepLines-append form old.heap [] passed (line ∷ []) before.kept (keeps, tt));
 }
-
--- a line that isn't right
-pub BreaksAt-next : (form : Form) (checker : Checker) (passed : List HistoryLine) (line : HistoryLine) → Passed form checker passed
-    → ¬ KeepsLine form checker.heap (entries_of passed) line → BreaksAt form checker.heap (passed ++ line ∷ []) checker.line
-BreaksAt-next form checker passed line before broken =
-    record { before = passed; line = line; rest = []; parted = refl; counted = before.counted; kept = before.kept; broken = broken }
 
 -- some lines, and then more
 pub GoesOver-append : (form : Form) (old mid new : Checker) (passed first more : List HistoryLine)

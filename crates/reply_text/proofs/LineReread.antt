@@ -15,7 +15,7 @@ use Rattle.reply_text.specs.Answers.{answer_at}
 use Rattle.reply_text.specs.Entries.{entry_words, reply_words, turn_reply_words}
 use Rattle.reply_text.specs.Lines.{history_words, IsHistoryLine}
 use Rattle.reply_text.specs.LineWords.{line_at}
-use Rattle.reply_text.specs.EntryWords.{seat_entry, collector_entry}
+use Rattle.reply_text.specs.EntryWords.{seat_entry}
 use Rattle.reply_text.specs.Tokens.{◌>>=◌, after_word}
 use Rattle.reply_text.specs.Written.{IsWritten}
 use Rattle.reply_text.proofs.Answered.{answer_at-words, turning_at-words, cycling_at-words}
@@ -57,10 +57,6 @@ seat_line form seats seat rest entry few below e =
       number_below-decimal seats seat (omega arith) below,
       e,
     ) refl
-
-collector_line : (form : Form) (seats : ℕ) (rest : List (List ℕ)) (entry : Entry) → collector_entry form rest ≡ Some (entry, []) →
-    line_at form seats (codes "c" ∷ rest) ≡ Some (lines.Entry entry, [])
-collector_line form seats rest entry e = rw e refl
 
 entry_line : (form : Form) (seats : ℕ) (entry : Entry) → seats < 2 ^ 8 → IsWritten form seats entry → line_at form seats (entry_words entry) ≡ Some (lines.Entry entry, [])
 entry_line form seats (entries.Said seat command reply) few h =

@@ -10,14 +10,10 @@ use Rattle.heap_model.specs.declared.entry.Entry.{Entry}
 use Rattle.heap_model.specs.declared.entry.Entry.TheVariants.{Said}
 use Rattle.core_machine.specs.Machine.{State, seat_at}
 use Rattle.core_machine.specs.Seat.{Seat}
-use Rattle.schism_program.specs.Calls.{NotesCall, Played}
+use Rattle.schism_program.specs.Calls.{NotesCall}
 use Rattle.schism_program.specs.Play.{leave_of}
 use Rattle.schism_program.specs.Playing.{HaveLeft}
 use Rattle.schism_program.proofs.Calling.{others_same, played_more}
-
--- nobody has left yet
-pub left_none : (heap : Heap) (state : State) (entries : List Entry) → Played heap state entries → HaveLeft heap state state entries entries 0
-left_none heap state entries played = record { played = played; others = λ s at_least. refl; leaves = sym (append-nil entries) }
 
 -- the entries of a leave
 leave_entries_are : (heap : Heap) (old new : State) (before after : List Entry) (seat : ℕ) (notes : NotesCall heap old new before after seat Leave)

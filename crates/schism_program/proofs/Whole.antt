@@ -1,5 +1,5 @@
 -- A script that was answered and whose seats have left was played.
-use Rattle.std.proofs.Common.{◌≡◌, true, ℕ, ◌+◌, ◌*◌, List, [], ◌∷◌, length, take, drop, Some, refl, sym, ap, subst, ◌∙◌, arith}
+use Rattle.std.proofs.Common.{◌≡◌, true, ℕ, ◌+◌, ◌*◌, List, length, take, drop, Some, refl, sym, ap, subst, ◌∙◌, arith}
 use Rattle.std.specs.List.{flat_map}
 use Rattle.std.proofs.lemmas.List.{take_at, drop_at}
 use Rattle.heap_model.specs.declared.heap.Heap.{Heap}
@@ -13,8 +13,8 @@ use Rattle.reply_text.specs.declared.history.History.{History}
 use Rattle.reply_text.specs.declared.history.SpaceMark.{SpaceMark}
 use Rattle.log_merge.specs.Legal.{ShowsUse, ShowsCounts}
 use Rattle.core_machine.specs.Calls.{free_fragments}
-use Rattle.core_machine.specs.Machine.{State, seat_at, Event, Begins, Steps, Turns, after, after_all}
-use Rattle.core_rule.specs.Laws.{EveryRunKeeps, OneCallAtATime, WholeCallsPlay, FreeIsUnused}
+use Rattle.core_machine.specs.Machine.{State, seat_at, after_all}
+use Rattle.core_rule.specs.Laws.{EveryRunKeeps, WholeCallsPlay, FreeIsUnused}
 use Rattle.schism_program.specs.Calls.{WholeCalls}
 use Rattle.schism_program.specs.Play.{replied, IsPlay}
 use Rattle.schism_program.specs.Playing.{HasAnswered, HaveLeft, IsInUse}

@@ -1,4 +1,4 @@
-use Rattle.std.proofs.Common.{◌≡◌, ◌<◌, sym, ◌∙◌, ap, subst, Some, None}
+use Rattle.std.proofs.Common.{◌≡◌, ◌<◌, sym, ◌∙◌, ap, subst, Some}
 use Rattle.core_machine.specs.Machine.{State, seat_at, after, Begins, Steps}
 use Rattle.core_machine.specs.Moves.{due_step}
 use Rattle.core_machine.specs.Value.{MachineValue, IsMachine}
@@ -6,7 +6,7 @@ use Rattle.core_machine.specs.Calls.{last_reply}
 use Rattle.core_machine.proofs.Addresses.{at-lt}
 use Rattle.core_machine.proofs.Calling.{Playing, playing_begun, playing_more}
 use Rattle.core_machine.proofs.CallRoom.{step_room, spends_on, spends_begun, room_for}
-use Rattle.core_machine.proofs.CallEnd.{none_due, some_due, call_over, call_replies}
+use Rattle.core_machine.proofs.CallEnd.{none_left, some_due, call_over, call_replies}
 use Rattle.core_machine.proofs.Owing.{steps_left}
 use Rattle.core_machine.proofs.machine.Machine.play_call.Goals as goal
 
@@ -52,53 +52,30 @@ loop-step-preserved c =
 
 pub unreachable-requires : goal.unreachable-requires
 unreachable-requires c =
-    let old = c.args.self.now in
-    let at_ = c.loop-step in
-    let none : due_step old.heap c.args.seat (seat_at at_.self.state c.args.seat) ≡ None =
-    ap (λ h. due_step h c.args.seat (seat_at at_.self.state c.args.seat)) (sym at_.invariant.heap) ∙ none_due _ (λ step is. c.in_default.not-Some step (c.due_of_seat.ensures ∙ is)) in
-    call_replies old.heap old.state at_.self c.args.seat c.args.command.now at_.invariant.playing none (ap last_reply (sym c.log.ensures) ∙ sym c.last_reply.ensures ∙ c.in-None.is)
+    call_replies c.loop-step.self c.loop-step.invariant.playing (none_left c.loop-step.self c.args.seat c.loop-step.invariant.heap c.due_of_seat.ensures c.in_default.not-Some)
+    (ap last_reply (sym c.log.ensures) ∙ sym c.last_reply.ensures ∙ c.in-None.is)
 
 pub returns-clause-steps : goal.returns-clause-steps
 returns-clause-steps c =
-    let old = c.args.self.now in
-    let at_ = c.loop-step in
-    let none : due_step old.heap c.args.seat (seat_at at_.self.state c.args.seat) ≡ None =
-    ap (λ h. due_step h c.args.seat (seat_at at_.self.state c.args.seat)) (sym at_.invariant.heap) ∙ none_due _ (λ step is. c.in_default.not-Some step (c.due_of_seat.ensures ∙ is)) in
-    (call_over old.heap old.state at_.self c.args.seat c.args.command.now c.in-Some-last_reply.reply at_.invariant.playing none
-    (ap last_reply (sym c.log.ensures) ∙ sym c.last_reply.ensures ∙ c.in-Some-last_reply.is)).0
+    (call_over c.loop-step.self c.loop-step.invariant.playing (none_left c.loop-step.self c.args.seat c.loop-step.invariant.heap c.due_of_seat.ensures c.in_default.not-Some)
+    (ap last_reply (sym c.log.ensures) ∙ sym c.last_reply.ensures ∙ c.in-Some-last_reply.is)).steps
 
 pub returns-clause-answer : goal.returns-clause-answer
 returns-clause-answer c =
-    let old = c.args.self.now in
-    let at_ = c.loop-step in
-    let none : due_step old.heap c.args.seat (seat_at at_.self.state c.args.seat) ≡ None =
-    ap (λ h. due_step h c.args.seat (seat_at at_.self.state c.args.seat)) (sym at_.invariant.heap) ∙ none_due _ (λ step is. c.in_default.not-Some step (c.due_of_seat.ensures ∙ is)) in
-    (call_over old.heap old.state at_.self c.args.seat c.args.command.now c.in-Some-last_reply.reply at_.invariant.playing none
-    (ap last_reply (sym c.log.ensures) ∙ sym c.last_reply.ensures ∙ c.in-Some-last_reply.is)).3
+    (call_over c.loop-step.self c.loop-step.invariant.playing (none_left c.loop-step.self c.args.seat c.loop-step.invariant.heap c.due_of_seat.ensures c.in_default.not-Some)
+    (ap last_reply (sym c.log.ensures) ∙ sym c.last_reply.ensures ∙ c.in-Some-last_reply.is)).answer
 
 pub returns-clause-refused : goal.returns-clause-refused
 returns-clause-refused c =
-    let old = c.args.self.now in
-    let at_ = c.loop-step in
-    let none : due_step old.heap c.args.seat (seat_at at_.self.state c.args.seat) ≡ None =
-    ap (λ h. due_step h c.args.seat (seat_at at_.self.state c.args.seat)) (sym at_.invariant.heap) ∙ none_due _ (λ step is. c.in_default.not-Some step (c.due_of_seat.ensures ∙ is)) in
-    (call_over old.heap old.state at_.self c.args.seat c.args.command.now c.in-Some-last_reply.reply at_.invariant.playing none
-    (ap last_reply (sym c.log.ensures) ∙ sym c.last_reply.ensures ∙ c.in-Some-last_reply.is)).4
+    (call_over c.loop-step.self c.loop-step.invariant.playing (none_left c.loop-step.self c.args.seat c.loop-step.invariant.heap c.due_of_seat.ensures c.in_default.not-Some)
+    (ap last_reply (sym c.log.ensures) ∙ sym c.last_reply.ensures ∙ c.in-Some-last_reply.is)).refused
 
 pub returns-clause-counts : goal.returns-clause-counts
 returns-clause-counts c =
-    let old = c.args.self.now in
-    let at_ = c.loop-step in
-    let none : due_step old.heap c.args.seat (seat_at at_.self.state c.args.seat) ≡ None =
-    ap (λ h. due_step h c.args.seat (seat_at at_.self.state c.args.seat)) (sym at_.invariant.heap) ∙ none_due _ (λ step is. c.in_default.not-Some step (c.due_of_seat.ensures ∙ is)) in
-    (call_over old.heap old.state at_.self c.args.seat c.args.command.now c.in-Some-last_reply.reply at_.invariant.playing none
-    (ap last_reply (sym c.log.ensures) ∙ sym c.last_reply.ensures ∙ c.in-Some-last_reply.is)).1
+    (call_over c.loop-step.self c.loop-step.invariant.playing (none_left c.loop-step.self c.args.seat c.loop-step.invariant.heap c.due_of_seat.ensures c.in_default.not-Some)
+    (ap last_reply (sym c.log.ensures) ∙ sym c.last_reply.ensures ∙ c.in-Some-last_reply.is)).counts
 
 pub returns-clause-leave : goal.returns-clause-leave
 returns-clause-leave c =
-    let old = c.args.self.now in
-    let at_ = c.loop-step in
-    let none : due_step old.heap c.args.seat (seat_at at_.self.state c.args.seat) ≡ None =
-    ap (λ h. due_step h c.args.seat (seat_at at_.self.state c.args.seat)) (sym at_.invariant.heap) ∙ none_due _ (λ step is. c.in_default.not-Some step (c.due_of_seat.ensures ∙ is)) in
-    (call_over old.heap old.state at_.self c.args.seat c.args.command.now c.in-Some-last_reply.reply at_.invariant.playing none
-    (ap last_reply (sym c.log.ensures) ∙ sym c.last_reply.ensures ∙ c.in-Some-last_reply.is)).2
+    (call_over c.loop-step.self c.loop-step.invariant.playing (none_left c.loop-step.self c.args.seat c.loop-step.invariant.heap c.due_of_seat.ensures c.in_default.not-Some)
+    (ap last_reply (sym c.log.ensures) ∙ sym c.last_reply.ensures ∙ c.in-Some-last_reply.is)).leave
