@@ -27,7 +27,7 @@ use Rattle.core_rule.proofs.Assemble.{Keeps}
 use Rattle.core_rule.proofs.CycleFrames.{cycle_told}
 use Rattle.core_rule.proofs.EntryFrames.{fragments_phase, heap_past, seat_past}
 use Rattle.core_rule.proofs.LeadsFrames.{leads_apart}
-use Rattle.core_rule.proofs.Legality.{legal_more}
+use Rattle.core_rule.proofs.Legality.{legal_more, keeps_begins}
 use Rattle.core_rule.proofs.MarkWords.{marks_same}
 use Rattle.core_rule.proofs.NextPhase.{coloured_next, cycle_next}
 use Rattle.core_rule.proofs.PhaseEntries.{phase_rises, answered_stays, left_stays}
@@ -68,17 +68,7 @@ module _ (heap : Heap) (state : State) (book : Book) (rule : Rule heap state boo
   nodes = nodes_same (graph_of heap book.history) (graph_of heap later.history) graph
 
   keeps : KeepsSpace heap false book.history (Advance next)
-  keeps = record {
-    takes = tt;
-    makes = tt;
-    refuses = tt;
-    refuses_spine = tt;
-    answers = tt;
-    begins = (told, (λ whole. omega (arith, whole, told, early)), all_answered);
-    sweeps = tt;
-    ends = tt;
-    shows = tt;
-  }
+  keeps = keeps_begins heap false book.history next (told, (λ whole. omega (arith, whole, told, early)), all_answered)
 
   leads_on : (f part g : ℕ) → Leads heap words f part g → Leads heap state.words f part g
   leads_on f part g leads = leads_apart heap state.words Phase next f part g (λ e. omega (arith, e)) leads

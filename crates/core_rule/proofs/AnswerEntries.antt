@@ -21,7 +21,7 @@ use Rattle.heap_model.specs.Space.{taken_of, spent_of}
 use Rattle.heap_model.specs.State.{State as Graph, opening}
 use Rattle.heap_model.proofs.Histories.{graph_after-more}
 use Rattle.core_rule.specs.Book.{Book}
-use Rattle.core_rule.proofs.Legality.{keeps_said}
+use Rattle.core_rule.proofs.Legality.{keeps_answers, keeps_said}
 use Rattle.core_rule.proofs.OwnEntries.{total_of-own}
 use Rattle.core_rule.proofs.PhaseEntries.{phase_stays, answered_rises}
 use Rattle.core_rule.proofs.SeatFrames.{with_entry}
@@ -71,17 +71,7 @@ module _ (heap : Heap) (book : Book) (q p : ℕ) (command : Command) (polls : co
 
     -- each keeps the rules
     pub keeps_answer : KeepsSpace heap false book.history answer_entry
-    keeps_answer = record {
-      takes = tt;
-      makes = tt;
-      refuses = tt;
-      refuses_spine = tt;
-      answers = (now, omega (arith, next));
-      begins = tt;
-      sweeps = tt;
-      ends = tt;
-      shows = tt;
-    }
+    keeps_answer = keeps_answers heap false book.history q p (now, omega (arith, next))
 
     pub keeps_reply : spent_of q book.history ≤ taken_of q book.history → taken_of q book.history ≤ spent_of q book.history + 15 → KeepsSpace heap false middle_book.history reply_entry
     keeps_reply enough little =

@@ -12,7 +12,7 @@ use Rattle.heap_model.specs.Account.{KeepsSpace, IsLegal, most_kept}
 use Rattle.heap_model.specs.Cycles.{graph_of}
 use Rattle.heap_model.specs.Legal.{Accepts}
 use Rattle.heap_model.specs.Needs.{record_fragments, made_by}
-use Rattle.heap_model.specs.Phases.{ShowsPhases}
+use Rattle.heap_model.specs.Phases.{AnswersPhase, BeginsPhase, ShowsPhases}
 use Rattle.heap_model.specs.Refusals.{FindsSpace, ShowsSpace, ShowsSpine}
 use Rattle.heap_model.specs.Space.{gained, lost, taken_of, spent_of}
 use Rattle.heap_model.specs.State.{opening}
@@ -24,6 +24,20 @@ pub legal_more : (heap : Heap) (play : Bool) (history : List Entry) (entry : Ent
 legal_more heap play history entry legal accepts keeps = record {
   objects = AcceptsAll-more (opening heap) history entry legal.objects accepts;
   space = KeepsSpaceAfter-more heap {play = play} [] history entry legal.space keeps;
+}
+
+-- the next phase begins
+pub keeps_begins : (heap : Heap) (play : Bool) (before : List Entry) (p : ℕ) → BeginsPhase heap before (entries.Advance p) → KeepsSpace heap play before (entries.Advance p)
+keeps_begins heap play before p next = record {
+  takes = tt;
+  makes = tt;
+  refuses = tt;
+  refuses_spine = tt;
+  answers = tt;
+  begins = next;
+  sweeps = tt;
+  ends = tt;
+  shows = tt;
 }
 
 module _ (heap : Heap) (play : Bool) (before : List Entry) (q : ℕ) where
@@ -49,6 +63,20 @@ module _ (heap : Heap) (play : Bool) (before : List Entry) (q : ℕ) where
     refuses = tt;
     refuses_spine = tt;
     answers = tt;
+    begins = tt;
+    sweeps = tt;
+    ends = tt;
+    shows = tt;
+  }
+
+  -- it answers the phase that comes after its last answer
+  pub keeps_answers : (p : ℕ) → AnswersPhase before (entries.Answers q p) → KeepsSpace heap play before (entries.Answers q p)
+  keeps_answers p next = record {
+    takes = tt;
+    makes = tt;
+    refuses = tt;
+    refuses_spine = tt;
+    answers = next;
     begins = tt;
     sweeps = tt;
     ends = tt;

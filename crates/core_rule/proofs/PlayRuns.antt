@@ -54,6 +54,16 @@ pub record PlaysNext (heap : Heap) (state : State) (before added : List Entry) :
   pub grown : now.history ≡ before ++ added
   pub plays : PlaysOn heap state now
 
+-- where the others have no call in flight and stay, what the seat that goes on has told is enough
+own_alone : (heap : Heap) (state new : State) (now : Book) (q : ℕ) → IsAlone state q → length state.seats ≡ heap.seats
+    → ((r : ℕ) → r ≢ q → seat_at new r ≡ seat_at state r) → list_all (is_of q) (drop (now.begun q) now.history) ≡ true
+    → (r : ℕ) → r < heap.seats → (seat_at new r).place ≢ places.Idle → list_all (is_of r) (drop (now.begun r) now.history) ≡ true
+own_alone heap state new now q alone all stay own r below active =
+    elim (eqb_tells r q) as (λ _. list_all (is_of r) (drop (now.begun r) now.history) ≡ true) [
+      | inl same ↦ subst (λ n. list_all (is_of n) (drop (now.begun n) now.history) ≡ true) (sym same.1) own
+      | inr apart ↦ absurd (active (ap (λ s. s.place) (stay r apart.1) ∙ alone r (rw all below) apart.1))
+    ]
+
 step_plays : MachineStays → EachStepKeeps → (heap : Heap) (state : State) (book : Book) (q : ℕ) → PlaysOn heap state book → IsAlone state q → Can heap state (Steps q)
     → PlaysNext heap (after heap state (Steps q)) book.history (entries heap state (Steps q))
 step_plays stays steps heap state book q plays alone can =
@@ -72,10 +82,8 @@ step_plays stays steps heap state book q plays alone can =
         rule = keeps.rule;
         legal = subst (IsLegal heap true) (sym keeps.grown)
             (play_more heap book.history (entries heap state (Steps q)) adds.may plays.legal (subst (IsLegal heap false) keeps.grown keeps.rule.heap_stands.legal));
-        own = λ r below active_now. elim (eqb_tells r q) as (λ _. list_all (is_of r) (drop (keeps.now.begun r) keeps.now.history) ≡ true) [
-          | inl same ↦ subst (λ n. list_all (is_of n) (drop (keeps.now.begun n) keeps.now.history) ≡ true) (sym same.1) own_now
-          | inr apart ↦ absurd (active_now (ap (λ s. s.place) (moved_other heap state q r (next_move heap q (seat_at state q)) apart.1) ∙ alone r (rw plays.rule.all_seats below) apart.1))
-        ];
+        own = own_alone heap state (after heap state (Steps q)) keeps.now q alone plays.rule.all_seats
+            (λ r apart. moved_other heap state q r (next_move heap q (seat_at state q)) apart) own_now;
       };
     }
 
@@ -97,10 +105,8 @@ begin_plays stays begin heap state book q command plays alone can =
       plays = record {
         rule = keeps.rule;
         legal = subst (IsLegal heap true) (sym same) plays.legal;
-        own = λ r below active_now. elim (eqb_tells r q) as (λ _. list_all (is_of r) (drop (keeps.now.begun r) keeps.now.history) ≡ true) [
-          | inl at_q ↦ subst (λ n. list_all (is_of n) (drop (keeps.now.begun n) keeps.now.history) ≡ true) (sym at_q.1) own_now
-          | inr apart ↦ absurd (active_now (ap (λ s. s.place) (get_or-set_other state.seats q r _ nobody apart.1) ∙ alone r (rw plays.rule.all_seats below) apart.1))
-        ];
+        own = own_alone heap state (after heap state (Begins q command)) keeps.now q alone plays.rule.all_seats
+            (λ r apart. get_or-set_other state.seats q r _ nobody apart) own_now;
       };
     }
 

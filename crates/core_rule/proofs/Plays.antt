@@ -21,7 +21,7 @@ use Rattle.core_rule.specs.Counts.{AreUsed}
 use Rattle.core_rule.specs.Gathers.{GathersRight}
 use Rattle.core_rule.specs.Owners.{Owner}
 use Rattle.core_rule.proofs.FreeSums.{taken_and_free, passed_all}
-use Rattle.core_rule.proofs.Legality.{keeps_takes, keeps_gives}
+use Rattle.core_rule.proofs.Legality.{keeps_takes, keeps_gives, keeps_answers, keeps_begins}
 
 -- a reply that refuses nothing for want of space, and waits for nobody
 abbrev pub IsPlainReply : Reply → Type 0
@@ -55,28 +55,8 @@ shows_same heap before q _ _ plain shows = shows
 pub plain_keeps : (heap : Heap) (before : List Entry) (entry : Entry) → IsPlain entry → KeepsSpace heap false before entry → KeepsSpace heap true before entry
 plain_keeps heap before _ (taking q count) keeps = keeps_takes heap true before q count keeps.takes.0 keeps.takes.1
 plain_keeps heap before _ (giving q count) keeps = keeps_gives heap true before q count keeps.takes.0 keeps.takes.1
-plain_keeps heap before _ (answering q p) keeps = record {
-  takes = tt;
-  makes = tt;
-  refuses = tt;
-  refuses_spine = tt;
-  answers = keeps.answers;
-  begins = tt;
-  sweeps = tt;
-  ends = tt;
-  shows = tt;
-}
-plain_keeps heap before _ (advancing p) keeps = record {
-  takes = tt;
-  makes = tt;
-  refuses = tt;
-  refuses_spine = tt;
-  answers = tt;
-  begins = keeps.begins;
-  sweeps = tt;
-  ends = tt;
-  shows = tt;
-}
+plain_keeps heap before _ (answering q p) keeps = keeps_answers heap true before q p keeps.answers
+plain_keeps heap before _ (advancing p) keeps = keeps_begins heap true before p keeps.begins
 plain_keeps heap before _ (saying q command reply plain) keeps = record {
   takes = tt;
   makes = keeps.makes;

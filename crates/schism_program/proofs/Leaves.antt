@@ -8,16 +8,16 @@ use Rattle.heap_model.specs.declared.heap.Heap.{Heap}
 use Rattle.heap_model.specs.declared.command.Command.TheVariants.{Leave}
 use Rattle.heap_model.specs.declared.entry.Entry.{Entry}
 use Rattle.heap_model.specs.declared.entry.Entry.TheVariants.{Said}
+use Rattle.core_machine.specs.Calls.{leave_entries}
 use Rattle.core_machine.specs.Machine.{State, seat_at}
 use Rattle.core_machine.specs.Seat.{Seat}
 use Rattle.schism_program.specs.Calls.{NotesCall}
-use Rattle.schism_program.specs.Play.{leave_of}
 use Rattle.schism_program.specs.Playing.{HaveLeft}
 use Rattle.schism_program.proofs.Calling.{others_same, played_more}
 
 -- the entries of a leave
 leave_entries_are : (heap : Heap) (old new : State) (before after : List Entry) (seat : ℕ) (notes : NotesCall heap old new before after seat Leave)
-    → notes.call.before ++ Said seat Leave notes.reply ∷ [] ≡ leave_of seat (length (seat_at old seat).reserve)
+    → notes.call.before ++ Said seat Leave notes.reply ∷ [] ≡ leave_entries seat (length (seat_at old seat).reserve)
 leave_entries_are heap old new before after seat notes = append_cancel_left (seat_at old seat).mine _ _ (sym notes.call.mine ∙ notes.leave refl)
 
 -- one number more
@@ -29,9 +29,9 @@ range_more n =
 pub left_more : (heap : Heap) (old now new : State) (before entries after : List Entry) (n : ℕ) → HaveLeft heap old now before entries n → NotesCall heap now new entries after n Leave
     → HaveLeft heap old new before after (n + 1)
 left_more heap old now new before entries after n left notes =
-    let leaves = λ (s : ℕ). leave_of s (length (seat_at old s).reserve) in
+    let leaves = λ (s : ℕ). leave_entries s (length (seat_at old s).reserve) in
     let said : notes.call.before ++ Said n Leave notes.reply ∷ [] ≡ leaves n
-    = leave_entries_are heap now new entries after n notes ∙ ap (λ (s : Seat). leave_of n (length s.reserve)) (left.others n (omega arith)) in
+    = leave_entries_are heap now new entries after n notes ∙ ap (λ (s : Seat). leave_entries n (length s.reserve)) (left.others n (omega arith)) in
     let more : flat_map leaves (range_with_len 0 (n + 1)) ≡ flat_map leaves (range_with_len 0 n) ++ leaves n
     = ap (flat_map leaves) (range_more n) ∙ flat_map-append leaves (range_with_len 0 n) (n ∷ []) ∙ ap (λ (l : List Entry). flat_map leaves (range_with_len 0 n) ++ l) (append-nil (leaves n)) in
     record {

@@ -1,18 +1,17 @@
 -- What a play is.
-use Rattle.std.specs.Prelude.{◌≡◌, ℕ, ◌⊎◌, ◌==◌, if◌then◌else◌, List, [], ◌∷◌, ◌++◌, drop, take, IsSomeAnd}
+use Rattle.std.specs.Prelude.{◌≡◌, ℕ, ◌⊎◌, List, [], ◌∷◌, ◌++◌, drop, take, IsSomeAnd}
 use Rattle.std.specs.List.{flat_map, range_with_len}
 use Rattle.heap_model.specs.declared.command.Command.{Command}
-use Rattle.heap_model.specs.declared.command.Command.TheVariants.{Leave}
 use Rattle.heap_model.specs.declared.reply.Reply.{Reply}
-use Rattle.heap_model.specs.declared.reply.Reply.TheVariants.{Done}
 use Rattle.heap_model.specs.declared.entry.Entry.{Entry}
-use Rattle.heap_model.specs.declared.entry.Entry.TheVariants.{Said, GivesBack}
+use Rattle.heap_model.specs.declared.entry.Entry.TheVariants.{Said}
 use Rattle.script_text.specs.declared.script.Form.TheVariants as forms
 use Rattle.script_text.specs.declared.script.Line.{Line}
 use Rattle.script_text.specs.declared.script.Line.TheVariants as lines
 use Rattle.script_text.specs.declared.script.Script.{Script}
 use Rattle.reply_text.specs.declared.history.History.{History}
 use Rattle.log_merge.specs.Legal.{IsLegalHistory}
+use Rattle.core_machine.specs.Calls.{leave_entries}
 
 -- the line of a script that an entry answers, if it answers one
 abbrev pub replied : Entry → List Line
@@ -24,13 +23,9 @@ abbrev pub EndsInReply : List Entry → Type 0
 EndsInReply entries =
     (entries ≡ []) ⊎ ((earlier : List Entry) × (seat : ℕ) × (command : Command) × (reply : Reply) × (entries ≡ earlier ++ Said seat command reply ∷ []))
 
--- a seat gives back what it has left over, if anything, and leaves
-abbrev pub leave_of : ℕ → ℕ → List Entry
-leave_of seat left = (if left == 0 then [] else GivesBack seat left ∷ []) ++ Said seat Leave Done ∷ []
-
--- each seat does so, in the order of their numbers
+-- each seat gives back what it has left over, if anything, and leaves, in the order of their numbers
 abbrev pub AreLeaves : ℕ → List Entry → Type 0
-AreLeaves seats entries = (left : ℕ → ℕ) × (entries ≡ flat_map (λ seat. leave_of seat (left seat)) (range_with_len 0 seats))
+AreLeaves seats entries = (left : ℕ → ℕ) × (entries ≡ flat_map (λ seat. leave_entries seat (left seat)) (range_with_len 0 seats))
 
 -- the entries before the mark answer the script's lines in order, each once, and those behind it are the seats' leaves
 pub record IsParted (script : Script) (front behind : List Entry) : Type 0 where

@@ -4,10 +4,10 @@ use Rattle.std.specs.List.{flat_map, range_with_len}
 use Rattle.heap_model.specs.declared.heap.Heap.{Heap}
 use Rattle.heap_model.specs.declared.entry.Entry.{Entry}
 use Rattle.script_text.specs.declared.script.Line.{Line}
-use Rattle.core_machine.specs.Calls.{free_fragments}
+use Rattle.core_machine.specs.Calls.{free_fragments, leave_entries}
 use Rattle.core_machine.specs.Machine.{State, seat_at}
 use Rattle.schism_program.specs.Calls.{Played, ArePresent, AreFew}
-use Rattle.schism_program.specs.Play.{replied, EndsInReply, leave_of}
+use Rattle.schism_program.specs.Play.{replied, EndsInReply}
 
 -- whole calls of seats that are all there have answered these lines, in order and each once
 pub record HasAnswered (heap : Heap) (state : State) (entries : List Entry) (lines : List Line) : Type 0 where
@@ -21,7 +21,7 @@ pub record HasAnswered (heap : Heap) (state : State) (entries : List Entry) (lin
 pub record HaveLeft (heap : Heap) (old new : State) (before after : List Entry) (count : ℕ) : Type 0 where
   pub played : Played heap new after
   pub others : (s : ℕ) → count ≤ s → seat_at new s ≡ seat_at old s
-  pub leaves : after ≡ before ++ flat_map (λ s. leave_of s (length (seat_at old s).reserve)) (range_with_len 0 count)
+  pub leaves : after ≡ before ++ flat_map (λ s. leave_entries s (length (seat_at old s).reserve)) (range_with_len 0 count)
 
 -- so many fragments have a taken bit
 abbrev pub IsInUse : Heap → State → ℕ → Type 0
