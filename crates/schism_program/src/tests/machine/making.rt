@@ -5,7 +5,8 @@ use std::test::Fail;
 /// seat is there, no spine word is granted and the next stands first in half 0, and the board is in the fragments 0 to 10.
 const OPENING: &[&str] = &[
     "free => 21",
-    "phase => 0 at 0",
+    "phase => 0",
+    "phase word => 0 at 0",
     "answer 0 => 0 at 1",
     "answer 1 => 0 at 2",
     "answer 2 => ffffffffffffffff at 3",

@@ -16,9 +16,9 @@ use std::test::Fail;
 /// - `SEAT COMMAND`, a whole call, and `SEAT begin COMMAND`, where nothing more is done;
 /// - `PARTY step`, its due step; the collector is the party `c`;
 /// - `c turn`, a turn of the collector;
-/// - `free`, how many fragments nobody has, and `phase`;
-/// - a word, where it stands in the table and what it is: `answer SEAT`, `budget`, `spot`, `control GROUP`,
-///   `word FRAGMENT PART` and `spine OFFSET HALF`.
+/// - `free`, how many fragments nobody has, and `phase`, the phase that the machine tells;
+/// - a word, what it is and where it stands in the table: `phase word`, `answer SEAT`, `budget`, `spot`,
+///   `control GROUP`, `word FRAGMENT PART` and `spine OFFSET HALF`.
 ///
 /// Of what a party did the entries are found too that it added. Words and bits stand in hexadecimal digits.
 pub(super) fn tries(
@@ -41,6 +41,9 @@ pub(super) fn tries(
 fn found(alloc: Global, machine: &mut Machine, deed: &str) -> Result<String, Fail> {
     if deed == "free" {
         return Ok(format!(in alloc; "{}", machine.free())?);
+    }
+    if deed == "phase" {
+        return Ok(format!(in alloc; "{}", machine.phase())?);
     }
     if let Some(address) = address_of(deed) {
         let (index, word) = word(machine, address)?;
@@ -106,7 +109,7 @@ fn command_of(alloc: Global, words: &str) -> Result<Command, Fail> {
 
 fn address_of(words: &str) -> Option<Address> {
     match words {
-        "phase" => return Some(Address::Phase),
+        "phase word" => return Some(Address::Phase),
         "budget" => return Some(Address::Budget),
         "spot" => return Some(Address::Spot),
         _ => (),

@@ -6,24 +6,24 @@ use std::test::Fail;
 const THREE_PHASES: &[&str] = &[
     "c turn => stepped",
     "c turn => stepped; c phase 1",
-    "phase => 1 at 0",
+    "phase => 1",
     "c turn => waits for 0 at 0 of 1",
     "0 poll => 0 answers 1; 0 poll = 1",
     "c turn => stepped",
     "c turn => stepped; c phase 2",
-    "phase => 2 at 0",
+    "phase => 2",
     "c turn => waits for 0 at 1 of 2",
     "0 poll => 0 answers 2; 0 poll = 2",
     "c turn => stepped",
     "c turn => stepped; c phase 3",
-    "phase => 3 at 0",
+    "phase => 3",
     "c turn => waits for 0 at 2 of 3",
     "0 poll => 0 answers 3; 0 poll = 3",
     "answer 0 => 3 at 1",
     "control 0 => 107ff07ff at 19",
     "c turn => stepped",
     "c turn => stepped",
-    "phase => 3 at 0",
+    "phase => 3",
 ];
 
 #[test]
