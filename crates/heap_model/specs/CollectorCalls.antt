@@ -1,7 +1,9 @@
 -- What contracts see of the collector, and what one of its turns does.
-use Rattle.std.specs.Prelude.{◌≡◌, ℕ, ◌+◌, ◌-◌, ◌*◌, ◌≤◌, ◌^◌, ◌⊎◌, min, List, [], ◌∷◌, ◌++◌, length, Option, Some}
+use Rattle.std.specs.Prelude.{◌≡◌, ◌≢◌, ℕ, ◌+◌, ◌-◌, ◌*◌, ◌%◌, ◌<◌, ◌≤◌, ◌^◌, ◌⊎◌, min, List, [], ◌∷◌, ◌++◌, length, Option, Some}
 use Rattle.heap_model.specs.declared.entry.Entry.{Entry}
 use Rattle.heap_model.specs.declared.entry.Entry.TheVariants as entries
+use Rattle.heap_model.specs.Limits.{most_seats, left_word}
+use Rattle.heap_model.specs.PhasePlan.{rest, copying, sweep, clearing}
 use Rattle.heap_model.specs.declared.collector_calls.Turn.{Turn}
 use Rattle.heap_model.specs.declared.collector_calls.Turn.TheVariants as turns
 
@@ -14,12 +16,13 @@ pub record CollectorState : Type 0 where
   pub turns : ℕ
   pub last_turn : Option Turn
 
--- the entry is one that a step adds which ends no cycle, and leads from a phase to a phase
+-- the entry is one that a step adds which ends no cycle, and leads from a phase to a phase: fragments and spine words are given up in
+-- the sweep alone, arrays swing while copying, and no step but the end of a cycle comes to rest
 abbrev pub StepsTo : ℕ → Entry → ℕ → Type 0
-StepsTo phase (entries.Advance next) later = (next ≡ phase + 1) × (later ≡ next)
-StepsTo phase (entries.Frees count) later = later ≡ phase
-StepsTo phase (entries.Returns count) later = later ≡ phase
-StepsTo phase (entries.Swings id) later = later ≡ phase
+StepsTo phase (entries.Advance next) later = (next ≡ phase + 1) × (next % 7 ≢ rest) × (later ≡ next)
+StepsTo phase (entries.Frees count) later = (phase % 7 ≡ sweep) × (1 ≤ count) × (later ≡ phase)
+StepsTo phase (entries.Returns count) later = (phase % 7 ≡ sweep) × (1 ≤ count) × (later ≡ phase)
+StepsTo phase (entries.Swings id) later = (phase % 7 ≡ copying) × (later ≡ phase)
 StepsTo phase _ later = ⊥
 
 -- no entry was added
@@ -29,9 +32,10 @@ AddsNone old new = (new.log ≡ old.log) × (new.phase ≡ old.phase)
 -- the turn made a step, or found a seat that is one phase behind, or ended a cycle
 abbrev pub ComesTo : CollectorState → CollectorState → Turn → Type 0
 ComesTo old new turns.Stepped = AddsNone old new ⊎ ((entry : Entry) × StepsTo old.phase entry new.phase × (new.log ≡ old.log ++ entry ∷ []))
-ComesTo old new (turns.Waits seat answered phase) = AddsNone old new × (phase ≡ old.phase) × (answered + 1 ≡ phase)
+ComesTo old new (turns.Waits seat answered phase) =
+    AddsNone old new × (seat < most_seats) × (phase ≡ old.phase) × (answered + 1 ≡ phase) × (answered ≢ left_word)
 ComesTo old new (turns.Ended cycle kept) =
-    (new.log ≡ old.log ++ entries.Ends cycle kept ∷ []) × (old.phase ≡ 7 * cycle + 6) × (new.phase ≡ 7 * cycle + 7)
+    (new.log ≡ old.log ++ entries.Ends cycle kept ∷ []) × (old.phase ≡ 7 * cycle + clearing) × (new.phase ≡ 7 * cycle + 7)
 
 -- one turn was made, and is the last one
 pub record Turns (old new : CollectorState) (turn : Turn) : Type 0 where

@@ -8,11 +8,13 @@ pub mod Effects
 pub mod Growth
 pub mod Heap
 pub mod Legal
+pub mod Limits
 pub mod Marking
 pub mod Needs
 pub mod Noting
 pub mod Objects
 pub mod PhaseCounts
+pub mod PhasePlan
 pub mod Phases
 pub mod Preparing
 pub mod Reach
@@ -21,6 +23,7 @@ pub mod Replies
 pub mod Search
 pub mod SeatBooks
 pub mod SeatCalls
+pub mod SeatLaws
 pub mod SeatReplies
 pub mod SeatState
 pub mod Sizes

@@ -1,13 +1,15 @@
 -- When a seat may be called, and which entries each call adds.
-use Rattle.std.specs.Prelude.{◌≡◌, ℕ, ◌+◌, ◌*◌, ◌<◌, ◌≤◌, ◌^◌, ◌⊎◌, false, List, [], ◌∷◌, ◌++◌, length, All}
+use Rattle.std.specs.Prelude.{◌≡◌, ℕ, ◌+◌, ◌*◌, ◌==◌, ◌<◌, ◌≤◌, ◌^◌, ◌⊎◌, if◌then◌else◌, false, List, [], ◌∷◌, ◌++◌, length, map, sum, All}
 use Rattle.heap_model.specs.declared.command.Command.{Command}
 use Rattle.heap_model.specs.declared.command.Command.TheVariants as commands
 use Rattle.heap_model.specs.declared.reply.Reply.{Reply}
 use Rattle.heap_model.specs.declared.reply.Reply.TheVariants as replies
 use Rattle.heap_model.specs.declared.entry.Entry.{Entry}
 use Rattle.heap_model.specs.declared.entry.Entry.TheVariants.{Said, Takes, GivesBack, Answers}
-use Rattle.heap_model.specs.Command.{IsCommand}
-use Rattle.heap_model.specs.Needs.{need_of}
+use Rattle.heap_model.specs.Command.{IsCommand, IsWithin}
+use Rattle.heap_model.specs.Needs.{need_of, record_fragments, array_fragments}
+use Rattle.heap_model.specs.PhaseCounts.{answered}
+use Rattle.heap_model.specs.Space.{taken_of, spent_of}
 use Rattle.heap_model.specs.SeatState.{SeatState, own_party}
 
 -- a name is left for an object that the command makes, or a stamp for a set that it does
@@ -24,37 +26,71 @@ pub record IsReady (seat : SeatState) (command : Command) : Type 0 where
   pub room : 2 * need_of command + 4 ≤ seat.spare
   pub numbered : HasNumber seat command
 
--- the seat takes some fragments
-abbrev pub IsTake : ℕ → Entry → Type 0
-IsTake s entry = (count : ℕ) × (entry ≡ Takes s count)
+-- the seat takes so many fragments of one group after another
+abbrev pub takes_of : ℕ → List ℕ → List Entry
+takes_of s counts = map (Takes s) counts
 
--- the seat gives some back
-abbrev pub IsGiveBack : ℕ → Entry → Type 0
-IsGiveBack s entry = (count : ℕ) × (entry ≡ GivesBack s count)
+-- the seat gives so many fragments back to one group after another
+abbrev pub gives_of : ℕ → List ℕ → List Entry
+gives_of s counts = map (GivesBack s) counts
 
--- what is claimed comes before an object is made; before a refusal it is also given back
-abbrev pub ClaimsBefore : ℕ → Reply → List Entry → Type 0
-ClaimsBefore s (replies.Made id) before = All (IsTake s) before
-ClaimsBefore s (replies.Full need found) before =
-    (claims : List Entry) × (returns : List Entry) × All (IsTake s) claims × All (IsGiveBack s) returns × (before ≡ claims ++ returns)
-ClaimsBefore s _ before = before ≡ []
+-- some or all fragments of a group
+abbrev pub IsGroupCount : ℕ → Type 0
+IsGroupCount count = IsWithin 1 16 count
 
--- a phase is answered before it is told, where it wasn't yet
-abbrev pub AnswersBefore : ℕ → Reply → List Entry → Type 0
-AnswersBefore s (replies.Phase p) before = (before ≡ []) ⊎ (before ≡ Answers s p ∷ [])
-AnswersBefore s _ before = ⊥
+-- beside what a seat had of its own these claims are enough for an object; before the last of them it was too little, and little is left over
+pub record GathersEnough (unborn need : ℕ) (counts : List ℕ) : Type 0 where
+  pub of_groups : All IsGroupCount counts
+  pub needed : (earlier : List ℕ) (last : ℕ) → counts ≡ earlier ++ last ∷ [] → unborn + sum earlier < need
+  pub enough : need ≤ unborn + sum counts
+  pub little_left : unborn + sum counts ≤ need + 15
 
--- the seat's entries that come right before its reply to the command
-abbrev pub ComesBefore : ℕ → Command → Reply → List Entry → Type 0
-ComesBefore s (commands.New d fields) reply before = ClaimsBefore s reply before
-ComesBefore s (commands.Array d cells) reply before = ClaimsBefore s reply before
-ComesBefore s commands.Poll reply before = AnswersBefore s reply before
-ComesBefore s commands.Leave reply before = (before ≡ []) ⊎ ((count : ℕ) × (before ≡ GivesBack s count ∷ []))
-ComesBefore s _ reply before = before ≡ []
+-- what a seat had of its own and all its claims are what was found, which is too little
+pub record GathersTooLittle (unborn need found : ℕ) (counts : List ℕ) : Type 0 where
+  pub of_groups : All IsGroupCount counts
+  pub all_found : unborn + sum counts ≡ found
+  pub too_few : found < need
+
+-- what is lacking is claimed before an object is made; before a refusal each claim is given back as well, in the same order
+abbrev pub ClaimsBefore : ℕ → ℕ → ℕ → Reply → List Entry → Type 0
+ClaimsBefore s unborn need (replies.Made id) before = (counts : List ℕ) × GathersEnough unborn need counts × (before ≡ takes_of s counts)
+ClaimsBefore s unborn need (replies.Full shown found) before =
+    (counts : List ℕ) × (shown ≡ need) × GathersTooLittle unborn need found counts × (before ≡ takes_of s counts ++ gives_of s counts)
+ClaimsBefore s unborn need _ before = ⊥
+
+-- an array is refused for want of spine words before anything is claimed
+abbrev pub ArrayBefore : ℕ → ℕ → ℕ → Reply → List Entry → Type 0
+ArrayBefore s unborn need (replies.SpineFull shown used) before = before ≡ []
+ArrayBefore s unborn need reply before = ClaimsBefore s unborn need reply before
+
+-- the phase that a seat answered last is told; the next one is answered first
+abbrev pub AnswersBefore : ℕ → ℕ → Reply → List Entry → Type 0
+AnswersBefore s last (replies.Phase p) before = ((p ≡ last) × (before ≡ [])) ⊎ ((p ≡ last + 1) × (before ≡ Answers s p ∷ []))
+AnswersBefore s last _ before = ⊥
+
+-- what a seat gives back that leaves with so many fragments of its own
+abbrev pub last_gives : ℕ → ℕ → List Entry
+last_gives s unborn = if unborn == 0 then [] else GivesBack s unborn ∷ []
+
+-- what a seat tells that leaves with so many fragments of its own: it gives them back, if there are any, and is done
+abbrev pub leave_entries : ℕ → ℕ → List Entry
+leave_entries s unborn = last_gives s unborn ++ Said s commands.Leave replies.Done ∷ []
+
+-- the entries that come right before the seat's reply to the command, where it had so many fragments of its own and has answered this phase last
+abbrev pub ComesBefore : ℕ → ℕ → ℕ → Command → Reply → List Entry → Type 0
+ComesBefore s unborn last (commands.New d fields) reply before = ClaimsBefore s unborn (record_fragments fields) reply before
+ComesBefore s unborn last (commands.Array d cells) reply before = ArrayBefore s unborn (array_fragments cells) reply before
+ComesBefore s unborn last commands.Poll reply before = AnswersBefore s last reply before
+ComesBefore s unborn last commands.Leave reply before = before ≡ last_gives s unborn
+ComesBefore s unborn last _ reply before = before ≡ []
 
 -- the seat got its entries for the command, the reply last, and lost no more room than they take
 pub record Adds (old new : SeatState) (command : Command) (reply : Reply) : Type 0 where
   pub heap : new.heap ≡ old.heap
   pub number : new.number ≡ old.number
-  pub entries : (before : List Entry) × ComesBefore old.number command reply before × (new.mine ≡ old.mine ++ (before ++ Said old.number command reply ∷ []))
+  pub unborn : ℕ
+  pub had : spent_of old.number old.mine + unborn ≡ taken_of old.number old.mine
+  pub before : List Entry
+  pub comes : ComesBefore old.number unborn (answered old.number old.mine) command reply before
+  pub entries : new.mine ≡ old.mine ++ (before ++ Said old.number command reply ∷ [])
   pub spare : old.spare + length old.mine ≤ new.spare + length new.mine

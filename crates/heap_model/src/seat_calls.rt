@@ -4,6 +4,7 @@ ghost use Rattle.heap_model.specs.declared.reply.Reply.TheVariants.{Phase, Done}
 ghost use Rattle.heap_model.specs.Needs.{record_fragments};
 ghost use Rattle.heap_model.specs.SeatState.{SeatState, own_party, held, HoldsNoObject, own_object};
 ghost use Rattle.heap_model.specs.SeatCalls.{IsReady, Adds};
+ghost use Rattle.heap_model.specs.SeatLaws.{IsSeat};
 ghost use Rattle.heap_model.specs.SeatReplies.{record_reply, array_reply, get_reply, set_reply, same_reply, len_reply, next_id, LacksFragments, LacksSpace, KeepsNothing};
 
 use crate::fault::Memory;
@@ -102,6 +103,8 @@ pub trait SeatCalls {
     fn stamps_left(&self) -> u32
         ensures { result + (own_party (state self.now)).sets ≡ 2 ^ 26 - 1 };
 
+    /// Whether the seat has left. Whatever it did, its heap is within the limits, and its entries are its own.
     fn left(&self) -> bool
-        ensures { result ≡ (own_party (state self.now)).left };
+        ensures left { result ≡ (own_party (state self.now)).left }
+        ensures seat { IsSeat (state self.now) };
 }

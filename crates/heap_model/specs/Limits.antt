@@ -1,0 +1,66 @@
+-- The sizes and limits of heaps, commands and histories, each once and by name.
+use Rattle.std.specs.Prelude.{ℕ, ◌-◌, ◌^◌}
+
+-- the fragments of a group
+abbrev pub group_fragments : ℕ
+group_fragments = 16
+
+-- the most groups of a heap
+abbrev pub most_groups : ℕ
+most_groups = 4096
+
+-- the most spine words that a heap grants
+abbrev pub most_spine : ℕ
+most_spine = 16384
+
+-- the most seats of a heap
+abbrev pub most_seats : ℕ
+most_seats = 16
+
+-- the fields of the board
+abbrev pub board_fields : ℕ
+board_fields = 32
+
+-- the fragments of the board
+abbrev pub board_fragments : ℕ
+board_fragments = 11
+
+-- the registers of a seat
+abbrev pub register_count : ℕ
+register_count = 16
+
+-- the last register
+abbrev pub last_register : ℕ
+last_register = 15
+
+-- the most fields of a record
+abbrev pub most_fields : ℕ
+most_fields = 47
+
+-- the most cells of an array
+abbrev pub most_cells : ℕ
+most_cells = 4096
+
+-- the last index that a command may name
+abbrev pub last_index : ℕ
+last_index = 4096
+
+-- the numbers in cells are below this
+abbrev pub number_limit : ℕ
+number_limit = 2 ^ 30
+
+-- the most fragments that a seat keeps after a reply
+abbrev pub most_reserve : ℕ
+most_reserve = 15
+
+-- a seat makes fewer objects than this
+abbrev pub name_limit : ℕ
+name_limit = 2 ^ 32
+
+-- a seat does fewer sets than this
+abbrev pub stamp_limit : ℕ
+stamp_limit = 2 ^ 26
+
+-- what stands in the word of a seat that has left
+abbrev pub left_word : ℕ
+left_word = 2 ^ 64 - 1
