@@ -1,6 +1,7 @@
 pub mod Among
 pub mod Applying
 pub mod BehindLemmas
+pub mod BoardLemmas
 pub mod Counting
 pub mod CycleLemmas
 pub mod Histories
@@ -11,6 +12,7 @@ pub mod Noting
 pub mod Opening
 pub mod OrderLemmas
 pub mod SearchLemmas
+pub mod SeatCallLemmas
 pub mod SeatsMore
 pub mod Snoc
 pub mod SwungLemmas

@@ -1,5 +1,13 @@
 -- The laws of a seat's calls.
+use Rattle.heap_model.proofs.BoardLemmas.{board_stays}
+use Rattle.heap_model.proofs.SeatCallLemmas.{each_call_is_short, each_call_leaves_room}
 use Rattle.heap_model.proofs.laws.seat_laws.Goals as goal
 
-pub returns : goal.returns
-returns c = ?
+pub returns-clause-short : goal.returns-clause-short
+returns-clause-short c = each_call_is_short
+
+pub returns-clause-room : goal.returns-clause-room
+returns-clause-room c = each_call_leaves_room
+
+pub returns-clause-board : goal.returns-clause-board
+returns-clause-board c = board_stays
