@@ -42,7 +42,7 @@ seat_step heap play history (entries.Answers q given) s keeps lt left left_then 
 seat_step heap play history (entries.Advance q) s keeps lt left left_then answers answers_then now then has gave here l a p =
     begins l (omega (arith, a)) p (λ there. gave ∙ keeps.begins.2 s lt (sym has ∙ there) ∙ sym here)
 seat_step heap play history (entries.Ends cycle kept) s keeps lt left left_then answers answers_then now then has gave here l a p =
-    begins l (omega (arith, a)) p (λ there. gave ∙ keeps.ends.1 s lt (sym has ∙ there) ∙ sym here)
+    begins l (omega (arith, a)) p (λ there. gave ∙ keeps.ends.0.1 s lt (sym has ∙ there) ∙ sym here)
 seat_step heap play history (entries.Said q command reply) s keeps lt left left_then answers answers_then now then has gave here l a p =
     rests l (omega (arith, a, cond_none (is_of s (entries.Said q command reply)))) (omega (arith, p))
 seat_step heap play history (entries.Takes q count) s keeps lt left left_then answers answers_then now then has gave here l a p =

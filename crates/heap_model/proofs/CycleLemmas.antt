@@ -10,9 +10,9 @@ use Rattle.heap_model.specs.Sizes.{frags_of}
 use Rattle.heap_model.specs.Space.{total, granted}
 use Rattle.heap_model.specs.Effects.{effect_of}
 use Rattle.heap_model.specs.Windows.{begins_cycle, up_to_cycle, since_cycle}
-use Rattle.heap_model.specs.Cycles.{graph_of, IsReachOfBoth, IsLittle, LeavesLittle}
+use Rattle.heap_model.specs.Cycles.{graph_of, IsReachOfBoth, IsWithinBounds, LeavesWithinBounds, KeepsReached}
 use Rattle.heap_model.specs.Books.{Books, Tells, TellsCycle}
-use Rattle.heap_model.specs.Preparing.{IsLittleBy}
+use Rattle.heap_model.specs.Preparing.{IsWithinBy}
 use Rattle.heap_model.proofs.Windows.{sum-parts}
 use Rattle.heap_model.proofs.Among.{same_ids}
 
@@ -42,12 +42,10 @@ both_is g h reached both r a = record {
 same_both : (g h : State) (xs ys : List Id) → IsReachOfBoth g h xs → IsReachOfBoth g h ys → xs ≡ ys
 same_both g h xs ys x y = same_ids xs ys x.ordered y.ordered (λ id c. (y.reached id).1 ((x.reached id).0 c)) (λ id c. (x.reached id).1 ((y.reached id).0 c))
 
--- little is left where it is by what is kept
-pub little_by : (books : Books) (history : List Entry) (kept : ℕ) (both : List Id) → Tells books history → 1 ≤ books.all.phases
-    → IsReachAmong (graph_of books.heap history) books.cycle.reached.items both
-    → (IsLittleBy books kept (frags_of (graph_of books.heap history) both) → LeavesLittle books.heap history kept)
-    × (LeavesLittle books.heap history kept → IsLittleBy books kept (frags_of (graph_of books.heap history) both))
-little_by books history kept both t some among = (to, from)
+-- so little is in use and kept as by what the account keeps
+pub within_by : (books : Books) (history : List Entry) (kept : ℕ) → Tells books history → 1 ≤ books.all.phases
+    → (IsWithinBy books kept → LeavesWithinBounds books.heap history kept) × (LeavesWithinBounds books.heap history kept → IsWithinBy books kept)
+within_by books history kept t some = (to, from)
   where
     told : TellsCycle books.heap books.cycle history
     told = t.cycle some
@@ -55,35 +53,39 @@ little_by books history kept both t some among = (to, from)
     g : State
     g = graph_of books.heap (up_to_cycle history)
 
-    h : State
-    h = graph_of books.heap history
-
-    ours : IsReachOfBoth g h both
-    ours = both_is g h books.cycle.reached.items both told.reached among
-
     taken : total (λ e. e.taken) (since_cycle history) ≡ books.all.taken - books.cycle.taken_then
     taken = omega (arith, sum-parts begins_cycle (λ e. (effect_of e).taken) history, told.taken, t.all.taken)
 
     words : granted (since_cycle history) ≡ books.all.words - books.cycle.words_then
     words = omega (arith, sum-parts begins_cycle (λ e. (effect_of e).words) history, told.granted, t.all.words)
 
-    to : IsLittleBy books kept (frags_of h both) → LeavesLittle books.heap history kept
-    to little begun' both' reach of_both =
+    to : IsWithinBy books kept → LeavesWithinBounds books.heap history kept
+    to within begun' reach =
         let same : books.cycle.reached.items ≡ begun' = same_reach g books.cycle.reached.items begun' told.reached reach in
-        let same_too : both ≡ both' = same_both g h both both' ours of_both in
-        subst (λ b. IsLittle books.heap history kept b both') same (subst (λ b. IsLittle books.heap history kept books.cycle.reached.items b) same_too
-        (record {
-          used = omega (arith, little.0, told.frags, told.brought, taken, t.all.taken, t.all.given, t.all.freed);
-          spine = omega (arith, little.1, told.words, words, t.all.words, t.all.returned);
-          at_most = omega (arith, little.2, told.frags, told.brought, taken);
-          at_least = little.3;
-        }))
+        subst (λ b. IsWithinBounds books.heap history kept b) same (record {
+          used = omega (arith, within.0, told.frags, told.brought, taken, t.all.taken, t.all.given, t.all.freed);
+          spine = omega (arith, within.1, told.words, words, t.all.words, t.all.returned);
+          at_most = omega (arith, within.2, told.frags, told.brought, taken);
+        })
 
-    from : LeavesLittle books.heap history kept → IsLittleBy books kept (frags_of h both)
+    from : LeavesWithinBounds books.heap history kept → IsWithinBy books kept
     from leaves =
-        let little = leaves books.cycle.reached.items both told.reached ours in (
-          omega (arith, little.used, told.frags, told.brought, taken, t.all.taken, t.all.given, t.all.freed),
-          omega (arith, little.spine, told.words, words, t.all.words, t.all.returned),
-          omega (arith, little.at_most, told.frags, told.brought, taken),
-          little.at_least,
+        let within = leaves books.cycle.reached.items told.reached in (
+          omega (arith, within.used, told.frags, told.brought, taken, t.all.taken, t.all.given, t.all.freed),
+          omega (arith, within.spine, told.words, words, t.all.words, t.all.returned),
+          omega (arith, within.at_most, told.frags, told.brought, taken),
         )
+
+-- what is reached now among what was reached when the cycle began is what is reached at both
+pub reached_by : (books : Books) (history : List Entry) (kept : ℕ) (both : List Id) → Tells books history → 1 ≤ books.all.phases
+    → IsReachAmong (graph_of books.heap history) books.cycle.reached.items both
+    → (frags_of (graph_of books.heap history) both ≤ kept → KeepsReached books.heap history kept)
+    × (KeepsReached books.heap history kept → frags_of (graph_of books.heap history) both ≤ kept)
+reached_by books history kept both t some among =
+    let g = graph_of books.heap (up_to_cycle history) in
+    let h = graph_of books.heap history in
+    let told : TellsCycle books.heap books.cycle history = t.cycle some in
+    let ours : IsReachOfBoth g h both = both_is g h books.cycle.reached.items both told.reached among in (
+      λ few both' of_both. subst (λ b. frags_of h b ≤ kept) (same_both g h both both' ours of_both) few,
+      λ keeps. keeps both ours,
+    )

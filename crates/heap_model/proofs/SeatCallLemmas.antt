@@ -66,6 +66,7 @@ each_call_is_short s unborn last (commands.New d fields) reply before comes = om
 each_call_is_short s unborn last (commands.Array d cells) reply before comes = omega (arith, array_short s unborn (array_fragments cells) reply before comes)
 each_call_is_short s unborn last commands.Poll reply before comes = omega (arith, answers_short s last reply before comes)
 each_call_is_short s unborn last commands.Leave reply before comes = omega (arith, ap length comes, gives_short (eqb unborn 0) (GivesBack s unborn))
+each_call_is_short s unborn last commands.Collect reply before comes = absurd comes
 each_call_is_short s unborn last command reply before comes = omega (arith, ap length comes)
 
 pub each_call_leaves_room : EachCallLeavesRoom

@@ -40,7 +40,7 @@ pub turn : (heap : Heap) (play : Bool) (history : List Entry) (entry : Entry) �
 turn heap play history (entries.Advance p) keeps =
     inl (record { to = p; is = refl; next = keeps.begins.0; not_seven = keeps.begins.1; all = keeps.begins.2; one = refl })
 turn heap play history (entries.Ends cycle kept) keeps =
-    inr (inl (record { cycle = cycle; kept = kept; is = refl; at = keeps.ends.0; all = keeps.ends.1; one = refl }))
+    inr (inl (record { cycle = cycle; kept = kept; is = refl; at = keeps.ends.0.0; all = keeps.ends.0.1; one = refl }))
 turn heap play history entry keeps = inr (inr (record { none = refl; no_advance = λ p e. cc e; no_end = λ cycle kept e. cc e }))
 
 -- the cycles that have ended

@@ -1,5 +1,7 @@
 -- The rules of space and phases that each entry keeps. Sums are compared with sums, so that nothing is cut off at 0.
-use Rattle.std.specs.Prelude.{ℕ, ◌+◌, ◌*◌, ◌≤◌, Bool, List, [], ◌∷◌, ◌++◌}
+use Rattle.std.specs.Prelude.{◌≡◌, ℕ, ◌+◌, ◌*◌, ◌%◌, ◌≤◌, Bool, List, [], ◌∷◌, ◌++◌}
+use Rattle.heap_model.specs.Limits.{group_fragments, most_reserve}
+use Rattle.heap_model.specs.PhasePlan.{cycle_phases, barriers}
 use Rattle.heap_model.specs.declared.heap.Heap.{Heap}
 use Rattle.heap_model.specs.declared.command.Command.{Command}
 use Rattle.heap_model.specs.declared.command.Command.TheVariants as commands
@@ -9,21 +11,21 @@ use Rattle.heap_model.specs.Legal.{IsObjectLegal}
 use Rattle.heap_model.specs.Space.{gained, lost, taken_of, spent_of}
 use Rattle.heap_model.specs.Needs.{made_by}
 use Rattle.heap_model.specs.Phases.{AnswersPhase, BeginsPhase, ShowsRightly}
-use Rattle.heap_model.specs.Cycles.{EndsCycle}
+use Rattle.heap_model.specs.Cycles.{EndsCycle, IsThroughCycle, LeavesWithinBounds}
 use Rattle.heap_model.specs.Sweep.{Sweeps}
 use Rattle.heap_model.specs.Refusals.{RefusesRightly}
 pub use Rattle.heap_model.specs.Refusals.{given_up, FindsSpace, ShowsSpace, RefusesSpine}
 
 -- a seat takes what is there, and gives back what it has
 abbrev pub TakesAndGives : Heap → List Entry → Entry → Type 0
-TakesAndGives heap before (entries.Takes s count) = (1 ≤ count) × (gained before + count ≤ 16 * heap.groups + lost before)
+TakesAndGives heap before (entries.Takes s count) = (1 ≤ count) × (gained before + count ≤ group_fragments * heap.groups + lost before)
 TakesAndGives heap before (entries.GivesBack s count) = (1 ≤ count) × (spent_of s before + count ≤ taken_of s before)
 TakesAndGives heap before _ = Unit {0}
 
 -- the most fragments that a seat keeps after this command
 abbrev pub most_kept : Command → ℕ
 most_kept commands.Leave = 0
-most_kept _ = 15
+most_kept _ = most_reserve
 
 -- an object is made of what its maker has, and little is kept after a reply
 abbrev pub MakesOfOwn : List Entry → Entry → Type 0
@@ -43,6 +45,14 @@ pub record KeepsSpace (heap : Heap) (play : Bool) (before : List Entry) (entry :
   pub sweeps : Sweeps heap before entry
   pub ends : EndsCycle heap before entry
   pub shows : ShowsRightly heap play before entry
+
+-- memory may be lacked for a legal entry that begins a cycle or swings an array, and where a cycle ends: there all but how much was kept
+-- at least is known to be legal
+abbrev pub MayLackMemory : Heap → Bool → List Entry → Entry → Type 0
+MayLackMemory heap play before (entries.Advance p) = (p % cycle_phases ≡ barriers) × KeepsSpace heap play before (entries.Advance p)
+MayLackMemory heap play before (entries.Swings id) = KeepsSpace heap play before (entries.Swings id)
+MayLackMemory heap play before (entries.Ends cycle kept) = IsThroughCycle heap before cycle × LeavesWithinBounds heap before kept
+MayLackMemory heap play before _ = ⊥
 
 -- each entry keeps the rules after those before it
 abbrev pub KeepsSpaceAfter : Heap → Bool → List Entry → List Entry → Type 0

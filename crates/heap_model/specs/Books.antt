@@ -1,5 +1,6 @@
 -- What the account keeps of a history, and what that has to do with it.
 use Rattle.std.specs.Prelude.{◌≡◌, ℕ, ◌/◌, ◌<◌, ◌≤◌, ◌^◌, ◌↔◌, false, List, length, Contains, Option, Some, is_some}
+use Rattle.heap_model.specs.PhasePlan.{cycle_phases}
 use Rattle.heap_model.specs.declared.heap.Heap.{Heap}
 use Rattle.heap_model.specs.declared.id.Id.{Id}
 use Rattle.heap_model.specs.declared.entry.Entry.{Entry}
@@ -59,7 +60,7 @@ pub record Tells (books : Books) (history : List Entry) : Type 0 where
   pub entries : books.entries ≡ length history
   pub all : IsMeasured books.all (λ part. total part history)
   pub seats : (s : ℕ) → s < books.heap.seats → TellsSeat books.heap books.all books.seats s (seat_at books.seats s) history
-  pub ended : (cycle : ℕ) → HasEnded cycle history ↔ (cycle < books.all.phases / 7)
+  pub ended : (cycle : ℕ) → HasEnded cycle history ↔ (cycle < books.all.phases / cycle_phases)
   pub just_ended : (cycle : ℕ) → JustEnded cycle history ↔ (books.ended ≡ Some cycle)
   pub swung : (id : Id) → HasSwung id history ↔ Contains books.swung id
   pub cycle : 1 ≤ books.all.phases → TellsCycle books.heap books.cycle history

@@ -1,5 +1,6 @@
 -- How a graph changes: another register or cell, one more object or set, a seat that leaves.
 use Rattle.std.specs.Prelude.{ℕ, ◌+◌, ◌*◌, ◌^◌, true, false, [], ◌∷◌, ◌++◌, length, replicate, slice_index_or, slice_set}
+use Rattle.heap_model.specs.Limits.{register_count, stamp_limit}
 use Rattle.heap_model.specs.declared.id.Id.TheVariants.{Board, Made}
 use Rattle.heap_model.specs.declared.id.Value.{Value}
 use Rattle.heap_model.specs.declared.id.Value.TheVariants.{Nil, Number, Object}
@@ -39,7 +40,7 @@ write g (Object (Made q count)) i cell = with_party g q (with_object_cell (party
 
 -- the stamp of the n-th set of a seat
 abbrev pub stamp_of : ℕ → ℕ → ℕ
-stamp_of s n = (s + 1) * 2 ^ 26 + n
+stamp_of s n = (s + 1) * stamp_limit + n
 
 -- the seat did one more set
 abbrev pub count_set : State → ℕ → State
@@ -52,4 +53,4 @@ set_cell g s r i v =
 
 -- the seat's registers are empty, and it has left
 abbrev pub leave : State → ℕ → State
-leave g s = with_party g s (record (party g s) { registers = replicate 16 Nil; left = true })
+leave g s = with_party g s (record (party g s) { registers = replicate register_count Nil; left = true })

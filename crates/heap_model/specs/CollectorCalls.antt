@@ -3,7 +3,7 @@ use Rattle.std.specs.Prelude.{◌≡◌, ◌≢◌, ℕ, ◌+◌, ◌-◌, ◌*�
 use Rattle.heap_model.specs.declared.entry.Entry.{Entry}
 use Rattle.heap_model.specs.declared.entry.Entry.TheVariants as entries
 use Rattle.heap_model.specs.Limits.{most_seats, left_word}
-use Rattle.heap_model.specs.PhasePlan.{rest, copying, sweep, clearing}
+use Rattle.heap_model.specs.PhasePlan.{cycle_phases, rest, copying, sweep, clearing}
 use Rattle.heap_model.specs.declared.collector_calls.Turn.{Turn}
 use Rattle.heap_model.specs.declared.collector_calls.Turn.TheVariants as turns
 
@@ -19,10 +19,10 @@ pub record CollectorState : Type 0 where
 -- the entry is one that a step adds which ends no cycle, and leads from a phase to a phase: fragments and spine words are given up in
 -- the sweep alone, arrays swing while copying, and no step but the end of a cycle comes to rest
 abbrev pub StepsTo : ℕ → Entry → ℕ → Type 0
-StepsTo phase (entries.Advance next) later = (next ≡ phase + 1) × (next % 7 ≢ rest) × (later ≡ next)
-StepsTo phase (entries.Frees count) later = (phase % 7 ≡ sweep) × (1 ≤ count) × (later ≡ phase)
-StepsTo phase (entries.Returns count) later = (phase % 7 ≡ sweep) × (1 ≤ count) × (later ≡ phase)
-StepsTo phase (entries.Swings id) later = (phase % 7 ≡ copying) × (later ≡ phase)
+StepsTo phase (entries.Advance next) later = (next ≡ phase + 1) × (next % cycle_phases ≢ rest) × (later ≡ next)
+StepsTo phase (entries.Frees count) later = (phase % cycle_phases ≡ sweep) × (1 ≤ count) × (later ≡ phase)
+StepsTo phase (entries.Returns count) later = (phase % cycle_phases ≡ sweep) × (1 ≤ count) × (later ≡ phase)
+StepsTo phase (entries.Swings id) later = (phase % cycle_phases ≡ copying) × (later ≡ phase)
 StepsTo phase _ later = ⊥
 
 -- no entry was added
@@ -35,7 +35,7 @@ ComesTo old new turns.Stepped = AddsNone old new ⊎ ((entry : Entry) × StepsTo
 ComesTo old new (turns.Waits seat answered phase) =
     AddsNone old new × (seat < most_seats) × (phase ≡ old.phase) × (answered + 1 ≡ phase) × (answered ≢ left_word)
 ComesTo old new (turns.Ended cycle kept) =
-    (new.log ≡ old.log ++ entries.Ends cycle kept ∷ []) × (old.phase ≡ 7 * cycle + clearing) × (new.phase ≡ 7 * cycle + 7)
+    (new.log ≡ old.log ++ entries.Ends cycle kept ∷ []) × (old.phase ≡ cycle_phases * cycle + clearing) × (new.phase ≡ cycle_phases * cycle + cycle_phases)
 
 -- one turn was made, and is the last one
 pub record Turns (old new : CollectorState) (turn : Turn) : Type 0 where

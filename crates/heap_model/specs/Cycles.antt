@@ -1,6 +1,7 @@
 -- The graph of a history, and what is left at the end of a cycle.
 use Rattle.std.specs.Prelude.{◌≡◌, ℕ, ◌+◌, ◌*◌, ◌≤◌, ◌↔◌, List, AllPairs, Contains, sum_by}
 use Rattle.std.specs.List.{range_with_len}
+use Rattle.heap_model.specs.PhasePlan.{cycle_phases, clearing}
 use Rattle.heap_model.specs.declared.heap.Heap.{Heap}
 use Rattle.heap_model.specs.declared.id.Id.{Id}
 use Rattle.heap_model.specs.declared.entry.Entry.{Entry}
@@ -39,20 +40,31 @@ pub record IsReachOfBoth (g h : State) (ids : List Id) : Type 0 where
   pub ordered : AllPairs IsBefore ids
   pub reached : (id : Id) → Contains ids id ↔ Reaches g id × Reaches h id
 
--- what is in use and what was kept are within the bounds, and what was reached all along was kept
-pub record IsLittle (heap : Heap) (before : List Entry) (kept : ℕ) (begun both : List Id) : Type 0 where
+-- what is in use and what was kept are within the bounds
+pub record IsWithinBounds (heap : Heap) (before : List Entry) (kept : ℕ) (begun : List Id) : Type 0 where
   pub used : gained before ≤ lost before + bound heap begun before
   pub spine : granted before ≤ returned before + spine_bound heap begun before
   pub at_most : kept ≤ bound heap begun before
-  pub at_least : frags_of (graph_of heap before) both ≤ kept
 
--- little is left, by what was reached when the cycle began, and what was reached both then and now
-abbrev pub LeavesLittle : Heap → List Entry → ℕ → Type 0
-LeavesLittle heap before kept =
-    (begun both : List Id) → IsReach (graph_of heap (up_to_cycle before)) begun
-    → IsReachOfBoth (graph_of heap (up_to_cycle before)) (graph_of heap before) both → IsLittle heap before kept begun both
+-- no more is left than the bounds say, by what was reached when the cycle began
+abbrev pub LeavesWithinBounds : Heap → List Entry → ℕ → Type 0
+LeavesWithinBounds heap before kept = (begun : List Id) → IsReach (graph_of heap (up_to_cycle before)) begun → IsWithinBounds heap before kept begun
 
--- a cycle ends in its sixth phase, once all have answered that, and leaves little
+-- what was reached both when the cycle began and now was kept
+abbrev pub KeepsReached : Heap → List Entry → ℕ → Type 0
+KeepsReached heap before kept =
+    (both : List Id) → IsReachOfBoth (graph_of heap (up_to_cycle before)) (graph_of heap before) both → frags_of (graph_of heap before) both ≤ kept
+
+-- a cycle leaves little, and keeps what is reached
+pub record LeavesLittle (heap : Heap) (before : List Entry) (kept : ℕ) : Type 0 where
+  pub within : LeavesWithinBounds heap before kept
+  pub reached : KeepsReached heap before kept
+
+-- the cycle stands in its last phase, and all have answered that
+abbrev pub IsThroughCycle : Heap → List Entry → ℕ → Type 0
+IsThroughCycle heap before cycle = (phase before ≡ cycle_phases * cycle + clearing) × AllAnswered heap before
+
+-- a cycle ends once all have answered its last phase, and leaves little
 abbrev pub EndsCycle : Heap → List Entry → Entry → Type 0
-EndsCycle heap before (entries.Ends cycle kept) = (phase before ≡ 7 * cycle + 6) × AllAnswered heap before × LeavesLittle heap before kept
+EndsCycle heap before (entries.Ends cycle kept) = IsThroughCycle heap before cycle × LeavesLittle heap before kept
 EndsCycle heap before _ = Unit {0}

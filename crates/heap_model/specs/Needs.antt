@@ -9,13 +9,13 @@ use Rattle.heap_model.specs.declared.reply.Reply.TheVariants as replies
 abbrev pub record_fragments : ℕ → ℕ
 record_fragments fields = 1 + (fields - 2 + 2) / 3
 
--- the fragments of an array: a sentinel, and four cells in each further fragment
-abbrev pub array_fragments : ℕ → ℕ
-array_fragments cells = 1 + (cells + 3) / 4
-
--- the spine words of an array: one for each fragment of cells
+-- the spine words of an array: one for each four cells
 abbrev pub array_words : ℕ → ℕ
 array_words cells = (cells + 3) / 4
+
+-- the fragments of an array: a sentinel, and a fragment for each spine word
+abbrev pub array_fragments : ℕ → ℕ
+array_fragments cells = 1 + array_words cells
 
 -- the fragments that a command asks for
 abbrev pub need_of : Command → ℕ

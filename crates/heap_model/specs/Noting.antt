@@ -1,5 +1,5 @@
 -- What the account keeps once an entry is counted.
-use Rattle.std.specs.Prelude.{◌≡◌, ℕ, ◌+◌, ◌<◌, Bool, false, if◌then◌else◌, nat_lt, List, [], slice_index_or, Option, Some, None, is_some}
+use Rattle.std.specs.Prelude.{◌≡◌, ℕ, ◌+◌, ◌<◌, Bool, false, if◌then◌else◌, nat_lt, List, [], slice_index_or, Option, Some, None, is_some, IfSome}
 use Rattle.heap_model.specs.declared.entry.Entry.{Entry}
 use Rattle.heap_model.specs.declared.entry.Entry.TheVariants as entries
 use Rattle.heap_model.specs.declared.heap.Heap.{Heap}
@@ -12,21 +12,17 @@ use Rattle.heap_model.specs.PhaseCounts.{is_leave_of}
 use Rattle.heap_model.specs.Books.{Books}
 use Rattle.heap_model.specs.SeatBooks.{seat_at, last_phase}
 
--- the seat of the entry, where it has one, is one of these
-abbrev pub IsSeatBelow : ℕ → Entry → Type 0
-IsSeatBelow seats (entries.Said s command reply) = s < seats
-IsSeatBelow seats (entries.Takes s count) = s < seats
-IsSeatBelow seats (entries.GivesBack s count) = s < seats
-IsSeatBelow seats (entries.Answers s phase) = s < seats
-IsSeatBelow seats _ = Unit {0}
-
--- the seat of the entry
+-- the seat of the entry, where it has one
 abbrev pub seat_of : Entry → Option ℕ
 seat_of (entries.Said s command reply) = Some s
 seat_of (entries.Takes s count) = Some s
 seat_of (entries.GivesBack s count) = Some s
 seat_of (entries.Answers s phase) = Some s
 seat_of _ = None
+
+-- the seat of the entry, where it has one, is one of these
+abbrev pub IsSeatBelow : ℕ → Entry → Type 0
+IsSeatBelow seats entry = IfSome (seat_of entry) (λ s. s < seats)
 
 -- the seat has not left, and has yet to answer the phase
 abbrev pub is_behind_now : Effect → List SeatAccount → ℕ → Bool

@@ -1,6 +1,7 @@
 -- The phase, the answers to it, and the cycles that began and ended.
 use Rattle.std.specs.Prelude.{◌≡◌, ℕ, ◌+◌, ◌*◌, ◌==◌, ◌<◌, Bool, false, List, [], ◌∷◌, ◌++◌, Contains}
 use Rattle.std.specs.List.{list_any}
+use Rattle.heap_model.specs.PhasePlan.{cycle_phases, barriers}
 use Rattle.heap_model.specs.declared.heap.Heap.{Heap}
 use Rattle.heap_model.specs.declared.command.Command.TheVariants as commands
 use Rattle.heap_model.specs.declared.entry.Entry.{Entry}
@@ -38,4 +39,4 @@ JustEnded cycle history = (earlier : List Entry) × (kept : ℕ) × (history ≡
 
 -- the cycle has begun since the seat's last reply
 abbrev pub BeganSince : ℕ → ℕ → List Entry → Type 0
-BeganSince s cycle history = Contains (since_reply s history) (entries.Advance (7 * cycle + 1))
+BeganSince s cycle history = Contains (since_reply s history) (entries.Advance (cycle_phases * cycle + barriers))

@@ -1,5 +1,6 @@
 -- What the seats and the collector may do and show of phases.
 use Rattle.std.specs.Prelude.{◌≡◌, ◌≢◌, ℕ, ◌+◌, ◌%◌, ◌<◌, Bool, true, false, List, ◌++◌}
+use Rattle.heap_model.specs.PhasePlan.{cycle_phases, rest}
 use Rattle.heap_model.specs.declared.heap.Heap.{Heap}
 use Rattle.heap_model.specs.declared.command.Command.{Command}
 use Rattle.heap_model.specs.declared.command.Command.TheVariants as commands
@@ -20,7 +21,7 @@ AnswersPhase before _ = Unit {0}
 
 -- the next phase begins once all have answered; a multiple of seven is begun by the end of a cycle alone
 abbrev pub BeginsPhase : Heap → List Entry → Entry → Type 0
-BeginsPhase heap before (entries.Advance p) = (p ≡ phase before + 1) × (p % 7 ≢ 0) × AllAnswered heap before
+BeginsPhase heap before (entries.Advance p) = (p ≡ phase before + 1) × (p % cycle_phases ≢ rest) × AllAnswered heap before
 BeginsPhase heap before _ = Unit {0}
 
 -- the seat is there, and this is its last answer, while this is the phase

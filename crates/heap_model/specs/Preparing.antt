@@ -1,6 +1,8 @@
 -- What the account keeps of a cycle that begins, compares where one ends, and prepares for an entry.
-use Rattle.std.specs.Prelude.{◌≡◌, ℕ, ◌+◌, ◌-◌, ◌≤◌, ◌↔◌, ◌⊎◌, Contains, true, false, sum_by}
+use Rattle.std.specs.Prelude.{◌≡◌, ℕ, ◌+◌, ◌-◌, ◌%◌, ◌≤◌, ◌↔◌, ◌⊎◌, Contains, true, false, sum_by}
 use Rattle.std.specs.List.{range_with_len}
+use Rattle.heap_model.specs.Limits.{board_fragments}
+use Rattle.heap_model.specs.PhasePlan.{cycle_phases, barriers}
 use Rattle.heap_model.specs.declared.id.Id.{Id}
 use Rattle.heap_model.specs.declared.entry.Entry.{Entry}
 use Rattle.heap_model.specs.declared.entry.Entry.TheVariants as entries
@@ -27,12 +29,12 @@ pub record IsBegun (books : Books) (g : State) (cycle : Cycle) : Type 0 where
   pub granted : cycle.words_then ≡ books.all.words
   pub fits : CycleFits cycle
 
--- little is left, by what is kept, where `both` fragments are reached that were when the cycle began
-abbrev pub IsLittleBy : Books → ℕ → ℕ → Type 0
-IsLittleBy books kept both =
-    (11 + books.all.taken ≤ books.all.given + books.all.freed + (books.cycle.frags + books.cycle.brought + (books.all.taken - books.cycle.taken_then)))
+-- what is in use and what was kept are within the bounds, by what the account keeps
+abbrev pub IsWithinBy : Books → ℕ → Type 0
+IsWithinBy books kept =
+    (board_fragments + books.all.taken ≤ books.all.given + books.all.freed + (books.cycle.frags + books.cycle.brought + (books.all.taken - books.cycle.taken_then)))
     × (books.all.words ≤ books.all.returned + books.cycle.words + (books.all.words - books.cycle.words_then))
-    × (kept ≤ books.cycle.frags + books.cycle.brought + (books.all.taken - books.cycle.taken_then)) × (both ≤ kept)
+    × (kept ≤ books.cycle.frags + books.cycle.brought + (books.all.taken - books.cycle.taken_then))
 
 -- what the entry needs memory for is kept: an array that swings, and a cycle that begins
 pub record IsPrepared (old : Books) (g : State) (entry : Entry) (new : Books) : Type 0 where
@@ -40,3 +42,9 @@ pub record IsPrepared (old : Books) (g : State) (entry : Entry) (new : Books) : 
   pub swung : (id : Id) → Contains new.swung id ↔ Contains old.swung id ⊎ (entry ≡ entries.Swings id)
   pub begun : begins_cycle entry ≡ true → IsBegun old g new.cycle
   pub same : begins_cycle entry ≡ false → new.cycle ≡ old.cycle
+
+-- memory is wanted for an entry that begins a cycle, or swings an array
+abbrev pub WantsMemory : Entry → Type 0
+WantsMemory (entries.Advance p) = p % cycle_phases ≡ barriers
+WantsMemory (entries.Swings id) = Unit {0}
+WantsMemory _ = ⊥

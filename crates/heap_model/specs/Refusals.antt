@@ -1,5 +1,6 @@
 -- What a refusal for want of space shows. Sums are compared with sums, so that nothing is cut off at 0.
 use Rattle.std.specs.Prelude.{◌≡◌, ℕ, ◌+◌, ◌-◌, ◌*◌, ◌<◌, ◌≤◌, Bool, true, false, List}
+use Rattle.heap_model.specs.Limits.{group_fragments, most_cells}
 use Rattle.heap_model.specs.declared.heap.Heap.{Heap}
 use Rattle.heap_model.specs.declared.command.Command.{Command}
 use Rattle.heap_model.specs.declared.reply.Reply.{Reply}
@@ -7,7 +8,7 @@ use Rattle.heap_model.specs.declared.reply.Reply.TheVariants as replies
 use Rattle.heap_model.specs.declared.entry.Entry.{Entry}
 use Rattle.heap_model.specs.declared.entry.Entry.TheVariants as entries
 use Rattle.heap_model.specs.Space.{total, total_but, gained, lost, granted, returned, taken_of, spent_of}
-use Rattle.heap_model.specs.Needs.{need_of, spine_need_of}
+use Rattle.heap_model.specs.Needs.{array_words, need_of, spine_need_of}
 use Rattle.heap_model.specs.Windows.{since_reply}
 
 -- what the seat may have missed: what was freed, and what others gave back
@@ -17,10 +18,10 @@ given_up s history = total (λ e. e.freed) history + total_but s (λ e. e.given)
 -- in a play what is in no use is found, and the seat's own; in a run what was given up since the seat's last reply may be missed,
 -- and what others took since may be counted
 abbrev pub FindsSpace : Heap → Bool → List Entry → ℕ → ℕ → Type 0
-FindsSpace heap true before s found = found + gained before + spent_of s before ≡ 16 * heap.groups + lost before + taken_of s before
+FindsSpace heap true before s found = found + gained before + spent_of s before ≡ group_fragments * heap.groups + lost before + taken_of s before
 FindsSpace heap false before s found =
-    (16 * heap.groups + lost before + taken_of s before ≤ found + gained before + spent_of s before + given_up s (since_reply s before))
-    × (found + gained before + spent_of s before ≤ 16 * heap.groups + lost before + taken_of s before + total_but s (λ e. e.taken) (since_reply s before))
+    (group_fragments * heap.groups + lost before + taken_of s before ≤ found + gained before + spent_of s before + given_up s (since_reply s before))
+    × (found + gained before + spent_of s before ≤ group_fragments * heap.groups + lost before + taken_of s before + total_but s (λ e. e.taken) (since_reply s before))
 
 -- a refusal shows what the command needs, and what was found, which is less
 abbrev pub ShowsSpace : Heap → Bool → List Entry → ℕ → Command → Reply → Type 0
@@ -37,7 +38,7 @@ abbrev pub FindsSpine : Heap → Bool → List Entry → ℕ → ℕ → Type 0
 FindsSpine heap true before s shown = shown + returned before ≡ granted before
 FindsSpine heap false before s shown =
     (granted before ≤ shown + returned before + total_but s (λ e. e.words) (since_reply s before))
-    × (shown + returned before ≤ granted before + returned (since_reply s before) + 1024 * (heap.seats - 1))
+    × (shown + returned before ≤ granted before + returned (since_reply s before) + array_words most_cells * (heap.seats - 1))
 
 -- an array is refused where its spine words are too many beside those in use
 abbrev pub ShowsSpine : Heap → Bool → List Entry → ℕ → Command → Reply → Type 0

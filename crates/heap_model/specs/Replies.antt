@@ -1,5 +1,6 @@
 -- Which replies the graph gives to a seat's command.
 use Rattle.std.specs.Prelude.{◌≡◌, ◌≢◌, ℕ, ◌+◌, ◌<◌, ◌^◌, length, Option, Some, None, Result, MatchResult}
+use Rattle.heap_model.specs.Limits.{stamp_limit}
 use Rattle.heap_model.specs.declared.id.Id.TheVariants.{Made}
 use Rattle.heap_model.specs.declared.command.Command.{Command}
 use Rattle.heap_model.specs.declared.command.Command.TheVariants as commands
@@ -24,9 +25,9 @@ MakesArray g s reply = Makes g s reply
 abbrev pub Gets : Result Cell Reply → Reply → Type 0
 Gets found reply = MatchResult found (λ cell. reply ≡ replies.Got cell.value cell.stamp) (λ refusal. reply ≡ refusal)
 
--- a set answers the stamp before it; a seat has 2^26 - 1 sets
+-- a set answers the stamp before it; and a stamp is left for it
 abbrev pub Sets : ℕ → Result Cell Reply → Reply → Type 0
-Sets sets found reply = MatchResult found (λ cell. (reply ≡ replies.Was cell.stamp) × (sets + 1 < 2 ^ 26)) (λ refusal. reply ≡ refusal)
+Sets sets found reply = MatchResult found (λ cell. (reply ≡ replies.Was cell.stamp) × (sets + 1 < stamp_limit)) (λ refusal. reply ≡ refusal)
 
 -- the length of an object, or that there is none
 abbrev pub length_reply : Option Node → Reply

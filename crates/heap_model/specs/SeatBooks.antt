@@ -1,5 +1,6 @@
 -- What the account keeps of a seat, and what that has to do with the history.
 use Rattle.std.specs.Prelude.{◌≡◌, ℕ, ◌+◌, ◌%◌, ◌<◌, ◌≤◌, ◌↔◌, ◌≢◌, false, if◌then◌else◌, List, [], slice_index_or, Contains, None, is_some, unwrap_or}
+use Rattle.heap_model.specs.PhasePlan.{cycle_phases, rest}
 use Rattle.heap_model.specs.declared.heap.Heap.{Heap}
 use Rattle.heap_model.specs.declared.entry.Entry.{Entry}
 use Rattle.heap_model.specs.declared.entry.Entry.TheVariants as entries
@@ -51,6 +52,6 @@ pub record TellsSeat (heap : Heap) (all : Effect) (seats : List SeatAccount) (s 
   pub earlier : seat.all_then.phases ≤ all.phases
   pub kept_up : is_some seat.left ≡ false → all.phases ≤ seat.own.answers + 1
   pub gone : last_phase seat all.phases ≤ all.phases
-  pub began : (p : ℕ) → Contains (since_reply s history) (entries.Advance p) ↔ (seat.all_then.phases < p) × (p ≤ all.phases) × (p % 7 ≢ 0)
+  pub began : (p : ℕ) → Contains (since_reply s history) (entries.Advance p) ↔ (seat.all_then.phases < p) × (p ≤ all.phases) × (p % cycle_phases ≢ rest)
   pub behind : (other answer : ℕ) → other < heap.seats → other ≢ s
       → WasBehind s other answer (answer + 1) history ↔ IsFrom (first_behind seat other) (last_phase (seat_at seats other) all.phases) (answer + 1)

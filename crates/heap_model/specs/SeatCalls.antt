@@ -1,5 +1,6 @@
 -- When a seat may be called, and which entries each call adds.
 use Rattle.std.specs.Prelude.{◌≡◌, ℕ, ◌+◌, ◌*◌, ◌==◌, ◌<◌, ◌≤◌, ◌^◌, ◌⊎◌, if◌then◌else◌, false, List, [], ◌∷◌, ◌++◌, length, map, sum, All}
+use Rattle.heap_model.specs.Limits.{group_fragments, most_reserve, name_limit, stamp_limit}
 use Rattle.heap_model.specs.declared.command.Command.{Command}
 use Rattle.heap_model.specs.declared.command.Command.TheVariants as commands
 use Rattle.heap_model.specs.declared.reply.Reply.{Reply}
@@ -14,9 +15,9 @@ use Rattle.heap_model.specs.SeatState.{SeatState, own_party}
 
 -- a name is left for an object that the command makes, or a stamp for a set that it does
 abbrev pub HasNumber : SeatState → Command → Type 0
-HasNumber seat (commands.New d fields) = length (own_party seat).objects + 1 < 2 ^ 32
-HasNumber seat (commands.Array d cells) = length (own_party seat).objects + 1 < 2 ^ 32
-HasNumber seat (commands.Set r i v) = (own_party seat).sets + 1 < 2 ^ 26
+HasNumber seat (commands.New d fields) = length (own_party seat).objects + 1 < name_limit
+HasNumber seat (commands.Array d cells) = length (own_party seat).objects + 1 < name_limit
+HasNumber seat (commands.Set r i v) = (own_party seat).sets + 1 < stamp_limit
 HasNumber seat _ = Unit {0}
 
 -- the seat may be given the command
@@ -36,14 +37,14 @@ gives_of s counts = map (GivesBack s) counts
 
 -- some or all fragments of a group
 abbrev pub IsGroupCount : ℕ → Type 0
-IsGroupCount count = IsWithin 1 16 count
+IsGroupCount count = IsWithin 1 group_fragments count
 
 -- beside what a seat had of its own these claims are enough for an object; before the last of them it was too little, and little is left over
 pub record GathersEnough (unborn need : ℕ) (counts : List ℕ) : Type 0 where
   pub of_groups : All IsGroupCount counts
   pub needed : (earlier : List ℕ) (last : ℕ) → counts ≡ earlier ++ last ∷ [] → unborn + sum earlier < need
   pub enough : need ≤ unborn + sum counts
-  pub little_left : unborn + sum counts ≤ need + 15
+  pub little_left : unborn + sum counts ≤ need + most_reserve
 
 -- what a seat had of its own and all its claims are what was found, which is too little
 pub record GathersTooLittle (unborn need found : ℕ) (counts : List ℕ) : Type 0 where
@@ -76,12 +77,14 @@ last_gives s unborn = if unborn == 0 then [] else GivesBack s unborn ∷ []
 abbrev pub leave_entries : ℕ → ℕ → List Entry
 leave_entries s unborn = last_gives s unborn ++ Said s commands.Leave replies.Done ∷ []
 
--- the entries that come right before the seat's reply to the command, where it had so many fragments of its own and has answered this phase last
+-- the entries that come right before the seat's reply to the command, where it had so many fragments of its own and has answered this phase last;
+-- a collect is no single call
 abbrev pub ComesBefore : ℕ → ℕ → ℕ → Command → Reply → List Entry → Type 0
 ComesBefore s unborn last (commands.New d fields) reply before = ClaimsBefore s unborn (record_fragments fields) reply before
 ComesBefore s unborn last (commands.Array d cells) reply before = ArrayBefore s unborn (array_fragments cells) reply before
 ComesBefore s unborn last commands.Poll reply before = AnswersBefore s last reply before
 ComesBefore s unborn last commands.Leave reply before = before ≡ last_gives s unborn
+ComesBefore s unborn last commands.Collect reply before = ⊥
 ComesBefore s unborn last _ reply before = before ≡ []
 
 -- the seat got its entries for the command, the reply last, and lost no more room than they take

@@ -12,7 +12,7 @@ use Rattle.heap_model.specs.declared.refusal.PlaceRefusal.TheVariants as places
 use Rattle.heap_model.specs.declared.refusal.SpaceRefusal.{SpaceRefusal}
 use Rattle.heap_model.specs.declared.refusal.SpaceRefusal.TheVariants as spaces
 use Rattle.heap_model.specs.Space.{taken_of, spent_of}
-use Rattle.heap_model.specs.Needs.{array_fragments}
+use Rattle.heap_model.specs.Needs.{array_fragments, array_words}
 use Rattle.heap_model.specs.SeatState.{SeatState, own_party}
 
 -- the reply to `new`
@@ -65,7 +65,7 @@ pub record LacksFragments (old new : SeatState) (wanted need found : ℕ) : Type
 -- too little space for an array: too few fragments, or too few spine words
 abbrev pub LacksSpace : SeatState → SeatState → ℕ → SpaceRefusal → Type 0
 LacksSpace old new cells (spaces.Full need found) = LacksFragments old new (array_fragments cells) need found
-LacksSpace old new cells (spaces.SpineFull need used) = (need ≡ (cells + 3) / 4) × (old.heap.spine < used + need)
+LacksSpace old new cells (spaces.SpineFull need used) = (need ≡ array_words cells) × (old.heap.spine < used + need)
 
 -- nothing that the seat took is left to it
 abbrev pub KeepsNothing : SeatState → Type 0

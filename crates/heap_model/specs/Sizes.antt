@@ -4,7 +4,7 @@ use Rattle.std.specs.Option.{option_map_or}
 use Rattle.heap_model.specs.declared.id.Id.{Id}
 use Rattle.heap_model.specs.Objects.{node}
 use Rattle.heap_model.specs.State.{Node, State}
-use Rattle.heap_model.specs.Needs.{record_fragments, array_fragments}
+use Rattle.heap_model.specs.Needs.{record_fragments, array_fragments, array_words}
 
 -- the fragments of an object
 abbrev pub fragments_of : Node → ℕ
@@ -12,7 +12,7 @@ fragments_of object = if object.array then array_fragments (length object.cells)
 
 -- the spine words of an object: an array has one for every four cells
 abbrev pub spine_words_of : Node → ℕ
-spine_words_of object = if object.array then (length object.cells + 3) / 4 else 0
+spine_words_of object = if object.array then array_words (length object.cells) else 0
 
 -- the fragments of the object of this id, and 0 where there is none
 abbrev pub frags : State → Id → ℕ

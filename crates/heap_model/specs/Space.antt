@@ -1,5 +1,6 @@
 -- The counts of the heap after a history.
 use Rattle.std.specs.Prelude.{ℕ, ◌+◌, ◌-◌, if◌then◌else◌, List, sum_by}
+use Rattle.heap_model.specs.Limits.{board_fragments}
 use Rattle.heap_model.specs.declared.entry.Entry.{Entry}
 use Rattle.heap_model.specs.declared.effect.Effect.{Effect}
 pub use Rattle.heap_model.specs.Needs.{need_of, made_by, words_by, record_fragments}
@@ -19,7 +20,7 @@ total_but s part history = sum_by (λ e. if is_of s e then 0 else part (effect_o
 
 -- the board's fragments, and what was taken
 abbrev pub gained : List Entry → ℕ
-gained history = 11 + total (λ e. e.taken) history
+gained history = board_fragments + total (λ e. e.taken) history
 
 -- what was given back or freed
 abbrev pub lost : List Entry → ℕ

@@ -1,5 +1,6 @@
 -- The graph as contracts see it, with its objects and seats, and how these are at the opening.
 use Rattle.std.specs.Prelude.{ℕ, Bool, false, List, [], ◌∷◌, replicate}
+use Rattle.heap_model.specs.Limits.{board_fields, last_register}
 use Rattle.heap_model.specs.declared.heap.Heap.{Heap}
 use Rattle.heap_model.specs.declared.id.Id.TheVariants.{Board}
 use Rattle.heap_model.specs.declared.id.Value.{Value}
@@ -33,8 +34,8 @@ fresh array cells = record { array = array; cells = replicate cells unset }
 
 -- a seat at the opening: register 0 is the board, and the others are nil
 abbrev pub opening_party : Party
-opening_party = record { registers = Object Board ∷ replicate 15 Nil; objects = []; sets = 0; left = false }
+opening_party = record { registers = Object Board ∷ replicate last_register Nil; objects = []; sets = 0; left = false }
 
 -- the graph at the opening
 abbrev pub opening : Heap → State
-opening heap = record { board = fresh false 32; seats = replicate heap.seats opening_party }
+opening heap = record { board = fresh false board_fields; seats = replicate heap.seats opening_party }

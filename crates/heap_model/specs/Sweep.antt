@@ -1,6 +1,7 @@
 -- What the collector may free, return and swing.
 use Rattle.std.specs.Prelude.{◌≡◌, ◌+◌, ◌%◌, ◌≤◌, true, List, Contains}
 use Rattle.std.specs.Option.{IsSomeAnd}
+use Rattle.heap_model.specs.PhasePlan.{cycle_phases, copying, sweep}
 use Rattle.heap_model.specs.declared.heap.Heap.{Heap}
 use Rattle.heap_model.specs.declared.id.Id.{Id}
 use Rattle.heap_model.specs.declared.entry.Entry.{Entry}
@@ -23,7 +24,7 @@ HasSwung id history = Contains (after_last begins_phase history) (entries.Swings
 -- fragments and spine words are given up in the phase of the sweep, as many as there are; an array swings in the phase before,
 -- and once
 abbrev pub Sweeps : Heap → List Entry → Entry → Type 0
-Sweeps heap before (entries.Frees count) = (phase before % 7 ≡ 5) × (1 ≤ count) × (lost before + count ≤ gained before)
-Sweeps heap before (entries.Returns count) = (phase before % 7 ≡ 5) × (1 ≤ count) × (returned before + count ≤ granted before)
-Sweeps heap before (entries.Swings id) = (phase before % 7 ≡ 4) × IsArray (graph_of heap before) id × ¬ HasSwung id before
+Sweeps heap before (entries.Frees count) = (phase before % cycle_phases ≡ sweep) × (1 ≤ count) × (lost before + count ≤ gained before)
+Sweeps heap before (entries.Returns count) = (phase before % cycle_phases ≡ sweep) × (1 ≤ count) × (returned before + count ≤ granted before)
+Sweeps heap before (entries.Swings id) = (phase before % cycle_phases ≡ copying) × IsArray (graph_of heap before) id × ¬ HasSwung id before
 Sweeps heap before _ = Unit {0}

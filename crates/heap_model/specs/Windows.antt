@@ -1,6 +1,7 @@
 -- Parts of a history: up to the last entry of some kind, and after it.
 use Rattle.std.specs.Prelude.{ℕ, ◌==◌, ◌%◌, Bool, true, false, if◌then◌else◌, List, [], ◌∷◌}
 use Rattle.std.specs.List.{list_any}
+use Rattle.heap_model.specs.PhasePlan.{cycle_phases, barriers}
 use Rattle.heap_model.specs.declared.entry.Entry.{Entry}
 use Rattle.heap_model.specs.declared.entry.Entry.TheVariants as entries
 
@@ -27,7 +28,7 @@ begins_phase _ = false
 
 -- the entry begins a cycle: every seventh phase does
 abbrev pub begins_cycle : Entry → Bool
-begins_cycle (entries.Advance phase) = phase % 7 == 1
+begins_cycle (entries.Advance phase) = phase % cycle_phases == barriers
 begins_cycle _ = false
 
 -- the history up to the seat's last reply, which is empty where it had none

@@ -10,6 +10,7 @@ use crate::entry::Entry;
 use crate::fault::{ApplyFault, Memory};
 use crate::graph::Graph;
 use crate::heap::Heap;
+use crate::limits::BOARD_FRAGMENTS;
 use std::alloc::Global;
 use std::marker::Model;
 
@@ -48,7 +49,7 @@ impl Account {
     ghost use Rattle.heap_model.specs.Space.{gained, lost, used, spine};
     ghost use Rattle.heap_model.specs.PhaseCounts.{phase};
     ghost use Rattle.heap_model.specs.Cycles.{graph_of};
-    ghost use Rattle.heap_model.specs.Account.{KeepsSpace};
+    ghost use Rattle.heap_model.specs.Account.{KeepsSpace, MayLackMemory};
     ghost use Rattle.heap_model.specs.Books.{Tells};
     ghost use Rattle.heap_model.specs.Noting.{IsSeatBelow};
 
@@ -84,6 +85,7 @@ impl Account {
         ensures keeps { OnOk result ((history : List Entries) → Tells self.old history → graph.now ≡ graph_of self.old.heap history → KeepsSpace self.old.heap play history entry.now) }
         ensures tells { OnOk result ((history : List Entries) → Tells self.old history → graph.now ≡ graph_of self.old.heap history → Tells self.new (history ++ entry.now ∷ [])) }
         ensures not_legal { result ≡ Err ApplyFault.NotLegal → (history : List Entries) → Tells self.old history → graph.now ≡ graph_of self.old.heap history → ¬ KeepsSpace self.old.heap play history entry.now }
+        ensures memory { result ≡ Err ApplyFault.Memory → (history : List Entries) → Tells self.old history → graph.now ≡ graph_of self.old.heap history → MayLackMemory self.old.heap play history entry.now }
         ensures counted { OnOk result (self.new.entries ≡ self.old.entries + 1) }
         ensures heap { self.new.heap ≡ self.old.heap }
         ensures unchanged { OnErr result (self.new ≡ self.old) }
@@ -107,12 +109,9 @@ impl Account {
     pub fn has_seat(&self, entry: &Entry) -> bool
         ensures { IsTrue result ↔ IsSeatBelow self.now.heap.seats entry.now }
     {
-        match *entry {
-            Entry::Said { seat, .. }
-            | Entry::Takes { seat, .. }
-            | Entry::GivesBack { seat, .. }
-            | Entry::Answers { seat, .. } => seat < self.heap.seats,
-            _ => true,
+        match entry.seat() {
+            Some(seat) => seat < self.heap.seats,
+            None => true,
         }
     }
 
@@ -120,7 +119,7 @@ impl Account {
     pub fn used(&self) -> u64
         ensures { (history : List Entries) → Tells self.now history → result ≡ used history }
     {
-        let gained = 11 + self.all.taken;
+        let gained = BOARD_FRAGMENTS as u64 + self.all.taken;
         gained
             .saturating_sub(self.all.given)
             .saturating_sub(self.all.freed)

@@ -1,6 +1,8 @@
 ghost use Rattle.std.specs.Prelude.{◌≡◌, ◌<◌, ◌^◌, ◌↔◌, IsTrue};
-ghost use Rattle.heap_model.specs.Command.{IsTarget, IsCommand};
+ghost use Rattle.heap_model.specs.Command.{IsTarget, IsRegister, IsCommand};
 ghost use Rattle.heap_model.specs.Needs.{need_of, spine_need_of};
+
+use crate::limits::{LAST_INDEX, LAST_REGISTER, MOST_CELLS, MOST_FIELDS, NUMBER_LIMIT};
 
 /// What a seat asks of the heap. `d` is the register that the answer goes to, `r`, `v`, `a` and `b` are registers
 /// that are read, and `i` is the index of a field or a cell.
@@ -26,15 +28,15 @@ impl Command {
         ensures { IsTrue result ↔ IsCommand self.now }
     {
         match *self {
-            Command::New { d, fields } => is_target(d) && 1 <= fields && fields <= 47,
-            Command::Array { d, cells } => is_target(d) && 1 <= cells && cells <= 4096,
-            Command::Get { d, r, i } => is_target(d) && r <= 15 && i <= 4096,
-            Command::Set { r, i, v } => r <= 15 && i <= 4096 && v <= 15,
-            Command::Num { d, n } => is_target(d) && n < 1 << 30,
+            Command::New { d, fields } => is_target(d) && 1 <= fields && fields <= MOST_FIELDS,
+            Command::Array { d, cells } => is_target(d) && 1 <= cells && cells <= MOST_CELLS,
+            Command::Get { d, r, i } => is_target(d) && is_register(r) && i <= LAST_INDEX,
+            Command::Set { r, i, v } => is_register(r) && i <= LAST_INDEX && is_register(v),
+            Command::Num { d, n } => is_target(d) && n < NUMBER_LIMIT,
             Command::Nil { d } => is_target(d),
-            Command::Copy { d, r } => is_target(d) && r <= 15,
-            Command::Same { a, b } => a <= 15 && b <= 15,
-            Command::Len { r } => r <= 15,
+            Command::Copy { d, r } => is_target(d) && is_register(r),
+            Command::Same { a, b } => is_register(a) && is_register(b),
+            Command::Len { r } => is_register(r),
             Command::Poll | Command::Collect | Command::Leave => true,
         }
     }
@@ -65,7 +67,14 @@ impl Command {
 fn is_target(d: u8) -> bool
     ensures { IsTrue result ↔ IsTarget d }
 {
-    1 <= d && d <= 15
+    1 <= d && is_register(d)
+}
+
+/// Whether a seat has this register.
+fn is_register(r: u8) -> bool
+    ensures { IsTrue result ↔ IsRegister r }
+{
+    r <= LAST_REGISTER
 }
 
 /// What a script asks of the collector: a number of turns, or turns until a cycle ends.

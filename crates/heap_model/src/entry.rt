@@ -1,3 +1,5 @@
+ghost use Rattle.std.specs.Prelude.{◌≡◌};
+
 use crate::command::{Command, TurnCommand};
 use crate::id::Id;
 use crate::reply::{Reply, TurnReply};
@@ -35,4 +37,21 @@ pub enum Entry {
         command: TurnCommand,
         reply: TurnReply,
     },
+}
+
+impl Entry {
+    ghost use Rattle.heap_model.specs.Noting.{seat_of};
+
+    /// The seat whose entry it is; none where it is the collector's.
+    pub fn seat(&self) -> Option<u8>
+        ensures { result ≡ seat_of self.now }
+    {
+        match *self {
+            Entry::Said { seat, .. }
+            | Entry::Takes { seat, .. }
+            | Entry::GivesBack { seat, .. }
+            | Entry::Answers { seat, .. } => Some(seat),
+            _ => None,
+        }
+    }
 }

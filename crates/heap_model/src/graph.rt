@@ -5,6 +5,7 @@ use crate::entry::Entry;
 use crate::fault::{ApplyFault, Memory};
 use crate::heap::Heap;
 use crate::id::Value;
+use crate::limits::BOARD_FIELDS;
 use crate::object::Object;
 use crate::seat::Seat;
 use std::alloc::Global;
@@ -26,16 +27,18 @@ pub struct Graph {
 
 impl Model for Graph {
     ghost use Rattle.std.specs.Prelude.{◌≤◌, length};
+    ghost use Rattle.heap_model.specs.Limits.{most_seats};
     ghost use Rattle.heap_model.specs.State.{State};
 
     ghost Value = { State };
 
     ghost view = { λ g. record { board = g.board; seats = g.seats.items } };
 
-    ghost invariant = { λ g. length g.seats.items ≤ 16 };
+    ghost invariant = { λ g. length g.seats.items ≤ most_seats };
 }
 
 impl Graph {
+    ghost use Rattle.heap_model.specs.Limits.{most_seats, last_register};
     ghost use Rattle.heap_model.specs.Objects.{register as value_of};
     ghost use Rattle.heap_model.specs.State.{opening};
     ghost use Rattle.heap_model.specs.Growth.{after};
@@ -46,7 +49,7 @@ impl Graph {
         requires { IsHeap heap }
         ensures { IfOk result (λ graph. graph ≡ opening heap) }
     {
-        let board = Object::new(alloc, false, 32)?;
+        let board = Object::new(alloc, false, BOARD_FIELDS)?;
         let mut seats = Vec::with_capacity(alloc, heap.seats as usize)?;
         for _seat in 0..heap.seats {
             seats.push(Seat::new(alloc))?;
@@ -76,14 +79,14 @@ impl Graph {
     /// How many seats the heap has, those that left among them.
     pub fn seats(&self) -> usize
         ensures count { result ≡ length self.now.seats }
-        ensures few { result ≤ 16 }
+        ensures few { result ≤ most_seats }
     {
         self.seats.len()
     }
 
     pub fn value(&self, seat: u8, register: u8) -> Value
         requires seat { seat < length self.now.seats }
-        requires register { register ≤ 15 }
+        requires register { register ≤ last_register }
         ensures { result ≡ value_of self.now seat register }
     {
         self.register(seat, register)

@@ -2,16 +2,9 @@ ghost use Rattle.std.specs.Prelude.{◌≡◌, ◌<◌, ◌≤◌};
 ghost use Rattle.std.specs.Option.{SomeIff};
 ghost use Rattle.heap_model.specs.Heap.{IsHeap};
 
-/// The most groups of 16 fragments that a heap has.
-pub const MOST_GROUPS: u16 = 4096;
+use crate::limits::{MOST_GROUPS, MOST_SEATS, MOST_SPINE};
 
-/// The most spine words that a heap grants.
-pub const MOST_SPINE: u16 = 16384;
-
-/// The most seats of a heap.
-pub const MOST_SEATS: u8 = 16;
-
-/// The sizes of a heap: groups of 16 fragments, granted spine words, and seats.
+/// The sizes of a heap: groups of fragments, granted spine words, and seats.
 #[derive(Clone, Copy, Debug, PartialEq, Eq)]
 pub struct Heap {
     pub groups: u16,

@@ -4,6 +4,7 @@ ghost use Rattle.heap_model.specs.declared.id.Value.TheVariants.{Nil, Object as 
 
 use crate::cell::Cell;
 use crate::id::{Id, Value};
+use crate::limits::REGISTER_COUNT;
 use crate::object::Object;
 use std::alloc::{AllocFailed, Global};
 use std::marker::Model;
@@ -11,7 +12,7 @@ use std::marker::Model;
 /// A seat of the heap, as one that never collects keeps it.
 #[derive(Drop)]
 pub struct Seat {
-    registers: [Value; 16],
+    registers: [Value; REGISTER_COUNT],
     objects: Vec<Object>,
     sets: u32,
     left: bool,
@@ -19,23 +20,25 @@ pub struct Seat {
 
 impl Model for Seat {
     ghost use Rattle.std.specs.Prelude.{◌≤◌, ◌^◌, length};
+    ghost use Rattle.heap_model.specs.Limits.{name_limit};
     ghost use Rattle.heap_model.specs.State.{Party};
 
     ghost Value = { Party };
 
     ghost view = { λ s. record { registers = s.registers; objects = s.objects.items; sets = s.sets; left = s.left } };
 
-    ghost invariant = { λ s. length s.objects.items ≤ 2 ^ 32 };
+    ghost invariant = { λ s. length s.objects.items ≤ name_limit };
 }
 
 impl Seat {
+    ghost use Rattle.heap_model.specs.Limits.{last_register, name_limit, register_count, stamp_limit};
     ghost use Rattle.heap_model.specs.State.{opening_party};
     ghost use Rattle.heap_model.specs.Changes.{with_object_cell};
 
     pub fn new(alloc: Global) -> Seat
         ensures { result ≡ opening_party }
     {
-        let mut registers = [Value::Nil; 16];
+        let mut registers = [Value::Nil; REGISTER_COUNT];
         registers[0] = Value::Object(Id::Board);
         Seat {
             registers,
@@ -60,7 +63,7 @@ impl Seat {
     /// How many objects the seat made.
     pub fn made(&self) -> usize
         ensures count { result ≡ length self.now.objects }
-        ensures few { result ≤ 2 ^ 32 }
+        ensures few { result ≤ name_limit }
     {
         self.objects.len()
     }
@@ -88,7 +91,7 @@ impl Seat {
 
     /// Puts a value into the register.
     pub fn put(&mut self, d: u8, value: Value)
-        requires { d ≤ 15 }
+        requires { d ≤ last_register }
         ensures { self.new ≡ record self.old { registers = slice_set self.old.registers d value } }
     {
         self.registers[d as usize] = value;
@@ -96,8 +99,8 @@ impl Seat {
 
     /// Adds an object under this id, which the register then holds.
     pub fn add(&mut self, d: u8, id: Id, object: Object) -> Result<(), AllocFailed<Object>>
-        requires target { d ≤ 15 }
-        requires few { length self.old.objects < 2 ^ 32 }
+        requires target { d ≤ last_register }
+        requires few { length self.old.objects < name_limit }
         ensures added { OnOk result (self.new ≡ record self.old {
           registers = slice_set self.old.registers d (Reference id);
           objects = self.old.objects ++ object ∷ [];
@@ -120,16 +123,16 @@ impl Seat {
     }
 
     pub fn count_set(&mut self)
-        requires { self.old.sets + 1 < 2 ^ 26 }
+        requires { self.old.sets + 1 < stamp_limit }
         ensures { self.new ≡ record self.old { sets = self.old.sets + 1 } }
     {
         self.sets += 1;
     }
 
     pub fn leave(&mut self)
-        ensures { self.new ≡ record self.old { registers = replicate 16 Nil; left = true } }
+        ensures { self.new ≡ record self.old { registers = replicate register_count Nil; left = true } }
     {
-        self.registers = [Value::Nil; 16];
+        self.registers = [Value::Nil; REGISTER_COUNT];
         self.left = true;
     }
 }

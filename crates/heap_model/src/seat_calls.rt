@@ -1,6 +1,7 @@
 ghost use Rattle.std.specs.Prelude.{◌≡◌, ℕ, ◌+◌, ◌-◌, ◌≤◌, ◌^◌, ◌↔◌, length, IsTrue, IsErr, IfOk, IfErr, OnOk, OnErr, IfSome};
 ghost use Rattle.heap_model.specs.declared.command.Command.TheVariants.{New, Array, Get, Set, Num, Nil, Copy, Same, Len, Poll, Leave};
 ghost use Rattle.heap_model.specs.declared.reply.Reply.TheVariants.{Phase, Done};
+ghost use Rattle.heap_model.specs.Limits.{name_limit, stamp_limit};
 ghost use Rattle.heap_model.specs.Needs.{record_fragments};
 ghost use Rattle.heap_model.specs.SeatState.{SeatState, own_party, held, HoldsNoObject, own_object};
 ghost use Rattle.heap_model.specs.SeatCalls.{IsReady, Adds};
@@ -97,11 +98,11 @@ pub trait SeatCalls {
 
     /// How many more objects the seat can make.
     fn names_left(&self) -> u32
-        ensures { result + length (own_party (state self.now)).objects ≡ 2 ^ 32 - 1 };
+        ensures { result + length (own_party (state self.now)).objects ≡ name_limit - 1 };
 
     /// How many more sets the seat can do.
     fn stamps_left(&self) -> u32
-        ensures { result + (own_party (state self.now)).sets ≡ 2 ^ 26 - 1 };
+        ensures { result + (own_party (state self.now)).sets ≡ stamp_limit - 1 };
 
     /// Whether the seat has left. Whatever it did, its heap is within the limits, and its entries are its own.
     fn left(&self) -> bool

@@ -7,18 +7,20 @@ use crate::command::Command;
 use crate::entry::Entry;
 use crate::fault::{ApplyFault, Memory};
 use crate::graph::Graph;
+use crate::phase_plan::{BARRIERS, CYCLE_PHASES};
 use crate::reply::Reply;
 
 impl Account {
     ghost use Rattle.heap_model.specs.Cycles.{graph_of};
-    ghost use Rattle.heap_model.specs.Account.{KeepsSpace};
+    ghost use Rattle.heap_model.specs.Account.{KeepsSpace, MayLackMemory};
     ghost use Rattle.heap_model.specs.Books.{Tells};
     ghost use Rattle.heap_model.specs.Noting.{IsSeatBelow};
-    ghost use Rattle.heap_model.specs.Preparing.{IsPrepared};
+    ghost use Rattle.heap_model.specs.Preparing.{IsPrepared, WantsMemory};
 
     pub(super) fn keeps(&self, graph: &Graph, entry: &Entry, play: bool) -> Result<bool, Memory>
         requires { IsSeatBelow self.now.heap.seats entry.now }
-        ensures { (history : List Entries) → Tells self.now history → graph.now ≡ graph_of self.now.heap history → IfOk result (λ keeps. IsTrue keeps ↔ KeepsSpace self.now.heap play history entry.now) }
+        ensures keeps { (history : List Entries) → Tells self.now history → graph.now ≡ graph_of self.now.heap history → IfOk result (λ keeps. IsTrue keeps ↔ KeepsSpace self.now.heap play history entry.now) }
+        ensures memory { (history : List Entries) → Tells self.now history → OnErr result (MayLackMemory self.now.heap play history entry.now) }
     {
         match *entry {
             Entry::Said {
@@ -51,11 +53,13 @@ impl Account {
     /// Keeps what the entry needs memory for.
     pub(super) fn prepare(&mut self, graph: &Graph, entry: &Entry) -> Result<(), ApplyFault>
         ensures prepared { OnOk result (IsPrepared self.old graph.now entry.now self.new) }
-        ensures memory { result ≡ Err ApplyFault.NotLegal → ⊥ }
+        ensures memory { OnErr result (WantsMemory entry.now) }
+        ensures fault { result ≡ Err ApplyFault.NotLegal → ⊥ }
         ensures unchanged { OnErr result (self.new ≡ self.old) }
     {
         match *entry {
-            Entry::Advance(phase) if phase % 7 == 1 => self.cycle = self.begun_cycle(graph)?,
+            Entry::Advance(phase) if phase % CYCLE_PHASES == BARRIERS => self.cycle =
+                self.begun_cycle(graph)?,
             Entry::Swings(id) => self.swung.add(id)?,
             _ => {}
         }

@@ -7,9 +7,11 @@ use crate::account::Account;
 use crate::account::seat::SeatAccount;
 use crate::command::Command;
 use crate::effect::Effect;
+use crate::limits::{BOARD_FRAGMENTS, GROUP_FRAGMENTS, MOST_RESERVE};
 use crate::reply::Reply;
 
 impl Account {
+    ghost use Rattle.heap_model.specs.Limits.{board_fragments, group_fragments};
     ghost use Rattle.heap_model.specs.Books.{Tells};
     ghost use Rattle.heap_model.specs.SeatBooks.{seat_at};
     ghost use Rattle.heap_model.specs.Space.{total_but, returned};
@@ -137,17 +139,17 @@ impl Account {
 
     /// The fragments of the heap.
     pub(super) fn room(&self) -> u128
-        ensures number { result ≡ 16 * self.now.heap.groups }
+        ensures number { result ≡ group_fragments * self.now.heap.groups }
         ensures fits { result < 2 ^ 66 }
     {
-        16 * self.heap.groups as u128
+        GROUP_FRAGMENTS as u128 * self.heap.groups as u128
     }
 
     pub(super) fn gained(&self) -> u128
-        ensures sum { result ≡ 11 + self.now.all.taken }
+        ensures sum { result ≡ board_fragments + self.now.all.taken }
         ensures fits { result < 2 ^ 66 }
     {
-        11 + self.all.taken as u128
+        BOARD_FRAGMENTS as u128 + self.all.taken as u128
     }
 
     pub(super) fn lost(&self) -> u128
@@ -172,6 +174,6 @@ fn most_kept(command: Command) -> u128
 {
     match command {
         Command::Leave => 0,
-        _ => 15,
+        _ => MOST_RESERVE as u128,
     }
 }

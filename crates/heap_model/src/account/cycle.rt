@@ -1,4 +1,4 @@
-ghost use Rattle.std.specs.Prelude.{◌≡◌, ◌<◌, ◌≤◌, ◌+◌, ◌^◌, ◌↔◌, ℕ, List, IsTrue, IfOk, sum_by};
+ghost use Rattle.std.specs.Prelude.{◌≡◌, ◌<◌, ◌≤◌, ◌+◌, ◌^◌, ◌↔◌, ℕ, List, IsTrue, IfOk, OnErr, sum_by};
 ghost use Rattle.std.specs.List.{range_with_len};
 ghost use Rattle.heap_model.specs.declared.entry.Entry.{Entry as Entries};
 
@@ -20,10 +20,10 @@ pub struct Cycle {
 }
 
 impl Account {
-    ghost use Rattle.heap_model.specs.Cycles.{graph_of, LeavesLittle};
+    ghost use Rattle.heap_model.specs.Cycles.{graph_of, LeavesLittle, LeavesWithinBounds};
     ghost use Rattle.heap_model.specs.Books.{Tells};
     ghost use Rattle.heap_model.specs.SeatBooks.{seat_at};
-    ghost use Rattle.heap_model.specs.Preparing.{IsBegun, brought_by, IsLittleBy};
+    ghost use Rattle.heap_model.specs.Preparing.{IsBegun, brought_by, IsWithinBy};
 
     /// What is kept of a cycle that begins here.
     pub(super) fn begun_cycle(&self, graph: &Graph) -> Result<Cycle, Memory>
@@ -68,16 +68,20 @@ impl Account {
     /// Whether little is left where the cycle ends here.
     pub(super) fn leaves_little(&self, graph: &Graph, kept: u64) -> Result<bool, Memory>
         requires { 1 ≤ self.now.all.phases }
-        ensures { (history : List Entries) → Tells self.now history → graph.now ≡ graph_of self.now.heap history → IfOk result (λ little. IsTrue little ↔ LeavesLittle self.now.heap history kept) }
+        ensures little { (history : List Entries) → Tells self.now history → graph.now ≡ graph_of self.now.heap history → IfOk result (λ little. IsTrue little ↔ LeavesLittle self.now.heap history kept) }
+        ensures memory { (history : List Entries) → Tells self.now history → OnErr result (LeavesWithinBounds self.now.heap history kept) }
     {
+        if !self.is_within(kept) {
+            return Ok(false);
+        }
         let both = graph.reached_among(&self.cycle.reached)?;
         let frags = graph.frags_of(&both);
-        Ok(self.is_little(kept, frags))
+        Ok(frags <= kept as u128)
     }
 
-    /// Whether little is left, where `both` fragments are reached that were when the cycle began.
-    fn is_little(&self, kept: u64, both: u128) -> bool
-        ensures { IsTrue result ↔ IsLittleBy self.now kept both }
+    /// Whether what is in use and what was kept are within the bounds.
+    fn is_within(&self, kept: u64) -> bool
+        ensures { IsTrue result ↔ IsWithinBy self.now kept }
     {
         let taken = (self.all.taken as u128).saturating_sub(self.cycle.taken_then as u128);
         let bound = self.cycle.frags + self.cycle.brought + taken;
@@ -85,6 +89,5 @@ impl Account {
         self.gained() <= self.lost() + bound
             && self.all.words as u128 <= self.all.returned as u128 + self.cycle.words + granted
             && kept as u128 <= bound
-            && both <= kept as u128
     }
 }

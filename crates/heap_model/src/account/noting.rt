@@ -21,7 +21,7 @@ impl Account {
         ensures { IsNoted self.old entry.now self.new }
     {
         let all = self.all.plus(Effect::of(entry));
-        match seat_of(entry) {
+        match entry.seat() {
             Some(seat) => {
                 let noted = self.noted_seat(seat, entry, all);
                 self.note_all(entry, all);
@@ -98,19 +98,6 @@ impl Account {
     {
         let own = self.seat(seat);
         own.left.is_none() && own.own.answers < self.all.phases
-    }
-}
-
-/// The seat of the entry, where it has one.
-fn seat_of(entry: &Entry) -> Option<u8>
-    ensures { result ≡ seat_of entry.now }
-{
-    match *entry {
-        Entry::Said { seat, .. }
-        | Entry::Takes { seat, .. }
-        | Entry::GivesBack { seat, .. }
-        | Entry::Answers { seat, .. } => Some(seat),
-        _ => None,
     }
 }
 

@@ -4,6 +4,7 @@ ghost use Rattle.heap_model.specs.declared.entry.Entry.TheVariants as entries;
 
 use crate::account::Account;
 use crate::command::Command;
+use crate::phase_plan::{BARRIERS, CYCLE_PHASES, REST};
 use crate::reply::{Reply, TurnReply};
 
 impl Account {
@@ -23,7 +24,10 @@ impl Account {
     pub(super) fn may_begin(&self, phase: u64) -> bool
         ensures { (history : List Entries) → Tells self.now history → (IsTrue result ↔ BeginsPhase self.now.heap history (entries.Advance phase)) }
     {
-        phase > 0 && phase - 1 == self.all.phases && phase % 7 != 0 && self.all_answered()
+        phase > 0
+            && phase - 1 == self.all.phases
+            && phase % CYCLE_PHASES != REST
+            && self.all_answered()
     }
 
     pub(super) fn all_answered(&self) -> bool
@@ -93,14 +97,14 @@ impl Account {
     fn has_ended(&self, cycle: u64) -> bool
         ensures { (history : List Entries) → Tells self.now history → (IsTrue result ↔ HasEnded cycle history) }
     {
-        cycle < self.all.phases / 7
+        cycle < self.all.phases / CYCLE_PHASES
     }
 
     fn began_since(&self, seat: u8, cycle: u64) -> bool
         requires { seat < self.now.heap.seats }
         ensures { (history : List Entries) → Tells self.now history → (IsTrue result ↔ BeganSince seat cycle history) }
     {
-        let begin = 7 * cycle as u128 + 1;
+        let begin = CYCLE_PHASES as u128 * cycle as u128 + BARRIERS as u128;
         let then = self.seat(seat);
         (then.all_then.phases as u128) < begin && begin <= self.all.phases as u128
     }

@@ -1,4 +1,4 @@
-ghost use Rattle.std.specs.Prelude.{◌≡◌, ◌↔◌, List, IsTrue, IfOk};
+ghost use Rattle.std.specs.Prelude.{◌≡◌, ◌↔◌, List, IsTrue, IfOk, OnErr};
 ghost use Rattle.heap_model.specs.declared.entry.Entry.{Entry as Entries};
 ghost use Rattle.heap_model.specs.declared.entry.Entry.TheVariants as entries;
 
@@ -6,22 +6,25 @@ use crate::account::Account;
 use crate::fault::Memory;
 use crate::graph::Graph;
 use crate::id::Id;
+use crate::phase_plan::{CLEARING, COPYING, CYCLE_PHASES, SWEEP};
 
 impl Account {
     ghost use Rattle.heap_model.specs.Books.{Tells};
-    ghost use Rattle.heap_model.specs.Cycles.{graph_of, EndsCycle};
+    ghost use Rattle.heap_model.specs.Cycles.{graph_of, EndsCycle, IsThroughCycle, LeavesWithinBounds};
     ghost use Rattle.heap_model.specs.Sweep.{Sweeps};
 
     pub(super) fn may_free(&self, count: u32) -> bool
         ensures { (history : List Entries) → Tells self.now history → (IsTrue result ↔ Sweeps self.now.heap history (entries.Frees count)) }
     {
-        self.all.phases % 7 == 5 && 1 <= count && self.lost() + count as u128 <= self.gained()
+        self.all.phases % CYCLE_PHASES == SWEEP
+            && 1 <= count
+            && self.lost() + count as u128 <= self.gained()
     }
 
     pub(super) fn may_return(&self, count: u32) -> bool
         ensures { (history : List Entries) → Tells self.now history → (IsTrue result ↔ Sweeps self.now.heap history (entries.Returns count)) }
     {
-        self.all.phases % 7 == 5
+        self.all.phases % CYCLE_PHASES == SWEEP
             && 1 <= count
             && self.all.returned as u128 + count as u128 <= self.all.words as u128
     }
@@ -29,13 +32,16 @@ impl Account {
     pub(super) fn may_swing(&self, graph: &Graph, id: Id) -> bool
         ensures { (history : List Entries) → Tells self.now history → graph.now ≡ graph_of self.now.heap history → (IsTrue result ↔ Sweeps self.now.heap history (entries.Swings id)) }
     {
-        self.all.phases % 7 == 4 && graph.is_array(id) && !self.swung.has(id)
+        self.all.phases % CYCLE_PHASES == COPYING && graph.is_array(id) && !self.swung.has(id)
     }
 
     pub(super) fn may_end(&self, graph: &Graph, cycle: u64, kept: u64) -> Result<bool, Memory>
-        ensures { (history : List Entries) → Tells self.now history → graph.now ≡ graph_of self.now.heap history → IfOk result (λ may. IsTrue may ↔ EndsCycle self.now.heap history (entries.Ends cycle kept)) }
+        ensures ends { (history : List Entries) → Tells self.now history → graph.now ≡ graph_of self.now.heap history → IfOk result (λ may. IsTrue may ↔ EndsCycle self.now.heap history (entries.Ends cycle kept)) }
+        ensures memory { (history : List Entries) → Tells self.now history → OnErr result (IsThroughCycle self.now.heap history cycle × LeavesWithinBounds self.now.heap history kept) }
     {
-        if self.all.phases as u128 != 7 * cycle as u128 + 6 || !self.all_answered() {
+        if self.all.phases as u128 != CYCLE_PHASES as u128 * cycle as u128 + CLEARING as u128
+            || !self.all_answered()
+        {
             return Ok(false);
         }
         self.leaves_little(graph, kept)

@@ -5,13 +5,14 @@ use crate::cell::Cell;
 use crate::command::Command;
 use crate::entry::Entry;
 use crate::graph::Graph;
-use crate::graph::legal::SETS;
 use crate::id::{Id, Value};
+use crate::limits::STAMP_LIMIT;
 use crate::object::Object;
 use crate::reply::Reply;
 use std::alloc::AllocError;
 
 impl Graph {
+    ghost use Rattle.heap_model.specs.Limits.{last_register};
     ghost use Rattle.heap_model.specs.Objects.{party};
     ghost use Rattle.heap_model.specs.State.{fresh};
     ghost use Rattle.heap_model.specs.Growth.{after, after_reply};
@@ -62,7 +63,7 @@ impl Graph {
     /// Makes an object of the seat, which its register then holds.
     fn add(&mut self, seat: u8, d: u8, id: Id, array: bool, cells: u16) -> Result<(), AllocError>
         requires seat { seat < length self.old.seats }
-        requires target { d ≤ 15 }
+        requires target { d ≤ last_register }
         requires next { id ≡ Made seat (length (party self.old seat).objects) }
         ensures added { OnOk result (self.new ≡ add self.old seat d (fresh array cells)) }
         ensures unchanged { OnErr result (self.new ≡ self.old) }
@@ -75,7 +76,7 @@ impl Graph {
 
     fn put(&mut self, seat: u8, d: u8, value: Value)
         requires seat { seat < length self.old.seats }
-        requires target { d ≤ 15 }
+        requires target { d ≤ last_register }
         ensures { self.new ≡ put self.old seat d value }
     {
         let party = &mut self.seats[seat as usize];
@@ -92,7 +93,7 @@ impl Graph {
         let value = self.register(seat, v);
         let party = &mut self.seats[seat as usize];
         party.count_set();
-        let stamp = (seat as u32 + 1) * SETS + party.sets();
+        let stamp = (seat as u32 + 1) * STAMP_LIMIT + party.sets();
         self.write(place, i, Cell { value, stamp });
     }
 

@@ -4,10 +4,8 @@ use crate::command::Command;
 use crate::entry::Entry;
 use crate::graph::Graph;
 use crate::id::Id;
+use crate::limits::STAMP_LIMIT;
 use crate::reply::Reply;
-
-/// A seat sets fewer times than this, so that a stamp tells whose set it is and which.
-pub(super) const SETS: u32 = 1 << 26;
 
 impl Graph {
     ghost use Rattle.heap_model.specs.Objects.{party, cell_at, register as value_of, target as target_of};
@@ -82,7 +80,7 @@ impl Graph {
         ensures { IsTrue result ↔ Sets (party self.now seat).sets (cell_at self.now seat r i) reply }
     {
         match self.cell(seat, r, i) {
-            Ok(cell) => reply == Reply::Was(cell.stamp) && self.set_count(seat) < SETS - 1,
+            Ok(cell) => reply == Reply::Was(cell.stamp) && self.set_count(seat) < STAMP_LIMIT - 1,
             Err(refusal) => reply == refusal,
         }
     }

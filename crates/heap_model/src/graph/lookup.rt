@@ -8,6 +8,7 @@ use crate::object::Object;
 use crate::reply::Reply;
 
 impl Graph {
+    ghost use Rattle.heap_model.specs.Limits.{name_limit};
     ghost use Rattle.heap_model.specs.Objects.{cell_at, party, register as value_of, target as target_of};
     ghost use Rattle.heap_model.specs.Legal.{IsPresent};
 
@@ -23,7 +24,7 @@ impl Graph {
     /// How many objects the seat made.
     pub(super) fn made(&self, seat: u8) -> usize
         ensures count { result ≡ length (party self.now seat).objects }
-        ensures few { result ≤ 2 ^ 32 }
+        ensures few { result ≤ name_limit }
     {
         match self.seats.get(seat as usize) {
             Some(party) => party.made(),

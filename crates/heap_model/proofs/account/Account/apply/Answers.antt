@@ -5,6 +5,6 @@ use Rattle.heap_model.proofs.account.Account.apply.Goals as goal
 
 pub returns-clause-tells : goal.returns-clause-tells
 returns-clause-tells c history t same =
-    let keeps = c.in_ok-keeps.ensures history t same in
+    let keeps = c.in_ok-keeps.ensures.keeps history t same in
     applied c.args.play c.args.self.now c.prepare.new.self c.note.new.self history c.args.entry.now t (keeps.0 (search rules))
     (subst (λ g. IsPrepared c.args.self.now g c.args.entry.now c.prepare.new.self) same c.in_ok-prepare.ensures.prepared) c.note.ensures
