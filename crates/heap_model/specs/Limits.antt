@@ -45,6 +45,14 @@ most_cells = 4096
 abbrev pub last_index : ℕ
 last_index = 4096
 
+-- the last seat that a heap may have
+abbrev pub last_seat : ℕ
+last_seat = 15
+
+-- the most turns that one command asks for
+abbrev pub most_turns : ℕ
+most_turns = 1000000
+
 -- the numbers in cells are below this
 abbrev pub number_limit : ℕ
 number_limit = 2 ^ 30

@@ -10,6 +10,9 @@ pub const MOST_SPINE: u16 = 16384;
 /// The most seats of a heap.
 pub const MOST_SEATS: u8 = 16;
 
+/// The last seat that a heap may have.
+pub const LAST_SEAT: u8 = 15;
+
 /// The fields of the board.
 pub const BOARD_FIELDS: u16 = 32;
 
@@ -30,6 +33,9 @@ pub const MOST_CELLS: u16 = 4096;
 
 /// The last index that a command may name.
 pub const LAST_INDEX: u32 = 4096;
+
+/// The most turns that one command asks for.
+pub const MOST_TURNS: u32 = 1_000_000;
 
 /// The numbers in cells are below this.
 pub const NUMBER_LIMIT: u32 = 1 << 30;

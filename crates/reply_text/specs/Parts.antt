@@ -1,5 +1,6 @@
 -- Values, and what a reply tells of space and seats, as the first words of a line.
 use Rattle.std.specs.Prelude.{ℕ, ◌^◌, List, Option, Some, None, bytes_eq, codes, if◌then◌else◌}
+use Rattle.heap_model.specs.Limits.{most_seats}
 use Rattle.heap_model.specs.declared.id.Value.{Value}
 use Rattle.heap_model.specs.declared.id.Value.TheVariants as values
 use Rattle.reply_text.specs.Tokens.{◌>>=◌, first_by, after_word, number_at, id_of}
@@ -28,7 +29,7 @@ lack_at shown words = do
 -- the seat that is waited for, and what it answered, after `waits`
 abbrev pub wait_at : List (List ℕ) → Option ((ℕ × ℕ × ℕ) × List (List ℕ))
 wait_at words = do
-  seat ← number_at 16 words
+  seat ← number_at most_seats words
   told ← after_word (codes "answered") seat.1
   answered ← number_at (2 ^ 64) told
   now ← after_word (codes "phase") answered.1

@@ -1,5 +1,6 @@
 -- The numbers of ids, stamps and replies.
-use Rattle.std.specs.Prelude.{◌≡◌, ℕ, ◌<◌, ◌≤◌, ◌/◌, ◌%◌, ◌^◌, ◌⊎◌}
+use Rattle.std.specs.Prelude.{◌≡◌, ℕ, ◌-◌, ◌<◌, ◌≤◌, ◌/◌, ◌%◌, ◌^◌, ◌⊎◌}
+use Rattle.heap_model.specs.Limits.{last_seat, most_seats, name_limit, number_limit, stamp_limit}
 use Rattle.heap_model.specs.Command.{IsWithin}
 use Rattle.heap_model.specs.declared.id.Id.{Id}
 use Rattle.heap_model.specs.declared.id.Id.TheVariants.{Board, Made}
@@ -9,21 +10,21 @@ use Rattle.heap_model.specs.declared.id.Value.TheVariants as values
 -- an id: of a seat that some heap has, even if this one has fewer
 abbrev pub IsId : Id → Type 0
 IsId Board = Unit {0}
-IsId (Made seat count) = (seat ≤ 15) × (count < 2 ^ 32)
+IsId (Made seat count) = (seat ≤ last_seat) × (count < name_limit)
 
 -- a stamp: none, or of a set of such a seat, counted from 1 on
 abbrev pub IsStamp : ℕ → Type 0
-IsStamp stamp = (stamp ≡ 0) ⊎ (IsWithin 1 16 (stamp / 2 ^ 26) × (1 ≤ stamp % 2 ^ 26))
+IsStamp stamp = (stamp ≡ 0) ⊎ (IsWithin 1 most_seats (stamp / stamp_limit) × (1 ≤ stamp % stamp_limit))
 
 -- a value
 abbrev pub IsValue : Value → Type 0
 IsValue values.Nil = Unit {0}
-IsValue (values.Number n) = n ≤ 1073741823
+IsValue (values.Number n) = n ≤ number_limit - 1
 IsValue (values.Object id) = IsId id
 
 -- a seat that is waited for, and what it answered
 abbrev pub IsWait : ℕ → ℕ → ℕ → Type 0
-IsWait seat answered phase = (seat ≤ 15) × (answered < 2 ^ 64) × (phase < 2 ^ 64)
+IsWait seat answered phase = (seat ≤ last_seat) × (answered < 2 ^ 64) × (phase < 2 ^ 64)
 
 -- what is needed, and what was there instead
 abbrev pub IsLack : ℕ → ℕ → Type 0

@@ -1,6 +1,7 @@
 -- The parts of a line that are read one after the other: each function answers what stands first, and the words after it.
 use Rattle.std.specs.Prelude.{ℕ, ◌+◌, ◌*◌, ◌^◌, ◌==◌, List, [], ◌∷◌, Option, Some, None, option_map, bytes_eq, codes, if◌then◌else◌}
 use Rattle.std.specs.List.{slice_split}
+use Rattle.heap_model.specs.Limits.{most_seats, name_limit, stamp_limit}
 use Rattle.heap_model.specs.declared.id.Id.{Id}
 use Rattle.heap_model.specs.declared.id.Id.TheVariants.{Board, Made}
 use Rattle.script_text.specs.Numbers.{number_below}
@@ -42,8 +43,8 @@ parted mark word = pair_of (slice_split (λ b. b == mark) word)
 -- an id of a seat, by its two parts
 abbrev pub made_of : List ℕ × List ℕ → Option Id
 made_of parts = do
-  seat ← number_below 16 parts.0
-  count ← number_below (2 ^ 32) parts.1
+  seat ← number_below most_seats parts.0
+  count ← number_below name_limit parts.1
   Some (Made seat count)
 
 -- the id that a word is
@@ -52,13 +53,13 @@ id_of word = if bytes_eq word (codes "board") then Some Board else (parted 46 wo
 
 -- a count of sets, which begins at 1
 abbrev pub set_of : ℕ → ℕ → Option ℕ
-set_of seat count = if count == 0 then None else Some ((seat + 1) * 2 ^ 26 + count)
+set_of seat count = if count == 0 then None else Some ((seat + 1) * stamp_limit + count)
 
 -- a stamp of a set, by its two parts
 abbrev pub stamp_from : List ℕ × List ℕ → Option ℕ
 stamp_from parts = do
-  seat ← number_below 16 parts.0
-  count ← number_below (2 ^ 26) parts.1
+  seat ← number_below most_seats parts.0
+  count ← number_below stamp_limit parts.1
   set_of seat count
 
 -- the stamp that a word is

@@ -7,14 +7,10 @@ ghost use Rattle.reply_text.specs.Ranges.{IsValue, IsWait};
 ghost use Rattle.reply_text.specs.Replies.{IsMaking, IsArraying, IsNowhere, IsGetting, IsSetting, IsComparing, IsMeasuring, IsPolling, IsCollecting, IsReply};
 
 use crate::misspelled::Misspelled;
-use crate::tokens::{
-    LAST_SEAT, count, id, literal, next_word, number, number_of_word, read_id, stamp,
-};
+use crate::tokens::{count, id, literal, next_word, number, number_of_word, read_id, stamp};
+use heap_model::limits::{LAST_SEAT, NUMBER_LIMIT};
 use heap_model::{Command, Reply, Value};
 use script_text::Words;
-
-/// The greatest number that a cell holds.
-const MOST_NUMBER: u64 = 1_073_741_823;
 
 fn value(word: &[u8], words: &mut Words<'_>) -> Result<Value, Misspelled>
     ensures found { IfOk result (λ value. word.now ∷ words.old ≡ value_words value ++ words.new) }
@@ -27,7 +23,7 @@ fn value(word: &[u8], words: &mut Words<'_>) -> Result<Value, Misspelled>
         return Ok(Value::Nil);
     }
     if word == b"number".as_slice() {
-        return Ok(Value::Number(number(words, MOST_NUMBER)? as u32));
+        return Ok(Value::Number(number(words, (NUMBER_LIMIT - 1).into())? as u32));
     }
     if word == b"object".as_slice() {
         return Ok(Value::Object(id(words)?));
@@ -59,7 +55,7 @@ pub fn wait(words: &mut Words<'_>) -> Result<(u8, u64, u64), Misspelled>
         (λ wait. wait_at words.old ≡ Some (wait, words.new))
         (λ _. wait_at words.old ≡ None) }
 {
-    let seat = number(words, LAST_SEAT)? as u8;
+    let seat = number(words, LAST_SEAT.into())? as u8;
     literal(words, b"answered")?;
     let answered = number(words, u64::MAX)?;
     literal(words, b"phase")?;

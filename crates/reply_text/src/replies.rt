@@ -2,7 +2,7 @@ ghost use Rattle.std.specs.Prelude.{◌≡◌, [], ◌∷◌, ◌++◌, decimal,
 ghost use Rattle.script_text.specs.Text.{spaced};
 ghost use Rattle.reply_text.specs.Entries.{id_word, stamp_word, value_words, waits_words, lack_words, reply_words, turn_reply_words};
 
-use crate::tokens::SETS;
+use heap_model::limits::STAMP_LIMIT;
 use heap_model::{Id, Memory, Reply, TurnReply, Value};
 use script_text::{push_digits, push_number, push_word};
 
@@ -25,9 +25,9 @@ pub fn push_stamp(text: &mut Vec<u8>, stamp: u32) -> Result<(), Memory>
     if stamp == 0 {
         return push_word(text, b"-");
     }
-    push_number(text, (stamp / SETS).saturating_sub(1).into())?;
+    push_number(text, (stamp / STAMP_LIMIT).saturating_sub(1).into())?;
     text.push(b':')?;
-    push_digits(text, (stamp % SETS).into())
+    push_digits(text, (stamp % STAMP_LIMIT).into())
 }
 
 /// Appends a space and the word, and a space and the number.

@@ -1,4 +1,5 @@
 ghost use Rattle.std.specs.Prelude.{◌≡◌, ◌+◌, ◌≤◌, ◌<◌, ◌^◌, [], ◌∷◌, ◌++◌, None, Some, decimal, IfOk, OnOk, IfSome, MatchResult, MatchOption};
+ghost use Rattle.heap_model.specs.Limits.{last_seat, stamp_limit};
 ghost use Rattle.script_text.specs.Numbers.{number_below};
 ghost use Rattle.reply_text.specs.Entries.{id_word, stamp_word};
 ghost use Rattle.reply_text.specs.Tokens.{after_word, first_by, id_of, number_at, parted, set_of, stamp_of};
@@ -6,16 +7,8 @@ ghost use Rattle.reply_text.specs.Ranges.{IsId, IsStamp};
 
 use crate::misspelled::Misspelled;
 use heap_model::Id;
+use heap_model::limits::{LAST_SEAT, STAMP_LIMIT};
 use script_text::{Words, cut_at, read_number};
-
-/// How many sets of one seat its stamps tell apart.
-pub const SETS: u32 = 1 << 26;
-
-/// The greatest number of a seat that some heap has.
-pub const LAST_SEAT: u64 = 15;
-
-/// The greatest count of sets that a stamp tells.
-const LAST_SET: u64 = (1 << 26) - 1;
 
 /// The next word.
 pub fn next_word<'a>(words: &mut Words<'a>) -> Result<&'a [u8], Misspelled>
@@ -111,7 +104,7 @@ pub fn read_id(word: &[u8]) -> Result<Id, Misspelled>
         return Ok(Id::Board);
     }
     let (seat, count) = parts(word, b'.')?;
-    let seat = number_of_word(seat, LAST_SEAT)? as u8;
+    let seat = number_of_word(seat, LAST_SEAT.into())? as u8;
     let count = number_of_word(count, u32::MAX.into())? as u32;
     Ok(Id::Made { seat, count })
 }
@@ -130,7 +123,7 @@ pub fn id(words: &mut Words<'_>) -> Result<Id, Misspelled>
 
 /// The stamp of a seat's set, which is counted from 1.
 fn stamp_of_set(seat: u8, count: u32) -> Result<u32, Misspelled>
-    requires { (seat ≤ 15) × (count < 2 ^ 26) }
+    requires { (seat ≤ last_seat) × (count < stamp_limit) }
     ensures found { IfOk result (λ stamp. stamp_word stamp ≡ decimal seat ++ 58 ∷ decimal count) }
     ensures range { IfOk result IsStamp }
     ensures gives { MatchResult result
@@ -139,7 +132,7 @@ fn stamp_of_set(seat: u8, count: u32) -> Result<u32, Misspelled>
     if count == 0 {
         Err(Misspelled)
     } else {
-        Ok((u32::from(seat) + 1) * SETS + count)
+        Ok((u32::from(seat) + 1) * STAMP_LIMIT + count)
     }
 }
 
@@ -155,8 +148,8 @@ fn read_stamp(word: &[u8]) -> Result<u32, Misspelled>
         return Ok(0);
     }
     let (seat, count) = parts(word, b':')?;
-    let seat = number_of_word(seat, LAST_SEAT)? as u8;
-    let count = number_of_word(count, LAST_SET)? as u32;
+    let seat = number_of_word(seat, LAST_SEAT.into())? as u8;
+    let count = number_of_word(count, (STAMP_LIMIT - 1).into())? as u32;
     stamp_of_set(seat, count)
 }
 

@@ -10,11 +10,9 @@ ghost use Rattle.reply_text.specs.Written.{IsWritten};
 use crate::answers::wait;
 use crate::misspelled::Misspelled;
 use crate::tokens::{literal, next_word, number};
+use heap_model::limits::MOST_TURNS;
 use heap_model::{Entry, TurnCommand, TurnReply};
 use script_text::{Form, Words};
-
-/// The most turns that one command asks for.
-const MOST_TURNS: u64 = 1_000_000;
 
 /// A reply of the collector to `turns`.
 fn turning(words: &mut Words<'_>) -> Result<TurnReply, Misspelled>
@@ -69,7 +67,7 @@ fn read_turns(words: &mut Words<'_>) -> Result<Entry, Misspelled>
         (λ entry. turns_at words.old ≡ Some (entry, words.new))
         (λ _. turns_at words.old ≡ None) }
 {
-    let n = number(words, MOST_TURNS)? as u32;
+    let n = number(words, MOST_TURNS.into())? as u32;
     literal(words, b"=")?;
     let reply = turning(words)?;
     let command = TurnCommand::Turns(n);

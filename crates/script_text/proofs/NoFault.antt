@@ -3,7 +3,7 @@ use Rattle.std.proofs.Common.{◌≡◌, ℕ, ◌<◌, ◌^◌, List, ◌∷◌,
 use Rattle.std.specs.Str.Parse.{AllDigits}
 use Rattle.std.proofs.lemmas.Fmt.{decimal_is_IsNumeral}
 use Rattle.heap_model.specs.declared.heap.Heap.{Heap}
-use Rattle.heap_model.specs.declared.heap.TheConstants.{MOST_GROUPS, MOST_SPINE, MOST_SEATS}
+use Rattle.heap_model.specs.Limits.{most_groups, most_spine, most_seats}
 use Rattle.heap_model.specs.Heap.{IsHeap}
 use Rattle.heap_model.specs.Command.{IsWithin, IsTarget, IsRegister, IsIndex}
 use Rattle.heap_model.specs.declared.command.Command.{Command}
@@ -79,8 +79,8 @@ heap_of-words heap h =
     let spine : number_of (decimal heap.spine) ≡ Some heap.spine = number_below-decimal (10 ^ 10) heap.spine (omega arith) (omega arith) in
     let seats : number_of (decimal heap.seats) ≡ Some heap.seats = number_below-decimal (10 ^ 10) heap.seats (omega arith) (omega arith) in
     let some_group : nat_le 1 heap.groups ≡ true = search (rules, h.some_group) in
-    let groups_fit : nat_le heap.groups MOST_GROUPS ≡ true = search (rules, h.groups_fit) in
-    let spine_fits : nat_le heap.spine MOST_SPINE ≡ true = search (rules, h.spine_fits) in
+    let groups_fit : nat_le heap.groups most_groups ≡ true = search (rules, h.groups_fit) in
+    let spine_fits : nat_le heap.spine most_spine ≡ true = search (rules, h.spine_fits) in
     let some_seat : nat_le 1 heap.seats ≡ true = search (rules, h.some_seat) in
-    let seats_fit : nat_le heap.seats MOST_SEATS ≡ true = search (rules, h.seats_fit) in
+    let seats_fit : nat_le heap.seats most_seats ≡ true = search (rules, h.seats_fit) in
     rw (groups, spine, seats, some_group, groups_fit, spine_fits, some_seat, seats_fit) refl

@@ -1,6 +1,7 @@
 -- Which texts are scripts.
 use Rattle.std.specs.Prelude.{◌≡◌, ℕ, ◌+◌, ◌<◌, ◌≤◌, List, length}
 use Rattle.std.specs.List.{AllByRecursion}
+use Rattle.heap_model.specs.Limits.{most_turns}
 use Rattle.heap_model.specs.declared.command.Command.{Command}
 use Rattle.heap_model.specs.declared.command.Command.TheVariants.{Leave}
 use Rattle.heap_model.specs.declared.command.TurnCommand.{TurnCommand}
@@ -22,7 +23,7 @@ IsScripted command = IsCommand command
 
 -- a command of the collector, with its number in its range
 abbrev pub IsTurnCommand : TurnCommand → Type 0
-IsTurnCommand (turns.Turns n) = n ≤ 1000000
+IsTurnCommand (turns.Turns n) = n ≤ most_turns
 IsTurnCommand turns.Cycle = Unit {0}
 
 -- a line of a script of this form; a run has no commands of the collector

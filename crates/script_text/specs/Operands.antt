@@ -1,5 +1,6 @@
 -- The operands of the commands.
-use Rattle.std.specs.Prelude.{ℕ, ◌&&◌, List, [], ◌∷◌, Option, Some, None, Result, Ok, Err, codes, nat_le, if◌then◌else◌}
+use Rattle.std.specs.Prelude.{ℕ, ◌-◌, ◌&&◌, List, [], ◌∷◌, Option, Some, None, Result, Ok, Err, codes, nat_le, if◌then◌else◌}
+use Rattle.heap_model.specs.Limits.{last_register, last_index, most_fields, most_cells, most_turns, number_limit}
 use Rattle.script_text.specs.declared.cause.Cause.{Cause}
 use Rattle.script_text.specs.declared.cause.Cause.TheVariants.{BadNumber, OutOfRange, TooManyWords}
 use Rattle.script_text.specs.Numbers.{number_of}
@@ -10,22 +11,22 @@ Range = ℕ × ℕ
 
 -- a register that is written, one that is read, and an index
 abbrev pub target : Range
-target = (1, 15)
+target = (1, last_register)
 
 abbrev pub register : Range
-register = (0, 15)
+register = (0, last_register)
 
 abbrev pub index : Range
-index = (0, 4096)
+index = (0, last_index)
 
 -- each command of a seat with its operands
 abbrev pub commands : List (List ℕ × List Range)
 commands =
-    (codes "new", target ∷ (1, 47) ∷ [])
-    ∷ (codes "array", target ∷ (1, 4096) ∷ [])
+    (codes "new", target ∷ (1, most_fields) ∷ [])
+    ∷ (codes "array", target ∷ (1, most_cells) ∷ [])
     ∷ (codes "get", target ∷ register ∷ index ∷ [])
     ∷ (codes "set", register ∷ index ∷ register ∷ [])
-    ∷ (codes "num", target ∷ (0, 1073741823) ∷ [])
+    ∷ (codes "num", target ∷ (0, number_limit - 1) ∷ [])
     ∷ (codes "nil", target ∷ [])
     ∷ (codes "copy", target ∷ register ∷ [])
     ∷ (codes "same", register ∷ register ∷ [])
@@ -37,7 +38,7 @@ commands =
 -- each command of the collector with its operands
 abbrev pub turn_commands : List (List ℕ × List Range)
 turn_commands =
-    (codes "turns", (0, 1000000) ∷ [])
+    (codes "turns", (0, most_turns) ∷ [])
     ∷ (codes "cycle", [])
     ∷ []
 

@@ -11,6 +11,7 @@ use crate::name::{Name, read_name};
 use crate::operand::{index, operand, register, target};
 use crate::words::Words;
 use heap_model::Command;
+use heap_model::limits::{MOST_CELLS, MOST_FIELDS, NUMBER_LIMIT};
 
 /// The command of this name, with the next words as its operands.
 #[tactic(auto, using(crate::proofs::OperandCauses::after_operand_early))]
@@ -27,12 +28,12 @@ pub fn operands(name: Name, words: &mut Words<'_>) -> Result<Command, Cause>
     match name {
         Name::New => {
             let d = target(words)?;
-            let fields = operand(words, 1, 47)? as u16;
+            let fields = operand(words, 1, MOST_FIELDS.into())? as u16;
             Ok(Command::New { d, fields })
         }
         Name::Array => {
             let d = target(words)?;
-            let cells = operand(words, 1, 4096)? as u16;
+            let cells = operand(words, 1, MOST_CELLS.into())? as u16;
             Ok(Command::Array { d, cells })
         }
         Name::Get => {
@@ -49,7 +50,7 @@ pub fn operands(name: Name, words: &mut Words<'_>) -> Result<Command, Cause>
         }
         Name::Num => {
             let d = target(words)?;
-            let n = operand(words, 0, 1_073_741_823)?;
+            let n = operand(words, 0, NUMBER_LIMIT - 1)?;
             Ok(Command::Num { d, n })
         }
         Name::Nil => Ok(Command::Nil { d: target(words)? }),

@@ -1,9 +1,11 @@
 ghost use Rattle.std.specs.Prelude.{◌≡◌, ◌≤◌, ◌∷◌, decimal, Ok, Err, IfOk, MatchResult};
+ghost use Rattle.heap_model.specs.Limits.{last_register, last_index};
 ghost use Rattle.script_text.specs.Operands.{after_operand, target as target_range, register as register_range, index as index_range};
 
 use crate::cause::Cause;
 use crate::number::read_short;
 use crate::words::Words;
+use heap_model::limits::{LAST_INDEX, LAST_REGISTER};
 
 /// The next word as a number in the range, both ends among it.
 pub fn operand(words: &mut Words<'_>, least: u32, most: u32) -> Result<u32, Cause>
@@ -28,33 +30,33 @@ pub fn operand(words: &mut Words<'_>, least: u32, most: u32) -> Result<u32, Caus
 
 /// A register that is written.
 pub fn target(words: &mut Words<'_>) -> Result<u8, Cause>
-    ensures range { IfOk result (λ d. (1 ≤ d) × (d ≤ 15)) }
+    ensures range { IfOk result (λ d. (1 ≤ d) × (d ≤ last_register)) }
     ensures found { IfOk result (λ d. words.old ≡ decimal d ∷ words.new) }
     ensures gives { MatchResult result
         (λ _. after_operand target_range words.old ≡ Ok words.new)
         (λ cause. after_operand target_range words.old ≡ Err cause) }
 {
-    Ok(operand(words, 1, 15)? as u8)
+    Ok(operand(words, 1, LAST_REGISTER.into())? as u8)
 }
 
 /// A register that is read.
 pub fn register(words: &mut Words<'_>) -> Result<u8, Cause>
-    ensures range { IfOk result (λ r. r ≤ 15) }
+    ensures range { IfOk result (λ r. r ≤ last_register) }
     ensures found { IfOk result (λ r. words.old ≡ decimal r ∷ words.new) }
     ensures gives { MatchResult result
         (λ _. after_operand register_range words.old ≡ Ok words.new)
         (λ cause. after_operand register_range words.old ≡ Err cause) }
 {
-    Ok(operand(words, 0, 15)? as u8)
+    Ok(operand(words, 0, LAST_REGISTER.into())? as u8)
 }
 
 /// The index of a field or a cell.
 pub fn index(words: &mut Words<'_>) -> Result<u32, Cause>
-    ensures range { IfOk result (λ i. i ≤ 4096) }
+    ensures range { IfOk result (λ i. i ≤ last_index) }
     ensures found { IfOk result (λ i. words.old ≡ decimal i ∷ words.new) }
     ensures gives { MatchResult result
         (λ _. after_operand index_range words.old ≡ Ok words.new)
         (λ cause. after_operand index_range words.old ≡ Err cause) }
 {
-    operand(words, 0, 4096)
+    operand(words, 0, LAST_INDEX)
 }

@@ -8,6 +8,7 @@ use crate::cause::Cause;
 use crate::operand::operand;
 use crate::words::Words;
 use heap_model::TurnCommand;
+use heap_model::limits::MOST_TURNS;
 
 /// The command of the collector that the next words are; no fault is looked for after them.
 pub fn read_turns(words: &mut Words<'_>) -> Result<TurnCommand, Cause>
@@ -20,7 +21,7 @@ pub fn read_turns(words: &mut Words<'_>) -> Result<TurnCommand, Cause>
         return Err(Cause::NoCommand);
     };
     match word {
-        b"turns" => Ok(TurnCommand::Turns(operand(words, 0, 1_000_000)?)),
+        b"turns" => Ok(TurnCommand::Turns(operand(words, 0, MOST_TURNS)?)),
         b"cycle" => Ok(TurnCommand::Cycle),
         _ => Err(Cause::NoCommand),
     }

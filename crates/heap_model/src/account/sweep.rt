@@ -1,4 +1,4 @@
-ghost use Rattle.std.specs.Prelude.{◌≡◌, ◌↔◌, List, IsTrue, IfOk, OnErr};
+ghost use Rattle.std.specs.Prelude.{◌≡◌, ◌%◌, ◌↔◌, List, IsTrue, IfOk, OnErr};
 ghost use Rattle.heap_model.specs.declared.entry.Entry.{Entry as Entries};
 ghost use Rattle.heap_model.specs.declared.entry.Entry.TheVariants as entries;
 
@@ -9,6 +9,8 @@ use crate::id::Id;
 use crate::phase_plan::{CLEARING, COPYING, CYCLE_PHASES, SWEEP};
 
 impl Account {
+    ghost use Rattle.heap_model.specs.PhasePlan.{cycle_phases, sweep};
+    ghost use Rattle.heap_model.specs.PhaseCounts.{phase};
     ghost use Rattle.heap_model.specs.Books.{Tells};
     ghost use Rattle.heap_model.specs.Cycles.{graph_of, EndsCycle, IsThroughCycle, LeavesWithinBounds};
     ghost use Rattle.heap_model.specs.Sweep.{Sweeps};
@@ -16,17 +18,21 @@ impl Account {
     pub(super) fn may_free(&self, count: u32) -> bool
         ensures { (history : List Entries) → Tells self.now history → (IsTrue result ↔ Sweeps self.now.heap history (entries.Frees count)) }
     {
-        self.all.phases % CYCLE_PHASES == SWEEP
-            && 1 <= count
-            && self.lost() + count as u128 <= self.gained()
+        self.is_sweep() && 1 <= count && self.lost() + count as u128 <= self.gained()
     }
 
     pub(super) fn may_return(&self, count: u32) -> bool
         ensures { (history : List Entries) → Tells self.now history → (IsTrue result ↔ Sweeps self.now.heap history (entries.Returns count)) }
     {
-        self.all.phases % CYCLE_PHASES == SWEEP
+        self.is_sweep()
             && 1 <= count
             && self.all.returned as u128 + count as u128 <= self.all.words as u128
+    }
+
+    fn is_sweep(&self) -> bool
+        ensures { (history : List Entries) → Tells self.now history → (IsTrue result ↔ (phase history % cycle_phases ≡ sweep)) }
+    {
+        self.all.phases % CYCLE_PHASES == SWEEP
     }
 
     pub(super) fn may_swing(&self, graph: &Graph, id: Id) -> bool
