@@ -1,4 +1,4 @@
-ghost use Rattle.std.specs.Prelude.{◌≡◌, ◌<◌, ◌≤◌};
+ghost use Rattle.std.specs.Prelude.{◌≡◌, ◌^◌, ◌<◌, ◌≤◌, length};
 
 use crate::command::Command;
 use crate::entry::Entry;
@@ -7,7 +7,7 @@ use crate::reply::Reply;
 /// What an entry does, or what many entries come to: the fragments that are taken from the heap, given back, made into
 /// objects and freed, the spine words of the arrays that are made and those that are returned, the phases that begin,
 /// and the answers to phases.
-#[derive(Clone, Copy)]
+#[derive(Clone, Copy, Debug, PartialEq, Eq)]
 pub struct Effect {
     pub taken: u64,
     pub given: u64,
@@ -22,9 +22,10 @@ pub struct Effect {
 impl Effect {
     ghost use Rattle.heap_model.specs.Effects.{no_effect, effect_of};
     ghost use Rattle.heap_model.specs.Needs.{made_by, words_by};
-    ghost use Rattle.heap_model.specs.Sums.{IsFew, plus};
+    ghost use Rattle.heap_model.specs.Space.{total};
+    ghost use Rattle.heap_model.specs.Sums.{IsFew, IsMeasured, plus};
 
-    pub const NONE: Effect = Effect {
+    pub(crate) const NONE: Effect = Effect {
         taken: 0,
         given: 0,
         born: 0,
@@ -35,6 +36,20 @@ impl Effect {
         answers: 0,
     };
 
+    /// What these entries come to together.
+    pub fn of_all(entries: &[Entry]) -> Effect
+        requires { length entries.now < 2 ^ 32 }
+        ensures sums { IsMeasured result (λ part. total part entries.now) }
+        ensures few { IsFew (length entries.now) result }
+    {
+        let mut all = Effect::NONE;
+        for entry in entries {
+            all = all.plus(Effect::of(entry));
+        }
+        all
+    }
+
+    /// What the entry does.
     pub fn of(entry: &Entry) -> Effect
         ensures exact { result ≡ effect_of entry.now }
         ensures few { IsFew 1 result }
@@ -69,7 +84,7 @@ impl Effect {
         }
     }
 
-    pub fn of_reply(command: Command, reply: Reply) -> Effect
+    pub(crate) fn of_reply(command: Command, reply: Reply) -> Effect
         ensures exact { result ≡ record no_effect { born = made_by command reply; words = words_by command reply } }
         ensures few { IsFew 1 result }
     {
@@ -83,7 +98,7 @@ impl Effect {
         }
     }
 
-    pub fn plus(self, more: Effect) -> Effect
+    pub(crate) fn plus(self, more: Effect) -> Effect
         requires few { IsFew 4294967295 self }
         requires one { IsFew 1 more }
         ensures { result ≡ plus self more }

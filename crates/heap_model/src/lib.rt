@@ -24,6 +24,7 @@ pub use account::Account;
 pub use cell::Cell;
 pub use collector_calls::{CollectorCalls, Turn};
 pub use command::{Command, TurnCommand};
+pub use effect::Effect;
 pub use entry::Entry;
 pub use fault::{ApplyFault, Memory};
 pub use graph::Graph;

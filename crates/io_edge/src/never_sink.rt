@@ -1,4 +1,4 @@
-ghost use Rattle.std.specs.Prelude.{◌≡◌, ◌-◌, ◌<◌, ◌≤◌, ◌++◌, None, Some, Ok, IfOk, IfSome, OnErr, MatchOption, [], length, vec_len, vec_capacity};
+ghost use Rattle.std.specs.Prelude.{◌≡◌, ◌-◌, ◌<◌, ◌≤◌, ◌++◌, None, Some, Ok, IfOk, IfNone, IfSome, OnErr, MatchOption, [], length, vec_len, vec_capacity};
 ghost use Rattle.io_edge.specs.Faults.{CountsFault};
 ghost use Rattle.io_edge.specs.Taken.{Takes, TakesSome};
 
@@ -67,7 +67,9 @@ impl Sink for NeverSink {
               taken = Some (bytes ++ piece.now);
               room = self.old.room - length piece.now;
             }) }
-        ensures lost { self.old.room < length piece.now → self.new.taken ≡ None }
+        ensures lost { self.old.room < length piece.now →
+            self.new ≡ record self.old { taken = None } }
+        ensures rest { IfNone self.old.taken (self.new ≡ self.old) }
     {
         if self.bytes.capacity() - self.bytes.len() < piece.len() {
             self.has_lost = true;

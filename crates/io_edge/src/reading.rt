@@ -1,4 +1,4 @@
-ghost use Rattle.std.specs.Prelude.{◌≡◌, ◌+◌, ◌^◌, ◌<◌, ◌≤◌, OnOk, IfOk, IsErrOf, vec_len};
+ghost use Rattle.std.specs.Prelude.{◌≡◌, ◌+◌, ◌≤◌, OnOk, IfOk, IsErrOf, vec_len};
 ghost use Rattle.std.specs.Io.KnownBytes.{IsAtEnd};
 ghost use Rattle.io_edge.specs.declared.reading.ReadAllFault.TheVariants as faults;
 ghost use Rattle.io_edge.specs.ReadAll.{CountsReadFault};
@@ -43,7 +43,6 @@ pub fn read_all<S: Source>(
     source: &mut S,
     limit: usize,
 ) -> Result<Vec<u8>, ReadAllFault>
-    requires { limit < 2 ^ 63 }
     ensures ok { IfOk result (λ bytes.
         GivesAll (S.left source.old) (S.left source.new) bytes.items) }
     ensures end { OnOk result (IsAtEnd (S.left source.new)) }
@@ -53,20 +52,23 @@ pub fn read_all<S: Source>(
     ensures read_fault { IsErrOf result ReadAllFault.ReadFault →
         LosesUpTo (S.left source.old) (S.left source.new) limit }
     ensures memory { IsErrOf result ReadAllFault.Memory →
-        LosesUpTo (S.left source.old) (S.left source.new) (limit + 1) }
+        LosesUpTo (S.left source.old) (S.left source.new) limit }
     ensures count { CountsReadFault result (S.faults source.old) (S.faults source.new) }
 {
     let mut bytes = Vec::new(alloc);
     let mut buffer = [0; PIECE];
-    while bytes.len() <= limit {
-        let most = PIECE.min(limit + 1 - bytes.len());
+    loop {
+        let room = limit - bytes.len();
+        let most = PIECE.min(room.saturating_add(1));
         let n = source.read(&mut buffer[..most])?;
         if n == 0 {
             return Ok(bytes);
         }
+        if room < n {
+            return Err(ReadAllFault::TooLong);
+        }
         bytes.extend_from_slice(&buffer[..n])?;
     }
-    Err(ReadAllFault::TooLong)
 }
 
 #[cfg(test)]
@@ -89,6 +91,7 @@ mod tests {
             ("", 0, 9, Ok(""), ""),
             ("abc", 3, 9, Ok("abc"), ""),
             ("abc", 8, 9, Ok("abc"), ""),
+            ("abc", usize::MAX, 9, Ok("abc"), ""),
             ("abc", 0, 9, Err(ReadAllFault::TooLong), "bc"),
             ("abcde", 3, 9, Err(ReadAllFault::TooLong), "e"),
             ("abcde", 8, 0, Err(ReadAllFault::ReadFault), "ab"),

@@ -67,4 +67,14 @@ mod tests {
             assert_eq!(rt; source.faults, faults);
         }
     }
+
+    #[test]
+    fn tells_the_end_as_no_fault(rt: HostRuntime) {
+        let mut source = StdSource::new(b"abc".as_slice());
+        let mut into = [b'-'; 2];
+        for want in [2, 1, 0, 0] {
+            assert_eq!(rt; source.read(&mut into), Ok(want));
+            assert_eq!(rt; source.faults, 0);
+        }
+    }
 }

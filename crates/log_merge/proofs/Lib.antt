@@ -1,5 +1,4 @@
 mod LineLemmas
 mod LegalLemmas
 mod PassingLemmas
-mod TotalLemmas
 pub mod LoneLemmas

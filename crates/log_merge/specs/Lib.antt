@@ -1,5 +1,4 @@
 pub mod Checking
 pub mod Legal
 pub mod Lines
-pub mod Totals
 pub mod LoneSeat

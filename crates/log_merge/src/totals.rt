@@ -1,58 +1,11 @@
-ghost use Rattle.std.specs.Prelude.{◌≡◌, ◌<◌, ◌≤◌, ◌+◌, ◌*◌, ◌^◌, ◌↔◌, ℕ, IsTrue, length};
+ghost use Rattle.std.specs.Prelude.{◌≡◌, ◌<◌, ◌+◌, ◌^◌, ◌↔◌, IsTrue, length};
 ghost use Rattle.log_merge.specs.Legal.{ShowsCounts, ShowsUse};
-ghost use Rattle.log_merge.specs.Totals.{AreWithin, totals_of, with_entry};
 
-use heap_model::{Entry, Heap, Reply};
+use heap_model::{Effect, Entry, Heap};
 use reply_text::SpaceMark;
 
-/// What entries come to: the fragments of the board and those that were taken, those that were given back or freed, the
-/// spine words of the arrays that were made, and those that were returned.
-#[derive(Clone, Copy, Debug, PartialEq, Eq)]
-pub struct Totals {
-    pub gained: u64,
-    pub lost: u64,
-    pub granted: u64,
-    pub returned: u64,
-}
-
-impl Totals {
-    pub fn of(entries: &[Entry]) -> Totals
-        requires { length entries.now < 2 ^ 30 }
-        ensures { result ≡ totals_of entries.now }
-    {
-        let mut totals = Totals {
-            gained: 11,
-            lost: 0,
-            granted: 0,
-            returned: 0,
-        };
-        for entry in entries {
-            totals = totals.with(entry);
-        }
-        totals
-    }
-
-    /// The totals with one entry more.
-    fn with(self, entry: &Entry) -> Totals
-        requires { AreWithin (2 ^ 63) self }
-        ensures more { result ≡ with_entry self entry.now }
-        ensures few { (limit : ℕ) → AreWithin limit self → AreWithin (limit + 2 ^ 32) result }
-    {
-        let mut more = self;
-        match *entry {
-            Entry::Takes { count, .. } => more.gained += u64::from(count),
-            Entry::GivesBack { count, .. } | Entry::Frees(count) => more.lost += u64::from(count),
-            Entry::Returns(count) => more.returned += u64::from(count),
-            Entry::Said {
-                command,
-                reply: Reply::Made(_),
-                ..
-            } => more.granted += u64::from(command.spine_need()),
-            _ => {}
-        }
-        more
-    }
-}
+/// The fragments of the board.
+const BOARD: u64 = 11;
 
 /// Whether so many are left of those that were had, where some are gone.
 fn is_left(left: u64, had: u64, gone: u64) -> bool
@@ -66,8 +19,8 @@ pub fn shows_use(entries: &[Entry], used: u64) -> bool
     requires { length entries.now < 2 ^ 30 }
     ensures { IsTrue result ↔ ShowsUse entries.now used }
 {
-    let totals = Totals::of(entries);
-    is_left(used, totals.gained, totals.lost)
+    let all = Effect::of_all(entries);
+    is_left(used, BOARD + all.taken, all.given + all.freed)
 }
 
 /// Whether the mark shows the counts after the entries.
@@ -75,9 +28,9 @@ pub fn shows_counts(heap: Heap, entries: &[Entry], mark: SpaceMark) -> bool
     requires { length entries.now < 2 ^ 30 }
     ensures { IsTrue result ↔ ShowsCounts heap entries.now mark }
 {
-    let totals = Totals::of(entries);
-    is_left(mark.used, totals.gained, totals.lost)
+    let all = Effect::of_all(entries);
+    is_left(mark.used, BOARD + all.taken, all.given + all.freed)
         && mark.total == 16 * u64::from(heap.groups)
-        && is_left(mark.spine, totals.granted, totals.returned)
+        && is_left(mark.spine, all.words, all.returned)
         && mark.budget == u64::from(heap.spine)
 }
