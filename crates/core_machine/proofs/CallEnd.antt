@@ -1,5 +1,5 @@
 -- What a call that is over comes to.
-use Rattle.std.proofs.Common.{◌≡◌, ℕ, ◌-◌, List, [], ◌∷◌, ◌++◌, length, Option, Some, None, refl, sym, ap, subst, ◌∙◌, length-append, append_assoc, append-nil, arith}
+use Rattle.std.proofs.Common.{◌≡◌, ◌≢◌, ℕ, ◌-◌, List, [], ◌∷◌, ◌++◌, length, Option, Some, None, refl, sym, ap, subst, ◌∙◌, length-append, append_assoc, append-nil, arith}
 use Rattle.std.specs.Prelude.{IsSome, option_and_then, option_map}
 use Rattle.core_machine.specs.declared.step.Step.{Step}
 use Rattle.std.specs.List.{AllByRecursion}
@@ -11,6 +11,8 @@ use Rattle.heap_model.specs.declared.command.Command.{Command}
 use Rattle.heap_model.specs.declared.entry.Entry.{Entry}
 use Rattle.heap_model.specs.declared.entry.Entry.TheVariants.{Said}
 use Rattle.heap_model.specs.declared.reply.Reply.{Reply}
+use Rattle.heap_model.specs.declared.reply.Reply.TheVariants.{Done}
+use Rattle.heap_model.specs.SeatCalls.{last_gives}
 use Rattle.core_machine.specs.declared.place.Place.{Place}
 use Rattle.core_machine.specs.declared.place.Place.TheVariants as places
 use Rattle.core_machine.specs.Seat.{Seat}
@@ -20,7 +22,7 @@ use Rattle.heap_model.specs.declared.command.Command.TheVariants.{Leave}
 use Rattle.core_machine.specs.Calls.{IsBeside, PlaysCall, CountsCall, TellsLeave, AnswersNew, reply_of, last_reply, IsPlaceRefusal, LeavesAll}
 use Rattle.core_machine.specs.Value.{MachineValue, log_of}
 use Rattle.core_machine.proofs.Saying.{Says, IsOver}
-use Rattle.core_machine.proofs.Stages.{Answered, Stage}
+use Rattle.core_machine.proofs.Stages.{ComesDue, Answered, Stage}
 use Rattle.core_machine.specs.Awaiting.{awaited_at}
 use Rattle.core_machine.specs.Commands.{IsRecord}
 use Rattle.core_machine.proofs.Calling.{Playing}
@@ -77,12 +79,19 @@ all_mine heap old now number command playing none =
     let mine = playing.mine in
     sym (append-nil (seat_at now number).mine) ∙ ap (λ (l : List Entry). (seat_at now number).mine ++ l) (sym (ap (awaited_at heap now.words number (seat_at now number)) idle)) ∙ mine
 
+-- what comes before the reply to a command, be it a leave or not
+whole_comes : (heap : Heap) (old : State) (number : ℕ) (command : Command) (reply : Reply) (before : List Entry) → (command ≢ Leave → ComesDue heap old number command reply before)
+    → (command ≡ Leave → before ≡ last_gives number (length (seat_at old number).reserve)) → ComesDue heap old number command reply before
+whole_comes heap old number Leave reply before other leave near = leave refl
+whole_comes heap old number _ reply before other leave near = other (λ e. cc) near
+
 -- the whole call
 pub plays_call : (heap : Heap) (old now : State) (number : ℕ) (command : Command) (playing : Playing heap old now number command)
     (none : due_step heap number (seat_at now number) ≡ None) → PlaysCall heap old now number command (answered heap old now number command playing none).reply
 plays_call heap old now number command playing none =
     let answer = answered heap old now number command playing none in
-    let said = (over heap old now number command playing none).replied in
+    let ended = over heap old now number command playing none in
+    let said = ended.replied in
     record {
       steps = playing.steps;
       can = playing.can;
@@ -91,6 +100,9 @@ plays_call heap old now number command playing none =
       before = answer.before;
       shown = playing.shows ∙ answer.last;
       mine = all_mine heap old now number command playing none ∙ ap (λ (l : List Entry). (seat_at old number).mine ++ l) answer.last;
+      comes = whole_comes heap old number command answer.reply answer.before answer.comes (λ a_leave.
+          sym (one_last number command answer.reply Done playing.told answer.before (last_gives number (length (seat_at old number).reserve)) answer.last
+          (ended.leave a_leave ∙ ap (λ (c : Command). last_gives number (length (seat_at old number).reserve) ++ Said number c Done ∷ []) (sym a_leave))));
       beside = subst (AllByRecursion (IsBeside number)) (one_last number command answer.reply said.reply playing.told answer.before said.before answer.last said.last) said.beside;
     }
 

@@ -6,6 +6,7 @@ pub mod CallEnd
 pub mod CallRoom
 pub mod Calling
 pub mod CellWords
+pub mod Claiming
 pub mod Clear
 pub mod Filters
 pub mod Fitting
@@ -18,7 +19,6 @@ pub mod FittingReaching
 pub mod FittingTurns
 pub mod Free
 pub mod Leading
-pub mod MakesNone
 pub mod Masks
 pub mod OpeningMachine
 pub mod Opens
@@ -30,6 +30,7 @@ pub mod Parties
 pub mod Playing
 pub mod PlayingBegins
 pub mod PlayingOn
+pub mod RepliesAlone
 pub mod Restoring
 pub mod Runs
 pub mod Saying

@@ -18,8 +18,8 @@ use Rattle.core_machine.proofs.Stages.{Untouched, Stage}
 module _ (heap : Heap) (old : State) (number : ℕ) (now : State) (fits : Fits heap (seat_at old number)) (idle : (seat_at old number).place ≡ places.Idle) (same : now.words ≡ old.words) where
   -- a seat that has begun a call and made no step
   untouched : (seat : Seat) → seat ≡ record (seat_at old number) { command = seat.command; reached = seat.reached; links = seat.links; place = seat.place; mine = seat.mine }
-      → Untouched old now number seat
-  untouched seat is = record { idle = idle; nowhere = subst (FitsWay (seat_at old number)) idle fits.way_at_place; words_stay = same; seat_stays = is }
+      → Untouched old now number [] seat
+  untouched seat is = record { idle = idle; nowhere = subst (FitsWay (seat_at old number)) idle fits.way_at_place; words_stay = same; seat_stays = is; none_told = refl }
 
   opened_stage : (command : Command) (register : Register)
       → Stage heap old now number command [] (opened (record (seat_at old number) { command = command }) register) (opened (record (seat_at old number) { command = command }) register).place
@@ -42,6 +42,6 @@ module _ (heap : Heap) (old : State) (number : ℕ) (now : State) (fits : Fits h
   stage_begun (commands.Copy d r) served = telling_stage (commands.Copy d r)
   stage_begun (commands.Same a b) served = telling_stage (commands.Same a b)
   stage_begun (commands.Len r) served = opened_stage (commands.Len r) (register_in (seat_at old number).registers r)
-  stage_begun commands.Poll served = refl
+  stage_begun commands.Poll served = (refl, untouched (begun heap (seat_at old number) commands.Poll) refl)
   stage_begun commands.Collect served = absurd served
   stage_begun commands.Leave served = refl

@@ -35,19 +35,19 @@ pub claims_none : (heap : Heap) (words : List ℕ) → Claims heap words words [
 claims_none heap words = record { controls = λ g within. inl (refl, refl); others = λ a within other. refl }
 
 -- all fragments of a group are of it, and none of another
-part_all : (g : ℕ) (fragments : List ℕ) → All (λ f. f / 16 ≡ g) fragments → part_in g fragments ≡ fragments
+pub part_all : (g : ℕ) (fragments : List ℕ) → All (λ f. f / 16 ≡ g) fragments → part_in g fragments ≡ fragments
 part_all g [] each = refl
 part_all g (f ∷ more) each =
     rw (eq-eqb (f / 16) g (All-head (λ f. f / 16 ≡ g) f more each)) (ap (λ (l : List ℕ). f ∷ l) (part_all g more (All-tail (λ f. f / 16 ≡ g) f more each)))
 
-part_none : (g k : ℕ) (fragments : List ℕ) → g ≢ k → All (λ f. f / 16 ≡ g) fragments → part_in k fragments ≡ []
+pub part_none : (g k : ℕ) (fragments : List ℕ) → g ≢ k → All (λ f. f / 16 ≡ g) fragments → part_in k fragments ≡ []
 part_none g k [] other each = refl
 part_none g k (f ∷ more) other each =
     let here = All-head (λ f. f / 16 ≡ g) f more each in
     rw (ne_eqb (f / 16) k (λ e. other (sym here ∙ e))) (part_none g k more other (All-tail (λ f. f / 16 ≡ g) f more each))
 
 -- a part of one group stays where another group's is left out
-part_in-out : (g k : ℕ) (fragments : List ℕ) → k ≢ g → part_in k (part_out g fragments) ≡ part_in k fragments
+pub part_in-out : (g k : ℕ) (fragments : List ℕ) → k ≢ g → part_in k (part_out g fragments) ≡ part_in k fragments
 part_in-out g k [] other = refl
 part_in-out g k (f ∷ more) other =
     let rest = part_in-out g k more other in

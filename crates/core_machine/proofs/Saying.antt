@@ -1,14 +1,15 @@
 -- What a call that is made by itself has told and counted so far, by its place.
-use Rattle.std.proofs.Common.{◌≡◌, ◌≢◌, ℕ, ◌+◌, ◌≤◌, cond, eqb, List, [], ◌∷◌, ◌++◌, length, inl, inr, refl, sym, ap, subst, ◌∙◌, append_assoc, arith}
+use Rattle.std.proofs.Common.{◌≡◌, ◌≢◌, ℕ, ◌+◌, ◌≤◌, List, [], ◌∷◌, ◌++◌, length, inl, inr, refl, sym, ap, subst, ◌∙◌, append_assoc, arith}
 use Rattle.std.specs.List.{AllByRecursion}
 use Rattle.std.proofs.lemmas.Bool.Decides.{eqb_tells}
 use Rattle.heap_model.specs.declared.heap.Heap.{Heap}
 use Rattle.heap_model.specs.declared.command.Command.{Command}
 use Rattle.heap_model.specs.declared.command.Command.TheVariants as commands
 use Rattle.heap_model.specs.declared.entry.Entry.{Entry}
-use Rattle.heap_model.specs.declared.entry.Entry.TheVariants.{Said, GivesBack}
+use Rattle.heap_model.specs.declared.entry.Entry.TheVariants.{Said}
 use Rattle.heap_model.specs.declared.reply.Reply.{Reply}
 use Rattle.heap_model.specs.declared.reply.Reply.TheVariants as replies
+use Rattle.heap_model.specs.SeatCalls.{last_gives, leave_entries}
 use Rattle.core_machine.specs.declared.place.Place.{Place}
 use Rattle.core_machine.specs.declared.place.Place.TheVariants as places
 use Rattle.core_machine.specs.declared.place.Making.{Making}
@@ -16,17 +17,13 @@ use Rattle.core_machine.specs.declared.place.Making.TheVariants.{Gathering, Retu
 use Rattle.core_machine.specs.declared.place.Reaching.TheVariants.{Naming}
 use Rattle.core_machine.specs.declared.place.Leaving.{Leaving}
 use Rattle.core_machine.specs.declared.place.Leaving.TheVariants.{Emptying, Parting}
-use Rattle.core_machine.specs.Calls.{IsBeside, CountsCall, leave_entries}
+use Rattle.core_machine.specs.Calls.{IsBeside, CountsCall}
 use Rattle.core_machine.specs.Fragments.{clear_in}
 use Rattle.core_machine.specs.Making.{goes_on, next_group, next_id}
 use Rattle.core_machine.specs.Seat.{Seat, with_entries}
 use Rattle.core_machine.specs.Moves.{Move, seat_after, making_move, bearing_move, birth_move, last_birth_move, is_last_birth, takes_some}
 use Rattle.core_machine.proofs.Bits.{bool_tells}
 use Rattle.core_machine.proofs.Fitting.{goes_on_cases}
-
--- the entry of what was given back before a leave
-abbrev pub gives_some : ℕ → ℕ → List Entry
-gives_some number left = cond (eqb left 0) [] (GivesBack number left ∷ [])
 
 -- what is beside comes after what is
 beside_more : (number : ℕ) (told more : List Entry) → AllByRecursion (IsBeside number) told → AllByRecursion (IsBeside number) more → AllByRecursion (IsBeside number) (told ++ more)
@@ -63,7 +60,7 @@ module _ (old : Seat) (number : ℕ) (command : Command) where
   -- what a leave has told
   abbrev pub Leaves : Seat → List Entry → Leaving → Type 0
   Leaves seat told Emptying = (told ≡ []) × (seat.reserve ≡ old.reserve) × (length old.reserve ≡ 0 → ⊥)
-  Leaves seat told Parting = told ≡ gives_some number (length old.reserve)
+  Leaves seat told Parting = told ≡ last_gives number (length old.reserve)
 
   abbrev pub Says : Seat → List Entry → Place → Type 0
   Says seat told places.Idle = IsOver seat told

@@ -8,6 +8,7 @@ use Rattle.heap_model.specs.declared.command.Command.TheVariants as commands
 use Rattle.heap_model.specs.declared.entry.Entry.{Entry}
 use Rattle.heap_model.specs.declared.entry.Entry.TheVariants.{Said, GivesBack, Answers}
 use Rattle.heap_model.specs.declared.reply.Reply.TheVariants as replies
+use Rattle.heap_model.specs.SeatCalls.{last_gives}
 use Rattle.core_machine.specs.declared.place.Place.{Place}
 use Rattle.core_machine.specs.declared.place.Place.TheVariants as places
 use Rattle.core_machine.specs.declared.place.Polling.{Polling}
@@ -25,7 +26,7 @@ use Rattle.core_machine.specs.Seat.{Seat, with_entries}
 use Rattle.core_machine.specs.Moves.{move_at, next_move, polling_move, leaving_move}
 use Rattle.core_machine.specs.Machine.{begun}
 use Rattle.core_machine.proofs.Fitting.{goes_on_cases}
-use Rattle.core_machine.proofs.Saying.{gives_some, IsGoing, Leaves, Says, Leads, on, replies_, ends, says_making}
+use Rattle.core_machine.proofs.Saying.{IsGoing, Leaves, Says, Leads, on, replies_, ends, says_making}
 use Rattle.core_machine.proofs.SayingReaching.{says_reaching}
 
 module _ (old : Seat) (number : ℕ) (command : Command) where
@@ -42,8 +43,8 @@ module _ (old : Seat) (number : ℕ) (command : Command) where
   says_leaving words seat told Emptying is found =
       (on old number command seat _ told _ is.0 refl refl refl refl (refl, tt), is.1, rw (is.2.0, is.2.1) (some (length old.reserve) is.2.2))
     where
-      some : (left : ℕ) → (left ≡ 0 → ⊥) → [] ++ GivesBack number left ∷ [] ≡ gives_some number left
-      some left has = elim (eqb_tells left 0) as (λ _. [] ++ GivesBack number left ∷ [] ≡ gives_some number left) [ inl none ↦ absurd (has none.1) | inr there ↦ rw there.0 refl ]
+      some : (left : ℕ) → (left ≡ 0 → ⊥) → [] ++ GivesBack number left ∷ [] ≡ last_gives number left
+      some left has = elim (eqb_tells left 0) as (λ _. [] ++ GivesBack number left ∷ [] ≡ last_gives number left) [ inl none ↦ absurd (has none.1) | inr there ↦ rw there.0 refl ]
   says_leaving words seat told Parting is found = record {
     replied = replies_ old number command seat told [] replies.Done is.0 tt;
     counts = record { made_more = omega (arith, is.0.made_stays); sets_more = omega (arith, is.0.sets_stay); present_stays = λ no_leave. absurd (no_leave is.1) };

@@ -1,15 +1,16 @@
 -- A call that a seat makes from its begin to its reply, with no step of others between.
-use Rattle.std.specs.Prelude.{◌≡◌, ◌≢◌, ℕ, ◌+◌, ◌≤◌, ◌<◌, ◌-◌, ◌==◌, if◌then◌else◌, List, [], ◌∷◌, ◌++◌, length, replicate, slice_get, Option, Some, None, option_and_then}
+use Rattle.std.specs.Prelude.{◌≡◌, ◌≢◌, ℕ, ◌+◌, ◌≤◌, ◌<◌, ◌-◌, ◌⊎◌, List, [], ◌∷◌, ◌++◌, length, replicate, slice_get, Option, Some, None, option_and_then}
 use Rattle.std.specs.List.{AllByRecursion}
 use Rattle.heap_model.specs.declared.heap.Heap.{Heap}
 use Rattle.heap_model.specs.declared.command.Command.{Command}
-use Rattle.heap_model.specs.declared.command.Command.TheVariants.{Leave}
+use Rattle.heap_model.specs.declared.command.Command.TheVariants.{Poll, Leave}
 use Rattle.heap_model.specs.declared.entry.Entry.{Entry}
 use Rattle.heap_model.specs.declared.entry.Entry.TheVariants.{Said, Takes, GivesBack, Answers}
 use Rattle.heap_model.specs.declared.reply.Reply.{Reply}
-use Rattle.heap_model.specs.declared.reply.Reply.TheVariants.{Done, Made, Full, NoObject, NoField}
+use Rattle.heap_model.specs.declared.reply.Reply.TheVariants.{Made, Full, NoObject, NoField}
+use Rattle.heap_model.specs.SeatCalls.{ComesBefore, leave_entries}
 use Rattle.heap_model.specs.Space.{need_of}
-use Rattle.core_machine.specs.declared.address.Address.TheVariants.{Control}
+use Rattle.core_machine.specs.declared.address.Address.TheVariants.{Phase, Control}
 use Rattle.core_machine.specs.declared.place.Place.TheVariants.{Idle}
 use Rattle.core_machine.specs.Fragments.{clear_in}
 use Rattle.core_machine.specs.Layout.{at, SameTable}
@@ -29,7 +30,13 @@ IsBeside number (GivesBack q count) = q ≡ number
 IsBeside number (Answers q phase) = q ≡ number
 IsBeside number _ = ⊥
 
--- the second state is the first after the call's steps; its entries, the reply last and no other, are the seat's and the history's
+-- the phase word is the phase that the seat answered last, or the next
+abbrev pub IsNear : Heap → State → ℕ → Type 0
+IsNear heap state number =
+    (at heap state.words Phase ≡ (seat_at state number).answered) ⊎ (at heap state.words Phase ≡ (seat_at state number).answered + 1)
+
+-- the second state is the first after the call's steps; its entries, the reply last and no other, are the seat's and the history's, and
+-- before the reply come those that are due by the seat's reserve and its last answer
 pub record PlaysCall (heap : Heap) (old new : State) (number : ℕ) (command : Command) (reply : Reply) : Type 0 where
   pub steps : ℕ
   pub can : Run heap old (call_events number command steps)
@@ -39,16 +46,14 @@ pub record PlaysCall (heap : Heap) (old new : State) (number : ℕ) (command : C
   pub shown : history heap old (call_events number command steps) ≡ before ++ Said number command reply ∷ []
   pub mine : (seat_at new number).mine ≡ (seat_at old number).mine ++ (before ++ Said number command reply ∷ [])
   pub beside : AllByRecursion (IsBeside number) before
+  pub comes : (command ≡ Poll → IsNear heap old number)
+      → ComesBefore number (length (seat_at old number).reserve) (seat_at old number).answered command reply before
 
 -- a call makes one object at most and does one set at most, and by no call but a leave the seat has left
 pub record CountsCall (old new : Seat) (command : Command) : Type 0 where
   pub made_more : new.made ≤ old.made + 1
   pub sets_more : new.sets ≤ old.sets + 1
   pub present_stays : command ≢ Leave → new.left ≡ old.left
-
--- what a seat tells that leaves with so many fragments of its own: it gives them back, if there are any, and is done
-abbrev pub leave_entries : ℕ → ℕ → List Entry
-leave_entries number left = (if left == 0 then [] else GivesBack number left ∷ []) ++ Said number Leave Done ∷ []
 
 -- the seat told its leave, with its reserve as what it had of its own
 abbrev pub TellsLeave : State → State → ℕ → Type 0

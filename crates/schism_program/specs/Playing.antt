@@ -4,7 +4,8 @@ use Rattle.std.specs.List.{flat_map, range_with_len}
 use Rattle.heap_model.specs.declared.heap.Heap.{Heap}
 use Rattle.heap_model.specs.declared.entry.Entry.{Entry}
 use Rattle.script_text.specs.declared.script.Line.{Line}
-use Rattle.core_machine.specs.Calls.{free_fragments, leave_entries}
+use Rattle.heap_model.specs.SeatCalls.{leave_entries}
+use Rattle.core_machine.specs.Calls.{free_fragments}
 use Rattle.core_machine.specs.Machine.{State, seat_at}
 use Rattle.schism_program.specs.Calls.{Played, ArePresent, AreFew}
 use Rattle.schism_program.specs.Play.{replied, EndsInReply}

@@ -57,6 +57,31 @@ fn shades_the_registers(rt: HostRuntime) -> Result<(), Fail> {
     tries(&rt, (1, 0, 1), SHADED)
 }
 
+/// Births are black once the seat has answered a cycle's second phase: what it made before is taken and born, the fragment
+/// 12 marked and scanned as well.
+const BLACK_BIRTH: &[&str] = &[
+    "c turn => stepped",
+    "c turn => stepped; c phase 1",
+    "0 poll => 0 answers 1; 0 poll = 1",
+    "0 new 1 2 => 0 takes 5; 0 new 1 2 = 0.0",
+    "control 0 => fffffff at 19",
+    "c turn => stepped",
+    "c turn => stepped; c phase 2",
+    "0 poll => 0 answers 2; 0 poll = 2",
+    "0 begin new 2 2 => true",
+    "0 step => store 12.0 c000000200000000 found 0",
+    "0 step => store 12.1 c000000100000001 found 0",
+    "0 step => store 12.2 0 found 0",
+    "0 step => store 12.3 0 found 0",
+    "0 step => last birth 0 1000 black found fffffff; 0 new 2 2 = 0.1",
+    "control 0 => 100010001fffffff at 19",
+];
+
+#[test]
+fn bears_black_after_the_second_phase(rt: HostRuntime) -> Result<(), Fail> {
+    tries(&rt, (1, 0, 1), BLACK_BIRTH)
+}
+
 /// The collector looks at each seat in order, and at the one that it waits for again; a seat that left is passed.
 const LOOKS: &[&str] = &[
     "1 begin leave => true",
