@@ -2,6 +2,7 @@
 use Rattle.std.specs.Prelude.{◌≡◌, ℕ, ◌+◌, ◌*◌, true, List, Option, Some, None, take}
 use Rattle.heap_model.specs.declared.heap.Heap.{Heap}
 use Rattle.heap_model.specs.declared.entry.Entry.{Entry}
+use Rattle.heap_model.specs.Limits.{group_fragments}
 use Rattle.heap_model.specs.Legal.{IsObjectLegal}
 use Rattle.heap_model.specs.Account.{IsLegal}
 use Rattle.heap_model.specs.Space.{gained, lost, granted, returned}
@@ -22,7 +23,7 @@ ShowsUse entries used = used + lost entries ≡ gained entries
 -- the mark shows the counts after these entries
 pub record ShowsCounts (heap : Heap) (entries : List Entry) (mark : SpaceMark) : Type 0 where
   pub used : ShowsUse entries mark.used
-  pub total : mark.total ≡ 16 * heap.groups
+  pub total : mark.total ≡ group_fragments * heap.groups
   pub spine : mark.spine + returned entries ≡ granted entries
   pub budget : mark.budget ≡ heap.spine
 

@@ -1,11 +1,9 @@
 ghost use Rattle.std.specs.Prelude.{◌≡◌, ◌<◌, ◌+◌, ◌^◌, ◌↔◌, IsTrue, length};
 ghost use Rattle.log_merge.specs.Legal.{ShowsCounts, ShowsUse};
 
+use heap_model::limits::{BOARD_FRAGMENTS, GROUP_FRAGMENTS};
 use heap_model::{Effect, Entry, Heap};
 use reply_text::SpaceMark;
-
-/// The fragments of the board.
-const BOARD: u64 = 11;
 
 /// Whether so many are left of those that were had, where some are gone.
 fn is_left(left: u64, had: u64, gone: u64) -> bool
@@ -20,7 +18,7 @@ pub fn shows_use(entries: &[Entry], used: u64) -> bool
     ensures { IsTrue result ↔ ShowsUse entries.now used }
 {
     let all = Effect::of_all(entries);
-    is_left(used, BOARD + all.taken, all.given + all.freed)
+    is_left(used, u64::from(BOARD_FRAGMENTS) + all.taken, all.given + all.freed)
 }
 
 /// Whether the mark shows the counts after the entries.
@@ -29,8 +27,8 @@ pub fn shows_counts(heap: Heap, entries: &[Entry], mark: SpaceMark) -> bool
     ensures { IsTrue result ↔ ShowsCounts heap entries.now mark }
 {
     let all = Effect::of_all(entries);
-    is_left(mark.used, BOARD + all.taken, all.given + all.freed)
-        && mark.total == 16 * u64::from(heap.groups)
+    is_left(mark.used, u64::from(BOARD_FRAGMENTS) + all.taken, all.given + all.freed)
+        && mark.total == u64::from(GROUP_FRAGMENTS) * u64::from(heap.groups)
         && is_left(mark.spine, all.words, all.returned)
         && mark.budget == u64::from(heap.spine)
 }
