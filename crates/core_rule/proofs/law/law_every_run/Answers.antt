@@ -1,9 +1,9 @@
 use Rattle.core_machine.proofs.Runs.{machine_after}
-use Rattle.core_rule.proofs.FreeSums.{free_is_unused}
-use Rattle.core_rule.proofs.OpeningStands.{opening_stands}
-use Rattle.core_rule.proofs.PlayRuns.{whole_calls_play}
-use Rattle.core_rule.proofs.Runs.{each_event_keeps, every_run_keeps}
-use Rattle.core_rule.proofs.Steps.{each_step_keeps, each_begin_keeps, each_turn_keeps}
+use Rattle.core_rule.proofs.counts.FreeSums.{free_is_unused}
+use Rattle.core_rule.proofs.runs.OpeningStands.{opening_stands}
+use Rattle.core_rule.proofs.runs.PlayRuns.{whole_calls_play}
+use Rattle.core_rule.proofs.runs.Runs.{each_event_keeps, every_run_keeps}
+use Rattle.core_rule.proofs.steps.Steps.{each_step_keeps, each_begin_keeps, each_turn_keeps}
 use Rattle.core_rule.proofs.law.law_every_run.Goals as goal
 
 pub returns-clause-step : goal.returns-clause-step

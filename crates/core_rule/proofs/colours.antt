@@ -1,0 +1,8 @@
+-- The colours of fragments, and where words lead.
+pub mod MarkWords
+pub mod LeadsFrames
+pub mod NewbornLeads
+pub mod BirthColours
+pub mod BirthAhead
+pub mod LastColours
+pub mod ShadeColours

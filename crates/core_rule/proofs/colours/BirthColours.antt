@@ -1,0 +1,173 @@
+-- The colours after a birth, and the control words' bits of the colours after a claim, a give back and a birth.
+use Rattle.std.specs.Int.{bit_at}
+use Rattle.std.proofs.Common.{◌≡◌, ◌≢◌, ◌⊎◌, ℕ, suc, ◌+◌, ◌*◌, ◌/◌, ◌%◌, ◌<◌, ◌≤◌, if◌then◌else◌, nat_lt, inl, inr, max, cond, Bool, true, false, List, length, bit_or, refl, sym, ap, ◌∙◌, subst, arith}
+use Rattle.std.proofs.lemmas.Bool.Decides.{nat_tests, leb_tells}
+use Rattle.heap_model.specs.declared.heap.Heap.{Heap}
+use Rattle.core_machine.specs.declared.address.Address.TheVariants.{Control}
+use Rattle.core_machine.specs.Fragments.{part_in, mask, tally}
+use Rattle.core_machine.specs.Layout.{at, put, table_length}
+use Rattle.core_machine.specs.MakingMoves.{bears_black}
+use Rattle.core_machine.specs.Operation.{all_taken, untaken, birth_bits}
+use Rattle.core_machine.specs.Seat.{Seat}
+use Rattle.core_rule.specs.Book.{Colour, White, Grey, Black, fragment_at}
+use Rattle.core_rule.specs.Colours.{Marks, Leads, IsMarked, IsBetween, Coloured, birth_colour, marked_bit, scanned_bit}
+use Rattle.core_rule.specs.Owners.{Owner, Keeps, born_bit}
+use Rattle.core_rule.specs.Phases.{IsNear}
+use Rattle.core_rule.proofs.owners.Handed.{none_or_some}
+use Rattle.core_rule.proofs.words.MarkBits.{claim_past, untaken_past, birth_marked, birth_scanned}
+use Rattle.core_rule.proofs.colours.MarkWords.{marks_after, found_marked, found_scanned}
+use Rattle.core_rule.proofs.words.MaskLemmas.{mask_bit, mask-lt}
+use Rattle.core_rule.proofs.owners.OwnerLemmas.{born_once}
+use Rattle.core_rule.proofs.lists.Parts.{part_in-here, part_in-away, parts_tally}
+
+-- the fragments of the list have this colour, the others their own
+abbrev pub painted : Colour → (ℕ → Colour) → List ℕ → ℕ → Colour
+painted c colour fs f = if nat_lt 0 (tally f fs) then c else colour f
+
+pub painted_in : (c : Colour) (colour : ℕ → Colour) (fs : List ℕ) (f : ℕ) → 1 ≤ tally f fs → painted c colour fs f ≡ c
+painted_in c colour fs f there = grind (arith, nat_tests, there)
+
+pub painted_out : (c : Colour) (colour : ℕ → Colour) (fs : List ℕ) (f : ℕ) → tally f fs ≡ 0 → painted c colour fs f ≡ colour f
+painted_out c colour fs f away = grind (arith, nat_tests, away)
+
+-- a fact of the new colour, by two cases
+pub painted_cases : (P : Colour → Type 0) (c : Colour) (colour : ℕ → Colour) (fs : List ℕ) (f : ℕ)
+    → (1 ≤ tally f fs → P c) → (tally f fs ≡ 0 → P (colour f)) → P (painted c colour fs f)
+painted_cases P c colour fs f there away = elim (none_or_some (tally f fs)) as (λ _. P (painted c colour fs f)) [
+  | inl none ↦ rw (painted_out c colour fs f none) (away none)
+  | inr some ↦ rw (painted_in c colour fs f some) (there some)
+]
+
+grey_apart : Grey ≢ White
+grey_apart e = cc
+
+black_apart : Black ≢ White
+black_apart e = cc
+
+-- births are white at rest and in the first phase
+black_late : (n : ℕ) → (1 < n → n < 6 → ⊥) → (if nat_lt 1 n then nat_lt n 6 else false) ≡ false
+black_late n none = elim (leb_tells 2 n) as (λ _. (if nat_lt 1 n then nat_lt n 6 else false) ≡ false) [
+  | inl late ↦ rw late.0 (elim (leb_tells (suc n) 6) as (λ _. nat_lt n 6 ≡ false) [
+    | inl early ↦ absurd (none late.1 early.1)
+    | inr past ↦ past.0
+  ])
+  | inr early ↦ rw early.0 refl
+]
+
+pub white_early : (phase : ℕ) (seat : Seat) → IsNear phase seat.answered → phase % 7 ≤ 1 → bears_black seat ≡ false
+white_early phase seat near early = black_late (seat.answered % 7) (λ late below. elim near [
+  | inl same ↦ omega (arith, early, same, late)
+  | inr before ↦ omega (arith, early, before, late, below)
+])
+
+module _ (heap : Heap) (words now : List ℕ) (owner later : ℕ → Owner) (colour : ℕ → Colour) (fs : List ℕ) (black : Bool)
+    (unborn : (f : ℕ) → 1 ≤ tally f fs → born_bit (owner f) ≡ 0) (born : (f : ℕ) → IsMarked colour f → born_bit (owner f) ≡ 1) where
+  abbrev pub borne : ℕ → Colour
+  borne = painted (birth_colour black) colour fs
+
+  -- what is born was white
+  pub was_white : (f : ℕ) → 1 ≤ tally f fs → colour f ≡ White
+  was_white f there = by (colour f) refl
+    where
+      by : (c : Colour) → colour f ≡ c → c ≡ White
+      by White is = refl
+      by Grey is = absurd (omega (arith, unborn f there, born f (λ white. grey_apart (sym is ∙ white))))
+      by Black is = absurd (omega (arith, unborn f there, born f (λ white. black_apart (sym is ∙ white))))
+
+  -- what was marked stays so
+  pub marks_stay : (f : ℕ) → IsMarked colour f → IsMarked borne f
+  marks_stay f marked = painted_cases (λ c. c ≢ White) (birth_colour black) colour fs f (λ there. absurd (omega (arith, unborn f there, born f marked))) (λ away. marked)
+
+  module _ (fragments now_fragments : ℕ → List ℕ) (phase : ℕ)
+      (late : phase % 7 ≤ 1 → black ≡ false)
+      (bears : (f : ℕ) → born_bit (later f) ≡ born_bit (owner f) + tally f fs)
+      (leads : (f part g : ℕ) → Leads heap now f part g → Leads heap words f part g)
+      (ahead : black ≡ true → (f part g : ℕ) → 1 ≤ tally f fs → Leads heap words f part g → (1 ≤ tally g fs) ⊎ IsMarked colour g) where
+    white_birth : phase % 7 ≤ 1 → birth_colour black ≡ White
+    white_birth early = ap birth_colour (late early)
+
+    -- a black fragment was born black now, or was black
+    black_birth : (b : Bool) → b ≡ black → (f part g : ℕ) → 1 ≤ tally f fs → birth_colour b ≡ Black → Leads heap words f part g → IsMarked borne g
+    black_birth true is f part g there black_now to = elim (ahead (sym is) f part g there to) [
+      | inl among ↦ λ white. black_apart (ap birth_colour is ∙ sym (painted_in (birth_colour black) colour fs g among) ∙ white)
+      | inr before ↦ marks_stay g before
+    ]
+    black_birth false is f part g there black_now to = absurd (black_apart (sym black_now))
+
+    -- so the colours are right
+    pub birth_coloured : (IsBetween 1 5 phase → (f i k : ℕ) → later f ≡ Keeps i k → IsMarked borne f → IsMarked borne (fragment_at (now_fragments i) 0))
+        → Coloured heap words owner colour fragments phase → Coloured heap now later borne now_fragments phase
+    birth_coloured first stands = record {
+      rest = λ rests f. painted_cases (λ c. c ≡ White) (birth_colour black) colour fs f (λ there. white_birth (omega (arith, rests))) (λ away. stands.rest rests f);
+      early = λ one f. painted_cases (λ c. c ≢ Black) (birth_colour black) colour fs f
+          (λ there is. black_apart (sym is ∙ white_birth (omega (arith, one)))) (λ away. stands.early one f);
+      born = λ f. painted_cases (λ c. c ≢ White → born_bit (later f) ≡ 1) (birth_colour black) colour fs f
+          (λ there marked. omega (arith, bears f, unborn f there, there, born_once (later f)))
+          (λ away marked. omega (arith, bears f, stands.born f marked, away));
+      black = λ marking f part g is to. painted_cases (λ c. c ≡ Black → IsMarked borne g) (birth_colour black) colour fs f
+          (λ there now_black. black_birth black refl f part g there now_black (leads f part g to))
+          (λ away was_black. marks_stay g (stands.black marking f part g was_black (leads f part g to))) is;
+      first = first;
+    }
+
+-- a claim changes no colour
+pub marks_claim : (heap : Heap) (words : List ℕ) (colour : ℕ → Colour) (g : ℕ) → length words ≡ table_length heap → g < heap.groups → Marks heap words colour
+    → Marks heap (put heap words (Control g) (bit_or (at heap words (Control g)) all_taken)) colour
+marks_claim heap words colour g whole below marks =
+    marks_after heap words colour colour g (bit_or (at heap words (Control g)) all_taken) whole below marks
+    (λ f here. claim_past (at heap words (Control g)) (32 + f % 16) (omega arith) ∙ found_marked heap words colour colour g 0 whole below marks f here)
+    (λ f here. claim_past (at heap words (Control g)) (48 + f % 16) (omega arith) ∙ found_scanned heap words colour colour g 0 whole below marks f here)
+    (λ f apart. refl)
+
+-- nor does a give back
+pub marks_give : (heap : Heap) (words : List ℕ) (colour : ℕ → Colour) (g : ℕ) (fs : List ℕ) → length words ≡ table_length heap → g < heap.groups → Marks heap words colour
+    → Marks heap (put heap words (Control g) (untaken (mask fs) (at heap words (Control g)))) colour
+marks_give heap words colour g fs whole below marks =
+    marks_after heap words colour colour g (untaken (mask fs) (at heap words (Control g))) whole below marks
+    (λ f here. untaken_past (at heap words (Control g)) (mask fs) (mask-lt fs) (32 + f % 16) (omega arith) (omega arith) ∙ found_marked heap words colour colour g 0 whole below marks f here)
+    (λ f here. untaken_past (at heap words (Control g)) (mask fs) (mask-lt fs) (48 + f % 16) (omega arith) (omega arith) ∙ found_scanned heap words colour colour g 0 whole below marks f here)
+    (λ f apart. refl)
+
+-- the mask has the bits of the part
+mask_of : (g f : ℕ) (fs : List ℕ) → f / 16 ≡ g → ((x : ℕ) → tally x fs ≤ 1) → bit_at (mask (part_in g fs)) (f % 16) ≡ tally f (part_in g fs)
+mask_of g f fs here once =
+    let place : 16 * g + f % 16 ≡ f = omega (arith, here) in
+    let bit : bit_at (mask (part_in g fs)) (f % 16) ≡ tally f fs
+    = subst (λ x. bit_at (mask (part_in g fs)) (f % 16) ≡ tally x fs) place (mask_bit g (f % 16) fs (omega arith) (once (16 * g + f % 16))) in
+    bit ∙ sym (part_in-here g f fs here)
+
+module _ (bit : Colour → ℕ) (none : bit White ≡ 0) (all : bit Black ≡ 1) (colour : ℕ → Colour) (fs : List ℕ) (f : ℕ) where
+  -- the bit of the new colour
+  bit_painted : (black : Bool) (set found masked : ℕ) → set ≡ max found (cond {A = ℕ} black masked 0) → found ≡ bit (colour f) → masked ≡ tally f fs → tally f fs ≤ 1
+      → (1 ≤ tally f fs → colour f ≡ White) → set ≡ bit (painted (birth_colour black) colour fs f)
+  bit_painted black set found masked is was part once white = painted_cases (λ c. set ≡ bit c) (birth_colour black) colour fs f
+      (λ there. let blank : bit (colour f) ≡ 0 = ap bit (white there) ∙ none in by black is (omega (arith, was, blank)) (omega (arith, part, there, once)))
+      (λ away. clear black is (omega (arith, part, away)))
+    where
+      by : (b : Bool) → set ≡ max found (cond {A = ℕ} b masked 0) → found ≡ 0 → masked ≡ 1 → set ≡ bit (birth_colour b)
+      by true is zero one = omega (arith, is, zero, one, all)
+      by false is zero one = omega (arith, is, zero, none)
+
+      clear : (b : Bool) → set ≡ max found (cond {A = ℕ} b masked 0) → masked ≡ 0 → set ≡ bit (colour f)
+      clear true is zero = omega (arith, is, zero, was)
+      clear false is zero = omega (arith, is, was)
+
+-- a birth gives its fragments its colour
+pub marks_birth : (heap : Heap) (words : List ℕ) (colour : ℕ → Colour) (g : ℕ) (fs : List ℕ) (black : Bool) → length words ≡ table_length heap → g < heap.groups
+    → ((f : ℕ) → tally f fs ≤ 1) → ((f : ℕ) → 1 ≤ tally f (part_in g fs) → colour f ≡ White) → Marks heap words colour
+    → Marks heap (put heap words (Control g) (bit_or (at heap words (Control g)) (birth_bits black (mask (part_in g fs))))) (painted (birth_colour black) colour (part_in g fs))
+marks_birth heap words colour g fs black whole below once white marks =
+    let found : ℕ = at heap words (Control g) in
+    let coloured : ℕ → Colour = painted (birth_colour black) colour (part_in g fs) in
+    let word : ℕ = bit_or found (birth_bits black (mask (part_in g fs))) in
+    marks_after heap words colour coloured g word whole below marks
+    (λ f here. bit_painted marked_bit refl refl colour (part_in g fs) f black (bit_at word (32 + f % 16)) (bit_at found (32 + f % 16)) (bit_at (mask (part_in g fs)) (f % 16))
+    (birth_marked found (mask (part_in g fs)) (mask-lt (part_in g fs)) (f % 16) (omega arith) black)
+    (found_marked heap words colour colour g 0 whole below marks f here) (mask_of g f fs here once) (part_once f) (white f))
+    (λ f here. bit_painted scanned_bit refl refl colour (part_in g fs) f black (bit_at word (48 + f % 16)) (bit_at found (48 + f % 16)) (bit_at (mask (part_in g fs)) (f % 16))
+    (birth_scanned found (mask (part_in g fs)) (mask-lt (part_in g fs)) (f % 16) (omega arith) black)
+    (found_scanned heap words colour colour g 0 whole below marks f here) (mask_of g f fs here once) (part_once f) (white f))
+    (λ f apart. painted_out (birth_colour black) colour (part_in g fs) f (part_in-away g f fs apart))
+  where
+    part_once : (f : ℕ) → tally f (part_in g fs) ≤ 1
+    part_once f = omega (arith, once f, parts_tally g f fs)

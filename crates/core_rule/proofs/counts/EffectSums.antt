@@ -1,0 +1,41 @@
+-- Sums over a history that grew by what a seat took or gave back.
+use Rattle.std.specs.Prelude.{if◌then◌else◌}
+use Rattle.std.proofs.Common.{◌≡◌, ℕ, ◌+◌, ◌==◌, List, [], ◌∷◌, ◌++◌, true, false, inl, inr, refl, arith}
+use Rattle.std.proofs.lemmas.Bool.{cases_Bool}
+use Rattle.heap_model.specs.declared.effect.Effect.{Effect}
+use Rattle.heap_model.specs.declared.entry.Entry.{Entry}
+use Rattle.heap_model.specs.declared.entry.Entry.TheVariants as entries
+use Rattle.heap_model.specs.Effects.{effect_of, is_of}
+use Rattle.heap_model.specs.Refusals.{given_up}
+use Rattle.heap_model.specs.Space.{total_but}
+use Rattle.heap_model.proofs.Histories.{total-more}
+use Rattle.core_rule.proofs.entries.Others.{sum_grows}
+
+total_but-more : (s : ℕ) (part : Effect → ℕ) (history : List Entry) (entry : Entry)
+    → total_but s part (history ++ entry ∷ []) ≡ total_but s part history + (if is_of s entry then 0 else part (effect_of entry))
+total_but-more s part history entry = sum_grows (λ e. if is_of s e then 0 else part (effect_of e)) history entry
+
+-- a seat's own entry adds nothing to what the others did, and another's adds its effect
+pub total_but-own : (s : ℕ) (part : Effect → ℕ) (history : List Entry) (entry : Entry) → is_of s entry ≡ true → total_but s part (history ++ entry ∷ []) ≡ total_but s part history
+total_but-own s part history entry own = rw (total_but-more s part history entry, own) (omega arith)
+
+pub total_but-other : (s : ℕ) (part : Effect → ℕ) (history : List Entry) (entry : Entry) → is_of s entry ≡ false
+    → total_but s part (history ++ entry ∷ []) ≡ total_but s part history + part (effect_of entry)
+total_but-other s part history entry other = rw (total_but-more s part history entry, other) refl
+
+module _ (history : List Entry) (q k : ℕ) where
+  -- nothing is given up where a seat takes
+  pub given_up-takes : (s : ℕ) → given_up s (history ++ entries.Takes q k ∷ []) ≡ given_up s history
+  given_up-takes s = elim (cases_Bool (q == s)) as (λ _. given_up s (history ++ entries.Takes q k ∷ []) ≡ given_up s history) [
+    | inl own ↦ omega (arith, total-more (λ e. e.freed) history (entries.Takes q k), total_but-own s (λ e. e.given) history (entries.Takes q k) own)
+    | inr other ↦ omega (arith, total-more (λ e. e.freed) history (entries.Takes q k), total_but-other s (λ e. e.given) history (entries.Takes q k) other)
+  ]
+
+  -- what another gives back is given up
+  pub given_up-gives : (s : ℕ) → (q == s) ≡ false → given_up s (history ++ entries.GivesBack q k ∷ []) ≡ given_up s history + k
+  given_up-gives s other =
+      omega (arith, total-more (λ e. e.freed) history (entries.GivesBack q k), total_but-other s (λ e. e.given) history (entries.GivesBack q k) other)
+
+  pub given_up-own : (s : ℕ) → (q == s) ≡ true → given_up s (history ++ entries.GivesBack q k ∷ []) ≡ given_up s history
+  given_up-own s own =
+      omega (arith, total-more (λ e. e.freed) history (entries.GivesBack q k), total_but-own s (λ e. e.given) history (entries.GivesBack q k) own)

@@ -1,0 +1,42 @@
+-- What stays when a seat's own word is written: the fragments' words, the phase, the colours, and the other seats' part in a cycle.
+use Rattle.std.proofs.Common.{◌≢◌, ℕ, ◌<◌, List, inl, refl, ◌∙◌, arith}
+use Rattle.heap_model.specs.declared.heap.Heap.{Heap}
+use Rattle.core_machine.specs.declared.address.Address.TheVariants.{Answer, Phase, Control, Word}
+use Rattle.core_machine.specs.Layout.{put}
+use Rattle.core_machine.specs.Seat.{Seat}
+use Rattle.core_rule.specs.Book.{Colour}
+use Rattle.core_rule.specs.Cycle.{HeapInCycle}
+use Rattle.core_rule.specs.Owners.{Owner}
+use Rattle.core_rule.proofs.words.Addresses.{at-put_apart}
+use Rattle.core_rule.proofs.cycle.CycleFrames.{LeavesCycle, coloured_stays}
+use Rattle.core_rule.proofs.frames.EntryFrames.{SameFragments}
+use Rattle.core_rule.proofs.colours.LeadsFrames.{leads_same}
+use Rattle.core_rule.proofs.colours.MarkWords.{marks_same}
+
+module _ (heap : Heap) (words : List ℕ) (q n : ℕ) (small : q < 16) where
+  abbrev now : List ℕ
+  now = put heap words (Answer q) n
+
+  pub fragments_answer : SameFragments heap words now
+  fragments_answer = record {
+    controls = λ group below. at-put_apart heap words (Answer q) (Control group) n (λ e. omega (arith, e, small));
+    parts = λ f part. at-put_apart heap words (Answer q) (Word f part) n (λ e. omega (arith, e, small));
+  }
+
+  pub heap_cycle_answer : (phase : ℕ) (owner : ℕ → Owner) (colour : ℕ → Colour) (fragments : ℕ → List ℕ)
+      → HeapInCycle heap words phase owner colour fragments → HeapInCycle heap now phase owner colour fragments
+  heap_cycle_answer phase owner colour fragments cycle = record {
+    word = at-put_apart heap words (Answer q) Phase n (λ e. omega (arith, e)) ∙ cycle.word;
+    so_far = cycle.so_far;
+    marks = marks_same heap words now colour fragments_answer.controls cycle.marks;
+    coloured = coloured_stays heap words now owner owner colour fragments phase
+        (λ f part x black leads. leads_same heap words now f part x (fragments_answer.parts f part) leads) (λ f marked born. born) (λ f i k keeps. keeps) cycle.coloured;
+  }
+
+  pub leaves_answer : (owner : ℕ → Owner) (colour : ℕ → Colour) (phase r : ℕ) (seat : Seat) → r ≢ q → LeavesCycle heap words now owner owner colour colour phase r seat
+  leaves_answer owner colour phase r seat apart = record {
+    answer = at-put_apart heap words (Answer q) (Answer r) n (λ e. apart (omega (arith, e)));
+    leads = λ marking x leads. inl (leads_same heap words now _ _ x (fragments_answer.parts _ _) leads);
+    marks = λ f marked. marked;
+    births = λ f bears. (bears, refl);
+  }

@@ -1,0 +1,84 @@
+-- What a birth leaves of the heap's part in a cycle: its fragments get the colour of the seat's births.
+use Rattle.std.proofs.Common.{◌≡◌, ℕ, ◌*◌, ◌<◌, ◌≤◌, Bool, List, length, bit_or, ap, ◌∙◌, subst, arith, ◌+◌}
+use Rattle.heap_model.specs.declared.heap.Heap.{Heap}
+use Rattle.heap_model.specs.PhaseCounts.{phase}
+use Rattle.core_machine.specs.declared.address.Address.TheVariants.{Control}
+use Rattle.core_machine.specs.declared.place.Making.TheVariants.{Bearing}
+use Rattle.core_machine.specs.declared.place.Place.TheVariants as places
+use Rattle.core_machine.specs.Fits.{HasBody}
+use Rattle.core_machine.specs.Fragments.{mask, tally}
+use Rattle.core_machine.specs.Layout.{at, put}
+use Rattle.core_machine.specs.Machine.{State, seat_at}
+use Rattle.core_machine.specs.Making.{last_group, newborn_word}
+use Rattle.core_machine.specs.Moves.{bears_black, last_part}
+use Rattle.core_machine.specs.Operation.{birth_bits}
+use Rattle.core_machine.specs.Seat.{Seat}
+use Rattle.core_rule.specs.Book.{Book, Colour, fragment_at}
+use Rattle.core_rule.specs.Colours.{BornColours, birth_colour, IsMarked, IsBetween}
+use Rattle.core_rule.specs.Cycle.{HeapInCycle}
+use Rattle.core_rule.specs.Owners.{born_bit, Owner, Keeps as KeepsPart}
+use Rattle.core_rule.specs.Rule.{Rule, SeatStands}
+use Rattle.core_rule.proofs.colours.BirthAhead.{born_ahead}
+use Rattle.core_rule.proofs.colours.BirthColours.{painted, was_white, marks_stay, birth_coloured, marks_birth}
+use Rattle.core_rule.proofs.hand.ClaimOrder.{born_in_order}
+use Rattle.core_rule.proofs.hand.HandMoves.{hand_once, part_held}
+use Rattle.core_rule.proofs.objects.LastBirth.{all_stored}
+use Rattle.core_rule.proofs.colours.LeadsFrames.{leads_control}
+use Rattle.core_rule.proofs.cycle.MakingCycle.{phase_after_control}
+use Rattle.core_rule.proofs.hand.MakingSeats.{bears_late, last_within, few_fields}
+
+module _ (heap : Heap) (state : State) (book : Book) (q : ℕ) (rule : Rule heap state book) (here : q < heap.seats) (place : (seat_at state q).place ≡ places.Making Bearing) where
+  abbrev seat : Seat
+  seat = seat_at state q
+
+  abbrev g : ℕ
+  g = last_group seat.hand
+
+  abbrev pub words_born : List ℕ
+  words_born = put heap state.words (Control g) (bit_or (at heap state.words (Control g)) (birth_bits (bears_black seat) (mask (last_part seat))))
+
+  abbrev pub colours_born : ℕ → Colour
+  colours_born = painted (birth_colour (bears_black seat)) book.colour (last_part seat)
+
+  stands : SeatStands heap state.words book q seat
+  stands = rule.seats_stand q here
+
+  at_place : HasBody seat × (0 < length seat.hand) × (length seat.hand ≤ length seat.body) × (seat.stored ≡ 4 * length seat.body)
+  at_place = rw place at stands.fits.at_place
+
+  -- the group is the heap's, and the object's fragments are chosen
+  pub group_born : g < heap.groups
+  group_born = last_within heap seat stands.fits at_place.1
+
+  pub some_born : 1 ≤ length seat.body
+  some_born = omega (arith, at_place.1, at_place.2)
+
+  -- nothing of the part was born
+  unborn : (f : ℕ) → 1 ≤ tally f (last_part seat) → born_bit (book.owner f) ≡ 0
+  unborn f there = ap born_bit (part_held book.owner q seat.reserve seat.hand seat.body stands.holding g f there)
+
+  -- what was marked stays so
+  pub marks_born : (f : ℕ) → IsMarked book.colour f → IsMarked colours_born f
+  marks_born = marks_stay heap state.words words_born book.owner book.owner book.colour (last_part seat) (bears_black seat) unborn rule.heap_stands.cycle.coloured.born
+
+  -- the heap's part stands
+  pub heap_born : (later : ℕ → Owner) (fragments : ℕ → List ℕ) → ((f : ℕ) → born_bit (later f) ≡ born_bit (book.owner f) + tally f (last_part seat))
+      → (IsBetween 1 5 (phase book.history) → (f i k : ℕ) → later f ≡ KeepsPart i k → IsMarked colours_born f → IsMarked colours_born (fragment_at (fragments i) 0))
+      → HeapInCycle heap words_born (phase book.history) later colours_born fragments
+  heap_born later fragments bears first =
+      let cycle = rule.heap_stands.cycle in
+      let black : Bool = bears_black seat in
+      record {
+        word = phase_after_control heap state.words _ g ∙ cycle.word;
+        so_far = cycle.so_far;
+        marks = marks_birth heap state.words book.colour g seat.hand black rule.heap_stands.table group_born (hand_once book.owner q seat.reserve seat.hand seat.body stands.holding)
+            (was_white heap state.words words_born book.owner later book.colour (last_part seat) black unborn cycle.coloured.born) cycle.marks;
+        coloured = birth_coloured heap state.words words_born book.owner later book.colour (last_part seat) black unborn cycle.coloured.born book.fragments fragments (phase book.history)
+            (bears_late heap state book q Bearing rule here place) bears
+            (λ f k x leads. leads_control heap state.words g _ group_born f k x leads)
+            (λ dark. born_ahead heap state.words book.owner book.colour q seat rule.limits here at_place.0.makes.numbered (few_fields seat at_place.0) some_born stands.fits.body_within stands.holding
+            (subst (BornColours book.owner book.colour q) dark stands.cycle.births)
+            (all_stored heap state.words seat.body (newborn_word q seat) seat.stored at_place.3 stands.stored)
+            g (born_in_order heap seat.cursor seat.tried seat.hand seat.body stands.fits.hand_within some_born stands.together))
+            first cycle.coloured;
+      }

@@ -1,0 +1,136 @@
+-- What stays of a seat's part in a cycle, and of the colours.
+use Rattle.std.proofs.Common.{◌⊎◌, ◌≡◌, ℕ, List, Bool, Option, inl, inr, refl, ◌∙◌}
+use Rattle.heap_model.specs.declared.heap.Heap.{Heap}
+use Rattle.core_machine.specs.declared.address.Address.TheVariants.{Answer}
+use Rattle.core_machine.specs.declared.place.Place.{Place}
+use Rattle.core_machine.specs.declared.place.Place.TheVariants as places
+use Rattle.core_machine.specs.declared.place.Reaching.{Reaching}
+use Rattle.core_machine.specs.declared.place.Reaching.TheVariants.{ShadingOld, ShadingNew, Swapping}
+use Rattle.core_machine.specs.Layout.{at}
+use Rattle.core_machine.specs.MakingMoves.{bears_black}
+use Rattle.core_machine.specs.ReachingMoves.{field_part}
+use Rattle.core_machine.specs.Seat.{Seat}
+use Rattle.core_rule.specs.Book.{Colour, Black}
+use Rattle.core_rule.specs.Colours.{IsMarked, Leads, IsBetween, Coloured, BornColours}
+use Rattle.core_rule.specs.Cycle.{SeatInCycle}
+use Rattle.core_rule.specs.Flight.{Flight, Watches, FieldStands, ShadedStands, WhileReaching}
+use Rattle.core_rule.specs.Owners.{Owner, Bears, Keeps, born_bit}
+use Rattle.core_rule.specs.Phases.{Answers, AnswerStands}
+use Rattle.core_rule.proofs.lists.Options.{if_some}
+
+-- what holds on the way goes on to hold
+pub while_reaching : (P Q : Reaching → Type 0) → ((place : Reaching) → P place → Q place) → (place : Place) → WhileReaching P place → WhileReaching Q place
+while_reaching P Q more (places.Reaching place) holds = more place holds
+while_reaching P Q more _ holds = tt
+
+-- more is marked, and the field leads to no more than it did but for what is marked
+module _ (heap : Heap) (words now : List ℕ) (colour coloured : ℕ → Colour) (seat : Seat) (marks : (f : ℕ) → IsMarked colour f → IsMarked coloured f) where
+  module _ (leads : (g : ℕ) → Leads heap now seat.reached (field_part seat) g → Leads heap words seat.reached (field_part seat) g ⊎ IsMarked coloured g) where
+    pub watches_stay : (old : Option ℕ) → Watches heap words colour seat old → Watches heap now coloured seat old
+    watches_stay old watches g later = elim (leads g later) [
+      | inl before ↦ elim (watches g before) [
+        | inl same ↦ inl same
+        | inr marked ↦ inr (marks g marked)
+      ]
+      | inr marked ↦ inr marked
+    ]
+
+    pub field_stays : (place : Reaching) → FieldStands heap words colour seat place → FieldStands heap now coloured seat place
+    field_stays ShadingOld field = watches_stay _ field
+    field_stays ShadingNew field = watches_stay _ field
+    field_stays Swapping field = λ on. watches_stay _ (field on)
+    field_stays _ field = tt
+
+  shaded_stays : (place : Reaching) → ShadedStands colour seat place → ShadedStands coloured seat place
+  shaded_stays ShadingNew shaded = if_some (IsMarked colour) (IsMarked coloured) marks _ shaded
+  shaded_stays Swapping shaded = λ on. (if_some (IsMarked colour) (IsMarked coloured) marks _ (shaded on).0, if_some (IsMarked colour) (IsMarked coloured) marks _ (shaded on).1)
+  shaded_stays _ shaded = tt
+
+-- what a step of another party leaves of what a seat needs
+pub record LeavesCycle (heap : Heap) (words now : List ℕ) (owner later : ℕ → Owner) (colour coloured : ℕ → Colour) (phase q : ℕ) (seat : Seat) : Type 0 where
+  pub answer : at heap now (Answer q) ≡ at heap words (Answer q)
+  pub leads : IsBetween 2 5 phase → (g : ℕ) → Leads heap now seat.reached (field_part seat) g → Leads heap words seat.reached (field_part seat) g ⊎ IsMarked coloured g
+  pub marks : (f : ℕ) → IsMarked colour f → IsMarked coloured f
+  pub births : (f : ℕ) → later f ≡ Bears q → (owner f ≡ Bears q) × (coloured f ≡ colour f)
+
+-- a step that changes nothing leaves all of it
+pub leaves_same : (heap : Heap) (words : List ℕ) (owner : ℕ → Owner) (colour : ℕ → Colour) (phase q : ℕ) (seat : Seat)
+    → LeavesCycle heap words words owner owner colour colour phase q seat
+leaves_same heap words owner colour phase q seat = record {
+  answer = refl;
+  leads = λ marking g leads. inl leads;
+  marks = λ f marked. marked;
+  births = λ f borne. (borne, refl);
+}
+
+-- so its part stands
+pub cycle_stays : (heap : Heap) (words now : List ℕ) (owner later : ℕ → Owner) (colour coloured : ℕ → Colour) (phase answers : ℕ) (gone : Bool) (q : ℕ) (seat : Seat)
+    → LeavesCycle heap words now owner later colour coloured phase q seat
+    → SeatInCycle heap words phase answers gone owner colour q seat → SeatInCycle heap now phase answers gone later coloured q seat
+cycle_stays heap words now owner later colour coloured phase answers gone q seat leaves cycle = record {
+  answers_told = record {
+    told = cycle.answers_told.told;
+    leaves = cycle.answers_told.leaves;
+    word = leaves.answer ∙ cycle.answers_told.word;
+    near = cycle.answers_told.near;
+    loaded = cycle.answers_told.loaded;
+  };
+  answer = cycle.answer;
+  flight = record {
+    set = λ marking snapped. while_reaching (FieldStands heap words colour seat) (FieldStands heap now coloured seat)
+        (field_stays heap words now colour coloured seat leaves.marks (leaves.leads marking)) seat.place (cycle.flight.set marking snapped);
+    shaded = λ marking. while_reaching (ShadedStands colour seat) (ShadedStands coloured seat)
+        (shaded_stays heap words now colour coloured seat leaves.marks) seat.place (cycle.flight.shaded marking);
+    roots = λ marking j less. leaves.marks _ (cycle.flight.roots marking j less);
+  };
+  births = λ f borne. (leaves.births f borne).1 ∙ cycle.births f (leaves.births f borne).0;
+}
+
+-- what it has answered, and whether it has left, is as before
+pub record SameAnswer (seat next : Seat) : Type 0 where
+  pub answered : next.answered ≡ seat.answered
+  pub left : next.left ≡ seat.left
+  pub asked : next.asked ≡ seat.asked
+
+pub answers_same : (heap : Heap) (words now : List ℕ) (phase answers : ℕ) (gone : Bool) (q : ℕ) (seat next : Seat) → SameAnswer seat next
+    → at heap now (Answer q) ≡ at heap words (Answer q)
+    → Answers heap words phase answers gone q seat.left seat.answered seat.asked → Answers heap now phase answers gone q next.left next.answered next.asked
+answers_same heap words now phase answers gone q seat next same word told = rw (same.answered, same.left, same.asked) record {
+  told = told.told;
+  leaves = told.leaves;
+  word = word ∙ told.word;
+  near = told.near;
+  loaded = told.loaded;
+}
+
+-- a seat that goes on, by what it has in flight then
+pub cycle_by_flight : (heap : Heap) (words now : List ℕ) (owner later : ℕ → Owner) (colour coloured : ℕ → Colour) (phase answers : ℕ) (gone : Bool) (q : ℕ) (seat next : Seat)
+    → SameAnswer seat next → at heap now (Answer q) ≡ at heap words (Answer q) → AnswerStands phase next.answered next.asked next.place
+    → Flight heap now coloured phase next → BornColours later coloured q (bears_black next)
+    → SeatInCycle heap words phase answers gone owner colour q seat → SeatInCycle heap now phase answers gone later coloured q next
+cycle_by_flight heap words now owner later colour coloured phase answers gone q seat next same word answer flight births cycle = record {
+  answers_told = answers_same heap words now phase answers gone q seat next same word cycle.answers_told;
+  answer = answer;
+  flight = flight;
+  births = births;
+}
+
+-- the history tells the same
+pub cycle_told : (heap : Heap) (words : List ℕ) (phase later_phase answers later_answers : ℕ) (gone later_gone : Bool) (owner : ℕ → Owner) (colour : ℕ → Colour) (q : ℕ) (seat : Seat)
+    → later_phase ≡ phase → later_answers ≡ answers → later_gone ≡ gone
+    → SeatInCycle heap words phase answers gone owner colour q seat → SeatInCycle heap words later_phase later_answers later_gone owner colour q seat
+cycle_told heap words phase later_phase answers later_answers gone later_gone owner colour q seat a b c cycle = rw (a, b, c) cycle
+
+-- the colours stay right where black fragments lead to no more, what is marked stays born, and what is kept was kept
+pub coloured_stays : (heap : Heap) (words now : List ℕ) (owner later : ℕ → Owner) (colour : ℕ → Colour) (fragments : ℕ → List ℕ) (phase : ℕ)
+    → ((f part g : ℕ) → colour f ≡ Black → Leads heap now f part g → Leads heap words f part g)
+    → ((f : ℕ) → IsMarked colour f → born_bit (owner f) ≡ 1 → born_bit (later f) ≡ 1)
+    → ((f i k : ℕ) → later f ≡ Keeps i k → owner f ≡ Keeps i k)
+    → Coloured heap words owner colour fragments phase → Coloured heap now later colour fragments phase
+coloured_stays heap words now owner later colour fragments phase leads born kept stands = record {
+  rest = stands.rest;
+  early = stands.early;
+  born = λ f marked. born f marked (stands.born f marked);
+  black = λ marking f part g black later_leads. stands.black marking f part g black (leads f part g black later_leads);
+  first = λ marking f i k keeps marked. stands.first marking f i k (kept f i k keeps) marked;
+}

@@ -1,0 +1,28 @@
+-- What stays of the phases when the history grows by an entry that begins and answers none.
+use Rattle.std.proofs.Common.{◌≡◌, ℕ, List, [], ◌∷◌, ◌++◌, false, sym, subst}
+use Rattle.heap_model.specs.declared.entry.Entry.{Entry}
+use Rattle.heap_model.specs.declared.heap.Heap.{Heap}
+use Rattle.heap_model.specs.Effects.{effect_of, is_of}
+use Rattle.heap_model.specs.PhaseCounts.{phase, answered, has_left, is_leave_of}
+use Rattle.core_machine.specs.Seat.{Seat}
+use Rattle.core_rule.specs.Book.{Colour}
+use Rattle.core_rule.specs.Cycle.{HeapInCycle, SeatInCycle}
+use Rattle.core_rule.specs.Owners.{Owner}
+use Rattle.core_rule.proofs.cycle.CycleFrames.{cycle_told}
+use Rattle.core_rule.proofs.entries.PhaseEntries.{phase_stays, answered_stays, answered_other, left_stays, no_leave}
+
+module _ (heap : Heap) (words : List ℕ) (owner : ℕ → Owner) (colour : ℕ → Colour) (history : List Entry) (entry : Entry) (none : (effect_of entry).phases ≡ 0) where
+  pub heap_cycle_more : (fragments : ℕ → List ℕ) → HeapInCycle heap words (phase history) owner colour fragments → HeapInCycle heap words (phase (history ++ entry ∷ [])) owner colour fragments
+  heap_cycle_more fragments cycle = subst (λ p. HeapInCycle heap words p owner colour fragments) (sym (phase_stays history entry none)) cycle
+
+  module _ (q : ℕ) (seat : Seat) (cycle : SeatInCycle heap words (phase history) (answered q history) (has_left q history) owner colour q seat) where
+    -- it is another's
+    pub cycle_other : is_of q entry ≡ false → SeatInCycle heap words (phase (history ++ entry ∷ [])) (answered q (history ++ entry ∷ [])) (has_left q (history ++ entry ∷ [])) owner colour q seat
+    cycle_other other = cycle_told heap words _ _ _ _ _ _ owner colour q seat (phase_stays history entry none) (answered_other history entry q other)
+        (left_stays history entry q (no_leave history entry q other)) cycle
+
+    -- it is the seat's
+    pub cycle_own : (effect_of entry).answers ≡ 0 → is_leave_of q entry ≡ false
+        → SeatInCycle heap words (phase (history ++ entry ∷ [])) (answered q (history ++ entry ∷ [])) (has_left q (history ++ entry ∷ [])) owner colour q seat
+    cycle_own silent stays = cycle_told heap words _ _ _ _ _ _ owner colour q seat (phase_stays history entry none) (answered_stays history entry q silent)
+        (left_stays history entry q stays) cycle

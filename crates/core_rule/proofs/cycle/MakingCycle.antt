@@ -1,0 +1,86 @@
+-- What a step of making leaves of the heap's and of each seat's part in a cycle.
+use Rattle.std.proofs.Common.{◌≡◌, ◌≢◌, ℕ, ◌<◌, ◌≤◌, inl, inr, Bool, List, refl, sym, ap, ◌∙◌, arith}
+use Rattle.heap_model.specs.declared.heap.Heap.{Heap}
+use Rattle.core_machine.specs.declared.address.Address.TheVariants.{Phase, Answer, Control}
+use Rattle.core_machine.specs.Fragments.{tally}
+use Rattle.core_machine.specs.Layout.{at, put}
+use Rattle.core_machine.specs.MakingMoves.{bears_black}
+use Rattle.core_machine.specs.Seat.{Seat}
+use Rattle.core_rule.specs.Book.{Colour}
+use Rattle.core_rule.specs.Colours.{Marks, IsMarked, BornColours, birth_colour}
+use Rattle.core_rule.specs.Cycle.{HeapInCycle, SeatInCycle}
+use Rattle.core_rule.specs.Owners.{Owner, Bears, born_bit, handed}
+use Rattle.core_rule.proofs.words.Addresses.{at-put_apart}
+use Rattle.core_rule.proofs.colours.BirthColours.{painted, painted_in, painted_out}
+use Rattle.core_rule.proofs.cycle.CycleFrames.{cycle_stays, coloured_stays, SameAnswer}
+use Rattle.core_rule.proofs.owners.Handed.{none_or_some, handed_in, handed_out, handed_cases, stays}
+use Rattle.core_rule.proofs.colours.LeadsFrames.{leads_control}
+use Rattle.core_rule.proofs.objects.ObjectFrames.{SameKept}
+use Rattle.core_rule.proofs.cycle.Unwatched.{IsApart, cycle_apart}
+
+module _ (heap : Heap) (words : List ℕ) (n : ℕ) where
+  -- a control word isn't the phase, nor an answer
+  pub phase_after_control : (g : ℕ) → at heap (put heap words (Control g) n) Phase ≡ at heap words Phase
+  phase_after_control g = at-put_apart heap words (Control g) Phase n (λ e. omega (arith, e))
+
+  pub answer_after_control : (g q : ℕ) → q < 16 → at heap (put heap words (Control g) n) (Answer q) ≡ at heap words (Answer q)
+  answer_after_control g q few = at-put_apart heap words (Control g) (Answer q) n (λ e. omega (arith, e, few))
+
+-- a seat's births have the same colour while its answer is the same
+pub same_births : (seat next : Seat) → next.answered ≡ seat.answered → bears_black next ≡ bears_black seat
+same_births seat next same = rw same refl
+
+-- another seat's part stays
+pub cycle_control : (heap : Heap) (words : List ℕ) (owner later : ℕ → Owner) (colour coloured : ℕ → Colour) (now answers : ℕ) (gone : Bool) (r : ℕ) (seat : Seat) (g word : ℕ)
+    → g < heap.groups → r < 16 → ((f : ℕ) → IsMarked colour f → IsMarked coloured f) → ((f : ℕ) → later f ≡ Bears r → (owner f ≡ Bears r) × (coloured f ≡ colour f))
+    → SeatInCycle heap words now answers gone owner colour r seat → SeatInCycle heap (put heap words (Control g) word) now answers gone later coloured r seat
+cycle_control heap words owner later colour coloured now answers gone r seat g word below few marks births cycle =
+    cycle_stays heap words (put heap words (Control g) word) owner later colour coloured now answers gone r seat
+    record {
+      answer = answer_after_control heap words word g r few;
+      leads = λ marking x leads. inl (leads_control heap words g word below seat.reached _ x leads);
+      marks = marks;
+      births = births;
+    }
+    cycle
+
+-- a seat that goes on with the same answer, and bears no more, has its part in the cycle
+pub cycle_goes_on : (heap : Heap) (words later_words : List ℕ) (owner later : ℕ → Owner) (colour : ℕ → Colour) (now answers : ℕ) (gone : Bool) (q : ℕ) (seat next : Seat)
+    → SameAnswer seat next → IsApart next.place → next.shaded ≡ 0 → at heap later_words (Answer q) ≡ at heap words (Answer q) → ((f : ℕ) → later f ≡ Bears q → owner f ≡ Bears q)
+    → SeatInCycle heap words now answers gone owner colour q seat → SeatInCycle heap later_words now answers gone later colour q next
+cycle_goes_on heap words later_words owner later colour now answers gone q seat next same apart none word before cycle =
+    cycle_apart heap words later_words owner later colour colour now answers gone q seat next same apart none word
+    (λ f borne. cycle.births f (before f borne) ∙ ap birth_colour (sym (same_births seat next same.answered))) cycle
+
+-- no seat bears more
+pub borne_before : (o : Owner) (owner : ℕ → Owner) (fs : List ℕ) (r f : ℕ) → o ≢ Bears r → handed o owner fs f ≡ Bears r → owner f ≡ Bears r
+borne_before o owner fs r f none = handed_cases (λ x. x ≡ Bears r → owner f ≡ Bears r) o owner fs f (λ there is. absurd (none is)) (λ away is. is)
+
+-- the heap's part stays
+pub heap_hands : (heap : Heap) (words : List ℕ) (owner : ℕ → Owner) (colour : ℕ → Colour) (fragments : ℕ → List ℕ) (now g word : ℕ) (o : Owner) (fs : List ℕ)
+    → g < heap.groups → born_bit o ≡ 0 → ((f : ℕ) → 1 ≤ tally f fs → born_bit (owner f) ≡ 0) → SameKept owner (handed o owner fs) → Marks heap (put heap words (Control g) word) colour
+    → HeapInCycle heap words now owner colour fragments → HeapInCycle heap (put heap words (Control g) word) now (handed o owner fs) colour fragments
+heap_hands heap words owner colour fragments now g word o fs below unborn none same marks cycle = record {
+  word = phase_after_control heap words word g ∙ cycle.word;
+  so_far = cycle.so_far;
+  marks = marks;
+  coloured = coloured_stays heap words (put heap words (Control g) word) owner (handed o owner fs) colour fragments now
+      (λ f part x black leads. leads_control heap words g word below f part x leads)
+      (λ f marked born. stays born_bit o owner fs (λ x there. none x there ∙ sym unborn) f ∙ born)
+      same.was cycle.coloured;
+}
+
+module _ (owner : ℕ → Owner) (colour : ℕ → Colour) (fs : List ℕ) (q : ℕ) (black : Bool) where
+  -- what a seat bears has the colour of its births
+  pub born_more : BornColours owner colour q black → BornColours (handed (Bears q) owner fs) (painted (birth_colour black) colour fs) q black
+  born_more births f borne = elim (none_or_some (tally f fs)) as (λ _. painted (birth_colour black) colour fs f ≡ birth_colour black) [
+    | inl away ↦ painted_out (birth_colour black) colour fs f away ∙ births f (sym (handed_out (Bears q) owner fs f away) ∙ borne)
+    | inr there ↦ painted_in (birth_colour black) colour fs f there
+  ]
+
+  -- what others bear stays
+  pub born_others : (r : ℕ) → r ≢ q → (f : ℕ) → handed (Bears q) owner fs f ≡ Bears r → (owner f ≡ Bears r) × (painted (birth_colour black) colour fs f ≡ colour f)
+  born_others r apart f borne = elim (none_or_some (tally f fs)) as (λ _. (owner f ≡ Bears r) × (painted (birth_colour black) colour fs f ≡ colour f)) [
+    | inl away ↦ (sym (handed_out (Bears q) owner fs f away) ∙ borne, painted_out (birth_colour black) colour fs f away)
+    | inr there ↦ let both : Bears q ≡ Bears r = sym (handed_in (Bears q) owner fs f there) ∙ borne in absurd (apart (let same : q ≡ r = cc in sym same))
+  ]

@@ -1,0 +1,115 @@
+-- What stands of a seat, and of the colours, once the next phase has begun, up to a cycle's third.
+use Rattle.std.proofs.Common.{◌≡◌, ◌⊎◌, ℕ, ◌+◌, ◌%◌, ◌<◌, nat_lt, if◌then◌else◌, Bool, true, false, List, inl, inr, refl, sym, ap, ◌∙◌, subst, arith}
+use Rattle.std.proofs.lemmas.Bool.Decides.{eqb_tells}
+use Rattle.heap_model.specs.declared.heap.Heap.{Heap}
+use Rattle.core_machine.specs.declared.address.Address.TheVariants.{Answer}
+use Rattle.core_machine.specs.declared.place.Place.{Place}
+use Rattle.core_machine.specs.declared.place.Place.TheVariants as places
+use Rattle.core_machine.specs.declared.place.Polling.TheVariants.{Asking, Shading, Answering}
+use Rattle.core_machine.specs.declared.place.Reaching.TheVariants.{ShadingNew, Swapping}
+use Rattle.core_machine.specs.Fits.{Fits, FitsWay, FitsAnswer}
+use Rattle.core_machine.specs.Layout.{at}
+use Rattle.core_machine.specs.Reaching.{has_barrier}
+use Rattle.core_machine.specs.Seat.{Seat}
+use Rattle.core_rule.specs.Book.{Colour}
+use Rattle.core_rule.specs.Colours.{Leads, IsBetween, Coloured}
+use Rattle.core_rule.specs.Cycle.{SeatInCycle}
+use Rattle.core_rule.specs.Flight.{FieldStands, ShadedStands, WhileReaching}
+use Rattle.core_rule.specs.Owners.{Owner}
+use Rattle.core_rule.specs.Phases.{AnswerStands}
+use Rattle.core_rule.proofs.cycle.CycleFrames.{while_reaching, field_stays}
+
+-- no fragment is black in the first phase, and none is marked before it
+pub coloured_next : (heap : Heap) (words now : List ℕ) (owner : ℕ → Owner) (colour : ℕ → Colour) (fragments : ℕ → List ℕ) (phase : ℕ) → phase < 3
+    → ((f part g : ℕ) → Leads heap now f part g → Leads heap words f part g)
+    → Coloured heap words owner colour fragments phase → Coloured heap now owner colour fragments (phase + 1)
+coloured_next heap words now owner colour fragments phase early leads stands = record {
+  rest = λ ended f. absurd (omega (arith, ended, early));
+  early = λ first f black. absurd (cc (black, stands.rest (omega (arith, first, early)) f));
+  born = stands.born;
+  black = λ marking f part g black later. elim (eqb_tells phase 1) [
+    | inl first ↦ absurd (stands.early (omega (arith, first.1)) f black)
+    | inr other ↦ stands.black (record { from = omega (arith, marking.from, other.1, early); upto = omega (arith, early) }) f part g black (leads f part g later)
+  ];
+  first = λ marking f i k keeps marked. elim (eqb_tells phase 0) [
+    | inl none ↦ absurd (marked (stands.rest (omega (arith, none.1)) f))
+    | inr other ↦ stands.first (record { from = omega (arith, other.1, early); upto = omega (arith, early) }) f i k keeps marked
+  ];
+}
+
+-- a seat has left, and stands idle, or it hasn't
+present_or_idle : (heap : Heap) (seat : Seat) → Fits heap seat → (seat.left ≡ false) ⊎ (seat.place ≡ places.Idle)
+present_or_idle heap seat fits = by seat.left (λ gone. (fits.gone gone).idle)
+  where
+    by : (left : Bool) → (left ≡ true → seat.place ≡ places.Idle) → (left ≡ false) ⊎ (seat.place ≡ places.Idle)
+    by true idle = inr (idle refl)
+    by false idle = inl refl
+
+-- without the barrier no set shades
+unshaded : (colour : ℕ → Colour) (seat : Seat) (place : Place) → FitsWay seat place → has_barrier seat ≡ false → WhileReaching (ShadedStands colour seat) place
+unshaded colour seat (places.Reaching ShadingNew) fits off = absurd (cc (fits.1, off))
+unshaded colour seat (places.Reaching Swapping) fits off = λ on. absurd (cc (on, off))
+unshaded colour seat _ fits off = tt
+
+-- what a seat at a place is about to answer, it has not answered
+module _ (seat : Seat) (phase : ℕ) where
+  -- a seat that has answered the phase is about to answer nothing
+  silent : (place : Place) → FitsAnswer seat place → AnswerStands phase seat.answered seat.asked place → seat.answered ≡ phase → seat.shaded ≡ 0
+  silent (places.Polling Asking) fits asks same = fits.0.none_shaded
+  silent (places.Polling Shading) fits asks same = absurd (omega (arith, asks.now, asks.next, same))
+  silent (places.Polling Answering) fits asks same = absurd (omega (arith, asks.now, asks.next, same))
+  silent _ fits asks same = fits.none_shaded
+
+  waits : (place : Place) → AnswerStands phase seat.answered seat.asked place → seat.answered ≡ phase → AnswerStands (phase + 1) seat.answered seat.asked place
+  waits (places.Polling Shading) asks same = absurd (omega (arith, asks.now, asks.next, same))
+  waits (places.Polling Answering) asks same = absurd (omega (arith, asks.now, asks.next, same))
+  waits _ asks same = tt
+
+-- where every seat that is there has answered the phase, each seat's part stands when the next one begins
+pub cycle_next : (heap : Heap) (words now : List ℕ) (owner : ℕ → Owner) (colour : ℕ → Colour) (phase answers : ℕ) (gone : Bool) (q : ℕ) (seat : Seat) → phase < 3
+    → at heap now (Answer q) ≡ at heap words (Answer q) → ((f part g : ℕ) → Leads heap now f part g → Leads heap words f part g)
+    → Fits heap seat → (gone ≡ false → answers ≡ phase)
+    → SeatInCycle heap words phase answers gone owner colour q seat → SeatInCycle heap now (phase + 1) answers gone owner colour q seat
+cycle_next heap words now owner colour phase answers gone q seat early word leads fits done cycle =
+    let told = cycle.answers_told in
+    let has : seat.left ≡ false → seat.answered ≡ phase = λ present. sym told.told ∙ done (told.leaves ∙ present) in
+    record {
+      answers_told = record {
+        told = told.told;
+        leaves = told.leaves;
+        word = word ∙ told.word;
+        near = λ present. inr (omega (arith, has present));
+        loaded = omega (arith, told.loaded);
+      };
+      answer = elim (present_or_idle heap seat fits) [
+        | inl present ↦ waits seat phase seat.place cycle.answer (has present)
+        | inr idle ↦ subst (AnswerStands (phase + 1) seat.answered seat.asked) (sym idle) tt
+      ];
+      flight = record {
+        set = λ marking snapped. elim (present_or_idle heap seat fits) [
+          | inl present ↦ while_reaching (FieldStands heap words colour seat) (FieldStands heap now colour seat)
+              (field_stays heap words now colour colour seat (λ f marked. marked) (λ g later. inl (leads _ _ g later))) seat.place
+              (cycle.flight.set (subst (IsBetween 2 5) (has present) snapped) snapped)
+          | inr idle ↦ subst (WhileReaching (FieldStands heap now colour seat)) (sym idle) tt
+        ];
+        shaded = λ marking. elim (present_or_idle heap seat fits) [
+          | inl present ↦ elim (eqb_tells phase 0) [
+            | inl none ↦ unshaded colour seat seat.place fits.way_at_place
+                (ap (λ a. if nat_lt 0 (a % 7) then nat_lt (a % 7) 6 else false) (has present ∙ none.1))
+            | inr some ↦ cycle.flight.shaded record { from = omega (arith, some.1, early); upto = omega (arith, early) }
+          ]
+          | inr idle ↦ subst (WhileReaching (ShadedStands colour seat)) (sym idle) tt
+        ];
+        roots = λ marking j less. absurd (omega (arith, less, none_shaded has));
+      };
+      births = cycle.births;
+    }
+  where
+    none_shaded : (seat.left ≡ false → seat.answered ≡ phase) → seat.shaded ≡ 0
+    none_shaded has = elim (present_or_idle heap seat fits) [
+      | inl present ↦ silent seat phase seat.place fits.answer_at_place cycle.answer (has present)
+      | inr idle ↦ idle_shaded seat.place idle fits.answer_at_place
+    ]
+      where
+        idle_shaded : (place : Place) → place ≡ places.Idle → FitsAnswer seat place → seat.shaded ≡ 0
+        idle_shaded place is fits_at = (subst (FitsAnswer seat) is fits_at).none_shaded

@@ -1,0 +1,101 @@
+-- What a swap puts into a field is marked while black fragments are made; so the colours and the other seats' sets stand.
+use Rattle.std.proofs.Common.{◌≡◌, ◌≢◌, ℕ, ◌^◌, ◌<◌, List, Some, inl, inr, refl, sym, ap, ◌∙◌, subst, arith, ◌⊎◌}
+use Rattle.heap_model.specs.declared.heap.Heap.{Heap}
+use Rattle.heap_model.specs.declared.id.Value.{Value}
+use Rattle.heap_model.specs.Cycles.{graph_of}
+use Rattle.heap_model.specs.PhaseCounts.{phase}
+use Rattle.core_machine.specs.declared.address.Address.TheVariants.{Answer, Phase, Word}
+use Rattle.core_machine.specs.declared.place.Place.TheVariants as places
+use Rattle.core_machine.specs.declared.place.Reaching.TheVariants.{Swapping}
+use Rattle.core_machine.specs.Layout.{at, put}
+use Rattle.core_machine.specs.Loaded.{head_in, lead_of}
+use Rattle.core_machine.specs.Machine.{State, seat_at}
+use Rattle.core_machine.specs.ReachingMoves.{field_part, new_register}
+use Rattle.core_machine.specs.Registers.{head_of as head_of_register}
+use Rattle.core_machine.specs.Seat.{Seat}
+use Rattle.core_rule.specs.Book.{Book, head_of}
+use Rattle.core_rule.specs.Colours.{IsMarked, IsBetween, Leads}
+use Rattle.core_rule.specs.Cycle.{HeapInCycle}
+use Rattle.core_rule.specs.Flight.{ShadedStands, WhileReaching}
+use Rattle.core_rule.specs.Objects.{NamesKept, value_word}
+use Rattle.core_rule.specs.Registers.{Holds}
+use Rattle.core_rule.specs.Rule.{Rule}
+use Rattle.core_rule.proofs.words.Addresses.{at-put_apart, control_after_word}
+use Rattle.core_rule.proofs.ways.AtObject.{is_near}
+use Rattle.core_rule.proofs.cycle.Barriers.{barrier_on, field_lead, part_below}
+use Rattle.core_rule.proofs.cycle.CycleFrames.{LeavesCycle}
+use Rattle.core_rule.proofs.ways.KeptWords.{has_room}
+use Rattle.core_rule.proofs.colours.LeadsFrames.{leads_put}
+use Rattle.core_rule.proofs.ways.LoadedObjects.{held_head}
+use Rattle.core_rule.proofs.colours.MarkWords.{marks_same}
+use Rattle.core_rule.proofs.lists.Options.{of_some}
+use Rattle.core_rule.proofs.ways.Told.{head_in-value}
+
+module _ (heap : Heap) (state : State) (book : Book) (q : ℕ) (rule : Rule heap state book) (here : q < heap.seats)
+    (place : (seat_at state q).place ≡ places.Reaching Swapping)
+    (value : Value) (stamp : ℕ) (holds : Holds book.made book.owner book.fragments (new_register (seat_at state q)) value)
+    (names : NamesKept book.made book.owner book.fragments value) (small : stamp < 2 ^ 32) (word : ℕ) (is_word : word ≡ value_word (head_of book.made book.fragments) value stamp) where
+  abbrev seat : Seat
+  seat = seat_at state q
+
+  abbrev p : ℕ
+  p = phase book.history
+
+  abbrev words_swapped : List ℕ
+  words_swapped = put heap state.words (Word seat.reached (field_part seat)) word
+
+  -- the new word leads to the register's object
+  new_leads : lead_of (field_part seat) word ≡ head_of_register (new_register seat)
+  new_leads =
+      field_lead seat word ∙ ap head_in is_word
+      ∙ head_in-value (head_of book.made book.fragments) value stamp
+      (has_room heap state.words (graph_of heap book.history) book.made book.owner book.fragments rule.limits rule.heap_stands.control_words value names) small
+      ∙ sym (held_head book.made book.owner book.fragments (new_register seat) value holds)
+
+  -- which is marked while black fragments are made
+  new_marked : IsBetween 2 5 p → (x : ℕ) → lead_of (field_part seat) word ≡ Some x → IsMarked book.colour x
+  new_marked making x leads =
+      let stands = rule.seats_stand q here in
+      let shaded : ShadedStands book.colour seat Swapping
+      = subst (λ y. WhileReaching (ShadedStands book.colour seat) y) place (stands.cycle.flight.shaded (record { from = omega (arith, making.from); upto = making.upto })) in
+      let on = barrier_on p seat (is_near heap state book q rule here Swapping place) making in
+      of_some (IsMarked book.colour) (head_of_register (new_register seat)) x (sym new_leads ∙ leads) (shaded on).1
+
+  leads_now : IsBetween 2 5 p → (f part x : ℕ) → Leads heap words_swapped f part x → Leads heap state.words f part x ⊎ IsMarked book.colour x
+  leads_now making f part x leads = elim (leads_put heap state.words seat.reached (field_part seat) word rule.heap_stands.table (part_below seat) f part x leads) [
+    | inl before ↦ inl before
+    | inr new ↦ inr (new_marked making x new.2)
+  ]
+
+  -- the heap stands
+  pub heap_swapped : HeapInCycle heap words_swapped p book.owner book.colour book.fragments
+  heap_swapped =
+      let cycle = rule.heap_stands.cycle in
+      record {
+        word = at-put_apart heap state.words (Word seat.reached (field_part seat)) Phase word (λ e. omega (arith, e)) ∙ cycle.word;
+        so_far = cycle.so_far;
+        marks = marks_same heap state.words words_swapped book.colour (λ group below. control_after_word heap state.words word seat.reached (field_part seat) group below) cycle.marks;
+        coloured = record {
+          rest = cycle.coloured.rest;
+          early = cycle.coloured.early;
+          born = cycle.coloured.born;
+          black = λ making f part x black leads. elim (leads_now making f part x leads) [
+            | inl before ↦ cycle.coloured.black making f part x black before
+            | inr marked ↦ marked
+          ];
+          first = cycle.coloured.first;
+        };
+      }
+
+  -- no answer changes
+  pub answer_swapped : (r : ℕ) → r < heap.seats → at heap words_swapped (Answer r) ≡ at heap state.words (Answer r)
+  answer_swapped r below = at-put_apart heap state.words (Word seat.reached (field_part seat)) (Answer r) word (λ e. omega (arith, e, below, rule.limits.seats_fit))
+
+  -- and what the others need is left
+  pub leaves_swapped : (r : ℕ) → r < heap.seats → r ≢ q → LeavesCycle heap state.words words_swapped book.owner book.owner book.colour book.colour p r (seat_at state r)
+  leaves_swapped r below apart = record {
+    answer = answer_swapped r below;
+    leads = λ making x leads. leads_now making _ _ x leads;
+    marks = λ f marked. marked;
+    births = λ f borne. (borne, refl);
+  }

@@ -1,0 +1,38 @@
+-- A seat with a call in flight and nothing at hand: it hasn't left, and what it has of its own is little.
+use Rattle.std.proofs.Common.{◌≡◌, ◌≢◌, ℕ, ◌+◌, ◌<◌, ◌≤◌, Bool, true, false, length, refl, subst, arith}
+use Rattle.heap_model.specs.declared.heap.Heap.{Heap}
+use Rattle.heap_model.specs.Space.{taken_of, spent_of}
+use Rattle.core_machine.specs.declared.place.Place.{Place}
+use Rattle.core_machine.specs.declared.place.Place.TheVariants as places
+use Rattle.core_machine.specs.Fits.{Fits, IsAtRest}
+use Rattle.core_machine.specs.Machine.{State, seat_at}
+use Rattle.core_machine.specs.Seat.{Seat}
+use Rattle.core_rule.specs.Book.{Book}
+use Rattle.core_rule.specs.Registers.{IsAwaited}
+use Rattle.core_rule.specs.Rule.{Rule}
+use Rattle.core_rule.proofs.hand.Bodies.{bare_hand}
+
+-- a seat with a call in flight hasn't left
+pub in_flight : (heap : Heap) (seat : Seat) → Fits heap seat → seat.place ≢ places.Idle → seat.left ≡ false
+in_flight heap seat fits busy = by seat.left (λ left. busy (fits.gone left).idle)
+  where
+    by : (left : Bool) → (left ≡ true → ⊥) → left ≡ false
+    by true none = absurd (none refl)
+    by false none = refl
+
+-- a place at which no name is awaited
+pub none_awaited : (place now : Place) (d r : ℕ) → place ≡ now → ¬ IsAwaited now d r → ¬ IsAwaited place d r
+none_awaited place now d r is none awaited = none (subst (λ p. IsAwaited p d r) is awaited)
+
+-- a seat with nothing at hand has little, and spent no more than it took
+module _ (heap : Heap) (state : State) (book : Book) (q : ℕ) (rule : Rule heap state book) (here : q < heap.seats) (rest : IsAtRest (seat_at state q)) where
+  pub own_reserve : length (seat_at state q).reserve + spent_of q book.history ≡ taken_of q book.history
+  own_reserve =
+      let seat : Seat = seat_at state q in
+      bare_hand seat.reserve seat.hand seat.body (spent_of q book.history) (taken_of q book.history) rest.empty_hand rest.no_body (rule.seats_stand q here).counts.unborn
+
+  pub spent_own : spent_of q book.history ≤ taken_of q book.history
+  spent_own = omega (arith, own_reserve)
+
+  pub few_own : taken_of q book.history ≤ spent_of q book.history + 15
+  few_own = omega (arith, own_reserve, (rule.seats_stand q here).fits.small_reserve)

@@ -1,0 +1,74 @@
+-- What stands of the heap and of the seats when a seat begins a call.
+use Rattle.std.specs.Prelude.{if◌then◌else◌}
+use Rattle.std.proofs.Common.{◌≡◌, ◌≢◌, ℕ, ◌==◌, length, refl, sym, arith, List}
+use Rattle.std.proofs.lemmas.Bool.{eq-eqb}
+use Rattle.heap_model.specs.declared.command.Command.{Command}
+use Rattle.heap_model.specs.declared.heap.Heap.{Heap}
+use Rattle.core_machine.specs.declared.place.Place.{Place}
+use Rattle.core_machine.specs.Seat.{Seat}
+use Rattle.core_rule.specs.Book.{Book}
+use Rattle.core_rule.specs.Gathers.{Began}
+use Rattle.core_rule.specs.Rule.{HeapStands, SeatStands}
+use Rattle.core_rule.proofs.entries.Others.{of_other}
+use Rattle.core_rule.proofs.gather.SinceCall.{no_reply_yet}
+
+-- the call of q begins when the history has this length
+abbrev pub begins : ℕ → ℕ → (ℕ → ℕ) → ℕ → ℕ
+begins q n begun r = if r == q then n else begun r
+
+-- all that a seat has is as before, but what it gathers, its place and its way
+pub record SameData (seat next : Seat) : Type 0 where
+  pub registers : next.registers ≡ seat.registers
+  pub stored : next.stored ≡ seat.stored
+  pub mine : next.mine ≡ seat.mine
+  pub made : next.made ≡ seat.made
+  pub sets : next.sets ≡ seat.sets
+  pub shaded : next.shaded ≡ seat.shaded
+  pub answered : next.answered ≡ seat.answered
+  pub left : next.left ≡ seat.left
+  pub asked : next.asked ≡ seat.asked
+
+pub same_data : (seat : Seat) (place : Place) (command : Command) (reached links cursor tried given : ℕ) (reserve hand body : List ℕ)
+    → SameData seat (record seat { place = place; command = command; reached = reached; links = links; cursor = cursor; tried = tried; given = given; reserve = reserve; hand = hand; body = body })
+same_data seat place command reached links cursor tried given reserve hand body =
+    record { registers = refl; stored = refl; mine = refl; made = refl; sets = refl; shaded = refl; answered = refl; left = refl; asked = refl }
+
+module _ (heap : Heap) (words : List ℕ) (book : Book) (q : ℕ) where
+  -- the book after it
+  abbrev pub book_begun : Book
+  book_begun = record book { begun = begins q (length book.history) book.begun }
+
+  -- the heap stands
+  pub heap_begins : HeapStands heap words book → HeapStands heap words book_begun
+  heap_begins stands = record {
+    table = stands.table;
+    control_words = stands.control_words;
+    ids = stands.ids;
+    objects = stands.objects;
+    used = stands.used;
+    cycle = stands.cycle;
+    legal = stands.legal;
+  }
+
+  -- the call began, and isn't answered yet
+  pub began_now : (place : Place) → Began book.history q (book_begun.begun q) place
+  began_now place = rw begun_now record { earlier = omega arith; unanswered = λ active. no_reply_yet q book.history }
+    where
+      begun_now : book_begun.begun q ≡ length book.history
+      begun_now = rw (eq-eqb q q refl) refl
+
+  -- each other seat stands
+  pub other_begins : (r : ℕ) (seat : Seat) → r ≢ q → SeatStands heap words book r seat → SeatStands heap words book_begun r seat
+  other_begins r seat apart other = record {
+    fits = other.fits;
+    holding = other.holding;
+    stored = other.stored;
+    registers = other.registers;
+    list = other.list;
+    way = other.way;
+    cycle = other.cycle;
+    together = other.together;
+    counts = other.counts;
+    began = rw (of_other r q (λ e. apart (sym e))) other.began;
+    gathers = rw (of_other r q (λ e. apart (sym e))) other.gathers;
+  }

@@ -1,0 +1,63 @@
+-- What stays of a seat's counts when the history grows by an entry that isn't its own.
+use Rattle.std.specs.Prelude.{if◌then◌else◌, sum_by}
+use Rattle.std.proofs.Common.{◌≡◌, ◌≢◌, ℕ, ◌+◌, ◌≤◌, List, [], ◌∷◌, ◌++◌, length, filter, drop, refl, sym, ap, ◌∙◌, false, zero-add, arith, ◌==◌, inl, inr}
+use Rattle.std.proofs.lemmas.Bool.Decides.{eqb_tells}
+use Rattle.std.proofs.lemmas.List.{append-nil}
+use Rattle.std.proofs.lemmas.List.Elements.{filter-append}
+use Rattle.std.proofs.lemmas.List.Sums.{sum_by-append}
+use Rattle.heap_model.specs.declared.effect.Effect.{Effect}
+use Rattle.heap_model.specs.declared.entry.Entry.{Entry}
+use Rattle.heap_model.specs.declared.entry.Entry.TheVariants as entries
+use Rattle.heap_model.specs.declared.heap.Heap.{Heap}
+use Rattle.heap_model.specs.Effects.{effect_of, is_of}
+use Rattle.heap_model.specs.Space.{total_of}
+use Rattle.heap_model.specs.Windows.{is_reply_to}
+use Rattle.heap_model.proofs.Histories.{total_of-more}
+use Rattle.core_machine.specs.declared.place.Place.{Place}
+use Rattle.core_rule.specs.Gathers.{Began, GathersRight}
+use Rattle.core_rule.specs.Owners.{Owner}
+use Rattle.core_rule.proofs.entries.InFlight.{window_more, began_past}
+
+-- an entry of a seat is no other's
+pub of_other : (q r : ℕ) → r ≢ q → (q == r) ≡ false
+of_other q r apart = elim (eqb_tells q r) as (λ _. (q == r) ≡ false) [
+  | inl same ↦ absurd (apart (sym same.1))
+  | inr other ↦ other.0
+]
+
+-- another's entry is no reply to the seat
+no_reply : (r : ℕ) (entry : Entry) → is_of r entry ≡ false → is_reply_to r entry ≡ false
+no_reply r (entries.Said q command reply) other = other
+no_reply r _ other = refl
+
+-- nothing is added to what the seat did
+pub total_of-other : (r : ℕ) (part : Effect → ℕ) (history : List Entry) (entry : Entry) → is_of r entry ≡ false → total_of r part (history ++ entry ∷ []) ≡ total_of r part history
+total_of-other r part history entry other = rw (total_of-more r part history entry, other) (omega arith)
+
+-- nor to its own entries
+pub own-other : (r : ℕ) (history : List Entry) (entry : Entry) → is_of r entry ≡ false → filter (is_of r) (history ++ entry ∷ []) ≡ filter (is_of r) history
+own-other r history entry other = rw (filter-append (is_of r) history (entry ∷ []), other, append-nil (filter (is_of r) history)) refl
+
+-- a seat's call began where it did, and isn't answered by the entry
+pub began_stays : (history : List Entry) (entry : Entry) (r begun : ℕ) (place : Place) → is_of r entry ≡ false → Began history r begun place
+    → Began (history ++ entry ∷ []) r begun place
+began_stays history entry r begun place other began = began_past history entry r begun place place (no_reply r entry other) (λ busy. busy) began
+
+-- sums over the window of a call only grow
+pub sum_grows : (f : Entry → ℕ) (history : List Entry) (entry : Entry) → sum_by f (history ++ entry ∷ []) ≡ sum_by f history + f entry
+sum_grows f history entry = sum_by-append f history (entry ∷ []) ∙ ap (λ n. sum_by f history + n) (zero-add (f entry))
+
+-- a part of an entry's effect, and nothing where it is the seat's
+abbrev pub part_but : ℕ → (Effect → ℕ) → Entry → ℕ
+part_but r part entry = if is_of r entry then 0 else part (effect_of entry)
+
+-- so what a gather knows stays, whatever entry is added
+pub gathers_stay : (heap : Heap) (owner : ℕ → Owner) (r : ℕ) (history : List Entry) (begun : ℕ) (entry : Entry) (cursor tried given : ℕ) → begun ≤ length history
+    → GathersRight heap owner r (drop begun history) cursor tried given
+    → GathersRight heap owner r (drop begun (history ++ entry ∷ [])) cursor tried given
+gathers_stay heap owner r history begun entry cursor tried given earlier gathers =
+    let window : drop begun (history ++ entry ∷ []) ≡ drop begun history ++ entry ∷ [] = window_more history begun entry earlier in
+    rw window record {
+      passed = omega (arith, gathers.passed, sum_grows (λ e. (effect_of e).freed) (drop begun history) entry, sum_grows (λ e. part_but r (λ x. x.given) e) (drop begun history) entry);
+      returned = omega (arith, gathers.returned, sum_grows (λ e. part_but r (λ x. x.taken) e) (drop begun history) entry);
+    }

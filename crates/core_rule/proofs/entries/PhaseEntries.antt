@@ -1,0 +1,104 @@
+-- The phase, the answers and the leaves of a history that grows.
+use Rattle.std.proofs.Common.{◌||◌, if◌then◌else◌, ◌≡◌, ℕ, ◌+◌, ◌≤◌, List, [], ◌∷◌, ◌++◌, filter, false, true, Bool, refl, sym, ap, ◌∙◌, arith, ◌≢◌}
+use Rattle.std.proofs.lemmas.List.{append-nil, append_assoc}
+use Rattle.heap_model.specs.declared.command.Command.{Command}
+use Rattle.heap_model.specs.declared.command.Command.TheVariants as commands
+use Rattle.heap_model.specs.declared.entry.Entry.{Entry}
+use Rattle.heap_model.specs.declared.entry.Entry.TheVariants as entries
+use Rattle.heap_model.specs.declared.reply.Reply.{Reply}
+use Rattle.heap_model.specs.Effects.{effect_of, is_of}
+use Rattle.heap_model.specs.PhaseCounts.{phase, answered, has_left, is_leave_of}
+use Rattle.heap_model.proofs.Histories.{total-more, total_of-more}
+use Rattle.heap_model.proofs.Windows.{any-more}
+use Rattle.core_rule.specs.Counts.{is_collectors}
+use Rattle.core_rule.proofs.entries.Others.{total_of-other}
+
+-- a reply that leaves nobody: that of any other command than leave
+pub no_leave_told : (q s : ℕ) (command : Command) (reply : Reply) → command ≢ commands.Leave → is_leave_of q (entries.Said s command reply) ≡ false
+no_leave_told q s commands.Leave reply other = absurd (other refl)
+no_leave_told q s _ reply other = refl
+
+-- an entry is added
+module _ (history : List Entry) (entry : Entry) where
+  pub phase_stays : (effect_of entry).phases ≡ 0 → phase (history ++ entry ∷ []) ≡ phase history
+  phase_stays none = omega (arith, none, total-more (λ e. e.phases) history entry)
+
+  pub phase_rises : (effect_of entry).phases ≡ 1 → phase (history ++ entry ∷ []) ≡ phase history + 1
+  phase_rises one = omega (arith, one, total-more (λ e. e.phases) history entry)
+
+  module _ (q : ℕ) where
+    pub answered_stays : (effect_of entry).answers ≡ 0 → answered q (history ++ entry ∷ []) ≡ answered q history
+    answered_stays none = total_of-more q (λ e. e.answers) history entry ∙ by (is_of q entry)
+      where
+        by : (b : Bool) → answered q history + (if b then (effect_of entry).answers else 0) ≡ answered q history
+        by true = omega (arith, none)
+        by false = omega arith
+
+    pub answered_other : is_of q entry ≡ false → answered q (history ++ entry ∷ []) ≡ answered q history
+    answered_other other = total_of-other q (λ e. e.answers) history entry other
+
+    pub answered_rises : is_of q entry ≡ true → (effect_of entry).answers ≡ 1 → answered q (history ++ entry ∷ []) ≡ answered q history + 1
+    answered_rises own one = total_of-more q (λ e. e.answers) history entry ∙ rw own (omega (arith, one))
+
+    answered_grows : answered q history ≤ answered q (history ++ entry ∷ [])
+    answered_grows = omega (arith, total_of-more q (λ e. e.answers) history entry)
+
+    pub left_stays : is_leave_of q entry ≡ false → has_left q (history ++ entry ∷ []) ≡ has_left q history
+    left_stays none = any-more (is_leave_of q) history entry ∙ rw none (or_false (has_left q history))
+      where
+        or_false : (b : Bool) → (b || false) ≡ b
+        or_false true = refl
+        or_false false = refl
+
+    pub left_once : is_leave_of q entry ≡ true → has_left q (history ++ entry ∷ []) ≡ true
+    left_once leave = any-more (is_leave_of q) history entry ∙ rw leave (or_true (has_left q history))
+      where
+        or_true : (b : Bool) → (b || true) ≡ true
+        or_true true = refl
+        or_true false = refl
+
+    present_before : has_left q (history ++ entry ∷ []) ≡ false → has_left q history ≡ false
+    present_before none = front (has_left q history) (is_leave_of q entry) (sym (any-more (is_leave_of q) history entry) ∙ none)
+      where
+        front : (a b : Bool) → (a || b) ≡ false → a ≡ false
+        front true b both = both
+        front false b both = refl
+
+    -- another's entry is no leave of the seat
+    pub no_leave : is_of q entry ≡ false → is_leave_of q entry ≡ false
+    no_leave other = by entry other
+      where
+        by : (e : Entry) → is_of q e ≡ false → is_leave_of q e ≡ false
+        by (entries.Said s commands.Leave reply) same = same
+        by _ same = refl
+
+-- an entry that is no collector's begins no phase
+seats_begin_none : (entry : Entry) → is_collectors entry ≡ false → (effect_of entry).phases ≡ 0
+seats_begin_none (entries.Advance p) seats = cc
+seats_begin_none (entries.Ends c kept) seats = cc
+seats_begin_none _ seats = refl
+
+-- some entries are added
+abbrev grown_by : List Entry → Entry → List Entry → List Entry
+grown_by before entry more = (before ++ entry ∷ []) ++ more
+
+regroup : (before : List Entry) (entry : Entry) (more : List Entry) → grown_by before entry more ≡ before ++ entry ∷ more
+regroup before entry more = append_assoc before (entry ∷ []) more
+
+pub seats_phase : (before added : List Entry) → filter is_collectors added ≡ [] → phase (before ++ added) ≡ phase before
+seats_phase before [] none = ap phase (append-nil before)
+seats_phase before (entry ∷ more) none = by (is_collectors entry) refl none (seats_phase (before ++ entry ∷ []) more)
+  where
+    by : (b : Bool) → is_collectors entry ≡ b → (if b then entry ∷ filter is_collectors more else filter is_collectors more) ≡ []
+        → (filter is_collectors more ≡ [] → phase (grown_by before entry more) ≡ phase (before ++ entry ∷ [])) → phase (before ++ entry ∷ more) ≡ phase before
+    by true is some rest = cc
+    by false is none_more rest = ap phase (sym (regroup before entry more)) ∙ rest none_more ∙ phase_stays before entry (seats_begin_none entry is)
+
+pub answers_grow : (q : ℕ) (before added : List Entry) → answered q before ≤ answered q (before ++ added)
+answers_grow q before [] = rw (append-nil before) (omega arith)
+answers_grow q before (entry ∷ more) = rw (← regroup before entry more) (omega (arith, answered_grows before entry q, answers_grow q (before ++ entry ∷ []) more))
+
+pub was_present : (q : ℕ) (before added : List Entry) → has_left q (before ++ added) ≡ false → has_left q before ≡ false
+was_present q before [] present = ap (has_left q) (sym (append-nil before)) ∙ present
+was_present q before (entry ∷ more) present =
+    present_before before entry q (was_present q (before ++ entry ∷ []) more (ap (has_left q) (regroup before entry more) ∙ present))

@@ -1,0 +1,69 @@
+-- What the commands that make records do to the graph, and that their entries may stand.
+use Rattle.std.proofs.Common.{◌≡◌, ℕ, ◌+◌, ◌≤◌, Bool, false, List, length, refl, ◌<◌}
+use Rattle.heap_model.specs.declared.command.Command.{Command}
+use Rattle.heap_model.specs.declared.command.Command.TheVariants as commands
+use Rattle.heap_model.specs.declared.entry.Entry.{Entry}
+use Rattle.heap_model.specs.declared.entry.Entry.TheVariants as entries
+use Rattle.heap_model.specs.declared.heap.Heap.{Heap}
+use Rattle.heap_model.specs.declared.id.Id.{Id}
+use Rattle.heap_model.specs.declared.id.Id.TheVariants.{Made}
+use Rattle.heap_model.specs.declared.reply.Reply.TheVariants as replies
+use Rattle.heap_model.specs.Account.{KeepsSpace}
+use Rattle.heap_model.specs.Changes.{add}
+use Rattle.heap_model.specs.Command.{IsCommand}
+use Rattle.heap_model.specs.Growth.{after}
+use Rattle.heap_model.specs.Legal.{Accepts, IsPresent}
+use Rattle.heap_model.specs.Needs.{need_of, record_fragments}
+use Rattle.heap_model.specs.Objects.{party}
+use Rattle.heap_model.specs.Refusals.{FindsSpace}
+use Rattle.heap_model.specs.Space.{taken_of, spent_of}
+use Rattle.heap_model.specs.State.{State, fresh}
+use Rattle.core_machine.specs.Commands.{IsRecord, target_of, fields_of}
+use Rattle.core_rule.proofs.entries.Legality.{keeps_made, keeps_full}
+
+-- a command that makes a record is a `new`
+record_only : (P : Command → Type 0) → ((d fields : ℕ) → P (commands.New d fields)) → (command : Command) → IsRecord command → P command
+record_only P new (commands.New d fields) made = new d fields
+record_only P new _ made = absurd made
+
+module _ (command : Command) (made : IsRecord command) where
+  -- a record that is made is one object more
+  pub graph_made : (g : State) (q : ℕ) (id : Id) → after g (entries.Said q command (replies.Made id)) ≡ add g q (target_of command) (fresh false (fields_of command))
+  graph_made g q id = record_only (λ c. after g (entries.Said q c (replies.Made id)) ≡ add g q (target_of c) (fresh false (fields_of c))) (λ d fields. refl) command made
+
+  -- what it needs, and its numbers
+  pub need_made : need_of command ≡ record_fragments (fields_of command)
+  need_made = record_only (λ c. need_of c ≡ record_fragments (fields_of c)) (λ d fields. refl) command made
+
+  pub ranges_made : IsCommand command → (1 ≤ target_of command) × (target_of command ≤ 15) × (1 ≤ fields_of command) × (fields_of command ≤ 47)
+  ranges_made = record_only (λ c. IsCommand c → (1 ≤ target_of c) × (target_of c ≤ 15) × (1 ≤ fields_of c) × (fields_of c ≤ 47))
+      (λ d fields fits. (fits.0.0, fits.0.1, fits.1.0, fits.1.1)) command made
+
+  -- its entry may stand
+  pub accepts_made : (g : State) (q : ℕ) (id : Id) → IsCommand command → IsPresent g q → id ≡ Made q (length (party g q).objects)
+      → Accepts g (entries.Said q command (replies.Made id))
+  accepts_made g q id fits present next =
+      record_only (λ c. IsCommand c → Accepts g (entries.Said q c (replies.Made id))) (λ d fields ranges. (present, ranges, next)) command made fits
+
+  -- and keeps the rules of space where its seat has enough
+  pub made_keeps : (heap : Heap) (play : Bool) (before : List Entry) (q : ℕ) (id : Id) → spent_of q before + need_of command ≤ taken_of q before
+      → taken_of q before ≤ spent_of q before + need_of command + 15 → KeepsSpace heap play before (entries.Said q command (replies.Made id))
+  made_keeps heap play before q id enough little =
+      record_only (λ c. spent_of q before + need_of c ≤ taken_of q before → taken_of q before ≤ spent_of q before + need_of c + 15 → KeepsSpace heap play before (entries.Said q c (replies.Made id)))
+      (λ d fields some few. keeps_made heap play before q d fields id some few) command made enough little
+
+  -- a record's refusal changes no object
+  pub graph_full : (g : State) (q asked found : ℕ) → after g (entries.Said q command (replies.Full asked found)) ≡ g
+  graph_full g q asked found = record_only (λ c. after g (entries.Said q c (replies.Full asked found)) ≡ g) (λ d fields. refl) command made
+
+  -- its entry may stand
+  pub accepts_full : (g : State) (q asked found : ℕ) → IsCommand command → IsPresent g q → Accepts g (entries.Said q command (replies.Full asked found))
+  accepts_full g q asked found ranges present =
+      record_only (λ c. IsCommand c → Accepts g (entries.Said q c (replies.Full asked found))) (λ d fields fits. (present, fits, tt)) command made ranges
+
+  -- and keeps the rules of space where it shows what is to be found
+  pub full_keeps : (heap : Heap) (play : Bool) (before : List Entry) (q found : ℕ) → spent_of q before ≤ taken_of q before → taken_of q before ≤ spent_of q before + 15
+      → found < need_of command → FindsSpace heap play before q found → KeepsSpace heap play before (entries.Said q command (replies.Full (need_of command) found))
+  full_keeps heap play before q found own little less finds =
+      record_only (λ c. found < need_of c → KeepsSpace heap play before (entries.Said q c (replies.Full (need_of c) found)))
+      (λ d fields small. keeps_full heap play before q d fields found own little small finds) command made less

@@ -1,0 +1,36 @@
+-- The entry of a reply that makes no object and tells no refusal: what it adds to the counts.
+use Rattle.std.proofs.Common.{◌≡◌, ℕ, true, List, [], ◌∷◌, ◌++◌, refl, arith}
+use Rattle.std.proofs.lemmas.Bool.{eq-eqb}
+use Rattle.heap_model.specs.declared.command.Command.{Command}
+use Rattle.heap_model.specs.declared.entry.Entry.{Entry}
+use Rattle.heap_model.specs.declared.entry.Entry.TheVariants as entries
+use Rattle.heap_model.specs.declared.heap.Heap.{Heap}
+use Rattle.heap_model.specs.declared.reply.Reply.{Reply}
+use Rattle.heap_model.specs.Effects.{is_of}
+use Rattle.heap_model.specs.Needs.{made_by}
+use Rattle.heap_model.specs.Space.{taken_of, spent_of}
+use Rattle.heap_model.proofs.Histories.{total-more}
+use Rattle.core_rule.specs.Counts.{AreUsed}
+use Rattle.core_rule.specs.Owners.{Owner}
+use Rattle.core_rule.proofs.entries.OwnEntries.{total_of-own}
+
+module _ (history : List Entry) (q : ℕ) (command : Command) (reply : Reply) where
+  abbrev entry : Entry
+  entry = entries.Said q command reply
+
+  -- it is its seat's
+  pub said_own : is_of q entry ≡ true
+  said_own = eq-eqb q q refl
+
+  -- it neither takes nor gives
+  pub said_used : (heap : Heap) (owner : ℕ → Owner) → AreUsed heap owner history → AreUsed heap owner (history ++ entry ∷ [])
+  said_used heap owner used =
+      rw (total-more (λ e. e.given) history entry, total-more (λ e. e.freed) history entry, total-more (λ e. e.taken) history entry) (omega (arith, used))
+
+  -- and spends nothing where it makes no object
+  module _ (none : made_by command reply ≡ 0) where
+    pub said_taken : taken_of q (history ++ entry ∷ []) ≡ taken_of q history
+    said_taken = omega (arith, total_of-own q (λ e. e.taken) history entry said_own)
+
+    pub said_spent : spent_of q (history ++ entry ∷ []) ≡ spent_of q history
+    said_spent = omega (arith, none, total_of-own q (λ e. e.given) history entry said_own, total_of-own q (λ e. e.born) history entry said_own)

@@ -1,0 +1,105 @@
+-- A seat's own list, and what it awaits.
+use Rattle.std.specs.Prelude.{Some}
+use Rattle.std.proofs.Common.{◌≡◌, ℕ, List, [], ◌++◌, filter, refl, sym, ap, ◌∙◌, subst, append_assoc}
+use Rattle.std.proofs.lemmas.List.{append-nil}
+use Rattle.heap_model.specs.declared.entry.Entry.{Entry}
+use Rattle.heap_model.specs.declared.id.Id.{Id}
+use Rattle.heap_model.specs.declared.id.Value.TheVariants as values
+use Rattle.heap_model.specs.Effects.{is_of}
+use Rattle.heap_model.specs.Objects.{register}
+use Rattle.heap_model.specs.State.{State}
+use Rattle.core_machine.specs.declared.place.Making.{Making}
+use Rattle.core_machine.specs.declared.place.Place.{Place}
+use Rattle.core_machine.specs.declared.place.Place.TheVariants as places
+use Rattle.core_machine.specs.declared.place.Reaching.TheVariants.{Naming}
+use Rattle.core_machine.specs.Seat.{Seat}
+use Rattle.core_rule.specs.Book.{head_of}
+use Rattle.core_rule.specs.Counts.{OwnList, Awaits}
+use Rattle.core_rule.specs.Gathers.{IsAnswered}
+use Rattle.core_rule.specs.Objects.{NamesKept}
+use Rattle.core_rule.specs.Owners.{Owner}
+use Rattle.core_rule.proofs.objects.ObjectFrames.{SameKept, names_kept}
+
+-- what is kept stays kept, under the same first fragment
+pub record NamesStay (made now_made : List Id) (owner now_owner : ℕ → Owner) (fragments now_fragments : ℕ → List ℕ) : Type 0 where
+  pub names : (id : Id) → NamesKept made owner fragments (values.Object id) → NamesKept now_made now_owner now_fragments (values.Object id)
+  pub heads : (id : Id) → NamesKept made owner fragments (values.Object id) → head_of now_made now_fragments id ≡ head_of made fragments id
+
+module _ (g now : State) (made now_made : List Id) (owner now_owner : ℕ → Owner) (fragments now_fragments : ℕ → List ℕ) (q : ℕ) (seat : Seat)
+    (stay : NamesStay made now_made owner now_owner fragments now_fragments) (same : (r : ℕ) → register now q r ≡ register g q r) where
+  awaits_stay : (place : Place) (awaited : List Entry) → Awaits g made owner fragments q seat place awaited → Awaits now now_made now_owner now_fragments q seat place awaited
+  awaits_stay (places.Reaching Naming) awaited waits = record {
+    id = waits.id;
+    kept = stay.names waits.id waits.kept;
+    loads = waits.loads ∙ ap Some (sym (stay.heads waits.id waits.kept));
+    held = same _ ∙ waits.held;
+    told = waits.told;
+  }
+  awaits_stay _ awaited waits = waits
+
+  -- another seat's list stays, and what it awaits
+  pub list_stays : (history more : List Entry) → filter (is_of q) more ≡ filter (is_of q) history
+      → OwnList g history made owner fragments q seat → OwnList now more now_made now_owner now_fragments q seat
+  list_stays history more entries list = record {
+    awaited = list.awaited;
+    own = list.own ∙ sym entries;
+    awaits = awaits_stay seat.place list.awaited list.awaits;
+  }
+
+-- where nothing is awaited, a seat's own list has all of its entries
+pub all_told : (mine awaited own : List Entry) → mine ++ awaited ≡ own → awaited ≡ [] → mine ≡ own
+all_told mine awaited own both none = sym (append-nil mine) ∙ (rw none at both)
+
+module _ (g : State) (history : List Entry) (made : List Id) (owner : ℕ → Owner) (fragments : ℕ → List ℕ) (q : ℕ) (seat : Seat) where
+  -- a seat that makes an object awaits nothing
+  pub making_list : (making : Making) → seat.place ≡ places.Making making → OwnList g history made owner fragments q seat → seat.mine ≡ filter (is_of q) history
+  making_list making placed list =
+      all_told seat.mine list.awaited (filter (is_of q) history) list.own (subst (λ p. Awaits g made owner fragments q seat p list.awaited) placed list.awaits)
+
+  -- an idle seat awaits nothing
+  pub idle_list : seat.place ≡ places.Idle → OwnList g history made owner fragments q seat → seat.mine ≡ filter (is_of q) history
+  idle_list idle list =
+      all_told seat.mine list.awaited (filter (is_of q) history) list.own (subst (λ p. Awaits g made owner fragments q seat p list.awaited) idle list.awaits)
+
+  -- a list that awaits nothing
+  pub whole_list : Awaits g made owner fragments q seat seat.place [] → seat.mine ≡ filter (is_of q) history → OwnList g history made owner fragments q seat
+  whole_list none own = record { awaited = []; own = append-nil seat.mine ∙ own; awaits = none }
+
+  -- while an object is made
+  pub list_of_making : (making : Making) → seat.place ≡ places.Making making → seat.mine ≡ filter (is_of q) history → OwnList g history made owner fragments q seat
+  list_of_making making placed own = whole_list (subst (λ p. Awaits g made owner fragments q seat p []) (sym placed) refl) own
+
+-- the same names are kept where the same fragments are
+pub same_names : (made : List Id) (owner : ℕ → Owner) (fragments : ℕ → List ℕ) → NamesStay made made owner owner fragments fragments
+same_names made owner fragments = record { names = λ id kept. kept; heads = λ id kept. refl }
+
+module _ (g : State) (owner now : ℕ → Owner) (same : SameKept owner now) (made : List Id) (fragments : ℕ → List ℕ) (q : ℕ) (seat : Seat) where
+  -- another seat's list, where the same fragments are kept
+  pub list_owners : (history more : List Entry) → filter (is_of q) more ≡ filter (is_of q) history
+      → OwnList g history made owner fragments q seat → OwnList g more made now fragments q seat
+  list_owners history more entries list =
+      list_stays g g made made owner now fragments fragments q seat
+      record { names = λ id kept. names_kept owner now same made fragments (values.Object id) kept; heads = λ id kept. refl } (λ r. refl) history more entries list
+
+module _ (g : State) (made : List Id) (owner : ℕ → Owner) (fragments : ℕ → List ℕ) (q : ℕ) (seat : Seat) where
+  -- a call that isn't answered awaits nothing
+  nothing_awaited : (place : Place) (awaited : List Entry) → ¬ IsAnswered place → Awaits g made owner fragments q seat place awaited → awaited ≡ []
+  nothing_awaited (places.Reaching Naming) awaited busy awaits = absurd (busy tt)
+  nothing_awaited _ awaited busy awaits = awaits
+
+  module _ (history : List Entry) (busy : ¬ IsAnswered seat.place) (list : OwnList g history made owner fragments q seat) where
+    -- so its own list has all of its entries
+    has_all : seat.mine ≡ filter (is_of q) history
+    has_all =
+        all_told seat.mine list.awaited (filter (is_of q) history) list.own (nothing_awaited seat.place list.awaited busy list.awaits)
+
+    -- what is shown then is told at once, or awaited
+    pub list_more : (now : State) (later : List Entry) (new : Seat) (added awaited shown : List Entry) → new.mine ≡ seat.mine ++ added
+        → added ++ awaited ≡ shown → filter (is_of q) later ≡ filter (is_of q) history ++ shown → Awaits now made owner fragments q new new.place awaited
+        → OwnList now later made owner fragments q new
+    list_more now later new added awaited shown mine parts grown awaits = record {
+      awaited = awaited;
+      own = ap (λ (own : List Entry). own ++ awaited) mine ∙ append_assoc seat.mine added awaited ∙ ap (λ (x : List Entry). seat.mine ++ x) parts
+          ∙ ap (λ (own : List Entry). own ++ shown) has_all ∙ sym grown;
+      awaits = awaits;
+    }

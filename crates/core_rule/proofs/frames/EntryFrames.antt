@@ -1,0 +1,79 @@
+-- What stands of the heap and of another's seat when an entry is added that changes no object and nothing of what is in use, and no fragment's word changes.
+use Rattle.std.proofs.Common.{◌≡◌, ℕ, ◌<◌, false, List, [], ◌∷◌, ◌++◌, length, refl, ap, ◌∙◌, arith}
+use Rattle.heap_model.specs.declared.cell.Cell.{Cell}
+use Rattle.heap_model.specs.declared.entry.Entry.{Entry}
+use Rattle.heap_model.specs.declared.heap.Heap.{Heap}
+use Rattle.heap_model.specs.Account.{IsLegal}
+use Rattle.heap_model.specs.Cycles.{graph_of}
+use Rattle.heap_model.specs.Effects.{effect_of, is_of}
+use Rattle.heap_model.specs.Objects.{party}
+use Rattle.heap_model.specs.PhaseCounts.{phase, answered, has_left}
+use Rattle.heap_model.specs.State.{State as Graph}
+use Rattle.heap_model.proofs.Histories.{total-more}
+use Rattle.core_machine.specs.declared.address.Address.TheVariants.{Phase, Control, Word}
+use Rattle.core_machine.specs.Layout.{at, put, table_length}
+use Rattle.core_machine.specs.Seat.{Seat}
+use Rattle.core_rule.specs.Book.{Book}
+use Rattle.core_rule.specs.Cycle.{HeapInCycle, SeatInCycle}
+use Rattle.core_rule.specs.Rule.{HeapStands, SeatStands}
+use Rattle.core_rule.proofs.words.Addresses.{at-put_apart}
+use Rattle.core_rule.proofs.words.ControlLemmas.{bits_same}
+use Rattle.core_rule.proofs.objects.ObjectFrames.{objects_words}
+use Rattle.core_rule.proofs.graph.SameNodes.{SameNodes, ids_stay, objects_stay, cells_stay}
+use Rattle.core_rule.proofs.frames.SeatFrames.{with_entry, seat_stays, same_party}
+
+-- the control words and the fragments' words are as before
+pub record SameFragments (heap : Heap) (words now : List ℕ) : Type 0 where
+  pub controls : (group : ℕ) → group < heap.groups → at heap now (Control group) ≡ at heap words (Control group)
+  pub parts : (f part : ℕ) → at heap now (Word f part) ≡ at heap words (Word f part)
+
+-- so they are where no word changes
+pub fragments_same : (heap : Heap) (words : List ℕ) → SameFragments heap words words
+fragments_same heap words = record { controls = λ group below. refl; parts = λ f part. refl }
+
+-- and where the phase is written
+pub fragments_phase : (heap : Heap) (words : List ℕ) (n : ℕ) → SameFragments heap words (put heap words Phase n)
+fragments_phase heap words n = record {
+  controls = λ group below. at-put_apart heap words Phase (Control group) n (λ e. omega (arith, e));
+  parts = λ f part. at-put_apart heap words Phase (Word f part) n (λ e. omega (arith, e));
+}
+
+-- the entry takes, gives and frees nothing
+pub record UsesNothing (entry : Entry) : Type 0 where
+  pub taken : (effect_of entry).taken ≡ 0
+  pub given : (effect_of entry).given ≡ 0
+  pub freed : (effect_of entry).freed ≡ 0
+
+module _ (heap : Heap) (words now : List ℕ) (same : SameFragments heap words now) (book : Book) (entry : Entry)
+    (nodes : SameNodes (graph_of heap book.history) (graph_of heap (book.history ++ entry ∷ []))) where
+  abbrev later : Book
+  later = with_entry book entry
+
+  abbrev before : Graph
+  before = graph_of heap book.history
+
+  abbrev after : Graph
+  after = graph_of heap later.history
+
+  -- the heap stands
+  pub heap_past : length now ≡ table_length heap → UsesNothing entry → IsLegal heap false later.history → HeapInCycle heap now (phase later.history) book.owner book.colour book.fragments
+      → HeapStands heap words book → HeapStands heap now later
+  heap_past whole uses legal cycle stands = record {
+    table = whole;
+    control_words = bits_same heap words now book.owner same.controls stands.control_words;
+    ids = ids_stay before after book.made nodes stands.ids;
+    objects = objects_stay before after book.made nodes book.owner book.fragments heap now
+        (objects_words heap words now before book.made book.owner book.fragments (λ f i k part keeps within. same.parts f part) stands.objects);
+    used = rw (total-more (λ e. e.given) book.history entry, total-more (λ e. e.freed) book.history entry, total-more (λ e. e.taken) book.history entry)
+        (omega (arith, stands.used, uses.taken, uses.given, uses.freed));
+    cycle = cycle;
+    legal = legal;
+  }
+
+  -- a seat that it isn't of stands
+  pub seat_past : (r : ℕ) (seat : Seat) → is_of r entry ≡ false → party after r ≡ party before r
+      → SeatInCycle heap now (phase later.history) (answered r later.history) (has_left r later.history) book.owner book.colour r seat
+      → SeatStands heap words book r seat → SeatStands heap now later r seat
+  seat_past r seat other party cycle stands =
+      seat_stays heap words now book entry r seat other (same_party before after r party)
+      (λ i. ap (λ (cells : List Cell). length cells) (cells_stay before after book.made nodes i)) (λ u less. same.parts _ _ ∙ stands.stored u less) cycle stands

@@ -1,0 +1,49 @@
+-- What stands of the heap and of each seat when a seat tells a reply that makes nothing.
+use Rattle.std.proofs.Common.{◌≡◌, ℕ, List, [], ◌∷◌, ◌++◌, false, refl, arith}
+use Rattle.std.proofs.lemmas.List.{length-append}
+use Rattle.heap_model.specs.declared.effect.Effect.{Effect}
+use Rattle.heap_model.specs.declared.entry.Entry.{Entry}
+use Rattle.heap_model.specs.declared.heap.Heap.{Heap}
+use Rattle.heap_model.specs.Account.{KeepsSpace}
+use Rattle.heap_model.specs.Cycles.{graph_of}
+use Rattle.heap_model.specs.Effects.{effect_of, no_effect, is_of}
+use Rattle.heap_model.specs.Legal.{Accepts}
+use Rattle.heap_model.specs.Objects.{party}
+use Rattle.core_machine.specs.declared.place.Place.{Place}
+use Rattle.core_machine.specs.Seat.{Seat}
+use Rattle.core_rule.specs.Book.{Book}
+use Rattle.core_rule.specs.Gathers.{Began, IsAnswered}
+use Rattle.core_rule.specs.Rule.{HeapStands, SeatStands}
+use Rattle.core_rule.proofs.cycle.CycleHistory.{heap_cycle_more, cycle_other}
+use Rattle.core_rule.proofs.frames.EntryFrames.{heap_past, seat_past, fragments_same}
+use Rattle.core_rule.proofs.entries.Legality.{legal_more}
+use Rattle.core_rule.proofs.graph.SameNodes.{SameNodes}
+use Rattle.core_rule.proofs.frames.SeatFrames.{with_entry}
+
+-- no part of its effect is anything
+pub no_part : (entry : Entry) (part : Effect → ℕ) → effect_of entry ≡ no_effect → part no_effect ≡ 0 → part (effect_of entry) ≡ 0
+no_part entry part nothing none = rw nothing none
+
+-- a reply was told, and no other is to come
+pub began_told : (history : List Entry) (entry : Entry) (q begun : ℕ) (place now : Place) → IsAnswered now → Began history q begun place → Began (history ++ entry ∷ []) q begun now
+began_told history entry q begun place now answered began = record {
+  earlier = rw (length-append history (entry ∷ [])) (omega (arith, began.earlier));
+  unanswered = λ busy. absurd (busy answered);
+}
+
+module _ (heap : Heap) (words : List ℕ) (book : Book) (entry : Entry) (nothing : effect_of entry ≡ no_effect)
+    (nodes : SameNodes (graph_of heap book.history) (graph_of heap (book.history ++ entry ∷ []))) where
+  -- the heap stands
+  pub heap_told : Accepts (graph_of heap book.history) entry → KeepsSpace heap false book.history entry → HeapStands heap words book → HeapStands heap words (with_entry book entry)
+  heap_told accepts keeps stands =
+      heap_past heap words words (fragments_same heap words) book entry nodes stands.table
+      record { taken = no_part entry (λ e. e.taken) nothing refl; given = no_part entry (λ e. e.given) nothing refl; freed = no_part entry (λ e. e.freed) nothing refl }
+      (legal_more heap false book.history entry stands.legal accepts keeps)
+      (heap_cycle_more heap words book.owner book.colour book.history entry (no_part entry (λ e. e.phases) nothing refl) book.fragments stands.cycle) stands
+
+  -- another seat stands
+  pub other_told : (r : ℕ) (seat : Seat) → is_of r entry ≡ false → party (graph_of heap (book.history ++ entry ∷ [])) r ≡ party (graph_of heap book.history) r
+      → SeatStands heap words book r seat → SeatStands heap words (with_entry book entry) r seat
+  other_told r seat other party stands =
+      seat_past heap words words (fragments_same heap words) book entry nodes r seat other party
+      (cycle_other heap words book.owner book.colour book.history entry (no_part entry (λ e. e.phases) nothing refl) r seat stands.cycle other) stands

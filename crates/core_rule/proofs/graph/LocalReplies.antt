@@ -1,0 +1,106 @@
+-- The replies of calls that look at no word: what they are to the graph, and that they may stand.
+use Rattle.std.proofs.Common.{◌≡◌, ℕ, ◌≤◌, Bool, true, false, List, length, set, Option, None, refl, sym, subst, arith}
+use Rattle.heap_model.specs.declared.command.Command.{Command}
+use Rattle.heap_model.specs.declared.command.Command.TheVariants as commands
+use Rattle.heap_model.specs.declared.entry.Entry.{Entry}
+use Rattle.heap_model.specs.declared.heap.Heap.{Heap}
+use Rattle.heap_model.specs.declared.id.Id.{Id}
+use Rattle.heap_model.specs.declared.id.Value.{Value}
+use Rattle.heap_model.specs.declared.id.Value.TheVariants as values
+use Rattle.heap_model.specs.declared.reply.Reply.{Reply}
+use Rattle.heap_model.specs.declared.reply.Reply.TheVariants as replies
+use Rattle.heap_model.specs.Account.{most_kept}
+use Rattle.heap_model.specs.Changes.{put}
+use Rattle.heap_model.specs.Command.{IsCommand}
+use Rattle.heap_model.specs.Growth.{after_reply}
+use Rattle.heap_model.specs.Needs.{made_by}
+use Rattle.heap_model.specs.Objects.{party, register, target, cell_of}
+use Rattle.heap_model.specs.Phases.{ShowsPhases}
+use Rattle.heap_model.specs.Refusals.{ShowsSpace, ShowsSpine}
+use Rattle.heap_model.specs.Replies.{Says, Gets, Sets, Compares, length_reply}
+use Rattle.heap_model.specs.State.{State, Node}
+use Rattle.core_machine.specs.declared.register.Register.{Register}
+use Rattle.core_machine.specs.declared.register.Register.TheVariants as registers
+use Rattle.core_machine.specs.Fits.{IsLocal}
+use Rattle.core_machine.specs.Registers.{register_in, value_of, is_same_value, head_of}
+use Rattle.core_machine.specs.Telling.{answer_of, local_reply, local_registers}
+use Rattle.core_rule.specs.Owners.{Owner}
+use Rattle.core_rule.specs.Registers.{Holds}
+use Rattle.core_rule.proofs.graph.PutRegister.{OnlyRegisters, put_only, only_none, registers_filled}
+use Rattle.core_rule.proofs.graph.SameValues.{held_compares, holds_no_object}
+
+module _ (heap : Heap) (history : List Entry) (g : State) (q : ℕ) (made : List Id) (owner : ℕ → Owner) (fragments : ℕ → List ℕ) where
+  -- each register holds its value in the graph
+  abbrev pub HoldAll : State → List Register → Type 0
+  HoldAll now held = (i : ℕ) → Holds made owner fragments (register_in held i) (register now q i)
+
+  -- the reply makes no object, and what it shows of space and phase is right
+  pub record IsPlain (command : Command) (reply : Reply) : Type 0 where
+    pub none : made_by command reply ≡ 0
+    pub space : ShowsSpace heap false history q command reply
+    pub spine : ShowsSpine heap false history q command reply
+    pub phases : ShowsPhases heap false history q command reply
+    pub most : most_kept command ≡ 15
+
+  -- it is the graph's, and the registers hold what they do in the graph after it
+  pub record IsLocalReply (command : Command) (reply : Reply) (held : List Register) : Type 0 where
+    pub plain : IsPlain command reply
+    pub says : Says g q command reply
+    pub only : OnlyRegisters g (after_reply g q command reply) q
+    pub registers : HoldAll (after_reply g q command reply) held
+
+  module _ (held : List Register) (present : (party g q).left ≡ false) (whole : length held ≡ 16) (sixteen : length (party g q).registers ≡ 16) (holds : HoldAll g held) where
+    -- a register that is set
+    set_holds : (d : ℕ) (register : Register) (value : Value) → d ≤ 15 → Holds made owner fragments register value → HoldAll (put g q d value) (set held d register)
+    set_holds d register value within new =
+        registers_filled made owner fragments g q d value held register present (omega (arith, whole, within)) (omega (arith, sixteen, within)) new (λ i apart. holds i)
+
+    -- whether two values are the same
+    same_reply : (a b : ℕ) (same : Bool) → Compares (register g q a) (register g q b) (answer_of same) → IsLocalReply (commands.Same a b) (answer_of same) held
+    same_reply a b true says = record { plain = record { none = refl; space = tt; spine = tt; phases = tt; most = refl }; says = says; only = only_none g q; registers = holds }
+    same_reply a b false says = record { plain = record { none = refl; space = tt; spine = tt; phases = tt; most = refl }; says = says; only = only_none g q; registers = holds }
+
+    no_target : (r : ℕ) → head_of (register_in held r) ≡ None → target g (register g q r) ≡ None
+    no_target r none = holds_no_object made owner fragments g (register_in held r) (register g q r) (holds r) none
+
+    pub local_replies : (command : Command) → IsCommand command → IsLocal held command → IsLocalReply command (local_reply held command) (local_registers held command)
+    local_replies (commands.Num d n) ranges local = record {
+      plain = record { none = refl; space = tt; spine = tt; phases = tt; most = refl };
+      says = refl;
+      only = put_only g q d (values.Number n) present;
+      registers = set_holds d (registers.Number n) (values.Number n) ranges.0.1 (refl, ranges.1);
+    }
+    local_replies (commands.Nil d) ranges local = record {
+      plain = record { none = refl; space = tt; spine = tt; phases = tt; most = refl };
+      says = refl;
+      only = put_only g q d values.Nil present;
+      registers = set_holds d registers.Nil values.Nil ranges.1 refl;
+    }
+    local_replies (commands.Copy d r) ranges local = record {
+      plain = record { none = refl; space = tt; spine = tt; phases = tt; most = refl };
+      says = refl;
+      only = put_only g q d (register g q r) present;
+      registers = set_holds d (register_in held r) (register g q r) ranges.0.1 (holds r);
+    }
+    local_replies (commands.Same a b) ranges local =
+        same_reply a b (is_same_value (value_of (register_in held a)) (value_of (register_in held b)))
+        (held_compares made owner fragments (register_in held a) (register_in held b) (register g q a) (register g q b) (holds a) (holds b))
+    local_replies (commands.Get d r i) ranges local = record {
+      plain = record { none = refl; space = tt; spine = tt; phases = tt; most = refl };
+      says = subst (λ (o : Option Node). Gets (cell_of o i) replies.NoObject) (sym (no_target r local)) refl;
+      only = only_none g q;
+      registers = holds;
+    }
+    local_replies (commands.Set r i v) ranges local = record {
+      plain = record { none = refl; space = tt; spine = tt; phases = tt; most = refl };
+      says = subst (λ (o : Option Node). Sets (party g q).sets (cell_of o i) replies.NoObject) (sym (no_target r local)) refl;
+      only = only_none g q;
+      registers = holds;
+    }
+    local_replies (commands.Len r) ranges local = record {
+      plain = record { none = refl; space = tt; spine = tt; phases = tt; most = refl };
+      says = subst (λ (o : Option Node). replies.NoObject ≡ length_reply o) (sym (no_target r local)) refl;
+      only = only_none g q;
+      registers = holds;
+    }
+    local_replies _ ranges local = absurd local

@@ -1,0 +1,86 @@
+-- The three ways on of a gather.
+use Rattle.std.specs.Prelude.{if◌then◌else◌, nat_lt}
+use Rattle.std.proofs.Common.{◌≡◌, ◌∙◌, subst, ℕ, suc, ◌+◌, ◌<◌, ◌≤◌, inl, inr, List, [], length, take, drop, refl, sym, ap, arith}
+use Rattle.std.proofs.lemmas.Bool.Decides.{leb_tells}
+use Rattle.std.proofs.lemmas.List.{length-append, take-append-drop}
+use Rattle.heap_model.specs.declared.entry.Entry.{Entry}
+use Rattle.heap_model.specs.declared.heap.Heap.{Heap}
+use Rattle.core_machine.specs.declared.place.Making.{Making}
+use Rattle.core_machine.specs.declared.place.Making.TheVariants.{Gathering, Storing}
+use Rattle.core_machine.specs.declared.place.Place.TheVariants as places
+use Rattle.core_machine.specs.Fragments.{tally}
+use Rattle.core_machine.specs.Making.{gathered, settled, refused, goes_on, last_claimed, returning}
+use Rattle.core_machine.specs.Seat.{Seat, need}
+use Rattle.core_rule.specs.Gathers.{GathersRight}
+use Rattle.core_rule.specs.Holding.{Holding, whole_hand}
+use Rattle.core_rule.specs.Owners.{Owner, bears_bit}
+use Rattle.core_rule.proofs.entries.Begins.{SameData, same_data}
+use Rattle.core_rule.proofs.hand.Bodies.{whole_same}
+use Rattle.core_rule.proofs.gather.GatherMoves.{nothing_tried}
+use Rattle.core_rule.proofs.lists.Tallies.{tally-append, tally_parts}
+
+-- what holds of each of the three ways holds of the seat after it
+pub goes_on_cases : (P : Seat → Type 0) (heap : Heap) (seat : Seat)
+    → (need seat ≤ length (gathered seat) → P (settled heap seat))
+    → (length (gathered seat) < need seat → seat.tried < heap.groups → P (record seat { place = places.Making Gathering }))
+    → (length (gathered seat) < need seat → heap.groups ≤ seat.tried → P (refused seat))
+    → P (goes_on heap seat)
+goes_on_cases P heap seat enough more none = elim (leb_tells (need seat) (length (gathered seat))) as (λ _. P (goes_on heap seat)) [
+  | inl e ↦ rw e.0 (enough e.1)
+  | inr e ↦ rw e.0 (elim (leb_tells (suc seat.tried) heap.groups) as (λ _. P (if nat_lt seat.tried heap.groups then record seat { place = places.Making Gathering } else refused seat)) [
+    | inl f ↦ rw f.0 (more e.1 f.1)
+    | inr f ↦ rw f.0 (none e.1 (omega (arith, f.1)))
+  ])
+]
+
+-- what was gathered is the seat's, however it is parted into hand and reserve
+pub holding_goes_on : (heap : Heap) (owner : ℕ → Owner) (q : ℕ) (seat : Seat) → seat.body ≡ [] → Holding owner q seat.reserve seat.hand seat.body
+    → Holding owner q (goes_on heap seat).reserve (goes_on heap seat).hand (goes_on heap seat).body
+holding_goes_on heap owner q seat none holding =
+    goes_on_cases (λ s. Holding owner q s.reserve s.hand s.body) heap seat
+    (λ enough. record {
+      held = λ f. omega (arith, holding.held f, tally_parts f (need seat) (gathered seat), tally-append f seat.reserve seat.hand);
+      borne = λ f. rw (whole_same (take (need seat) (gathered seat))) (omega (arith, unborn f));
+    })
+    (λ few left. holding)
+    (λ few tried. holding)
+  where
+    unborn : (f : ℕ) → bears_bit q (owner f) ≡ 0
+    unborn f = let e : tally f (whole_hand seat.hand seat.body) ≡ tally f seat.hand = rw none refl in omega (arith, e, holding.borne f)
+
+-- it is as many fragments
+pub length_goes_on : (heap : Heap) (seat : Seat) → seat.body ≡ []
+    → length (goes_on heap seat).reserve + length (whole_hand (goes_on heap seat).hand (goes_on heap seat).body) ≡ length seat.reserve + length (whole_hand seat.hand seat.body)
+length_goes_on heap seat none =
+    goes_on_cases (λ s. length s.reserve + length (whole_hand s.hand s.body) ≡ length seat.reserve + length (whole_hand seat.hand seat.body)) heap seat
+    (λ enough. rw (whole_same (take (need seat) (gathered seat)), none)
+    (omega (arith, length_parts (need seat) (gathered seat), length-append seat.reserve seat.hand)))
+    (λ few left. refl)
+    (λ few tried. refl)
+  where
+    length_parts : (n : ℕ) (xs : List ℕ) → length (take n xs) + length (drop n xs) ≡ length xs
+    length_parts n xs = sym (length-append (take n xs) (drop n xs)) ∙ ap length (take-append-drop n xs)
+
+-- what a gather knows stays, where it gave nothing back
+pub gathers_goes_on : (heap : Heap) (owner : ℕ → Owner) (q : ℕ) (since : List Entry) (seat : Seat) → seat.given ≡ 0
+    → GathersRight heap owner q since seat.cursor seat.tried seat.given
+    → GathersRight heap owner q since (goes_on heap seat).cursor (goes_on heap seat).tried (goes_on heap seat).given
+gathers_goes_on heap owner q since seat none gathers =
+    goes_on_cases (λ s. GathersRight heap owner q since s.cursor s.tried s.given) heap seat
+    (λ enough. subst (λ n. GathersRight heap owner q since (last_claimed heap seat) 0 n) (sym none) (nothing_tried heap owner q since (last_claimed heap seat)))
+    (λ few left. gathers)
+    (λ few tried. gathers)
+
+-- nothing else of the seat changes, and it stands at a place of making
+pub record StaysMaking (old new : Seat) : Type 0 where
+  pub same : SameData old new
+  pub making : Making
+  pub placed : new.place ≡ places.Making making
+
+-- it is so on each way
+pub same_goes_on : (heap : Heap) (seat : Seat) → StaysMaking seat (goes_on heap seat)
+same_goes_on heap seat =
+    goes_on_cases (λ s. StaysMaking seat s) heap seat
+    (λ enough. record { same = same_data seat _ _ _ _ _ _ _ _ _ _; making = Storing; placed = refl })
+    (λ few left. record { same = same_data seat _ _ _ _ _ _ _ _ _ _; making = Gathering; placed = refl })
+    (λ few tried. record { same = same_data seat _ _ _ _ _ _ _ _ _ _; making = returning seat.hand; placed = refl })

@@ -1,0 +1,41 @@
+-- What is true of a seat that makes an object.
+use Rattle.std.proofs.Common.{◌≡◌, ℕ, ◌-◌, ◌%◌, ◌<◌, ◌≤◌, false, length, arith}
+use Rattle.heap_model.specs.declared.heap.Heap.{Heap}
+use Rattle.heap_model.specs.PhaseCounts.{phase}
+use Rattle.core_machine.specs.declared.place.Making.{Making}
+use Rattle.core_machine.specs.declared.place.Place.TheVariants as places
+use Rattle.core_machine.specs.Commands.{fields_of}
+use Rattle.core_machine.specs.Fits.{Fits, HasBody, IsSilent}
+use Rattle.core_machine.specs.Machine.{State, seat_at}
+use Rattle.core_machine.specs.Making.{last_group, first_group}
+use Rattle.core_machine.specs.Moves.{bears_black}
+use Rattle.core_machine.specs.Seat.{Seat}
+use Rattle.core_machine.proofs.Owned.{group_within}
+use Rattle.core_rule.specs.Book.{Book}
+use Rattle.core_rule.specs.Rule.{Rule}
+use Rattle.core_rule.proofs.entries.AtRest.{in_flight}
+use Rattle.core_rule.proofs.colours.BirthColours.{white_early}
+use Rattle.core_rule.proofs.entries.RecordCommands.{ranges_made}
+
+-- a seat that makes an object bears no black fragments at rest and in the first phase
+pub bears_late : (heap : Heap) (state : State) (book : Book) (q : ℕ) (making : Making) → Rule heap state book → q < heap.seats → (seat_at state q).place ≡ places.Making making
+    → phase book.history % 7 ≤ 1 → bears_black (seat_at state q) ≡ false
+bears_late heap state book q making rule here place early =
+    let stands = rule.seats_stand q here in
+    let present = in_flight heap (seat_at state q) stands.fits (λ idle. absurd (cc (place, idle))) in
+    white_early (phase book.history) (seat_at state q) (stands.cycle.answers_told.near present) early
+
+-- and has shaded nothing
+pub none_shaded : (heap : Heap) (seat : Seat) (making : Making) → Fits heap seat → seat.place ≡ places.Making making → seat.shaded ≡ 0
+none_shaded heap seat making fits place = let silent : IsSilent seat = rw place at fits.answer_at_place in silent.none_shaded
+
+-- the groups of its hand's first and last fragments are the heap's
+pub first_within : (heap : Heap) (seat : Seat) → Fits heap seat → 0 < length seat.hand → first_group seat.hand < heap.groups
+first_within heap seat fits some = group_within heap seat.hand 0 some fits.hand_within
+
+pub last_within : (heap : Heap) (seat : Seat) → Fits heap seat → 0 < length seat.hand → last_group seat.hand < heap.groups
+last_within heap seat fits some = group_within heap seat.hand (length seat.hand - 1) (omega (arith, some)) fits.hand_within
+
+-- a record that is made has few fields
+pub few_fields : (seat : Seat) → HasBody seat → fields_of seat.command ≤ 47
+few_fields seat has = (ranges_made seat.command has.makes.a_record has.makes.in_range).3

@@ -1,0 +1,53 @@
+-- What a store into a seat's new object changes, and what it leaves.
+use Rattle.std.proofs.Common.{◌≡◌, ℕ, ◌+◌, ◌*◌, ◌/◌, ◌%◌, ◌<◌, ◌≤◌, inl, inr, List, length, ap, ◌∙◌, subst, arith}
+use Rattle.std.proofs.lemmas.Bool.{cases_lt, cases_eq}
+use Rattle.heap_model.specs.declared.heap.Heap.{Heap}
+use Rattle.core_machine.specs.declared.address.Address.TheVariants.{Word}
+use Rattle.core_machine.specs.Fits.{AreFragments}
+use Rattle.core_machine.specs.Fragments.{tally}
+use Rattle.core_machine.specs.Layout.{at, put, table_length}
+use Rattle.core_rule.specs.Book.{fragment_at}
+use Rattle.core_rule.specs.ControlWords.{Bits}
+use Rattle.core_rule.specs.Owners.{Owner}
+use Rattle.core_rule.proofs.words.Addresses.{word_same, control_after_word, fragment_other, part_other}
+use Rattle.core_rule.proofs.lists.Members.{same_place, all_at}
+
+-- no control word changes
+pub bits_store : (heap : Heap) (words : List ℕ) (owner : ℕ → Owner) (f part n : ℕ) → Bits heap words owner → Bits heap (put heap words (Word f part) n) owner
+bits_store heap words owner f part n bits = record {
+  taken = λ x below. rw (control_after_word heap words n f part (x / 16) (omega arith)) (bits.taken x below);
+  born = λ x below. rw (control_after_word heap words n f part (x / 16) (omega arith)) (bits.born x below);
+  outside = bits.outside;
+}
+
+module _ (heap : Heap) (body : List ℕ) (word : ℕ → ℕ → ℕ) where
+  -- the first words of the body are these
+  abbrev pub FirstWords : List ℕ → ℕ → Type 0
+  FirstWords words n = (u : ℕ) → u < n → at heap words (Word (fragment_at body (u / 4)) (u % 4)) ≡ word (u / 4) (u % 4)
+
+  module _ (words : List ℕ) (stored : ℕ) (once : (f : ℕ) → tally f body ≤ 1) (within : AreFragments heap body) (more : stored < 4 * length body) where
+    abbrev after_store : List ℕ
+    after_store = put heap words (Word (fragment_at body (stored / 4)) (stored % 4)) (word (stored / 4) (stored % 4))
+
+    row_within : stored / 4 < length body
+    row_within = omega arith
+
+    stored_last : length words ≡ table_length heap → at heap after_store (Word (fragment_at body (stored / 4)) (stored % 4)) ≡ word (stored / 4) (stored % 4)
+    stored_last whole = word_same heap words (word (stored / 4) (stored % 4)) (fragment_at body (stored / 4)) (stored % 4) whole
+        (all_at (λ f. f < 16 * heap.groups) body (stored / 4) within row_within) (omega arith)
+
+    stored_before : (u : ℕ) → u < stored → at heap after_store (Word (fragment_at body (u / 4)) (u % 4)) ≡ at heap words (Word (fragment_at body (u / 4)) (u % 4))
+    stored_before u less = elim (cases_eq (u / 4) (stored / 4)) [
+      | inl row ↦ part_other heap words (word (stored / 4) (stored % 4)) (fragment_at body (stored / 4)) (stored % 4) (fragment_at body (u / 4)) (u % 4)
+          (λ e. omega (arith, row, e, less)) (ap (fragment_at body) row)
+      | inr apart ↦ fragment_other heap words (word (stored / 4) (stored % 4)) (fragment_at body (stored / 4)) (stored % 4) (fragment_at body (u / 4)) (u % 4)
+          (omega arith) (omega arith) (λ e. apart (same_place body (u / 4) (stored / 4) once (omega (arith, less)) row_within e))
+    ]
+
+    -- one word more is as it has to be
+    pub store_next : length words ≡ table_length heap → FirstWords words stored → FirstWords after_store (stored + 1)
+    store_next whole old u less = elim (cases_lt u stored) [
+      | inl before ↦ stored_before u before ∙ old u before
+      | inr past ↦ let last : stored ≡ u = omega (arith, less, past) in
+          subst (λ v. at heap after_store (Word (fragment_at body (v / 4)) (v % 4)) ≡ word (v / 4) (v % 4)) last (stored_last whole)
+    ]

@@ -1,0 +1,64 @@
+-- Where a number stands in a list.
+use Rattle.std.proofs.Common.{◌≡◌, ℕ, zero, suc, ◌+◌, ◌<◌, ◌≤◌, ◌==◌, if◌then◌else◌, inl, inr, List, [], ◌∷◌, length, get_or, refl, sym, arith, All}
+use Rattle.std.proofs.lemmas.Bool.{cases_lt}
+use Rattle.std.proofs.lemmas.Bool.Decides.{eqb_tells}
+use Rattle.std.proofs.lemmas.List.Elements.{All-head, All-tail}
+use Rattle.core_machine.specs.Fragments.{tally}
+use Rattle.core_rule.proofs.lists.Tallies.{one_at_same, one_at_other}
+
+-- the place of a number's first occurrence in a list; its length where it has none
+abbrev pub place_of : ℕ → List ℕ → ℕ
+place_of f [] = 0
+place_of f (x ∷ xs) = if x == f then 0 else place_of f xs + 1
+
+-- the number at a place stands in the list
+pub tally_at : (fs : List ℕ) (k : ℕ) → k < length fs → 1 ≤ tally (get_or fs k 0) fs
+tally_at [] k below = absurd (omega arith)
+tally_at (x ∷ xs) zero below = omega (arith, one_at_same x x refl)
+tally_at (x ∷ xs) (suc k) below = omega (arith, tally_at xs k (omega arith))
+
+-- a number at two places stands there twice
+tally_pair : (fs : List ℕ) (j k : ℕ) → j < k → k < length fs → get_or fs j 0 ≡ get_or fs k 0 → 2 ≤ tally (get_or fs k 0) fs
+tally_pair (x ∷ xs) zero (suc k) less below same = omega (arith, one_at_same x (get_or xs k 0) same, tally_at xs k (omega arith))
+tally_pair (x ∷ xs) (suc j) (suc k) less below same = omega (arith, tally_pair xs j k (omega arith) (omega arith) same)
+tally_pair _ _ _ less below same = absurd (omega arith)
+
+not_before : (fs : List ℕ) (j k : ℕ) → ((f : ℕ) → tally f fs ≤ 1) → j < k → k < length fs → get_or fs j 0 ≡ get_or fs k 0 → ⊥
+not_before fs j k once less below same =
+    let two : 2 ≤ tally (get_or fs k 0) fs = tally_pair fs j k less below same in
+    let one : tally (get_or fs k 0) fs ≤ 1 = once (get_or fs k 0) in
+    omega arith
+
+-- where each number stands once, places with the same number are the same
+pub same_place : (fs : List ℕ) (j k : ℕ) → ((f : ℕ) → tally f fs ≤ 1) → j < length fs → k < length fs → get_or fs j 0 ≡ get_or fs k 0 → j ≡ k
+same_place fs j k once p q same = elim (cases_lt j k) [
+  | inl less ↦ absurd (not_before fs j k once less q same)
+  | inr more ↦ elim (cases_lt k j) [
+    | inl less ↦ absurd (not_before fs k j once less p (sym same))
+    | inr equal ↦ omega (arith, more, equal)
+  ]
+]
+
+-- a number behind the first stands one place further
+place_past : (x f : ℕ) (xs : List ℕ) → (place_of f xs < length xs) × (get_or xs (place_of f xs) 0 ≡ f) → (place_of f xs + 1 < suc (length xs)) × (get_or (x ∷ xs) (place_of f xs + 1) 0 ≡ f)
+place_past x f xs rest = let one : place_of f xs + 1 ≡ suc (place_of f xs) = omega arith in (omega (arith, rest.0), rw one (rest.1))
+
+-- a number of the list stands at its place
+pub place_within : (f : ℕ) (fs : List ℕ) → 1 ≤ tally f fs → (place_of f fs < length fs) × (get_or fs (place_of f fs) 0 ≡ f)
+place_within f [] there = absurd (omega arith)
+place_within f (x ∷ xs) there = elim (eqb_tells x f) as (λ _. (place_of f (x ∷ xs) < length (x ∷ xs)) × (get_or (x ∷ xs) (place_of f (x ∷ xs)) 0 ≡ f)) [
+  | inl e ↦ rw e.0 (omega arith, e.1)
+  | inr e ↦ rw e.0 (place_past x f xs (place_within f xs (omega (arith, one_at_other x f e.1))))
+]
+
+-- and in a list that has each once, nowhere else
+pub place_of-at : (fs : List ℕ) (k : ℕ) → ((f : ℕ) → tally f fs ≤ 1) → k < length fs → place_of (get_or fs k 0) fs ≡ k
+place_of-at fs k once below =
+    let there = place_within (get_or fs k 0) fs (tally_at fs k below) in
+    same_place fs (place_of (get_or fs k 0) fs) k once there.0 below there.1
+
+-- what holds of each number of a list
+pub all_at : (P : ℕ → Type 0) (fs : List ℕ) (k : ℕ) → All P fs → k < length fs → P (get_or fs k 0)
+all_at P [] k all below = absurd (omega arith)
+all_at P (x ∷ xs) zero all below = All-head P x xs all
+all_at P (x ∷ xs) (suc k) all below = all_at P xs k (All-tail P x xs all) (omega arith)

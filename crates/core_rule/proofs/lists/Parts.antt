@@ -1,0 +1,127 @@
+-- The fragments of a list that pass a test, and those of a group.
+use Rattle.std.specs.List.{range_with_len, list_all}
+use Rattle.std.proofs.Common.{◌≡◌, ◌≢◌, ℕ, zero, suc, ◌+◌, ◌/◌, ◌<◌, ◌≤◌, ◌⊎◌, inl, inr, Bool, true, false, not, cond, List, [], ◌∷◌, length, filter, refl, sym, ap, ◌∙◌, arith, ◌*◌}
+use Rattle.std.proofs.lemmas.Bool.{false≢true, true≢false, eq-eqb}
+use Rattle.std.proofs.lemmas.Bool.Decides.{eqb_tells}
+use Rattle.std.proofs.lemmas.List.Filters.{length-filter_both}
+use Rattle.core_machine.specs.Fragments.{in_group, out_of_group, part_in, part_out, tally}
+use Rattle.core_machine.specs.Making.{first_group}
+use Rattle.core_machine.specs.Sums.{sum_upto}
+use Rattle.core_machine.proofs.Bits.{bool_tells}
+use Rattle.core_rule.specs.Owners.{one_at}
+use Rattle.core_rule.proofs.lists.SumLemmas.{sum_parts, sum_nothing}
+use Rattle.core_rule.proofs.lists.Tallies.{one_at_same, one_at_other, sum_tally}
+
+-- a number of things is none where it isn't one or more
+pub not_there : (n : ℕ) → (1 ≤ n → ⊥) → n ≡ 0
+not_there zero none = refl
+not_there (suc n) none = absurd (none (omega arith))
+
+tally-cond : (f x : ℕ) (xs : List ℕ) (b : Bool) → tally f (cond b (x ∷ xs) xs) ≡ cond {A = ℕ} b (one_at x f) 0 + tally f xs
+tally-cond f x xs true = refl
+tally-cond f x xs false = omega arith
+
+cond_zero : (b : Bool) → cond {A = ℕ} b 0 0 ≡ 0
+cond_zero true = refl
+cond_zero false = refl
+
+kept_too : (b c : Bool) (one t u : ℕ) → u ≡ cond {A = ℕ} c t 0 → (one ≡ 0) ⊎ (b ≡ c) → cond {A = ℕ} b one 0 + u ≡ cond {A = ℕ} c (one + t) 0
+kept_too true true one t u e same = omega (arith, e)
+kept_too false false one t u e same = omega (arith, e)
+kept_too true false one t u e (inl none) = omega (arith, e, none)
+kept_too true false one t u e (inr same) = absurd (true≢false same)
+kept_too false true one t u e (inl none) = omega (arith, e, none)
+kept_too false true one t u e (inr same) = absurd (false≢true same)
+
+same_or_none : (p : ℕ → Bool) (x f : ℕ) → (one_at x f ≡ 0) ⊎ (p x ≡ p f)
+same_or_none p x f = elim (eqb_tells x f) as (λ _. (one_at x f ≡ 0) ⊎ (p x ≡ p f)) [
+  | inl same ↦ inr (ap p same.1)
+  | inr apart ↦ inl (one_at_other x f apart.1)
+]
+
+-- a fragment stands in the filtered list where it passes, as often as before
+tally-filter : (p : ℕ → Bool) (f : ℕ) (xs : List ℕ) → tally f (filter p xs) ≡ cond {A = ℕ} (p f) (tally f xs) 0
+tally-filter p f [] = sym (cond_zero (p f))
+tally-filter p f (x ∷ xs) = tally-cond f x (filter p xs) (p x) ∙ kept_too (p x) (p f) (one_at x f) (tally f xs) (tally f (filter p xs)) (tally-filter p f xs) (same_or_none p x f)
+
+pub tally-filter_yes : (p : ℕ → Bool) (f : ℕ) (xs : List ℕ) → p f ≡ true → tally f (filter p xs) ≡ tally f xs
+tally-filter_yes p f xs passes = tally-filter p f xs ∙ rw passes refl
+
+pub tally-filter_no : (p : ℕ → Bool) (f : ℕ) (xs : List ℕ) → p f ≡ false → tally f (filter p xs) ≡ 0
+tally-filter_no p f xs fails = tally-filter p f xs ∙ rw fails refl
+
+-- a range has each of its numbers once, and no other
+pub tally-range_below : (f a n : ℕ) → f < a → tally f (range_with_len a n) ≡ 0
+tally-range_below f a zero low = refl
+tally-range_below f a (suc n) low =
+    omega (arith, one_at_other a f (λ e. omega (arith, e)), tally-range_below f (a + 1) n (omega arith))
+
+pub tally-range : (f a n : ℕ) → a ≤ f → f < a + n → tally f (range_with_len a n) ≡ 1
+tally-range f a zero low high = absurd (omega arith)
+tally-range f a (suc n) low high = elim (eqb_tells a f) as (λ _. tally f (range_with_len a (suc n)) ≡ 1) [
+  | inl same ↦ omega (arith, one_at_same a f same.1, tally-range_below f (a + 1) n (omega (arith, same.1)))
+  | inr apart ↦ omega (arith, one_at_other a f apart.1, tally-range f (a + 1) n (omega (arith, apart.1)) (omega arith))
+]
+
+pub tally-range_above : (f a n : ℕ) → a + n ≤ f → tally f (range_with_len a n) ≡ 0
+tally-range_above f a zero high = refl
+tally-range_above f a (suc n) high =
+    omega (arith, one_at_other a f (λ e. omega (arith, e)), tally-range_above f (a + 1) n (omega arith))
+
+module _ (g f : ℕ) (xs : List ℕ) where
+  -- the part in a group has what is of the group
+  pub part_in-here : f / 16 ≡ g → tally f (part_in g xs) ≡ tally f xs
+  part_in-here here = tally-filter_yes (in_group g) f xs (elim (eqb_tells (f / 16) g) as (λ _. in_group g f ≡ true) [
+    | inl same ↦ same.0
+    | inr apart ↦ absurd (apart.1 here)
+  ])
+
+  pub part_in-away : f / 16 ≢ g → tally f (part_in g xs) ≡ 0
+  part_in-away away = tally-filter_no (in_group g) f xs (elim (eqb_tells (f / 16) g) as (λ _. in_group g f ≡ false) [
+    | inl same ↦ absurd (away same.1)
+    | inr apart ↦ apart.0
+  ])
+
+  part_out-here : f / 16 ≡ g → tally f (part_out g xs) ≡ 0
+  part_out-here here = tally-filter_no (out_of_group g) f xs (elim (eqb_tells (f / 16) g) as (λ _. out_of_group g f ≡ false) [
+    | inl same ↦ ap not same.0
+    | inr apart ↦ absurd (apart.1 here)
+  ])
+
+  part_out-away : f / 16 ≢ g → tally f (part_out g xs) ≡ tally f xs
+  part_out-away away = tally-filter_yes (out_of_group g) f xs (elim (eqb_tells (f / 16) g) as (λ _. out_of_group g f ≡ true) [
+    | inl same ↦ absurd (away same.1)
+    | inr apart ↦ ap not apart.0
+  ])
+
+  -- both parts together are the list
+  pub parts_tally : tally f (part_in g xs) + tally f (part_out g xs) ≡ tally f xs
+  parts_tally = elim (eqb_tells (f / 16) g) as (λ _. tally f (part_in g xs) + tally f (part_out g xs) ≡ tally f xs) [
+    | inl same ↦ omega (arith, part_in-here same.1, part_out-here same.1)
+    | inr apart ↦ omega (arith, part_in-away apart.1, part_out-away apart.1)
+  ]
+
+-- so are their lengths
+pub parts_length : (g : ℕ) (xs : List ℕ) → length (part_in g xs) + length (part_out g xs) ≡ length xs
+parts_length g xs = length-filter_both (in_group g) (out_of_group g) (λ x. refl) xs
+
+-- a list of fragments of one group, each counted in the group
+pub group_length : (g : ℕ) (fs : List ℕ) → ((f : ℕ) → 1 ≤ tally f fs → f / 16 ≡ g) → sum_upto 16 (λ j. tally (16 * g + j) fs) ≡ length fs
+group_length g fs here =
+    let all : sum_upto (16 * g + 16) (λ f. tally f fs) ≡ length fs = sum_tally (16 * g + 16) fs (λ f there. omega (arith, here f there)) in
+    let before : sum_upto (16 * g) (λ f. tally f fs) ≡ 0 = sum_nothing (16 * g) (λ f. tally f fs) (λ f below. not_there (tally f fs) (λ there. omega (arith, here f there, below))) in
+    let parts : sum_upto (16 * g + 16) (λ f. tally f fs) ≡ sum_upto (16 * g) (λ f. tally f fs) + sum_upto 16 (λ j. tally (16 * g + j) fs) = sum_parts (16 * g) 16 (λ f. tally f fs) in
+    omega (arith, all, before, parts)
+
+-- the first group of a hand has a fragment of it
+pub first_some : (hand : List ℕ) → 0 < length hand → 1 ≤ length (part_in (first_group hand) hand)
+first_some [] some = absurd (omega (arith, some))
+first_some (f ∷ hand) some = let here : in_group (f / 16) f ≡ true = eq-eqb (f / 16) (f / 16) refl in rw here (omega arith)
+
+-- a filter that all pass keeps the list
+pub filter_all : (p : ℕ → Bool) (xs : List ℕ) → list_all p xs ≡ true → filter p xs ≡ xs
+filter_all p [] all = refl
+filter_all p (x ∷ xs) all = elim (bool_tells (p x)) as (λ _. filter p (x ∷ xs) ≡ x ∷ xs) [
+  | inl passes ↦ rw passes (ap (λ ys. x ∷ ys) (filter_all p xs (rw passes at all)))
+  | inr fails ↦ absurd (false≢true (rw fails at all))
+]

@@ -1,0 +1,8 @@
+-- Kept objects, their words and names.
+pub mod CellWords
+pub mod ObjectsSet
+pub mod ObjectFrames
+pub mod Newborn
+pub mod NamesGrowth
+pub mod ObjectsGrowth
+pub mod LastBirth

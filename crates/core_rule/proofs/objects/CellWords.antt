@@ -1,0 +1,98 @@
+-- The words of an object of which one cell was set: that cell's is another, and no other word is.
+use Rattle.std.specs.Prelude.{if◌then◌else◌}
+use Rattle.std.proofs.Common.{◌≡◌, ◌≢◌, ℕ, ◌+◌, ◌-◌, ◌*◌, ◌%◌, ◌^◌, ◌<◌, ◌≤◌, inl, inr, Bool, true, false, List, length, set, slice_get, Some, refl, sym, ap, ◌∙◌, subst, arith}
+use Rattle.std.proofs.lemmas.Bool.{lt-ltb, ltb-true}
+use Rattle.std.proofs.lemmas.Bool.Decides.{eqb_tells}
+use Rattle.std.proofs.lemmas.List.{length-set}
+use Rattle.heap_words.specs.declared.kind.Kind.{Kind}
+use Rattle.heap_words.specs.declared.kind.Kind.TheVariants as kinds
+use Rattle.heap_words.specs.declared.name.Name.{Name}
+use Rattle.heap_words.specs.Cell.{cell_word}
+use Rattle.heap_words.specs.Kind.{kind_number}
+use Rattle.heap_model.specs.declared.cell.Cell.{Cell}
+use Rattle.heap_model.specs.declared.id.Id.{Id}
+use Rattle.heap_model.specs.declared.id.Value.{Value}
+use Rattle.heap_model.specs.declared.id.Value.TheVariants as values
+use Rattle.core_machine.specs.declared.register.Register.{Register}
+use Rattle.core_machine.specs.declared.register.Register.TheVariants as registers
+use Rattle.core_machine.specs.Loaded.{stamp_in}
+use Rattle.core_machine.specs.Newborn.{record_word}
+use Rattle.core_machine.specs.Reaching.{row_of, part_of}
+use Rattle.core_machine.specs.Registers.{register_word}
+use Rattle.core_rule.specs.Book.{head_of}
+use Rattle.core_rule.specs.Objects.{NamesKept, value_word, field_word, is_cell, object_word}
+use Rattle.core_rule.specs.Owners.{Owner}
+use Rattle.core_rule.specs.Registers.{Holds}
+use Rattle.core_rule.proofs.graph.CellSet.{slice_get-set_same, slice_get-set_other}
+
+-- where a cell may stand
+cell_stands : (k part : ℕ) → 1 ≤ part → 2 ≤ 3 * k + part → is_cell k part ≡ true
+cell_stands k part some second = elim (eqb_tells k 0) as (λ _. is_cell k part ≡ true) [
+  | inl e ↦ rw e.0 (lt-ltb 1 part (omega (arith, e.1, second)))
+  | inr e ↦ rw e.0 (lt-ltb 0 part some)
+]
+
+stands_cell : (k part : ℕ) → is_cell k part ≡ true → (1 ≤ part) × (2 ≤ 3 * k + part)
+stands_cell k part = elim (eqb_tells k 0) as (λ _. is_cell k part ≡ true → (1 ≤ part) × (2 ≤ 3 * k + part)) [
+  | inl e ↦ rw e.0 (λ is. let two : 1 < part = ltb-true 1 part is in (omega arith, omega arith))
+  | inr e ↦ rw e.0 (λ is. let one : 0 < part = ltb-true 0 part is in let some : k ≢ 0 = e.1 in (omega arith, omega arith))
+]
+
+-- field i stands in a cell of its row
+field_stands : (i : ℕ) → is_cell (row_of i) (part_of i) ≡ true
+field_stands i = cell_stands (row_of i) (part_of i) (omega arith) (omega arith)
+
+field_number : (i : ℕ) → 3 * row_of i + part_of i - 2 ≡ i
+field_number i = omega arith
+
+-- the stamp of a field's word
+stamp_of_word : (kind : Kind) (value stamp : ℕ) → stamp < 2 ^ 32 → stamp_in (cell_word (record { kind = kind; value = value; stamp = stamp })) ≡ stamp
+stamp_of_word kind value stamp small = by (kind_number kind)
+  where
+    by : (n : ℕ) → (n * 2 ^ 62 + value * 2 ^ 32 + stamp) % 2 ^ 32 ≡ stamp
+    by n = omega (arith, small)
+
+pub stamp_of_value : (head : Id → ℕ) (value : Value) (stamp : ℕ) → stamp < 2 ^ 32 → stamp_in (value_word head value stamp) ≡ stamp
+stamp_of_value head values.Nil stamp small = stamp_of_word kinds.Nil 0 stamp small
+stamp_of_value head (values.Number n) stamp small = stamp_of_word kinds.Number n stamp small
+stamp_of_value head (values.Object id) stamp small = stamp_of_word kinds.Reference (head id) stamp small
+
+-- the word of a register is that of its value, which names a kept object where it names one
+module _ (made : List Id) (owner : ℕ → Owner) (fragments : ℕ → List ℕ) where
+  pub register_is_value : (held : Register) (value : Value) (stamp : ℕ) → Holds made owner fragments held value → register_word held stamp ≡ value_word (head_of made fragments) value stamp
+  register_is_value registers.Nil value stamp holds = ap (λ v. value_word (head_of made fragments) v stamp) (sym holds)
+  register_is_value (registers.Number n) value stamp holds = ap (λ v. value_word (head_of made fragments) v stamp) (sym holds.0)
+  register_is_value (registers.Object head id) value stamp holds =
+      ap (λ h. register_word (registers.Object h id) stamp) holds.2 ∙ ap (λ v. value_word (head_of made fragments) v stamp) (sym holds.0)
+
+  pub register_names : (held : Register) (value : Value) → Holds made owner fragments held value → NamesKept made owner fragments value
+  register_names registers.Nil value holds = subst (λ v. NamesKept made owner fragments v) (sym holds) tt
+  register_names (registers.Number n) value holds = subst (λ v. NamesKept made owner fragments v) (sym holds.0) holds.1
+  register_names (registers.Object head id) value holds = subst (λ v. NamesKept made owner fragments v) (sym holds.0) holds.1
+
+module _ (head : Id → ℕ) (name : Name) (cells : List Cell) (fragments : List ℕ) (i : ℕ) where
+  -- the word of a cell
+  pub word_of_cell : (cell : Cell) → slice_get cells i ≡ Some cell → object_word head name cells fragments (row_of i) (part_of i) ≡ value_word head cell.value cell.stamp
+  unfolding object_word
+  word_of_cell cell there = rw (field_stands i, field_number i, there) refl
+
+  module _ (cell : Cell) where
+    other_word : (is : Bool) (m k part : ℕ) → (is ≡ true → m ≢ i)
+        → (if is then field_word head (slice_get (set cells i cell) m) else record_word name (length (set cells i cell)) fragments k part)
+        ≡ (if is then field_word head (slice_get cells m) else record_word name (length cells) fragments k part)
+    other_word true m k part apart = ap (field_word head) (slice_get-set_other cells i m cell (apart refl))
+    other_word false m k part apart = ap (λ n. record_word name n fragments k part) (length-set cells i cell)
+
+    -- the other words
+    pub word_stays : (k part : ℕ) → part < 4 → (k ≡ row_of i → part ≡ part_of i → ⊥)
+        → object_word head name (set cells i cell) fragments k part ≡ object_word head name cells fragments k part
+    unfolding object_word
+    word_stays k part within apart = other_word (is_cell k part) (3 * k + part - 2) k part (λ is e. elsewhere (stands_cell k part is) e)
+      where
+        elsewhere : (1 ≤ part) × (2 ≤ 3 * k + part) → 3 * k + part - 2 ≡ i → ⊥
+        elsewhere stands e = apart (omega (arith, stands.0, stands.1, e, within)) (omega (arith, stands.0, stands.1, e, within))
+
+-- the word of the cell that was set
+pub word_of_set : (head : Id → ℕ) (name : Name) (cells : List Cell) (fragments : List ℕ) (i : ℕ) (cell : Cell) → i < length cells
+    → object_word head name (set cells i cell) fragments (row_of i) (part_of i) ≡ value_word head cell.value cell.stamp
+word_of_set head name cells fragments i cell within = word_of_cell head name (set cells i cell) fragments i cell (slice_get-set_same cells i cell within)

@@ -1,0 +1,80 @@
+-- What the last birth of an object changes of the seat that made it.
+use Rattle.std.proofs.Common.{◌≡◌, ◌≢◌, ℕ, ◌+◌, ◌*◌, ◌/◌, ◌%◌, ◌<◌, ◌≤◌, false, List, [], ◌∷◌, ◌++◌, length, None, get_or, set, refl, sym, ap, ◌∙◌, subst, arith, length-append}
+use Rattle.heap_model.specs.declared.heap.Heap.{Heap}
+use Rattle.heap_model.specs.declared.id.Id.{Id}
+use Rattle.heap_model.specs.declared.id.Id.TheVariants.{Made}
+use Rattle.heap_model.specs.declared.id.Value.{Value}
+use Rattle.heap_model.specs.declared.id.Value.TheVariants as values
+use Rattle.heap_model.specs.Changes.{add}
+use Rattle.heap_model.specs.Objects.{node, party, register}
+use Rattle.heap_model.specs.State.{State, Node}
+use Rattle.core_machine.specs.declared.address.Address.TheVariants.{Word}
+use Rattle.core_machine.specs.declared.place.Place.{Place}
+use Rattle.core_machine.specs.declared.register.Register.{Register}
+use Rattle.core_machine.specs.declared.register.Register.TheVariants as registers
+use Rattle.core_machine.specs.Fragments.{tally}
+use Rattle.core_machine.specs.Layout.{at}
+use Rattle.core_rule.specs.Book.{fragment_at, number_of}
+use Rattle.core_rule.specs.Objects.{IsKept}
+use Rattle.core_rule.specs.Owners.{Owner, Keeps}
+use Rattle.core_rule.specs.Registers.{Registers}
+use Rattle.core_rule.specs.Registers as regs
+use Rattle.core_rule.proofs.graph.GraphGrowth.{node_none, node_new, node_other, register_target, register_rest, register_other}
+use Rattle.core_rule.proofs.graph.IdsGrowth.{OneMore}
+use Rattle.core_rule.proofs.owners.Keeping.{kept_by, with_object, object_new}
+use Rattle.core_rule.proofs.objects.NamesGrowth.{kept_new, holds_old}
+use Rattle.core_rule.proofs.graph.Numbering.{number_of-new}
+use Rattle.core_rule.proofs.graph.PutRegister.{registers_with}
+
+-- the graph has one object more
+pub one_more : (g : State) (q d : ℕ) (object : Node) (count : ℕ) → (party g q).left ≡ false → count ≡ length (party g q).objects
+    → OneMore g (add g q d object) (Made q count) object
+one_more g q d object count present numbered = record {
+  none = subst (λ n. node g (Made q n) ≡ None) (sym numbered) (node_none g q d object present);
+  new = ap (λ n. node (add g q d object) (Made q n)) numbered ∙ node_new g q d object present;
+  others = λ id apart. node_other g q d object present id (λ e. apart (e ∙ ap (Made q) (sym numbered)));
+}
+
+-- the words that were stored are those of all parts of all fragments
+pub all_stored : (heap : Heap) (words body : List ℕ) (word : ℕ → ℕ → ℕ) (stored : ℕ) → stored ≡ 4 * length body
+    → ((u : ℕ) → u < stored → at heap words (Word (fragment_at body (u / 4)) (u % 4)) ≡ word (u / 4) (u % 4))
+    → (k part : ℕ) → k < length body → part < 4 → at heap words (Word (fragment_at body k) part) ≡ word k part
+all_stored heap words body word stored whole each k part row fits =
+    let within : 4 * k + part < stored = omega arith in
+    let quotient : (4 * k + part) / 4 ≡ k = omega (arith, fits) in
+    let rest : (4 * k + part) % 4 ≡ part = omega (arith, fits) in
+    subst (λ p. at heap words (Word (fragment_at body k) p) ≡ word k p) rest
+    (subst (λ i. at heap words (Word (fragment_at body i) ((4 * k + part) % 4)) ≡ word i ((4 * k + part) % 4)) quotient (each (4 * k + part) within))
+
+module _ (g : State) (q d : ℕ) (object : Node) (present : (party g q).left ≡ false) (made : List Id) (id : Id) (owner : ℕ → Owner) (fragments : ℕ → List ℕ) (body : List ℕ)
+    (free : (f i k : ℕ) → 1 ≤ tally f body → owner f ≢ Keeps i k) where
+  abbrev now_owner : ℕ → Owner
+  now_owner = kept_by (length made) body owner
+
+  abbrev now_fragments : ℕ → List ℕ
+  now_fragments = with_object fragments (length made) body
+
+  abbrev Now : Register → Value → Type 0
+  Now held value = regs.Holds (made ++ id ∷ []) now_owner now_fragments held value
+
+  -- another's registers hold what they held
+  pub registers_others : (r : ℕ) (held : List Register) (place : Place) (e : ℕ) → r ≢ q → Registers g made owner fragments r held place e → Registers (add g q d object) (made ++ id ∷ []) now_owner now_fragments r held place e
+  registers_others r held place e apart old i fresh = subst (Now (get_or held i registers.Nil)) (sym (register_other g q d object present r i apart)) (holds_old made id owner fragments body free _ _ (old i fresh))
+
+  module _ (once : (f : ℕ) → tally f body ≤ 1) (some : 1 ≤ length body) (new : number_of made id ≡ length made) where
+    holds_new : Now (registers.Object (get_or body 0 0) id) (values.Object id)
+    holds_new =
+        let number : number_of (made ++ id ∷ []) id ≡ length made = number_of-new made id new in (
+          refl,
+          (omega (arith, number, length-append made (id ∷ [])), subst (λ i. IsKept now_owner now_fragments i) (sym number) (kept_new made id owner fragments body free once some)),
+          sym (ap (λ i. fragment_at (now_fragments i) 0) number ∙ ap (λ fs. fragment_at fs 0) (object_new fragments (length made) body)),
+        )
+
+    -- its own do too, but for the one that holds the new object
+    pub registers_own : (held : List Register) → d < length held → d < length (party g q).registers → id ≡ Made q (length (party g q).objects)
+        → ((i : ℕ) → regs.Holds made owner fragments (get_or held i registers.Nil) (register g q i))
+        → (i : ℕ) → Now (get_or (set held d (registers.Object (get_or body 0 0) id)) i registers.Nil) (register (add g q d object) q i)
+    registers_own held within there next old =
+        registers_with (made ++ id ∷ []) now_owner now_fragments (add g q d object) q d held (registers.Object (get_or body 0 0) id) within
+        (subst (Now (registers.Object (get_or body 0 0) id)) (ap values.Object next ∙ sym (register_target g q d object present there)) holds_new)
+        (λ i apart. subst (Now (get_or held i registers.Nil)) (sym (register_rest g q d object present i apart)) (holds_old made id owner fragments body free _ _ (old i)))

@@ -1,0 +1,103 @@
+-- The objects stand as before where no word of a kept fragment changes, and the same fragments are kept.
+use Rattle.std.proofs.Common.{◌≡◌, ◌≢◌, ℕ, ◌<◌, ◌≤◌, List, ◌∙◌, subst, sym}
+use Rattle.heap_model.specs.declared.heap.Heap.{Heap}
+use Rattle.heap_model.specs.declared.id.Id.{Id}
+use Rattle.heap_model.specs.declared.id.Value.{Value}
+use Rattle.heap_model.specs.declared.id.Value.TheVariants as values
+use Rattle.heap_model.specs.State.{State}
+use Rattle.core_machine.specs.declared.address.Address.TheVariants.{Word, Control}
+use Rattle.core_machine.specs.declared.place.Place.{Place}
+use Rattle.core_machine.specs.declared.register.Register.{Register}
+use Rattle.core_machine.specs.declared.register.Register.TheVariants as registers
+use Rattle.core_machine.specs.Fragments.{tally}
+use Rattle.core_machine.specs.Layout.{at, put}
+use Rattle.core_rule.specs.Objects.{NamesKept, Objects}
+use Rattle.core_rule.specs.Owners.{Owner, Free, Holds, Bears, Keeps, handed}
+use Rattle.core_rule.specs.Registers.{Registers}
+use Rattle.core_rule.specs.Registers as regs
+use Rattle.core_rule.proofs.words.Addresses.{word_after_control, fragment_other}
+use Rattle.core_rule.proofs.owners.Handed.{handed_cases}
+
+module _ (heap : Heap) (words now : List ℕ) (g : State) (made : List Id) (owner : ℕ → Owner) (fragments : ℕ → List ℕ) where
+  -- no word of a kept fragment changes
+  pub objects_words : ((f i k part : ℕ) → owner f ≡ Keeps i k → part < 4 → at heap now (Word f part) ≡ at heap words (Word f part))
+      → Objects heap words g made owner fragments → Objects heap now g made owner fragments
+  objects_words same old = record {
+    kept = λ i below is. let one = old.kept i below is in record {
+      sized = one.sized;
+      whole = one.whole;
+      owned = one.owned;
+      stored = λ k part p q. same _ i k part (one.owned k p) q ∙ one.stored k part p q;
+    };
+    named = old.named;
+    back = old.back;
+  }
+
+-- a control word changes
+pub objects_control : (heap : Heap) (words : List ℕ) (g : State) (made : List Id) (owner : ℕ → Owner) (fragments : ℕ → List ℕ) (group n : ℕ)
+    → group < heap.groups → Objects heap words g made owner fragments → Objects heap (put heap words (Control group) n) g made owner fragments
+objects_control heap words g made owner fragments group n below old =
+    objects_words heap words (put heap words (Control group) n) g made owner fragments (λ f i k part is p. word_after_control heap words n group f part below) old
+
+-- a word of a fragment that no object keeps changes
+pub objects_store : (heap : Heap) (words : List ℕ) (g : State) (made : List Id) (owner : ℕ → Owner) (fragments : ℕ → List ℕ) (f part n : ℕ)
+    → part < 4 → ((i k : ℕ) → owner f ≢ Keeps i k) → Objects heap words g made owner fragments → Objects heap (put heap words (Word f part) n) g made owner fragments
+objects_store heap words g made owner fragments f part n within free old =
+    objects_words heap words (put heap words (Word f part) n) g made owner fragments
+    (λ x i k p is q. fragment_other heap words n f part x p within q (λ e. free i k (subst (λ y. owner y ≡ Keeps i k) e is))) old
+
+-- the same fragments are kept, as the same parts of the same objects
+pub record SameKept (owner now : ℕ → Owner) : Type 0 where
+  pub stays : (f i k : ℕ) → owner f ≡ Keeps i k → now f ≡ Keeps i k
+  pub was : (f i k : ℕ) → now f ≡ Keeps i k → owner f ≡ Keeps i k
+
+-- fragments that no object keeps go to an owner that keeps none
+pub handed_kept : (o : Owner) (owner : ℕ → Owner) (fs : List ℕ) → ((i k : ℕ) → o ≢ Keeps i k) → ((f i k : ℕ) → 1 ≤ tally f fs → owner f ≢ Keeps i k)
+    → SameKept owner (handed o owner fs)
+handed_kept o owner fs none free = record {
+  stays = λ f i k is. handed_cases (λ x. x ≡ Keeps i k) o owner fs f (λ there. absurd (free f i k there is)) (λ away. is);
+  was = λ f i k. handed_cases (λ x. x ≡ Keeps i k → owner f ≡ Keeps i k) o owner fs f (λ there is. absurd (none i k is)) (λ away is. is);
+}
+
+-- nobody's and a seat's fragments are no object's
+pub holds_keeps_none : (q i k : ℕ) → Holds q ≢ Keeps i k
+holds_keeps_none q i k e = cc
+
+pub bears_keeps_none : (q i k : ℕ) → Bears q ≢ Keeps i k
+bears_keeps_none q i k e = cc
+
+pub free_keeps_none : (i k : ℕ) → Free ≢ Keeps i k
+free_keeps_none i k e = cc
+
+-- so where fragments that a seat holds do, the same are kept
+pub part_kept : (owner : ℕ → Owner) (q : ℕ) (fs : List ℕ) (o : Owner) → ((i k : ℕ) → o ≢ Keeps i k) → ((f : ℕ) → 1 ≤ tally f fs → owner f ≡ Holds q) → SameKept owner (handed o owner fs)
+part_kept owner q fs o none held = handed_kept o owner fs none (λ f i k there is. holds_keeps_none q i k (sym (held f there) ∙ is))
+
+module _ (owner now : ℕ → Owner) (same : SameKept owner now) (made : List Id) (fragments : ℕ → List ℕ) where
+  pub names_kept : (value : Value) → NamesKept made owner fragments value → NamesKept made now fragments value
+  names_kept values.Nil names = tt
+  names_kept (values.Number n) names = names
+  names_kept (values.Object id) names = (names.0, same.stays _ _ _ names.1)
+
+  -- so the objects stand
+  pub objects_owners : (heap : Heap) (words : List ℕ) (g : State) → Objects heap words g made owner fragments → Objects heap words g made now fragments
+  objects_owners heap words g old = record {
+    kept = λ i below is. let one = old.kept i below (same.was _ _ _ is) in record {
+      sized = one.sized;
+      whole = one.whole;
+      owned = λ k p. same.stays _ _ _ (one.owned k p);
+      stored = one.stored;
+    };
+    named = λ i j below is cell there. let one = old.named i j below (same.was _ _ _ is) cell there in (names_kept cell.value one.0, one.1);
+    back = λ f i k is. let one = old.back f i k (same.was f i k is) in (one.0, same.stays _ _ _ one.1, one.2, one.3);
+  }
+
+  holds_kept : (held : Register) (value : Value) → regs.Holds made owner fragments held value → regs.Holds made now fragments held value
+  holds_kept registers.Nil value holds = holds
+  holds_kept (registers.Number n) value holds = holds
+  holds_kept (registers.Object head id) value holds = (holds.0, names_kept (values.Object id) holds.1, holds.2)
+
+  -- and the registers hold what they held
+  pub registers_owners : (g : State) (q : ℕ) (held : List Register) (place : Place) (d : ℕ)
+      → Registers g made owner fragments q held place d → Registers g made now fragments q held place d
+  registers_owners g q held place d old = λ r fresh. holds_kept _ _ (old r fresh)

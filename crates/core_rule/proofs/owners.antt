@@ -1,0 +1,5 @@
+-- Whose a fragment is.
+pub mod OwnerLemmas
+pub mod Handed
+pub mod Keeping
+pub mod KeptOwners

@@ -1,0 +1,8 @@
+-- From the opening on over every run, and over whole calls.
+pub mod OpeningOwners
+pub mod OpeningObjects
+pub mod OpeningStands
+pub mod Runs
+pub mod Plays
+pub mod PlayEntries
+pub mod PlayRuns

@@ -1,0 +1,117 @@
+-- The board is the one object when a heap opens.
+use Rattle.std.specs.Int.{bit_at}
+use Rattle.std.proofs.Common.{◌≡◌, ◌^◌, ℕ, ◌+◌, ◌*◌, ◌/◌, ◌%◌, ◌<◌, ◌≤◌, inl, inr, true, List, [], ◌∷◌, length, nat_lt, replicate, slice_get, Some, IsSome, refl, sym, ap, ◌∙◌, subst, arith}
+use Rattle.std.proofs.lemmas.Bool.{cases_lt, false≢true}
+use Rattle.std.proofs.lemmas.Bool.Decides.{nat_tests, eqb_tells}
+use Rattle.std.proofs.lemmas.List.{get_or_past, length-replicate}
+use Rattle.std.proofs.lemmas.Nat.Bits.{bit_at-zero}
+use Rattle.heap_model.specs.declared.cell.Cell.{Cell}
+use Rattle.heap_model.specs.declared.heap.Heap.{Heap}
+use Rattle.heap_model.specs.declared.id.Id.{Id}
+use Rattle.heap_model.specs.declared.id.Id.TheVariants.{Board, Made}
+use Rattle.heap_model.specs.Objects.{nobody, party}
+use Rattle.heap_model.specs.Reach.{IsMade}
+use Rattle.heap_model.specs.State.{Party, opening, opening_party, unset}
+use Rattle.core_machine.specs.declared.address.Address.{Address}
+use Rattle.core_machine.specs.declared.address.Address.TheVariants.{Control, Word}
+use Rattle.core_machine.specs.Layout.{at, InTable}
+use Rattle.core_machine.specs.Opening.{board, board_name, opening_word}
+use Rattle.core_rule.specs.Book.{White, fragment_at, id_at, number_of, head_of}
+use Rattle.core_rule.specs.Colours.{Marks}
+use Rattle.core_rule.specs.ControlWords.{Bits}
+use Rattle.core_rule.specs.Objects.{FitsName, AreMade, IsKept, NamesKept, KeptObject, Objects, cells_at}
+use Rattle.core_rule.specs.Owners.{Keeps, taken_bit, born_bit}
+use Rattle.core_rule.proofs.graph.GraphRegisters.{opening_at}
+use Rattle.core_rule.proofs.objects.Newborn.{newborn_is}
+use Rattle.core_rule.proofs.objects.ObjectsGrowth.{unset_cell}
+use Rattle.core_rule.proofs.runs.OpeningOwners.{opening_owner, opening_cases, nobodys, board_at, board_taken, board_born, board_plain}
+
+-- the board is all that was made
+abbrev pub opening_made : List Id
+opening_made = Board ∷ []
+
+abbrev pub opening_fragments : ℕ → List ℕ
+opening_fragments i = board
+
+-- no seat has made an object
+nothing_made : (heap : Heap) (s : ℕ) → (party (opening heap) s).objects ≡ []
+nothing_made heap s = elim (cases_lt s heap.seats) [
+  | inl below ↦ ap (λ (p : Party). p.objects) (opening_at heap s below)
+  | inr past ↦ ap (λ (p : Party). p.objects) (get_or_past (replicate heap.seats opening_party) s nobody (omega (arith, past, length-replicate heap.seats opening_party)))
+]
+
+only_board : (heap : Heap) (id : Id) → IsMade (opening heap) id → Board ≡ id
+only_board heap Board is = refl
+only_board heap (Made s n) is = absurd (false≢true (subst (λ objects. IsSome (slice_get objects n)) (nothing_made heap s) is))
+
+-- its id is the graph's one
+pub opening_ids : (heap : Heap) → AreMade (opening heap) opening_made
+opening_ids heap = record {
+  board = refl;
+  in_graph = λ i below. let none : 0 ≡ i = omega arith in subst (λ x. IsMade (opening heap) (id_at opening_made x)) none refl;
+  numbered = λ id is. subst (λ x. (number_of opening_made x < length opening_made) × (id_at opening_made (number_of opening_made x) ≡ x)) (only_board heap id is) (omega arith, refl);
+  distinct = λ i below. let none : 0 ≡ i = omega arith in subst (λ x. number_of opening_made (id_at opening_made x) ≡ x) none refl;
+  fit = λ i below. let none : 0 ≡ i = omega arith in subst (λ x. FitsName (id_at opening_made x)) none tt;
+}
+
+module _ (heap : Heap) (words : List ℕ) (some : 1 ≤ heap.groups) (open_words : (address : Address) → InTable heap address → at heap words address ≡ opening_word heap address) where
+  group_taken : (f : ℕ) → f < 16 * heap.groups → bit_at (opening_word heap (Control (f / 16))) (f % 16) ≡ taken_bit (opening_owner f)
+  group_taken f within = elim (eqb_tells (f / 16) 0) as (λ _. bit_at (opening_word heap (Control (f / 16))) (f % 16) ≡ taken_bit (opening_owner f)) [
+    | inl first ↦ let place : f % 16 ≡ f = omega (arith, first.1) in rw (first.0, place) (board_taken f (omega (arith, first.1)))
+    | inr later ↦ rw (later.0, nobodys f (omega (arith, later.1))) (bit_at-zero (f % 16))
+  ]
+
+  group_born : (f : ℕ) → f < 16 * heap.groups → bit_at (opening_word heap (Control (f / 16))) (16 + f % 16) ≡ born_bit (opening_owner f)
+  group_born f within = elim (eqb_tells (f / 16) 0) as (λ _. bit_at (opening_word heap (Control (f / 16))) (16 + f % 16) ≡ born_bit (opening_owner f)) [
+    | inl first ↦ let place : f % 16 ≡ f = omega (arith, first.1) in rw (first.0, place) (board_born f (omega (arith, first.1)))
+    | inr later ↦ rw (later.0, nobodys f (omega (arith, later.1))) (bit_at-zero (16 + f % 16))
+  ]
+
+  -- the control words have the bits of the owners
+  pub opening_bits : Bits heap words opening_owner
+  opening_bits = record {
+    taken = λ f within. rw (open_words (Control (f / 16)) (omega arith)) (group_taken f within);
+    born = λ f within. rw (open_words (Control (f / 16)) (omega arith)) (group_born f within);
+    outside = λ f past. nobodys f (omega (arith, past, some));
+  }
+
+  -- nothing is marked or scanned
+  plain : (g i : ℕ) → 32 ≤ i → bit_at (opening_word heap (Control g)) i ≡ 0
+  plain g i past = elim (eqb_tells g 0) as (λ _. bit_at (opening_word heap (Control g)) i ≡ 0) [
+    | inl first ↦ rw first.0 (board_plain i past)
+    | inr later ↦ rw later.0 (bit_at-zero i)
+  ]
+
+  pub opening_marks : Marks heap words (λ f. White)
+  opening_marks = record {
+    marked = λ f within. rw (open_words (Control (f / 16)) (omega (arith, within))) (plain (f / 16) (32 + f % 16) (omega arith));
+    scanned = λ f within. rw (open_words (Control (f / 16)) (omega (arith, within))) (plain (f / 16) (48 + f % 16) (omega arith));
+    outside = λ f past. refl;
+  }
+
+  board_kept : KeptObject heap words opening_owner (head_of opening_made opening_fragments) 0 Board (replicate 32 unset) board
+  board_kept = record {
+    sized = (omega arith, omega arith);
+    whole = refl;
+    owned = λ k below. let here : k < 11 = omega arith in rw (board_at k here) (opening_cases (λ o. o ≡ Keeps 0 k) k (λ less. refl) (λ past. absurd (omega (arith, here, past))));
+    stored = λ k part below fits.
+        let here : k < 11 = omega arith in
+        rw (board_at k here, open_words (Word k part) (omega (arith, here, some), fits))
+        (let newborn = newborn_is (head_of opening_made opening_fragments) board_name 32 board k part in
+        let first : nat_lt k 11 ≡ true = grind (arith, nat_tests, here) in rw first (sym newborn));
+  }
+
+  -- it has the words of a record that was never set
+  pub opening_objects : Objects heap words (opening heap) opening_made opening_owner opening_fragments
+  opening_objects = record {
+    kept = λ i below is. let none : 0 ≡ i = omega arith in
+        subst (λ x. KeptObject heap words opening_owner (head_of opening_made opening_fragments) x (id_at opening_made x) (cells_at (opening heap) opening_made x) (opening_fragments x)) none board_kept;
+    named = λ i j below is cell there. let none : i ≡ 0 = omega arith in
+        let blank : cell ≡ unset = unset_cell 32 j cell (subst (λ x. slice_get (cells_at (opening heap) opening_made x) j ≡ Some cell) none there) in
+        subst (λ (c : Cell). NamesKept opening_made opening_owner opening_fragments c.value × (c.stamp < 2 ^ 32)) (sym blank) (tt, omega arith);
+    back = λ f i k. opening_cases (λ o. o ≡ Keeps i k → (i < length opening_made) × IsKept opening_owner opening_fragments i × (k < length (opening_fragments i)) × (f ≡ fragment_at (opening_fragments i) k)) f
+        (λ below is. let object : 0 ≡ i = cc in let part : f ≡ k = cc in
+        subst (λ x. (x < length opening_made) × IsKept opening_owner opening_fragments x × (k < length (opening_fragments x)) × (f ≡ fragment_at (opening_fragments x) k)) object
+        (omega arith, refl, omega (arith, part, below), part ∙ sym (board_at k (omega (arith, part, below)))))
+        (λ past is. absurd (cc));
+  }

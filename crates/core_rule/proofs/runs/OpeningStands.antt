@@ -1,0 +1,126 @@
+-- The rule holds when a heap opens.
+use Rattle.std.proofs.Common.{◌≡◌, ℕ, zero, suc, ◌+◌, ◌<◌, inl, List, [], ◌∷◌, length, get_or, replicate, refl, sym, ap, ◌∙◌, subst, arith}
+use Rattle.std.proofs.lemmas.Bool.{lt-ltb}
+use Rattle.std.proofs.lemmas.List.FromFn.{get_or-map-range_with_len, length-map-range_with_len}
+use Rattle.heap_model.specs.declared.heap.Heap.{Heap}
+use Rattle.heap_model.specs.declared.id.Id.TheVariants as ids
+use Rattle.heap_model.specs.declared.id.Value.{Value}
+use Rattle.heap_model.specs.declared.id.Value.TheVariants as values
+use Rattle.heap_model.specs.Heap.{IsHeap}
+use Rattle.heap_model.specs.State.{Party, opening}
+use Rattle.core_machine.specs.declared.address.Address.TheVariants.{Answer, Phase}
+use Rattle.core_machine.specs.declared.place.Place.TheVariants as places
+use Rattle.core_machine.specs.declared.register.Register.{Register}
+use Rattle.core_machine.specs.declared.register.Register.TheVariants as registers
+use Rattle.core_machine.specs.Collector.{Collector}
+use Rattle.core_machine.specs.Fits.{Fits}
+use Rattle.core_machine.specs.Layout.{at}
+use Rattle.core_machine.specs.Machine.{State, seat_at}
+use Rattle.core_machine.specs.Opening.{IsOpening, opening_seat, opening_word}
+use Rattle.core_machine.specs.Seat.{Seat, nobody}
+use Rattle.core_machine.specs.Value.{IsMachine}
+use Rattle.core_machine.proofs.OpeningMachine.{opening_machine}
+use Rattle.core_rule.specs.Book.{Book, White}
+use Rattle.core_rule.specs.Laws.{StandsFor}
+use Rattle.core_rule.specs.Owners.{holds_bit, bears_bit}
+use Rattle.core_rule.specs.Phases.{CollectorStands}
+use Rattle.core_rule.specs.Registers.{Registers}
+use Rattle.core_rule.specs.Registers as regs
+use Rattle.core_rule.specs.Rule.{Rule, SeatStands}
+use Rattle.core_rule.proofs.hand.EmptyHand.{nothing_together}
+use Rattle.core_rule.proofs.gather.GatherMoves.{nothing_tried}
+use Rattle.core_rule.proofs.graph.GraphRegisters.{opening_at}
+use Rattle.core_rule.proofs.runs.OpeningObjects.{opening_made, opening_fragments, opening_ids, opening_bits, opening_marks, opening_objects}
+use Rattle.core_rule.proofs.runs.OpeningOwners.{opening_owner, opening_cases, opening_used}
+
+-- the book when a heap opens: nothing has happened, and there is the board alone
+abbrev pub opening_book : Book
+opening_book = record { history = []; made = opening_made; owner = opening_owner; fragments = opening_fragments; colour = λ f. White; begun = λ q. 0 }
+
+abbrev Now : Register → Value → Type 0
+Now held value = regs.Holds opening_made opening_owner opening_fragments held value
+
+nil_registers : (n r : ℕ) → Now (get_or (replicate n registers.Nil) r registers.Nil) (get_or (replicate n values.Nil) r values.Nil)
+nil_registers zero r = refl
+nil_registers (suc n) zero = refl
+nil_registers (suc n) (suc r) = nil_registers n r
+
+opening_held : (r : ℕ) → Now (get_or (registers.Object 0 ids.Board ∷ replicate 15 registers.Nil) r registers.Nil) (get_or (values.Object ids.Board ∷ replicate 15 values.Nil) r values.Nil)
+opening_held zero = (refl, (omega arith, refl), refl)
+opening_held (suc r) = nil_registers 15 r
+
+opening_registers : (heap : Heap) (q : ℕ) → q < heap.seats → Registers (opening heap) opening_made opening_owner opening_fragments q (opening_seat heap q).registers places.Idle 0
+opening_registers heap q below r fresh = subst (λ (p : Party). Now (get_or (opening_seat heap q).registers r registers.Nil) (get_or p.registers r values.Nil)) (sym (opening_at heap q below)) (opening_held r)
+
+-- no seat has answered
+opening_answer : (heap : Heap) (q : ℕ) → q < heap.seats → opening_word heap (Answer q) ≡ 0
+opening_answer heap q below = rw (lt-ltb q heap.seats below) refl
+
+-- a seat stands
+opening_seat_stands : (heap : Heap) (words : List ℕ) (q : ℕ) → Fits heap (opening_seat heap q) → q < heap.seats → at heap words (Answer q) ≡ 0
+    → SeatStands heap words opening_book q (opening_seat heap q)
+opening_seat_stands heap words q fits below none_answered = record {
+  fits = fits;
+  holding = record {
+    held = λ f. opening_cases (λ o. 0 ≡ holds_bit q o) f (λ less. refl) (λ past. refl);
+    borne = λ f. opening_cases (λ o. 0 ≡ 0 + bears_bit q o) f (λ less. refl) (λ past. refl);
+  };
+  stored = λ u none. absurd (omega (arith, none));
+  registers = opening_registers heap q below;
+  list = record { awaited = []; own = refl; awaits = refl };
+  way = tt;
+  cycle = record {
+    answers_told = record { told = refl; leaves = refl; word = none_answered; near = λ present. inl refl; loaded = omega arith };
+    answer = tt;
+    flight = record { set = λ marking snapped. tt; shaded = λ marking. tt; roots = λ marking j less. absurd (omega (arith, less)) };
+    births = λ f borne. refl;
+  };
+  together = nothing_together heap (opening_seat heap q).cursor 0 [] [] refl refl;
+  counts = record {
+    numbered = ap (λ (p : Party). length p.objects) (sym (opening_at heap q below));
+    stamped = ap (λ (p : Party). p.sets) (sym (opening_at heap q below));
+    leaves = ap (λ (p : Party). p.left) (opening_at heap q below);
+    unborn = refl;
+  };
+  began = record { earlier = omega arith; unanswered = λ busy. refl };
+  gathers = nothing_tried heap opening_owner q [] (opening_seat heap q).cursor;
+}
+
+opening_seat_at : (heap : Heap) (state : State) (q : ℕ) → IsOpening heap state → q < heap.seats → seat_at state q ≡ opening_seat heap q
+opening_seat_at heap state q opens below = ap (λ seats. get_or seats q nobody) opens.seats_open ∙ get_or-map-range_with_len (opening_seat heap) 0 heap.seats q q nobody below (omega arith)
+
+-- the opening book stands for an opening state
+opening_rule : (heap : Heap) (state : State) → IsHeap heap → IsMachine heap state → IsOpening heap state → Rule heap state opening_book
+opening_rule heap state fits machine opens = record {
+  limits = fits;
+  machine = machine;
+  all_seats = ap length opens.seats_open ∙ length-map-range_with_len (opening_seat heap) 0 heap.seats;
+  heap_stands = record {
+    table = opens.table;
+    control_words = opening_bits heap state.words fits.some_group opens.words_open;
+    ids = opening_ids heap;
+    objects = opening_objects heap state.words fits.some_group opens.words_open;
+    used = opening_used heap fits.some_group;
+    legal = record { objects = tt; space = tt };
+    cycle = record {
+      word = opens.words_open Phase tt;
+      so_far = omega arith;
+      marks = opening_marks heap state.words fits.some_group opens.words_open;
+      coloured = record {
+        rest = λ rests f. refl;
+        early = λ one f black. absurd (cc);
+        born = λ f marked. absurd (marked refl);
+        black = λ marking f part g black leads. absurd (cc);
+        first = λ marking f i k keeps marked. marked;
+      };
+    };
+  };
+  seats_stand = λ q below. subst (λ (s : Seat). SeatStands heap state.words opening_book q s) (sym (opening_seat_at heap state q opens below))
+      (opening_seat_stands heap state.words q (subst (Fits heap) (opening_seat_at heap state q opens below) (machine.fit q (rw machine.seated below))) below
+      (opens.words_open (Answer q) (omega (arith, below, fits.seats_fit)) ∙ opening_answer heap q below));
+  collector_stands = subst (λ (c : Collector). CollectorStands heap c []) (sym opens.nothing_done)
+      record { log = refl; phase_told = refl; looked = λ q less. absurd (omega (arith, less)); goes_on = λ advancing. absurd (cc) };
+}
+
+pub opening_stands : (heap : Heap) (state : State) → IsHeap heap → IsOpening heap state → StandsFor heap state [] []
+opening_stands heap state fits opens = record { book = opening_book; grown = refl; rule = opening_rule heap state fits (opening_machine heap state fits opens) opens }

@@ -1,0 +1,164 @@
+-- A run of whole calls, one after another, has a history that is legal as a play.
+use Rattle.std.specs.List.{list_all}
+use Rattle.std.specs.Prelude.{Option, None, Some, IsSome}
+use Rattle.std.proofs.Common.{◌≡◌, ◌≢◌, ℕ, zero, suc, ◌+◌, ◌<◌, ◌≤◌, true, false, inl, inr, List, [], ◌∷◌, ◌++◌, length, drop, refl, sym, ap, ◌∙◌, subst, append_assoc}
+use Rattle.std.proofs.lemmas.Bool.{eq-eqb}
+use Rattle.std.proofs.lemmas.Bool.Decides.{eqb_tells}
+use Rattle.std.proofs.lemmas.List.{append-nil, get_or-set_other, drop-append-le}
+use Rattle.std.proofs.lemmas.List.Folds.{list_all-append}
+use Rattle.heap_model.specs.declared.command.Command.{Command}
+use Rattle.heap_model.specs.declared.entry.Entry.{Entry}
+use Rattle.heap_model.specs.declared.entry.Entry.TheVariants.{Advance}
+use Rattle.heap_model.specs.declared.heap.Heap.{Heap}
+use Rattle.heap_model.specs.Account.{IsLegal}
+use Rattle.heap_model.specs.Effects.{is_of}
+use Rattle.heap_model.specs.State.{opening}
+use Rattle.core_machine.specs.declared.place.Place.TheVariants as places
+use Rattle.core_machine.specs.declared.stage.Stage.{Stage}
+use Rattle.core_machine.specs.declared.stage.Stage.TheVariants.{Looking, Advancing}
+use Rattle.core_machine.specs.Collector.{Collector, turn_at}
+use Rattle.core_machine.specs.Machine.{State, seat_at, moved, Event, Begins, Steps, Turns, Can, after, entries, Run, history}
+use Rattle.core_machine.specs.Moves.{Move, move_at, next_move}
+use Rattle.core_machine.specs.Seat.{Seat, nobody}
+use Rattle.core_rule.specs.Book.{Book}
+use Rattle.core_rule.specs.Laws.{IsAlone, AllIdle, OneCallAtATime, WholeCallsPlay, HappensAlone}
+use Rattle.core_rule.specs.Rule.{Rule}
+use Rattle.core_rule.proofs.entries.Begins.{begins}
+use Rattle.core_rule.proofs.runs.PlayEntries.{AddsPlay, adds_play}
+use Rattle.core_rule.proofs.runs.Plays.{MayPlay, play_more, advancing, plain_keeps}
+use Rattle.core_rule.proofs.runs.Runs.{MachineStays, OpeningStands, EachStepKeeps, EachBeginKeeps, EachTurnKeeps, seat_of_step}
+
+-- the history is a play's, and since the call of a seat began all entries are its own
+pub record PlaysOn (heap : Heap) (state : State) (book : Book) : Type 0 where
+  pub rule : Rule heap state book
+  pub legal : IsLegal heap true book.history
+  pub own : (q : ℕ) → q < heap.seats → (seat_at state q).place ≢ places.Idle → list_all (is_of q) (drop (book.begun q) book.history) ≡ true
+
+own_more : (q begun : ℕ) (before added : List Entry) → begun ≤ length before → list_all (is_of q) (drop begun before) ≡ true → list_all (is_of q) added ≡ true
+    → list_all (is_of q) (drop begun (before ++ added)) ≡ true
+own_more q begun before added earlier own more = rw (drop-append-le begun before added earlier, list_all-append (is_of q) (drop begun before) added, own, more) refl
+
+moved_other : (heap : Heap) (state : State) (q r : ℕ) (move : Option Move) → r ≢ q → seat_at (moved heap state q move) r ≡ seat_at state r
+moved_other heap state q r None apart = refl
+moved_other heap state q r (Some move) apart = get_or-set_other state.seats q r _ nobody apart
+
+busy : (heap : Heap) (q : ℕ) (seat : Seat) → IsSome (next_move heap q seat) → seat.place ≢ places.Idle
+busy heap q seat due idle = nothing_due (subst (λ place. IsSome (move_at heap q seat place)) idle due)
+  where
+    nothing_due : IsSome (move_at heap q seat places.Idle) → ⊥
+    nothing_due none = cc
+
+-- some book stands for the state with this history, which plays on
+pub record PlaysNext (heap : Heap) (state : State) (before added : List Entry) : Type 0 where
+  pub now : Book
+  pub grown : now.history ≡ before ++ added
+  pub plays : PlaysOn heap state now
+
+-- where the others have no call in flight and stay, what the seat that goes on has told is enough
+own_alone : (heap : Heap) (state new : State) (now : Book) (q : ℕ) → IsAlone state q → length state.seats ≡ heap.seats
+    → ((r : ℕ) → r ≢ q → seat_at new r ≡ seat_at state r) → list_all (is_of q) (drop (now.begun q) now.history) ≡ true
+    → (r : ℕ) → r < heap.seats → (seat_at new r).place ≢ places.Idle → list_all (is_of r) (drop (now.begun r) now.history) ≡ true
+own_alone heap state new now q alone all stay own r below active =
+    elim (eqb_tells r q) as (λ _. list_all (is_of r) (drop (now.begun r) now.history) ≡ true) [
+      | inl same ↦ subst (λ n. list_all (is_of n) (drop (now.begun n) now.history) ≡ true) (sym same.1) own
+      | inr apart ↦ absurd (active (ap (λ s. s.place) (stay r apart.1) ∙ alone r (rw all below) apart.1))
+    ]
+
+step_plays : MachineStays → EachStepKeeps → (heap : Heap) (state : State) (book : Book) (q : ℕ) → PlaysOn heap state book → IsAlone state q → Can heap state (Steps q)
+    → PlaysNext heap (after heap state (Steps q)) book.history (entries heap state (Steps q))
+step_plays stays steps heap state book q plays alone can =
+    let here : q < heap.seats = seat_of_step heap state book q plays.rule can in
+    let active : (seat_at state q).place ≢ places.Idle = busy heap q (seat_at state q) can in
+    let keeps = steps heap state book q plays.rule here (stays heap state (Steps q) plays.rule.machine can) in
+    let adds : AddsPlay heap book.history q (entries heap state (Steps q))
+    = adds_play heap state book q (seat_at state q).place plays.rule here refl (plays.own q here active) in
+    let earlier : book.begun q ≤ length book.history = (plays.rule.seats_stand q here).began.earlier in
+    let own_now : list_all (is_of q) (drop (keeps.now.begun q) keeps.now.history) ≡ true
+    = rw (keeps.calls, keeps.grown) (own_more q (book.begun q) book.history (entries heap state (Steps q)) earlier (plays.own q here active) adds.own) in
+    record {
+      now = keeps.now;
+      grown = keeps.grown;
+      plays = record {
+        rule = keeps.rule;
+        legal = subst (IsLegal heap true) (sym keeps.grown)
+            (play_more heap book.history (entries heap state (Steps q)) adds.may plays.legal (subst (IsLegal heap false) keeps.grown keeps.rule.heap_stands.legal));
+        own = own_alone heap state (after heap state (Steps q)) keeps.now q alone plays.rule.all_seats
+            (λ r apart. moved_other heap state q r (next_move heap q (seat_at state q)) apart) own_now;
+      };
+    }
+
+nothing_since : (q : ℕ) (history : List Entry) → list_all (is_of q) (drop (length history) history) ≡ true
+nothing_since q [] = refl
+nothing_since q (entry ∷ history) = nothing_since q history
+
+begin_plays : MachineStays → EachBeginKeeps → (heap : Heap) (state : State) (book : Book) (q : ℕ) (command : Command) → PlaysOn heap state book → IsAlone state q
+    → Can heap state (Begins q command) → PlaysNext heap (after heap state (Begins q command)) book.history []
+begin_plays stays begin heap state book q command plays alone can =
+    let keeps = begin heap state book q command plays.rule can (stays heap state (Begins q command) plays.rule.machine can) in
+    let same : keeps.now.history ≡ book.history = keeps.grown ∙ append-nil book.history in
+    let first : begins q (length book.history) book.begun q ≡ length book.history = rw (eq-eqb q q refl) refl in
+    let own_now : list_all (is_of q) (drop (keeps.now.begun q) keeps.now.history) ≡ true
+    = rw (keeps.calls, same, first) (nothing_since q book.history) in
+    record {
+      now = keeps.now;
+      grown = keeps.grown;
+      plays = record {
+        rule = keeps.rule;
+        legal = subst (IsLegal heap true) (sym same) plays.legal;
+        own = own_alone heap state (after heap state (Begins q command)) keeps.now q alone plays.rule.all_seats
+            (λ r apart. get_or-set_other state.seats q r _ nobody apart) own_now;
+      };
+    }
+
+-- what a turn of the collector adds may stand in a play
+turn_may : (heap : Heap) (before : List Entry) (collector : Collector) (stage : Stage) → MayPlay heap before (turn_at heap collector stage).adds
+turn_may heap before collector Looking = tt
+turn_may heap before collector Advancing = (plain_keeps heap before (Advance (collector.phase + 1)) (advancing (collector.phase + 1)), tt)
+
+turn_plays : MachineStays → EachTurnKeeps → (heap : Heap) (state : State) (book : Book) → PlaysOn heap state book → AllIdle state → Can heap state Turns
+    → PlaysNext heap (after heap state Turns) book.history (entries heap state Turns)
+turn_plays stays turn heap state book plays idle can =
+    let keeps = turn heap state book plays.rule can (stays heap state Turns plays.rule.machine can) in
+    record {
+      now = keeps.now;
+      grown = keeps.grown;
+      plays = record {
+        rule = keeps.rule;
+        legal = subst (IsLegal heap true) (sym keeps.grown)
+            (play_more heap book.history (entries heap state Turns) (turn_may heap book.history state.collector state.collector.stage) plays.legal
+            (subst (IsLegal heap false) keeps.grown keeps.rule.heap_stands.legal));
+        own = λ r below active. absurd (active (idle r (rw plays.rule.all_seats below)));
+      };
+    }
+
+module _ (stays : MachineStays) (steps : EachStepKeeps) (begin : EachBeginKeeps) (turn : EachTurnKeeps) where
+  event_plays : (heap : Heap) (state : State) (book : Book) (event : Event) → PlaysOn heap state book → HappensAlone state event → Can heap state event
+      → PlaysNext heap (after heap state event) book.history (entries heap state event)
+  event_plays heap state book (Begins q command) plays alone can = begin_plays stays begin heap state book q command plays alone can
+  event_plays heap state book (Steps q) plays alone can = step_plays stays steps heap state book q plays alone can
+  event_plays heap state book Turns plays alone can = turn_plays stays turn heap state book plays alone can
+
+  run_plays : (heap : Heap) (state : State) (book : Book) (events : List Event) → PlaysOn heap state book → Run heap state events → OneCallAtATime heap state events
+      → IsLegal heap true (book.history ++ history heap state events)
+  run_plays heap state book [] plays run alone = subst (IsLegal heap true) (sym (append-nil book.history)) plays.legal
+  run_plays heap state book (event ∷ events) plays run alone =
+      let next = event_plays heap state book event plays alone.0 run.0 in
+      let rest = run_plays heap (after heap state event) next.now events next.plays run.1 alone.1 in
+      subst (IsLegal heap true) (ap (λ es. es ++ history heap (after heap state event) events) next.grown
+      ∙ append_assoc book.history (entries heap state event) (history heap (after heap state event) events)) rest
+
+  -- so does the whole run, from the opening on
+  pub whole_calls_play : OpeningStands → WholeCallsPlay
+  whole_calls_play opens heap state events limits opening run alone =
+      let first = opens heap state limits opening in
+      subst (λ before. IsLegal heap true (before ++ history heap state events)) first.grown
+      (run_plays heap state first.book events
+      record {
+        rule = first.rule;
+        legal = subst (IsLegal heap true) (sym first.grown) record { objects = tt; space = tt };
+        own = λ q below active. rw first.grown (own_of_none q (first.book.begun q));
+      } run alone)
+    where
+      own_of_none : (q begun : ℕ) → list_all (is_of q) (drop {A = Entry} begun []) ≡ true
+      own_of_none q zero = refl
+      own_of_none q (suc begun) = refl

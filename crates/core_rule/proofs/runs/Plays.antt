@@ -1,0 +1,131 @@
+-- What may stand in a play: the entries by which nothing is refused, and what a gather finds while no other makes a step.
+use Rattle.std.specs.List.{list_all}
+use Rattle.std.proofs.Common.{◌≡◌, ℕ, ◌+◌, ◌*◌, ◌<◌, Bool, true, false, ◌&&◌, List, [], ◌∷◌, ◌++◌, drop, refl, sym, subst, cond, append_assoc, arith}
+use Rattle.std.proofs.lemmas.List.{append-nil}
+use Rattle.std.proofs.lemmas.List.Sums.{sum_by-cons}
+use Rattle.heap_model.specs.declared.command.Command.{Command}
+use Rattle.heap_model.specs.declared.command.Command.TheVariants as commands
+use Rattle.heap_model.specs.declared.effect.Effect.{Effect}
+use Rattle.heap_model.specs.declared.entry.Entry.{Entry}
+use Rattle.heap_model.specs.declared.entry.Entry.TheVariants as entries
+use Rattle.heap_model.specs.declared.heap.Heap.{Heap}
+use Rattle.heap_model.specs.declared.reply.Reply.{Reply}
+use Rattle.heap_model.specs.declared.reply.Reply.TheVariants as replies
+use Rattle.heap_model.specs.Account.{KeepsSpace, KeepsSpaceAfter, IsLegal}
+use Rattle.heap_model.specs.Effects.{effect_of, is_of}
+use Rattle.heap_model.specs.Phases.{ShowsPhases}
+use Rattle.heap_model.specs.Refusals.{FindsSpace, ShowsSpace, ShowsSpine}
+use Rattle.heap_model.specs.Space.{taken_of, spent_of, total, total_but}
+use Rattle.heap_model.proofs.Histories.{KeepsSpaceAfter-more}
+use Rattle.core_rule.specs.Counts.{AreUsed}
+use Rattle.core_rule.specs.Gathers.{GathersRight}
+use Rattle.core_rule.specs.Owners.{Owner}
+use Rattle.core_rule.proofs.counts.FreeSums.{taken_and_free, passed_all}
+use Rattle.core_rule.proofs.entries.Legality.{keeps_takes, keeps_gives, keeps_answers, keeps_begins}
+
+-- a reply that refuses nothing for want of space, and waits for nobody
+abbrev pub IsPlainReply : Reply → Type 0
+IsPlainReply (replies.Full need found) = ⊥
+IsPlainReply (replies.SpineFull need used) = ⊥
+IsPlainReply (replies.Waits other answer p) = ⊥
+IsPlainReply _ = Unit {0}
+
+-- an entry by which nothing is refused
+pub data IsPlain : Entry → Type 0 where
+  taking : (q count : ℕ) → IsPlain (entries.Takes q count)
+  giving : (q count : ℕ) → IsPlain (entries.GivesBack q count)
+  answering : (q p : ℕ) → IsPlain (entries.Answers q p)
+  advancing : (p : ℕ) → IsPlain (entries.Advance p)
+  saying : (q : ℕ) (command : Command) (reply : Reply) → IsPlainReply reply → IsPlain (entries.Said q command reply)
+
+shows_no_space : (heap : Heap) (before : List Entry) (q : ℕ) (command : Command) (reply : Reply) → IsPlainReply reply → ShowsSpace heap true before q command reply
+shows_no_space heap before q command (replies.Full need found) plain = absurd plain
+shows_no_space heap before q command _ plain = tt
+
+shows_no_spine : (heap : Heap) (before : List Entry) (q : ℕ) (command : Command) (reply : Reply) → IsPlainReply reply → ShowsSpine heap true before q command reply
+shows_no_spine heap before q command (replies.SpineFull need used) plain = absurd plain
+shows_no_spine heap before q command _ plain = tt
+
+shows_same : (heap : Heap) (before : List Entry) (q : ℕ) (command : Command) (reply : Reply) → IsPlainReply reply → ShowsPhases heap false before q command reply
+    → ShowsPhases heap true before q command reply
+shows_same heap before q commands.Collect (replies.Waits other answer p) plain shows = absurd plain
+shows_same heap before q _ _ plain shows = shows
+
+-- the rules for it are those of a run
+pub plain_keeps : (heap : Heap) (before : List Entry) (entry : Entry) → IsPlain entry → KeepsSpace heap false before entry → KeepsSpace heap true before entry
+plain_keeps heap before _ (taking q count) keeps = keeps_takes heap true before q count keeps.takes.0 keeps.takes.1
+plain_keeps heap before _ (giving q count) keeps = keeps_gives heap true before q count keeps.takes.0 keeps.takes.1
+plain_keeps heap before _ (answering q p) keeps = keeps_answers heap true before q p keeps.answers
+plain_keeps heap before _ (advancing p) keeps = keeps_begins heap true before p keeps.begins
+plain_keeps heap before _ (saying q command reply plain) keeps = record {
+  takes = tt;
+  makes = keeps.makes;
+  refuses = shows_no_space heap before q command reply plain;
+  refuses_spine = shows_no_spine heap before q command reply plain;
+  answers = tt;
+  begins = tt;
+  sweeps = tt;
+  ends = tt;
+  shows = shows_same heap before q command reply plain keeps.shows;
+}
+
+-- each entry of a legal history keeps the rules after those before it
+keeps_there : (heap : Heap) (play : Bool) (before history rest : List Entry) (entry : Entry) → KeepsSpaceAfter heap play before (history ++ entry ∷ rest)
+    → KeepsSpace heap play (before ++ history) entry
+keeps_there heap play before [] rest entry kept = subst (λ es. KeepsSpace heap play es entry) (sym (append-nil before)) kept.0
+keeps_there heap play before (first ∷ history) rest entry kept =
+    subst (λ es. KeepsSpace heap play es entry) (append_assoc before (first ∷ []) history) (keeps_there heap play (before ++ first ∷ []) history rest entry kept.1)
+
+-- each entry may stand in a play where it may in a run
+abbrev pub MayPlay : Heap → List Entry → List Entry → Type 0
+MayPlay heap before [] = Unit {0}
+MayPlay heap before (entry ∷ rest) = (KeepsSpace heap false before entry → KeepsSpace heap true before entry) × MayPlay heap (before ++ entry ∷ []) rest
+
+-- a play's history with such entries
+pub play_more : (heap : Heap) (before added : List Entry) → MayPlay heap before added → IsLegal heap true before → IsLegal heap false (before ++ added) → IsLegal heap true (before ++ added)
+play_more heap before added may play run = record { objects = run.objects; space = space_more before added may play.space run.space }
+  where
+    space_more : (before added : List Entry) → MayPlay heap before added → KeepsSpaceAfter heap true [] before → KeepsSpaceAfter heap false [] (before ++ added)
+        → KeepsSpaceAfter heap true [] (before ++ added)
+    space_more before [] may play run = subst (KeepsSpaceAfter heap true []) (sym (append-nil before)) play
+    space_more before (entry ∷ rest) may play run =
+        subst (KeepsSpaceAfter heap true []) (append_assoc before (entry ∷ []) rest)
+        (space_more (before ++ entry ∷ []) rest may.1
+        (KeepsSpaceAfter-more heap {play = true} [] before entry play (may.0 (keeps_there heap false [] before rest entry run)))
+        (subst (KeepsSpaceAfter heap false []) (sym (append_assoc before (entry ∷ []) rest)) run))
+
+-- where all entries are the seat's, the others did nothing, and nothing was freed
+others_nothing : (q : ℕ) (part : Effect → ℕ) (since : List Entry) → list_all (is_of q) since ≡ true → total_but q part since ≡ 0
+others_nothing q part [] own = refl
+others_nothing q part (entry ∷ since) own = rw (sum_by-cons (λ e. cond (is_of q e) 0 (part (effect_of e))) entry since) (by_test (is_of q entry) (list_all (is_of q) since) own (others_nothing q part since))
+  where
+    by_test : (b rest : Bool) → (b && rest) ≡ true → (rest ≡ true → total_but q part since ≡ 0) → cond b 0 (part (effect_of entry)) + total_but q part since ≡ 0
+    by_test true rest both more = omega (arith, more both)
+    by_test false rest both more = cc
+
+-- a seat's own entry frees nothing
+own_frees : (q : ℕ) (entry : Entry) → is_of q entry ≡ true → (effect_of entry).freed ≡ 0
+own_frees q (entries.Frees count) own = cc
+own_frees q _ own = refl
+
+none_freed : (q : ℕ) (since : List Entry) → list_all (is_of q) since ≡ true → total (λ e. e.freed) since ≡ 0
+none_freed q [] own = refl
+none_freed q (entry ∷ since) own = rw (sum_by-cons (λ e. (effect_of e).freed) entry since) (by_test (is_of q entry) (list_all (is_of q) since) own (own_frees q entry) (none_freed q since))
+  where
+    by_test : (b rest : Bool) → (b && rest) ≡ true → (b ≡ true → (effect_of entry).freed ≡ 0) → (rest ≡ true → total (λ e. e.freed) since ≡ 0) → (effect_of entry).freed + total (λ e. e.freed) since ≡ 0
+    by_test true rest both first more = omega (arith, first refl, more both)
+    by_test false rest both first more = cc
+
+-- after a gather over all groups that found too little, with no step of others since, what was found is what is there
+pub finds_in_play : (heap : Heap) (owner : ℕ → Owner) (history : List Entry) (q begun cursor given reserve : ℕ) → cursor < heap.groups
+    → AreUsed heap owner history → reserve + spent_of q history ≡ taken_of q history
+    → list_all (is_of q) (drop begun history) ≡ true
+    → GathersRight heap owner q (drop begun history) cursor heap.groups given
+    → FindsSpace heap true history q (reserve + given)
+finds_in_play heap owner history q begun cursor given reserve within used own alone gathers =
+    let all = taken_and_free (16 * heap.groups) owner in
+    let passed = passed_all heap owner cursor within in
+    let freed = none_freed q (drop begun history) alone in
+    let gave = others_nothing q (λ e. e.given) (drop begun history) alone in
+    let took = others_nothing q (λ e. e.taken) (drop begun history) alone in
+    omega (arith, all, passed, freed, gave, took, used, own, gathers.passed, gathers.returned)

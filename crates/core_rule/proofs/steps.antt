@@ -1,0 +1,12 @@
+-- The theorem of each kind of step.
+pub mod access
+pub mod collector
+pub mod handshake
+pub mod making
+pub mod Assemble
+pub mod ReplyStep
+pub mod LocalStep
+pub mod Loads
+pub mod ShadeStep
+pub mod BarrierSteps
+pub mod Steps

@@ -1,0 +1,113 @@
+-- A seat's step keeps the rule, where the heap, the seat and each other seat stand after it.
+use Rattle.std.proofs.Common.{◌≡◌, ◌≢◌, ℕ, ◌<◌, ◌≤◌, List, ap, arith, [], ◌++◌, length, filter, slice_set, slice_index_or, refl, sym, false, ◌∙◌, subst, inl, inr}
+use Rattle.std.proofs.lemmas.Bool.Decides.{eqb_tells}
+use Rattle.std.proofs.lemmas.List.{get_or-set_same, get_or-set_other, append-nil, length-set}
+use Rattle.std.proofs.lemmas.List.Elements.{filter-append}
+use Rattle.heap_model.specs.declared.entry.Entry.{Entry}
+use Rattle.heap_model.specs.declared.heap.Heap.{Heap}
+use Rattle.heap_model.specs.Cycles.{graph_of}
+use Rattle.heap_model.specs.Objects.{party}
+use Rattle.heap_model.specs.PhaseCounts.{phase, answered, has_left}
+use Rattle.core_machine.specs.declared.place.Making.{Making}
+use Rattle.core_machine.specs.declared.place.Place.TheVariants as places
+use Rattle.core_machine.specs.Collector.{Collector}
+use Rattle.core_machine.specs.Fits.{Fits}
+use Rattle.core_machine.specs.Machine.{State, seat_at}
+use Rattle.core_machine.specs.Seat.{Seat, nobody}
+use Rattle.core_machine.specs.Value.{IsMachine}
+use Rattle.core_rule.specs.Book.{Book}
+use Rattle.core_rule.specs.Counts.{is_collectors}
+use Rattle.core_rule.specs.Laws.{StandsFor}
+use Rattle.core_rule.specs.Phases.{CollectorStands}
+use Rattle.core_rule.specs.Rule.{Rule, HeapStands, SeatStands}
+use Rattle.core_rule.proofs.entries.AtRest.{in_flight}
+use Rattle.core_rule.proofs.entries.PhaseEntries.{seats_phase, answers_grow, was_present}
+
+-- a seat's new data leave the other seats'
+each_seat : (P : ℕ → Seat → Type 0) (seats : List Seat) (q : ℕ) (seat : Seat) → q < length seats → P q seat
+    → (r : ℕ) → (r ≢ q → P r (slice_index_or seats r nobody)) → P r (slice_index_or (slice_set seats q seat) r nobody)
+each_seat P seats q seat here self r other = elim (eqb_tells r q) as (λ _. P r (slice_index_or (slice_set seats q seat) r nobody)) [
+  | inl same ↦ subst (λ n. P n (slice_index_or (slice_set seats q seat) n nobody)) (sym same.1) (subst (P q) (sym (get_or-set_same seats q seat nobody here)) self)
+  | inr apart ↦ subst (P r) (sym (get_or-set_other seats q r seat nobody apart.1)) (other apart.1)
+]
+
+-- where the history grows by entries of which none is the collector's, and the seats have answered as it says, the collector stands as before
+collector_stays : (heap : Heap) (collector : Collector) (before added now : List Entry) → now ≡ before ++ added → filter is_collectors added ≡ []
+    → ((q : ℕ) → q < heap.seats → has_left q now ≡ false → answered q now ≤ phase now)
+    → CollectorStands heap collector before → CollectorStands heap collector now
+collector_stays heap collector before added now grown none few stands =
+    let same : phase now ≡ phase before = ap phase grown ∙ seats_phase before added none in
+    record {
+      log = rw (grown, filter-append is_collectors before added, none, append-nil (filter is_collectors before)) stands.log;
+      phase_told = stands.phase_told ∙ sym same;
+      looked = λ q less below present.
+          let was = stands.looked q less below (was_present q before added (ap (has_left q) (sym grown) ∙ present)) in
+          let more : answered q before ≤ answered q now = subst (λ es. answered q before ≤ answered q es) (sym grown) (answers_grow q before added) in
+          omega (arith, few q below present, was, same, more);
+      goes_on = λ advancing. omega (arith, same, stands.goes_on advancing);
+    }
+
+-- a seat that hasn't left has answered no later phase than has begun
+pub few_answers : (heap : Heap) (words : List ℕ) (book : Book) (q : ℕ) (seat : Seat) → SeatStands heap words book q seat → has_left q book.history ≡ false
+    → answered q book.history ≤ phase book.history
+few_answers heap words book q seat stands present =
+    let told = stands.cycle.answers_told in
+    elim (told.near (sym told.leaves ∙ present)) [
+      | inl same ↦ omega (arith, told.told, same)
+      | inr before ↦ omega (arith, told.told, before)
+    ]
+
+-- a book stands for the state, whose history is the old one with these entries, and whose calls began then
+pub record Keeps (heap : Heap) (state : State) (book : Book) (begun : ℕ → ℕ) (added : List Entry) : Type 0 where
+  pub now : Book
+  pub grown : now.history ≡ book.history ++ added
+  pub calls : now.begun ≡ begun
+  pub rule : Rule heap state now
+
+-- so some book stands for it
+pub stands_for : (heap : Heap) (state : State) (book : Book) (begun : ℕ → ℕ) (added : List Entry) → Keeps heap state book begun added
+    → StandsFor heap state book.history added
+stands_for heap state book begun added keeps = record { book = keeps.now; grown = keeps.grown; rule = keeps.rule }
+
+-- a seat that makes an object hasn't left
+pub present_at : (heap : Heap) (state : State) (book : Book) (q : ℕ) (making : Making) → Rule heap state book → q < heap.seats
+    → (seat_at state q).place ≡ places.Making making → (party (graph_of heap book.history) q).left ≡ false
+present_at heap state book q making rule here placed =
+    let stands = rule.seats_stand q here in
+    stands.counts.leaves ∙ in_flight heap (seat_at state q) stands.fits (λ idle. busy (sym placed ∙ idle))
+  where
+    busy : places.Making making ≡ places.Idle → ⊥
+    busy e = cc
+
+-- the seat's own data fit together after its step
+pub fit_after : (heap : Heap) (state : State) (book : Book) (q : ℕ) {words : List ℕ} {seat : Seat} → Rule heap state book → q < heap.seats
+    → IsMachine heap (record state { words = words; seats = slice_set state.seats q seat }) → Fits heap seat
+fit_after heap state book q {words} {seat} rule here machine =
+    let below : q < length state.seats = rw rule.all_seats here in
+    subst (Fits heap) (get_or-set_same state.seats q seat nobody below) (machine.fit q (rw (length-set state.seats q seat) below))
+
+-- the rule after a seat's step
+pub seat_steps : (heap : Heap) (state : State) (book : Book) (q : ℕ) (words : List ℕ) (seat : Seat) (now : Book) (added : List Entry)
+    → Rule heap state book → q < heap.seats → IsMachine heap (record state { words = words; seats = slice_set state.seats q seat })
+    → now.history ≡ book.history ++ added → filter is_collectors added ≡ []
+    → HeapStands heap words now → SeatStands heap words now q seat
+    → ((r : ℕ) → r < heap.seats → r ≢ q → SeatStands heap state.words book r (seat_at state r) → SeatStands heap words now r (seat_at state r))
+    → Keeps heap (record state { words = words; seats = slice_set state.seats q seat }) book now.begun added
+seat_steps heap state book q words seat now added rule here machine grown none heap_after self others =
+    let stand : (r : ℕ) → r < heap.seats → SeatStands heap words now r (slice_index_or (slice_set state.seats q seat) r nobody)
+    = λ r below. each_seat (λ n s. SeatStands heap words now n s) state.seats q seat (subst (λ n. q < n) (sym rule.all_seats) here) self r
+    (λ apart. others r below apart (rule.seats_stand r below)) in
+    record {
+      now = now;
+      grown = grown;
+      calls = refl;
+      rule = record {
+        limits = rule.limits;
+        machine = machine;
+        all_seats = length-set state.seats q seat ∙ rule.all_seats;
+        heap_stands = heap_after;
+        seats_stand = stand;
+        collector_stands = collector_stays heap state.collector book.history added now.history grown none
+            (λ r below present. few_answers heap words now r (slice_index_or (slice_set state.seats q seat) r nobody) (stand r below) present) rule.collector_stands;
+      };
+    }

@@ -1,0 +1,139 @@
+-- A step that changes no word keeps the rule, where its seat stands after it.
+use Rattle.std.proofs.Common.{◌≡◌, ℕ, ◌<◌, false, List, [], ◌∷◌, ◌++◌, slice_set, refl, sym, ◌∙◌, subst, arith}
+use Rattle.std.proofs.lemmas.Bool.{eq-eqb}
+use Rattle.std.proofs.lemmas.List.{append-nil}
+use Rattle.heap_model.specs.declared.command.Command.{Command}
+use Rattle.heap_model.specs.declared.entry.Entry.{Entry}
+use Rattle.heap_model.specs.declared.entry.Entry.TheVariants.{Said}
+use Rattle.heap_model.specs.declared.heap.Heap.{Heap}
+use Rattle.heap_model.specs.declared.reply.Reply.{Reply}
+use Rattle.heap_model.specs.Account.{KeepsSpace}
+use Rattle.heap_model.specs.Cycles.{graph_of}
+use Rattle.heap_model.specs.Effects.{effect_of, no_effect}
+use Rattle.heap_model.specs.Growth.{after_reply}
+use Rattle.heap_model.specs.Legal.{Accepts}
+use Rattle.heap_model.specs.PhaseCounts.{phase, answered, has_left, is_leave_of}
+use Rattle.heap_model.specs.State.{State as Graph, opening}
+use Rattle.heap_model.proofs.Histories.{graph_after-more}
+use Rattle.core_machine.specs.declared.address.Address.{Address}
+use Rattle.core_machine.specs.declared.place.Place.{Place}
+use Rattle.core_machine.specs.declared.register.Register.{Register}
+use Rattle.core_machine.specs.Commands.{target_of}
+use Rattle.core_machine.specs.Fits.{IsSilent}
+use Rattle.core_machine.specs.Layout.{at, put}
+use Rattle.core_machine.specs.Machine.{State, seat_at}
+use Rattle.core_machine.specs.Reaching.{has_barrier}
+use Rattle.core_machine.specs.Seat.{Seat}
+use Rattle.core_machine.specs.Value.{IsMachine}
+use Rattle.core_machine.proofs.Addresses.{put-at}
+use Rattle.core_rule.specs.Book.{Book}
+use Rattle.core_rule.specs.Counts.{OwnList}
+use Rattle.core_rule.specs.Cycle.{SeatInCycle}
+use Rattle.core_rule.specs.Gathers.{Began, IsAnswered}
+use Rattle.core_rule.specs.Objects.{cells_at}
+use Rattle.core_rule.specs.Registers.{Registers}
+use Rattle.core_rule.specs.Rule.{Rule}
+use Rattle.core_rule.specs.Ways.{WayStands}
+use Rattle.core_rule.proofs.steps.Assemble.{Keeps, seat_steps, fit_after}
+use Rattle.core_rule.proofs.cycle.CycleHistory.{cycle_own}
+use Rattle.core_rule.proofs.entries.Others.{of_other, gathers_stay}
+use Rattle.core_rule.proofs.entries.OwnEntries.{counts_own, counts_same}
+use Rattle.core_rule.proofs.graph.PutRegister.{OnlyRegisters}
+use Rattle.core_rule.proofs.frames.Replying.{no_part, heap_told, other_told, began_told}
+use Rattle.core_rule.proofs.frames.SeatFrames.{with_entry}
+use Rattle.core_rule.proofs.cycle.Unwatched.{IsUnwatchedAt, cycle_unwatched}
+
+-- the seat with other registers, elsewhere on its way, and with more entries
+abbrev pub went : Seat → List Register → ℕ → ℕ → ℕ → Place → List Entry → Seat
+went seat registers reached links loaded place added =
+    record seat { registers = registers; reached = reached; links = links; loaded = loaded; place = place; mine = seat.mine ++ added }
+
+-- the state after a load, which writes back what it found
+abbrev pub loaded_state : Heap → State → ℕ → Address → Seat → State
+loaded_state heap state q a seat = record state { words = put heap state.words a (at heap state.words a); seats = slice_set state.seats q seat }
+
+module _ (heap : Heap) (state : State) (book : Book) (q : ℕ) (rule : Rule heap state book) (here : q < heap.seats) (a : Address)
+    (registers : List Register) (reached links loaded : ℕ) (place : Place) (added : List Entry)
+    (machine : IsMachine heap (loaded_state heap state q a (went (seat_at state q) registers reached links loaded place added))) where
+  abbrev new : Seat
+  new = went (seat_at state q) registers reached links loaded place added
+
+  -- the words are written back
+  same_machine : IsMachine heap (record state { words = state.words; seats = slice_set state.seats q new })
+  same_machine = subst (λ words. IsMachine heap (record state { words = words; seats = slice_set state.seats q new })) (put-at heap state.words a) machine
+
+  from_same : (begun : ℕ → ℕ) (shown : List Entry) → Keeps heap (record state { words = state.words; seats = slice_set state.seats q new }) book begun shown
+      → Keeps heap (loaded_state heap state q a new) book begun shown
+  from_same begun shown keeps = subst (λ words. Keeps heap (record state { words = words; seats = slice_set state.seats q new }) book begun shown) (sym (put-at heap state.words a)) keeps
+
+  -- the seat has its part in the cycle where it shades nothing
+  pub went_cycle : IsSilent (seat_at state q) → IsUnwatchedAt (has_barrier (seat_at state q)) place
+      → SeatInCycle heap state.words (phase book.history) (answered q book.history) (has_left q book.history) book.owner book.colour q new
+  went_cycle silent unwatched =
+      let cycle = (rule.seats_stand q here).cycle in
+      cycle_unwatched heap state.words state.words book.owner book.owner book.colour book.colour (phase book.history) (answered q book.history) (has_left q book.history)
+      q (seat_at state q) new record { answered = refl; left = refl; asked = refl } unwatched silent.none_shaded refl cycle.births cycle
+
+  -- nothing is shown
+  pub load_goes : Registers (graph_of heap book.history) book.made book.owner book.fragments q registers place (target_of (seat_at state q).command)
+      → OwnList (graph_of heap book.history) book.history book.made book.owner book.fragments q new
+      → WayStands (cells_at (graph_of heap book.history) book.made) book.made book.owner book.fragments new place
+      → Began book.history q (book.begun q) place
+      → SeatInCycle heap state.words (phase book.history) (answered q book.history) (has_left q book.history) book.owner book.colour q new
+      → Keeps heap (loaded_state heap state q a new) book book.begun []
+  load_goes held list way began cycle =
+      let stands = rule.seats_stand q here in
+      from_same book.begun []
+      (seat_steps heap state book q state.words new book [] rule here same_machine (sym (append-nil book.history)) refl rule.heap_stands
+      record {
+        fits = fit_after heap state book q rule here same_machine;
+        holding = stands.holding;
+        stored = stands.stored;
+        registers = held;
+        list = list;
+        way = way;
+        cycle = cycle;
+        together = stands.together;
+        counts = counts_same (graph_of heap book.history) book.history q (seat_at state q) new refl refl refl refl stands.counts;
+        began = began;
+        gathers = stands.gathers;
+      }
+      (λ r below apart other. other))
+
+  module _ (command : Command) (reply : Reply) (nothing : effect_of (Said q command reply) ≡ no_effect)
+      (after : Graph) (grows : after_reply (graph_of heap book.history) q command reply ≡ after) (only : OnlyRegisters (graph_of heap book.history) after q) where
+    -- a reply is shown
+    pub load_tells : Accepts (graph_of heap book.history) (Said q command reply) → KeepsSpace heap false book.history (Said q command reply)
+        → Registers after book.made book.owner book.fragments q registers place (target_of (seat_at state q).command)
+        → OwnList after (book.history ++ Said q command reply ∷ []) book.made book.owner book.fragments q new
+        → WayStands (cells_at after book.made) book.made book.owner book.fragments new place
+        → IsAnswered place → is_leave_of q (Said q command reply) ≡ false
+        → SeatInCycle heap state.words (phase book.history) (answered q book.history) (has_left q book.history) book.owner book.colour q new
+        → Keeps heap (loaded_state heap state q a new) book book.begun (Said q command reply ∷ [])
+    load_tells accepts keeps held list way answers stays cycle =
+        let entry : Entry = Said q command reply in
+        let g : Graph = graph_of heap book.history in
+        let stands = rule.seats_stand q here in
+        let graph : graph_of heap (book.history ++ entry ∷ []) ≡ after = graph_after-more (opening heap) book.history entry ∙ grows in
+        let change : OnlyRegisters g (graph_of heap (book.history ++ entry ∷ [])) q = rw graph only in
+        let now : Graph = graph_of heap (book.history ++ entry ∷ []) in
+        from_same book.begun (entry ∷ [])
+        (seat_steps heap state book q state.words new (with_entry book entry) (entry ∷ []) rule here same_machine refl refl
+        (heap_told heap state.words book entry nothing change.changes.nodes accepts keeps rule.heap_stands)
+        record {
+          fits = fit_after heap state book q rule here same_machine;
+          holding = stands.holding;
+          stored = stands.stored;
+          registers = rw graph held;
+          list = rw graph list;
+          way = subst (λ (x : Graph). WayStands (cells_at x book.made) book.made book.owner book.fragments new place) (sym graph) way;
+          cycle = cycle_own heap state.words book.owner book.colour book.history entry (no_part entry (λ e. e.phases) nothing refl) q new cycle
+              (no_part entry (λ e. e.answers) nothing refl) stays;
+          together = stands.together;
+          counts = counts_own g now book.history q (seat_at state q) new stands.counts entry (eq-eqb q q refl)
+              (stands.counts.numbered ∙ sym change.changes.objects) (stands.counts.stamped ∙ sym change.changes.sets) (change.left ∙ stands.counts.leaves)
+              (omega (arith, no_part entry (λ e. e.given) nothing refl, no_part entry (λ e. e.born) nothing refl, no_part entry (λ e. e.taken) nothing refl));
+          began = began_told book.history entry q (book.begun q) (seat_at state q).place place answers stands.began;
+          gathers = gathers_stay heap book.owner q book.history (book.begun q) entry (seat_at state q).cursor (seat_at state q).tried (seat_at state q).given stands.began.earlier stands.gathers;
+        }
+        (λ r below apart other. other_told heap state.words book entry nothing change.changes.nodes r (seat_at state r) (of_other q r apart) (change.changes.others r apart) other))

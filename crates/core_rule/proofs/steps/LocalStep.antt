@@ -1,0 +1,92 @@
+-- A reply that stands at a load, and changes no word, keeps the rule.
+use Rattle.std.proofs.Common.{◌≡◌, ℕ, ◌<◌, false, List, [], ◌∷◌, ◌++◌, filter, slice_set, refl, sym, ap, ◌∙◌, subst, arith}
+use Rattle.heap_model.specs.declared.entry.Entry.{Entry}
+use Rattle.heap_model.specs.declared.entry.Entry.TheVariants as entries
+use Rattle.heap_model.specs.declared.heap.Heap.{Heap}
+use Rattle.heap_model.specs.declared.reply.Reply.{Reply}
+use Rattle.heap_model.specs.Command.{IsCommand}
+use Rattle.heap_model.specs.Cycles.{graph_of}
+use Rattle.heap_model.specs.Effects.{is_of}
+use Rattle.heap_model.specs.Growth.{after_reply}
+use Rattle.heap_model.specs.Objects.{party}
+use Rattle.heap_model.specs.PhaseCounts.{phase, answered, has_left, is_leave_of}
+use Rattle.heap_model.specs.State.{State as Graph}
+use Rattle.core_machine.specs.declared.address.Address.{Address}
+use Rattle.core_machine.specs.declared.address.Address.TheVariants.{Answer}
+use Rattle.core_machine.specs.declared.place.Place.TheVariants as places
+use Rattle.core_machine.specs.Fits.{IsAtRest}
+use Rattle.core_machine.specs.Layout.{at, put}
+use Rattle.core_machine.specs.Machine.{State, seat_at}
+use Rattle.core_machine.specs.MakingMoves.{bears_black}
+use Rattle.core_machine.specs.Seat.{Seat}
+use Rattle.core_machine.specs.Value.{IsMachine}
+use Rattle.core_machine.proofs.Addresses.{put-at}
+use Rattle.core_rule.specs.Book.{Book}
+use Rattle.core_rule.specs.Colours.{BornColours}
+use Rattle.core_rule.specs.Cycle.{HeapInCycle}
+use Rattle.core_rule.specs.Rule.{Rule}
+use Rattle.core_rule.proofs.steps.Assemble.{Keeps}
+use Rattle.core_rule.proofs.entries.AtRest.{spent_own, few_own}
+use Rattle.core_rule.proofs.cycle.CycleFrames.{LeavesCycle, leaves_same}
+use Rattle.core_rule.proofs.cycle.CycleHistory.{cycle_own}
+use Rattle.core_rule.proofs.entries.Legality.{legal_more, keeps_said}
+use Rattle.core_rule.proofs.graph.LocalReplies.{IsLocalReply}
+use Rattle.core_rule.proofs.steps.ReplyStep.{reply_keeps, graph_replies}
+use Rattle.core_rule.proofs.hand.StoredFrames.{SameUnkept}
+use Rattle.core_rule.proofs.cycle.Unwatched.{IsApart, cycle_apart}
+
+-- a load leaves all words
+load_leaves : (heap : Heap) (book : Book) (words : List ℕ) (a : Address) → SameUnkept heap book.owner words (put heap words a (at heap words a))
+load_leaves heap book words a = rw (put-at heap words a) record { controls = λ group below. refl; unkept = λ f part free within. refl }
+
+-- the seat stands idle and has told the reply; of its own data its registers alone are others
+pub record SeatTells (old now : Seat) (entry : Entry) : Type 0 where
+  pub idle : now.place ≡ places.Idle
+  pub reserve : now.reserve ≡ old.reserve
+  pub mine : now.mine ≡ old.mine ++ entry ∷ []
+  pub answered : now.answered ≡ old.answered
+  pub asked : now.asked ≡ old.asked
+  pub shaded : now.shaded ≡ 0
+  pub made : now.made ≡ old.made
+  pub sets : now.sets ≡ old.sets
+  pub left : now.left ≡ old.left
+
+-- a load at which such a reply stands keeps the rule
+pub local_reply_keeps : (heap : Heap) (state : State) (book : Book) (q : ℕ) (a : Address) (now : Seat) (reply : Reply) → Rule heap state book → q < heap.seats
+    → IsMachine heap (record state { words = put heap state.words a (at heap state.words a); seats = slice_set state.seats q now })
+    → IsAtRest (seat_at state q) → (seat_at state q).mine ≡ filter (is_of q) book.history → (party (graph_of heap book.history) q).left ≡ false → IsCommand (seat_at state q).command
+    → IsLocalReply heap book.history (graph_of heap book.history) q book.made book.owner book.fragments (seat_at state q).command reply now.registers
+    → is_leave_of q (entries.Said q (seat_at state q).command reply) ≡ false
+    → SeatTells (seat_at state q) now (entries.Said q (seat_at state q).command reply)
+    → Keeps heap (record state { words = put heap state.words a (at heap state.words a); seats = slice_set state.seats q now }) book book.begun (entries.Said q (seat_at state q).command reply ∷ [])
+local_reply_keeps heap state book q a now reply rule here machine rest told present ranges local stays tells =
+    let seat : Seat = seat_at state q in
+    let g : Graph = graph_of heap book.history in
+    let stands = rule.seats_stand q here in
+    let counts = stands.counts in
+    let words : List ℕ = put heap state.words a (at heap state.words a) in
+    let same : words ≡ state.words = put-at heap state.words a in
+    reply_keeps heap state book q (put heap state.words a (at heap state.words a)) now seat.command reply rule here machine
+    local.plain.none rest told
+    (legal_more heap false book.history (entries.Said q seat.command reply) rule.heap_stands.legal (present, ranges, local.says)
+    (keeps_said heap false book.history q seat.command reply local.plain.none local.plain.space local.plain.spine local.plain.phases (spent_own heap state book q rule here rest)
+    (omega (arith, local.plain.most, few_own heap state book q rule here rest))))
+    (load_leaves heap book state.words a)
+    (rw (put-at heap state.words a) (graph_replies g (after_reply g q seat.command reply) q local.only.changes heap state.words book rule.heap_stands.ids rule.heap_stands.objects))
+    record {
+      idle = tells.idle;
+      reserve = tells.reserve;
+      mine = tells.mine;
+      made = tells.made ∙ counts.numbered ∙ sym local.only.changes.objects;
+      sets = tells.sets ∙ counts.stamped ∙ sym local.only.changes.sets;
+      left = local.only.left ∙ counts.leaves ∙ sym tells.left;
+      registers = local.registers;
+    }
+    (subst (λ ws. HeapInCycle heap ws (phase book.history) book.owner book.colour book.fragments) (sym same) rule.heap_stands.cycle)
+    (cycle_own heap words book.owner book.colour book.history (entries.Said q seat.command reply) refl q now
+    (cycle_apart heap state.words words book.owner book.owner book.colour book.colour (phase book.history) (answered q book.history) (has_left q book.history) q seat now
+    record { answered = tells.answered; left = tells.left; asked = tells.asked } (subst IsApart (sym tells.idle) tt) tells.shaded (ap (λ ws. at heap ws (Answer q)) same)
+    (subst (λ a. BornColours book.owner book.colour q (bears_black (record seat { answered = a }))) (sym tells.answered) stands.cycle.births) stands.cycle)
+    refl stays)
+    (λ r below apart. subst (λ ws. LeavesCycle heap state.words ws book.owner book.owner book.colour book.colour (phase book.history) r (seat_at state r)) (sym same)
+    (leaves_same heap state.words book.owner book.colour (phase book.history) r (seat_at state r)))

@@ -1,0 +1,146 @@
+-- A reply that makes no object keeps the rule, where the words that it changes are none but a seat's answer or a kept object's.
+use Rattle.std.proofs.Common.{◌≡◌, ◌≢◌, ℕ, ◌+◌, ◌<◌, false, List, [], ◌∷◌, ◌++◌, length, filter, drop, slice_set, refl, sym, ◌∙◌, arith, append-nil, ap}
+use Rattle.heap_model.specs.declared.cell.Cell.{Cell}
+use Rattle.heap_model.specs.declared.command.Command.{Command}
+use Rattle.heap_model.specs.declared.entry.Entry.{Entry}
+use Rattle.heap_model.specs.declared.entry.Entry.TheVariants as entries
+use Rattle.heap_model.specs.declared.heap.Heap.{Heap}
+use Rattle.heap_model.specs.declared.reply.Reply.{Reply}
+use Rattle.heap_model.specs.Account.{IsLegal}
+use Rattle.heap_model.specs.Cycles.{graph_of}
+use Rattle.heap_model.specs.Effects.{is_of}
+use Rattle.heap_model.specs.Growth.{after_reply}
+use Rattle.heap_model.specs.Needs.{made_by}
+use Rattle.heap_model.specs.Objects.{party, register}
+use Rattle.heap_model.specs.PhaseCounts.{phase, answered, has_left}
+use Rattle.heap_model.specs.Space.{taken_of, spent_of}
+use Rattle.heap_model.specs.State.{State as Graph, opening}
+use Rattle.heap_model.proofs.Histories.{graph_after-more}
+use Rattle.core_machine.specs.declared.place.Place.TheVariants as places
+use Rattle.core_machine.specs.Fits.{Fits, IsAtRest}
+use Rattle.core_machine.specs.Machine.{State, seat_at}
+use Rattle.core_machine.specs.Registers.{register_in}
+use Rattle.core_machine.specs.Seat.{Seat}
+use Rattle.core_machine.specs.Value.{IsMachine}
+use Rattle.core_rule.specs.Book.{Book}
+use Rattle.core_rule.specs.Cycle.{HeapInCycle, SeatInCycle}
+use Rattle.core_rule.specs.Objects.{AreMade, Objects, cells_at}
+use Rattle.core_rule.specs.Registers as regs
+use Rattle.core_rule.specs.Rule.{Rule}
+use Rattle.core_rule.proofs.steps.Assemble.{Keeps, seat_steps, fit_after}
+use Rattle.core_rule.proofs.hand.Bodies.{bare_hand}
+use Rattle.core_rule.proofs.words.ControlLemmas.{bits_same}
+use Rattle.core_rule.proofs.cycle.CycleFrames.{LeavesCycle, cycle_stays}
+use Rattle.core_rule.proofs.cycle.CycleHistory.{heap_cycle_more, cycle_other}
+use Rattle.core_rule.proofs.hand.EmptyHand.{nothing_together, none_stored, gathers_none, holding_as, bare_unborn}
+use Rattle.core_rule.proofs.graph.GraphSeats.{SeatChanges}
+use Rattle.core_rule.proofs.entries.InFlight.{began_idle, stored_within}
+use Rattle.core_rule.proofs.entries.Others.{of_other}
+use Rattle.core_rule.proofs.entries.OwnEntries.{own_grows}
+use Rattle.core_rule.proofs.entries.ReplyEntries.{said_own, said_used, said_taken, said_spent}
+use Rattle.core_rule.proofs.graph.SameNodes.{ids_stay, objects_stay, cells_stay}
+use Rattle.core_rule.proofs.frames.SeatFrames.{SameParty, with_entry, seat_stays, same_party}
+use Rattle.core_rule.proofs.hand.StoredFrames.{SameUnkept, stored_stays}
+
+-- the graph has the same objects of the same lengths, with the cells that their words have, and the other seats' data
+pub record GraphReplies (heap : Heap) (words : List ℕ) (book : Book) (g now : Graph) (q : ℕ) : Type 0 where
+  pub ids : AreMade now book.made
+  pub objects : Objects heap words now book.made book.owner book.fragments
+  pub lengths : (i : ℕ) → length (cells_at now book.made i) ≡ length (cells_at g book.made i)
+  pub others : (r : ℕ) → r ≢ q → SameParty g now r
+
+-- so it is where the registers of a seat change alone
+pub graph_replies : (g now : Graph) (q : ℕ) → SeatChanges g now q → (heap : Heap) (words : List ℕ) (book : Book) → AreMade g book.made → Objects heap words g book.made book.owner book.fragments
+    → GraphReplies heap words book g now q
+graph_replies g now q changes heap words book ids objects = record {
+  ids = ids_stay g now book.made changes.nodes ids;
+  objects = objects_stay g now book.made changes.nodes book.owner book.fragments heap words objects;
+  lengths = λ i. ap (λ (cells : List Cell). length cells) (cells_stay g now book.made changes.nodes i);
+  others = λ r apart. same_party g now r (changes.others r apart);
+}
+
+-- the seat stands idle, has told the reply, and what it has is the graph's
+pub record SeatReplies (book : Book) (g : Graph) (q : ℕ) (old now : Seat) (entry : Entry) : Type 0 where
+  pub idle : now.place ≡ places.Idle
+  pub reserve : now.reserve ≡ old.reserve
+  pub mine : now.mine ≡ old.mine ++ entry ∷ []
+  pub made : now.made ≡ length (party g q).objects
+  pub sets : now.sets ≡ (party g q).sets
+  pub left : (party g q).left ≡ now.left
+  pub registers : (i : ℕ) → regs.Holds book.made book.owner book.fragments (register_in now.registers i) (register g q i)
+
+module _ (heap : Heap) (state : State) (book : Book) (q : ℕ) (words : List ℕ) (now : Seat) (command : Command) (reply : Reply)
+    (rule : Rule heap state book) (here : q < heap.seats) (machine : IsMachine heap (record state { words = words; seats = slice_set state.seats q now })) where
+  abbrev seat : Seat
+  seat = seat_at state q
+
+  abbrev entry : Entry
+  entry = entries.Said q command reply
+
+  abbrev before : Graph
+  before = graph_of heap book.history
+
+  abbrev after : Graph
+  after = after_reply before q command reply
+
+  abbrev later : Book
+  later = with_entry book entry
+
+  graph : graph_of heap later.history ≡ after
+  graph = graph_after-more (opening heap) book.history entry
+
+  pub reply_keeps : made_by command reply ≡ 0 → IsAtRest seat → seat.mine ≡ filter (is_of q) book.history → IsLegal heap false later.history
+      → SameUnkept heap book.owner state.words words → GraphReplies heap words book before after q → SeatReplies book after q seat now entry
+      → HeapInCycle heap words (phase book.history) book.owner book.colour book.fragments
+      → SeatInCycle heap words (phase later.history) (answered q later.history) (has_left q later.history) book.owner book.colour q now
+      → ((r : ℕ) → r < heap.seats → r ≢ q → LeavesCycle heap state.words words book.owner book.owner book.colour book.colour (phase book.history) r (seat_at state r))
+      → Keeps heap (record state { words = words; seats = slice_set state.seats q now }) book book.begun (entry ∷ [])
+  reply_keeps none rest told legal same grows replies heap_cycle cycle leaves =
+      let stands = rule.seats_stand q here in
+      let heap_stands = rule.heap_stands in
+      let fits : Fits heap now = fit_after heap state book q rule here machine in
+      let idle : IsAtRest now = rw replies.idle at fits.at_place in
+      let own : length seat.reserve + spent_of q book.history ≡ taken_of q book.history
+      = bare_hand seat.reserve seat.hand seat.body (spent_of q book.history) (taken_of q book.history) rest.empty_hand rest.no_body stands.counts.unborn in
+      seat_steps heap state book q words now later (entry ∷ []) rule here machine refl refl
+      record {
+        table = machine.table;
+        control_words = bits_same heap state.words words book.owner same.controls heap_stands.control_words;
+        ids = rw graph grows.ids;
+        objects = rw graph grows.objects;
+        used = said_used book.history q command reply heap book.owner heap_stands.used;
+        cycle = heap_cycle_more heap words book.owner book.colour book.history entry refl book.fragments heap_cycle;
+        legal = legal;
+      }
+      record {
+        fits = fits;
+        holding = holding_as book.owner q seat.reserve seat.hand seat.body now.reserve now.hand now.body replies.reserve
+            (idle.empty_hand ∙ sym rest.empty_hand) (idle.no_body ∙ sym rest.no_body) stands.holding;
+        stored = none_stored heap words q now idle.none_stored;
+        registers = rw graph (λ i awake. replies.registers i);
+        list = record {
+          awaited = [];
+          own = append-nil now.mine ∙ replies.mine ∙ own_grows q book.history seat.mine entry (said_own book.history q command reply) told;
+          awaits = rw replies.idle refl;
+        };
+        way = rw replies.idle tt;
+        cycle = cycle;
+        together = nothing_together heap now.cursor now.tried now.hand now.body idle.empty_hand idle.no_body;
+        counts = rw graph record {
+          numbered = replies.made;
+          stamped = replies.sets;
+          leaves = replies.left;
+          unborn = bare_unborn seat.reserve now.reserve now.hand now.body (spent_of q later.history) (taken_of q later.history) replies.reserve idle.empty_hand idle.no_body
+              (omega (arith, own, said_taken book.history q command reply none, said_spent book.history q command reply none));
+        };
+        began = rw replies.idle (began_idle book.history entry q (book.begun q) seat.place stands.began);
+        gathers = gathers_none heap book.owner q (drop (book.begun q) later.history) now.cursor now.tried now.given idle.none_tried idle.none_given;
+      }
+      (λ r below apart other. seat_stays heap state.words words book entry r (seat_at state r) (of_other q r apart)
+      (rw graph (grows.others r apart))
+      (rw graph grows.lengths)
+      (stored_stays heap book.owner state.words words r (seat_at state r) same other.holding (stored_within heap (seat_at state r) (seat_at state r).place other.fits.at_place) other.stored)
+      (cycle_other heap words book.owner book.colour book.history entry refl r (seat_at state r)
+      (cycle_stays heap state.words words book.owner book.owner book.colour book.colour (phase book.history) (answered r book.history) (has_left r book.history) r (seat_at state r)
+      (leaves r below apart) other.cycle) (of_other q r apart))
+      other)

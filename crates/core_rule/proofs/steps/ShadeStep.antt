@@ -1,0 +1,127 @@
+-- The shade of a kept object's first fragment keeps the rule.
+use Rattle.std.specs.Prelude.{bit_or}
+use Rattle.std.proofs.Common.{◌≡◌, ◌≢◌, ℕ, ◌*◌, ◌/◌, ◌%◌, ◌<◌, List, [], ◌++◌, slice_set, refl, sym, ap, ◌∙◌, arith, inl}
+use Rattle.std.proofs.lemmas.List.{append-nil}
+use Rattle.heap_model.specs.declared.heap.Heap.{Heap}
+use Rattle.heap_model.specs.Cycles.{graph_of}
+use Rattle.heap_model.specs.PhaseCounts.{phase, answered, has_left}
+use Rattle.core_machine.specs.declared.address.Address.TheVariants.{Answer, Control, Phase}
+use Rattle.core_machine.specs.declared.place.Place.{Place}
+use Rattle.core_machine.specs.Commands.{target_of}
+use Rattle.core_machine.specs.Layout.{at, put}
+use Rattle.core_machine.specs.Machine.{State, seat_at}
+use Rattle.core_machine.specs.Operation.{shade_bit}
+use Rattle.core_machine.specs.Seat.{Seat}
+use Rattle.core_machine.specs.Value.{IsMachine}
+use Rattle.core_machine.proofs.Addresses.{length-put}
+use Rattle.core_rule.specs.Book.{Book, fragment_at}
+use Rattle.core_rule.specs.Counts.{OwnList}
+use Rattle.core_rule.specs.Cycle.{SeatInCycle}
+use Rattle.core_rule.specs.Gathers.{IsAnswered}
+use Rattle.core_rule.specs.Objects.{IsKept, cells_at}
+use Rattle.core_rule.specs.Owners.{Bears, Keeps as KeepsPart}
+use Rattle.core_rule.specs.Registers.{Registers}
+use Rattle.core_rule.specs.Rule.{Rule}
+use Rattle.core_rule.specs.Ways.{WayStands}
+use Rattle.core_rule.proofs.words.Addresses.{at-put_apart}
+use Rattle.core_rule.proofs.steps.Assemble.{Keeps, seat_steps, fit_after}
+use Rattle.core_rule.proofs.cycle.CycleFrames.{LeavesCycle, cycle_stays}
+use Rattle.core_rule.proofs.entries.InFlight.{began_on}
+use Rattle.core_rule.proofs.ways.KeptWords.{kept_within}
+use Rattle.core_rule.proofs.colours.LeadsFrames.{leads_control}
+use Rattle.core_rule.proofs.objects.ObjectFrames.{objects_control, bears_keeps_none}
+use Rattle.core_rule.proofs.entries.OwnEntries.{counts_same}
+use Rattle.core_rule.proofs.colours.ShadeColours.{with_mark, mark_keeps, mark_away, bits_shade, marks_shade, coloured_shade}
+use Rattle.core_rule.proofs.hand.StoredFrames.{stored_control}
+
+-- the seat after a shade: elsewhere, and with so many roots shaded
+abbrev pub shading : Seat → ℕ → Place → Seat
+shading seat shaded place = record seat { shaded = shaded; place = place; mine = seat.mine ++ [] }
+
+module _ (heap : Heap) (state : State) (book : Book) (q : ℕ) (rule : Rule heap state book) (here : q < heap.seats)
+    (f number : ℕ) (kept : IsKept book.owner book.fragments number) (first : f ≡ fragment_at (book.fragments number) 0) where
+  -- the fragment is the object's
+  owned : book.owner f ≡ KeepsPart number 0
+  owned = ap book.owner first ∙ kept
+
+  pub shade_within : f < 16 * heap.groups
+  shade_within = kept_within heap state.words book.owner f number 0 rule.heap_stands.control_words owned
+
+  abbrev pub words_shaded : List ℕ
+  words_shaded = put heap state.words (Control (f / 16)) (bit_or (at heap state.words (Control (f / 16))) (shade_bit f))
+
+  group_below : f / 16 < heap.groups
+  group_below = omega (arith, shade_within)
+
+  -- another seat's answer stays
+  pub answer_shaded : (r : ℕ) → r < heap.seats → at heap words_shaded (Answer r) ≡ at heap state.words (Answer r)
+  answer_shaded r less = at-put_apart heap state.words (Control (f / 16)) (Answer r) _ (λ e. omega (arith, e, less, rule.limits.seats_fit))
+
+  -- what a seat bears has the colour that it had
+  pub borne_unshaded : (r x : ℕ) → book.owner x ≡ Bears r → with_mark book.colour f x ≡ book.colour x
+  borne_unshaded r x borne = mark_away book.colour f x (λ same. bears_keeps_none r number 0 (sym borne ∙ ap book.owner same ∙ owned))
+
+  -- what is needed of the others stays
+  others_left : (r : ℕ) → r < heap.seats → (seat : Seat) → LeavesCycle heap state.words words_shaded book.owner book.owner book.colour (with_mark book.colour f) (phase book.history) r seat
+  others_left r less seat = record {
+    answer = answer_shaded r less;
+    leads = λ making g leads. inl (leads_control heap state.words (f / 16) _ group_below _ _ g leads);
+    marks = mark_keeps book.colour f;
+    births = λ x borne. (borne, borne_unshaded r x borne);
+  }
+
+  pub shade_keeps : (shaded : ℕ) (place : Place) → phase book.history % 7 ≢ 0
+      → IsMachine heap (record state { words = words_shaded; seats = slice_set state.seats q (shading (seat_at state q) shaded place) })
+      → Registers (graph_of heap book.history) book.made book.owner book.fragments q (seat_at state q).registers place (target_of (seat_at state q).command)
+      → OwnList (graph_of heap book.history) book.history book.made book.owner book.fragments q (shading (seat_at state q) shaded place)
+      → WayStands (cells_at (graph_of heap book.history) book.made) book.made book.owner book.fragments (shading (seat_at state q) shaded place) place
+      → ¬ IsAnswered (seat_at state q).place
+      → SeatInCycle heap words_shaded (phase book.history) (answered q book.history) (has_left q book.history) book.owner (with_mark book.colour f) q (shading (seat_at state q) shaded place)
+      → Keeps heap (record state { words = words_shaded; seats = slice_set state.seats q (shading (seat_at state q) shaded place) }) book book.begun []
+  shade_keeps shaded place runs machine held list way busy cycle =
+      let seat : Seat = seat_at state q in
+      let new : Seat = shading seat shaded place in
+      let stands = rule.seats_stand q here in
+      let old = rule.heap_stands in
+      seat_steps heap state book q words_shaded new (record book { colour = with_mark book.colour f }) [] rule here machine (sym (append-nil book.history)) refl
+      record {
+        table = length-put heap state.words (Control (f / 16)) _ ∙ old.table;
+        control_words = bits_shade heap state.words book.owner book.colour f old.table shade_within old.control_words;
+        ids = old.ids;
+        objects = objects_control heap state.words (graph_of heap book.history) book.made book.owner book.fragments (f / 16) _ group_below old.objects;
+        used = old.used;
+        cycle = record {
+          word = at-put_apart heap state.words (Control (f / 16)) Phase _ (λ e. omega (arith, e)) ∙ old.cycle.word;
+          so_far = old.cycle.so_far;
+          marks = marks_shade heap state.words book.owner book.colour f old.table shade_within old.cycle.marks;
+          coloured = coloured_shade heap state.words book.owner book.colour f old.table shade_within book.fragments (phase book.history) number owned first runs old.cycle.coloured;
+        };
+        legal = old.legal;
+      }
+      record {
+        fits = fit_after heap state book q rule here machine;
+        holding = stands.holding;
+        stored = stored_control heap state.words q seat (f / 16) _ group_below stands.stored;
+        registers = held;
+        list = list;
+        way = way;
+        cycle = cycle;
+        together = stands.together;
+        counts = counts_same (graph_of heap book.history) book.history q seat new refl refl refl refl stands.counts;
+        began = began_on book.history q (book.begun q) seat.place place busy stands.began;
+        gathers = stands.gathers;
+      }
+      (λ r less apart other. record {
+        fits = other.fits;
+        holding = other.holding;
+        stored = stored_control heap state.words r (seat_at state r) (f / 16) _ group_below other.stored;
+        registers = other.registers;
+        list = other.list;
+        way = other.way;
+        cycle = cycle_stays heap state.words words_shaded book.owner book.owner book.colour (with_mark book.colour f) (phase book.history) (answered r book.history) (has_left r book.history)
+            r (seat_at state r) (others_left r less (seat_at state r)) other.cycle;
+        together = other.together;
+        counts = other.counts;
+        began = other.began;
+        gathers = other.gathers;
+      })

@@ -1,0 +1,74 @@
+-- The begin of a call that makes no object keeps the rule.
+use Rattle.std.proofs.Common.{ℕ, ◌<◌, [], length, filter, drop, refl, sym, ◌∙◌, append-nil}
+use Rattle.heap_model.specs.declared.command.Command.{Command}
+use Rattle.heap_model.specs.declared.heap.Heap.{Heap}
+use Rattle.heap_model.specs.Cycles.{graph_of}
+use Rattle.heap_model.specs.Effects.{is_of}
+use Rattle.heap_model.specs.Objects.{register}
+use Rattle.heap_model.specs.PhaseCounts.{phase, answered, has_left}
+use Rattle.heap_model.specs.State.{State as Graph}
+use Rattle.core_machine.specs.declared.place.Place.TheVariants as places
+use Rattle.core_machine.specs.Commands.{IsRecord, target_of}
+use Rattle.core_machine.specs.Fits.{IsAtRest, IsSilent}
+use Rattle.core_machine.specs.Machine.{State, seat_at, starts, MayBegin, Begins, after}
+use Rattle.core_machine.specs.Registers.{register_in}
+use Rattle.core_machine.specs.Seat.{Seat}
+use Rattle.core_machine.specs.Value.{IsMachine}
+use Rattle.core_rule.specs.Book.{Book}
+use Rattle.core_rule.specs.Objects.{cells_at}
+use Rattle.core_rule.specs.Registers.{Holds}
+use Rattle.core_rule.specs.Rule.{Rule}
+use Rattle.core_rule.proofs.steps.Assemble.{Keeps, seat_steps, fit_after}
+use Rattle.core_rule.proofs.entries.AtRest.{none_awaited}
+use Rattle.core_rule.proofs.entries.Begins.{begins, book_begun, heap_begins, began_now, other_begins}
+use Rattle.core_rule.proofs.hand.EmptyHand.{nothing_together, none_stored, gathers_none, holding_as}
+use Rattle.core_rule.proofs.cycle.FreshCycle.{cycle_fresh}
+use Rattle.core_rule.proofs.entries.SeatLists.{all_told}
+use Rattle.core_rule.proofs.entries.Starting.{Starts, starts_other}
+
+-- the begin of any call but a new object's keeps the rule
+pub begin_others_keep : (heap : Heap) (state : State) (book : Book) (q : ℕ) (command : Command) → Rule heap state book → q < heap.seats
+    → MayBegin (seat_at state q) command → (IsRecord command → ⊥) → IsMachine heap (after heap state (Begins q command))
+    → Keeps heap (after heap state (Begins q command)) book (begins q (length book.history) book.begun) []
+begin_others_keep heap state book q command rule here may other machine =
+    let old : Seat = seat_at state q in
+    let seat : Seat = record old { command = command } in
+    let next : Seat = starts heap seat command in
+    let g : Graph = graph_of heap book.history in
+    let stands = rule.seats_stand q here in
+    let rest : IsAtRest old = rw may.idle at stands.fits.at_place in
+    let silent : IsSilent old = rw may.idle at stands.fits.answer_at_place in
+    let awaits = rw may.idle at stands.list.awaits in
+    let holds : (r : ℕ) → Holds book.made book.owner book.fragments (register_in old.registers r) (register g q r)
+    = λ r. stands.registers r (none_awaited old.place places.Idle (target_of old.command) r may.idle (λ none. none)) in
+    let start : Starts g (cells_at g book.made) book.made book.owner book.fragments q seat next
+    = starts_other g (cells_at g book.made) book.made book.owner book.fragments q heap seat command other may.served refl (λ r. (register g q r, holds r)) in
+    let own = start.own in
+    let same = own.same in
+    seat_steps heap state book q state.words next (book_begun heap state.words book q) []
+    rule here machine (sym (append-nil book.history)) refl
+    (heap_begins heap state.words book q rule.heap_stands)
+    record {
+      fits = fit_after heap state book q rule here machine;
+      holding = holding_as book.owner q old.reserve old.hand old.body next.reserve next.hand next.body own.reserve own.hand own.body stands.holding;
+      stored = none_stored heap state.words q next (same.stored ∙ rest.none_stored);
+      registers = λ r awake. rw same.registers (holds r);
+      list = record {
+        awaited = [];
+        own = append-nil next.mine ∙ same.mine ∙ all_told old.mine stands.list.awaited (filter (is_of q) book.history) stands.list.own awaits;
+        awaits = start.awaits;
+      };
+      way = start.way;
+      cycle = cycle_fresh heap state.words book.owner book.colour (phase book.history) (answered q book.history) (has_left q book.history) q old next
+          record { answered = same.answered; left = same.left; asked = same.asked } start.fresh (same.shaded ∙ silent.none_shaded) stands.cycle;
+      together = nothing_together heap next.cursor next.tried next.hand next.body (own.hand ∙ rest.empty_hand) (own.body ∙ rest.no_body);
+      counts = record {
+        numbered = same.made ∙ stands.counts.numbered;
+        stamped = same.sets ∙ stands.counts.stamped;
+        leaves = stands.counts.leaves ∙ sym same.left;
+        unborn = rw (own.reserve, own.hand, own.body) stands.counts.unborn;
+      };
+      began = began_now heap state.words book q next.place;
+      gathers = gathers_none heap book.owner q (drop (begins q (length book.history) book.begun q) book.history) next.cursor next.tried next.given (own.tried ∙ rest.none_tried) (own.given ∙ rest.none_given);
+    }
+    (λ r below apart other. other_begins heap state.words book q r (seat_at state r) apart other)

@@ -1,0 +1,87 @@
+-- Going on by a fragment's first word keeps the rule.
+use Rattle.std.proofs.Common.{◌≡◌, ℕ, ◌-◌, ◌<◌, [], filter, refl, sym, subst}
+use Rattle.std.proofs.lemmas.List.{append-nil}
+use Rattle.heap_model.specs.declared.heap.Heap.{Heap}
+use Rattle.heap_model.specs.Cycles.{graph_of}
+use Rattle.heap_model.specs.Effects.{is_of}
+use Rattle.heap_model.specs.State.{State as Graph}
+use Rattle.core_machine.specs.declared.address.Address.TheVariants.{Word}
+use Rattle.core_machine.specs.declared.place.Place.TheVariants as places
+use Rattle.core_machine.specs.declared.place.Reaching.TheVariants.{Walking}
+use Rattle.core_machine.specs.Commands.{target_of}
+use Rattle.core_machine.specs.Fits.{IsSilent}
+use Rattle.core_machine.specs.Layout.{at}
+use Rattle.core_machine.specs.Loaded.{link_in}
+use Rattle.core_machine.specs.Machine.{State, seat_at, stepped, found_by}
+use Rattle.core_machine.specs.Reaching.{has_barrier, way_place, stepped_on, onward}
+use Rattle.core_machine.specs.ReachingMoves.{walk_move}
+use Rattle.core_machine.specs.Seat.{Seat, with_entries}
+use Rattle.core_machine.specs.Value.{IsMachine}
+use Rattle.core_rule.specs.Book.{Book}
+use Rattle.core_rule.specs.Counts.{Awaits}
+use Rattle.core_rule.specs.Gathers.{IsAnswered}
+use Rattle.core_rule.specs.Objects.{cells_at}
+use Rattle.core_rule.specs.Registers.{IsAwaited}
+use Rattle.core_rule.specs.Rule.{Rule}
+use Rattle.core_rule.specs.Ways.{Finds}
+use Rattle.core_rule.proofs.steps.Assemble.{Keeps}
+use Rattle.core_rule.proofs.entries.InFlight.{began_on}
+use Rattle.core_rule.proofs.steps.Loads.{went_cycle, went, loaded_state, load_goes}
+use Rattle.core_rule.proofs.ways.OnwardWays.{way_unwatched, way_cases, onward_cases, way_stands, finds_at, finds_on}
+use Rattle.core_rule.proofs.entries.SeatLists.{list_more}
+use Rattle.core_rule.proofs.cycle.Unwatched.{IsUnwatched}
+
+module _ (heap : Heap) (state : State) (book : Book) (q : ℕ) (rule : Rule heap state book) (here : q < heap.seats)
+    (busy : ¬ IsAnswered (seat_at state q).place) (free : (d r : ℕ) → ¬ IsAwaited (seat_at state q).place d r) (silent : IsSilent (seat_at state q)) where
+  -- the word that the step finds, and the state after it
+  abbrev found_first : ℕ
+  found_first = at heap state.words (Word (seat_at state q).reached 0)
+
+  -- a seat that goes on to this place
+  goes_to : (reached links : ℕ) (next : Seat) → has_barrier next ≡ has_barrier (seat_at state q)
+      → Finds (cells_at (graph_of heap book.history) book.made) book.made book.owner book.fragments
+      (went (seat_at state q) (seat_at state q).registers reached links (seat_at state q).loaded (places.Reaching (way_place next)) [])
+      → IsMachine heap (loaded_state heap state q (Word (seat_at state q).reached 0)
+      (went (seat_at state q) (seat_at state q).registers reached links (seat_at state q).loaded (places.Reaching (way_place next)) []))
+      → Keeps heap (loaded_state heap state q (Word (seat_at state q).reached 0)
+      (went (seat_at state q) (seat_at state q).registers reached links (seat_at state q).loaded (places.Reaching (way_place next)) [])) book book.begun []
+  goes_to reached links next same finds machine =
+      let seat : Seat = seat_at state q in
+      let g : Graph = graph_of heap book.history in
+      let stands = rule.seats_stand q here in
+      let new : Seat = went seat seat.registers reached links seat.loaded (places.Reaching (way_place next)) [] in
+      load_goes heap state book q rule here (Word seat.reached 0) seat.registers reached links seat.loaded (places.Reaching (way_place next)) [] machine
+      (λ r unawaited. stands.registers r (free (target_of seat.command) r))
+      (list_more g book.made book.owner book.fragments q seat book.history busy stands.list g book.history new [] [] [] refl refl (sym (append-nil (filter (is_of q) book.history)))
+      (way_cases (λ place. Awaits g book.made book.owner book.fragments q new (places.Reaching place) []) next refl refl (λ on. refl) (λ off. refl)))
+      (way_stands (cells_at g book.made) book.made book.owner book.fragments new next finds)
+      (began_on book.history q (book.begun q) seat.place (places.Reaching (way_place next)) busy stands.began)
+      (went_cycle heap state book q rule here (Word seat.reached 0) seat.registers reached links seat.loaded (places.Reaching (way_place next)) [] machine silent
+      (subst (λ b. IsUnwatched b (way_place next)) same (way_unwatched next)))
+
+  -- the way goes on, or the field's fragment is reached
+  pub onward_keeps : Finds (cells_at (graph_of heap book.history) book.made) book.made book.owner book.fragments (seat_at state q)
+      → IsMachine heap (loaded_state heap state q (Word (seat_at state q).reached 0) (with_entries (onward (seat_at state q) found_first) []))
+      → Keeps heap (loaded_state heap state q (Word (seat_at state q).reached 0) (with_entries (onward (seat_at state q) found_first) [])) book book.begun []
+  onward_keeps finds =
+      let seat : Seat = seat_at state q in
+      let g : Graph = graph_of heap book.history in
+      onward_cases (λ s. IsMachine heap (loaded_state heap state q (Word seat.reached 0) (with_entries s []))
+      → Keeps heap (loaded_state heap state q (Word seat.reached 0) (with_entries s [])) book book.begun []) seat found_first
+      (λ arrived. goes_to seat.reached seat.links seat refl
+      (finds_at (cells_at g book.made) book.made book.owner book.fragments seat seat.loaded (way_place seat) _ finds))
+      (λ more. goes_to (link_in found_first) (seat.links - 1) (stepped_on seat found_first) refl
+      (finds_on heap state.words g book.made book.owner book.fragments rule.limits rule.heap_stands.control_words rule.heap_stands.ids rule.heap_stands.objects
+      seat seat.loaded (way_place (stepped_on seat found_first)) _ more finds))
+
+-- walking a link keeps the rule
+pub walk_keeps : (heap : Heap) (state : State) (book : Book) (q : ℕ) → Rule heap state book → q < heap.seats
+    → (seat_at state q).place ≡ places.Reaching Walking
+    → IsMachine heap (stepped heap state q (walk_move (seat_at state q)))
+    → Keeps heap (stepped heap state q (walk_move (seat_at state q))) book book.begun
+    ((walk_move (seat_at state q)).shows state.words (found_by heap state (walk_move (seat_at state q)).step))
+walk_keeps heap state book q rule here place machine =
+    let finds : Finds (cells_at (graph_of heap book.history) book.made) book.made book.owner book.fragments (seat_at state q)
+    = rw place at (rule.seats_stand q here).way in
+    onward_keeps heap state book q rule here (λ answered. subst IsAnswered place answered) (λ d r awaited. subst (λ p. IsAwaited p d r) place awaited)
+    (rw place at (rule.seats_stand q here).fits.answer_at_place) finds machine

@@ -1,0 +1,3 @@
+-- Kinds of the collector.
+pub mod LookStep
+pub mod AdvanceStep

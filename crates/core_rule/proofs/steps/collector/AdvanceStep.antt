@@ -1,0 +1,118 @@
+-- The begin of the next phase, once all have answered, keeps the rule.
+use Rattle.std.proofs.Common.{◌≡◌, ℕ, ◌+◌, ◌<◌, false, List, [], ◌∷◌, length, refl, sym, ap, ◌∙◌, subst, arith}
+use Rattle.std.proofs.lemmas.List.Elements.{filter-append}
+use Rattle.heap_model.specs.declared.entry.Entry.TheVariants.{Advance}
+use Rattle.heap_model.specs.declared.heap.Heap.{Heap}
+use Rattle.heap_model.specs.Account.{KeepsSpace}
+use Rattle.heap_model.specs.Cycles.{graph_of}
+use Rattle.heap_model.specs.Objects.{party}
+use Rattle.heap_model.specs.PhaseCounts.{phase, answered, has_left, AllAnswered}
+use Rattle.heap_model.specs.State.{State as Graph, opening}
+use Rattle.heap_model.proofs.Histories.{graph_after-more}
+use Rattle.core_machine.specs.declared.address.Address.TheVariants.{Answer, Phase}
+use Rattle.core_machine.specs.declared.stage.Stage.TheVariants.{Advancing}
+use Rattle.core_machine.specs.Collector.{advance_turn}
+use Rattle.core_machine.specs.Fits.{FitsStage}
+use Rattle.core_machine.specs.Layout.{put, table_length}
+use Rattle.core_machine.specs.Machine.{State, seat_at, turned}
+use Rattle.core_machine.specs.Value.{IsMachine}
+use Rattle.core_machine.proofs.Addresses.{at-put_same}
+use Rattle.core_rule.specs.Book.{Book}
+use Rattle.core_rule.specs.Colours.{Leads}
+use Rattle.core_rule.specs.Counts.{is_collectors}
+use Rattle.core_rule.specs.Cycle.{HeapInCycle}
+use Rattle.core_rule.specs.Rule.{Rule, HeapStands, SeatStands}
+use Rattle.core_rule.proofs.words.Addresses.{at-put_apart}
+use Rattle.core_rule.proofs.steps.Assemble.{Keeps}
+use Rattle.core_rule.proofs.cycle.CycleFrames.{cycle_told}
+use Rattle.core_rule.proofs.frames.EntryFrames.{fragments_phase, heap_past, seat_past}
+use Rattle.core_rule.proofs.colours.LeadsFrames.{leads_apart}
+use Rattle.core_rule.proofs.entries.Legality.{legal_more, keeps_begins}
+use Rattle.core_rule.proofs.colours.MarkWords.{marks_same}
+use Rattle.core_rule.proofs.cycle.NextPhase.{coloured_next, cycle_next}
+use Rattle.core_rule.proofs.entries.PhaseEntries.{phase_rises, answered_stays, left_stays}
+use Rattle.core_rule.proofs.graph.SameNodes.{SameNodes, nodes_same}
+use Rattle.core_rule.proofs.frames.SeatFrames.{with_entry}
+
+-- the book once the next phase has begun
+abbrev begun_phase : Book → ℕ → Book
+begun_phase book p = with_entry book (Advance p)
+
+module _ (heap : Heap) (state : State) (book : Book) (rule : Rule heap state book) (advancing : state.collector.stage ≡ Advancing) where
+  abbrev next : ℕ
+  next = state.collector.phase + 1
+
+  abbrev words : List ℕ
+  words = put heap state.words Phase next
+
+  abbrev later : Book
+  later = begun_phase book next
+
+  early : phase book.history < 3
+  early = rule.collector_stands.goes_on advancing
+
+  -- all have answered
+  all_answered : AllAnswered heap book.history
+  all_answered q below present = rule.collector_stands.looked q (omega (arith, below, subst (FitsStage heap state.collector) advancing rule.machine.collector_fit.at_stage)) below present
+
+  told : next ≡ phase book.history + 1
+  told = ap (λ p. p + 1) rule.collector_stands.phase_told
+
+  grown : phase later.history ≡ phase book.history + 1
+  grown = phase_rises book.history (Advance next) refl
+
+  graph : graph_of heap later.history ≡ graph_of heap book.history
+  graph = graph_after-more (opening heap) book.history (Advance next)
+
+  nodes : SameNodes (graph_of heap book.history) (graph_of heap later.history)
+  nodes = nodes_same (graph_of heap book.history) (graph_of heap later.history) graph
+
+  keeps : KeepsSpace heap false book.history (Advance next)
+  keeps = keeps_begins heap false book.history next (told, (λ whole. omega (arith, whole, told, early)), all_answered)
+
+  leads_on : (f part g : ℕ) → Leads heap words f part g → Leads heap state.words f part g
+  leads_on f part g leads = leads_apart heap state.words Phase next f part g (λ e. omega (arith, e)) leads
+
+  heap_on : length words ≡ table_length heap → HeapStands heap words later
+  heap_on whole =
+      let cycle = rule.heap_stands.cycle in
+      heap_past heap state.words words (fragments_phase heap state.words next) book (Advance next) nodes whole record { taken = refl; given = refl; freed = refl }
+      (legal_more heap false book.history (Advance next) rule.heap_stands.legal tt keeps)
+      (subst (λ p. HeapInCycle heap words p book.owner book.colour book.fragments) (sym grown)
+      record {
+        word = at-put_same heap state.words Phase next rule.heap_stands.table tt ∙ told;
+        so_far = omega (arith, early);
+        marks = marks_same heap state.words words book.colour (fragments_phase heap state.words next).controls cycle.marks;
+        coloured = coloured_next heap state.words words book.owner book.colour book.fragments (phase book.history) early leads_on cycle.coloured;
+      }) rule.heap_stands
+
+  seat_on : (r : ℕ) → r < heap.seats → SeatStands heap words later r (seat_at state r)
+  seat_on r below =
+      let stands = rule.seats_stand r below in
+      seat_past heap state.words words (fragments_phase heap state.words next) book (Advance next) nodes r (seat_at state r) refl (ap (λ (g : Graph). party g r) graph)
+      (cycle_told heap words (phase book.history + 1) (phase later.history) (answered r book.history) (answered r later.history) (has_left r book.history) (has_left r later.history)
+      book.owner book.colour r (seat_at state r) grown (answered_stays book.history (Advance next) r refl) (left_stays book.history (Advance next) r refl)
+      (cycle_next heap state.words words book.owner book.colour (phase book.history) (answered r book.history) (has_left r book.history) r (seat_at state r) early
+      (at-put_apart heap state.words Phase (Answer r) next (λ e. omega (arith, e))) leads_on stands.fits (all_answered r below) stands.cycle)) stands
+
+  -- the begin of the next phase keeps the rule
+  pub advance_keeps : IsMachine heap (turned heap state (advance_turn state.collector))
+      → Keeps heap (turned heap state (advance_turn state.collector)) book book.begun (advance_turn state.collector).adds
+  advance_keeps machine = record {
+    now = later;
+    grown = refl;
+    calls = refl;
+    rule = record {
+      limits = rule.limits;
+      machine = machine;
+      all_seats = rule.all_seats;
+      heap_stands = heap_on machine.table;
+      seats_stand = seat_on;
+      collector_stands = record {
+        log = rw (filter-append is_collectors book.history (Advance next ∷ []), rule.collector_stands.log) refl;
+        phase_told = told ∙ sym grown;
+        looked = λ q none below present. absurd (omega (arith, none));
+        goes_on = λ on. cc;
+      };
+    };
+  }

@@ -1,0 +1,125 @@
+-- The collector's look at a seat's answer keeps the rule.
+use Rattle.std.specs.Prelude.{if◌then◌else◌}
+use Rattle.std.proofs.Common.{◌≡◌, ℕ, suc, ◌+◌, ◌%◌, ◌<◌, ◌≤◌, Bool, true, false, List, [], ◌++◌, inl, inr, refl, sym, ◌∙◌, subst, arith}
+use Rattle.std.proofs.lemmas.Bool.Decides.{eqb_tells, leb_tells}
+use Rattle.std.proofs.lemmas.List.{append-nil}
+use Rattle.heap_words.specs.declared.phase.TheConstants.{LEFT}
+use Rattle.heap_model.specs.declared.entry.Entry.{Entry}
+use Rattle.heap_model.specs.declared.heap.Heap.{Heap}
+use Rattle.heap_model.specs.PhaseCounts.{phase, answered, has_left}
+use Rattle.core_machine.specs.declared.address.Address.TheVariants.{Answer}
+use Rattle.core_machine.specs.declared.stage.Stage.TheVariants.{Looking}
+use Rattle.core_machine.specs.Collector.{Collector, has_answered, looked_all, looked_on, looked_at, look_turn}
+use Rattle.core_machine.specs.Fits.{FitsStage}
+use Rattle.core_machine.specs.Layout.{at}
+use Rattle.core_machine.specs.Machine.{State, seat_at, turned}
+use Rattle.core_machine.specs.Value.{IsMachine}
+use Rattle.core_machine.proofs.Addresses.{put-at}
+use Rattle.core_rule.specs.Book.{Book}
+use Rattle.core_rule.specs.Phases.{CollectorStands}
+use Rattle.core_rule.specs.Rule.{Rule}
+use Rattle.core_rule.proofs.steps.Assemble.{Keeps, few_answers}
+
+-- the word of a seat that hasn't left tells that it has answered the phase
+word_tells : (p answer : ℕ) → answer ≤ p → p ≤ 3 → has_answered p answer ≡ true → answer ≡ p
+word_tells p answer near early seen = elim (eqb_tells answer p) [
+  | inl same ↦ same.1
+  | inr other ↦ elim (eqb_tells answer LEFT) [
+    | inl left ↦ absurd (omega (arith, left.1, near, early))
+    | inr neither ↦ absurd (cc (seen, other.0, neither.0))
+  ]
+]
+
+-- the collector with an empty log added
+log_stays : (heap : Heap) (collector : Collector) (history : List Entry) → CollectorStands heap collector history
+    → CollectorStands heap (record collector { log = collector.log ++ [] }) history
+log_stays heap collector history stands = record {
+  log = append-nil collector.log ∙ stands.log;
+  phase_told = stands.phase_told;
+  looked = stands.looked;
+  goes_on = stands.goes_on;
+}
+
+module _ (heap : Heap) (collector : Collector) (history : List Entry) (stands : CollectorStands heap collector history) (looking : collector.stage ≡ Looking)
+    (early : phase history ≤ 3) where
+  -- it looks from seat 0 again, or goes on to the next phase
+  all_seen : ((q : ℕ) → q < heap.seats → has_left q history ≡ false → answered q history ≡ phase history) → CollectorStands heap (looked_all heap collector) history
+  all_seen all = elim (eqb_tells (collector.phase % 7) 3) as (λ _. CollectorStands heap (looked_all heap collector) history) [
+    | inl third ↦ rw third.0 (record {
+      log = stands.log;
+      phase_told = stands.phase_told;
+      looked = λ q none below present. absurd (omega (arith, none));
+      goes_on = λ on. absurd (cc (on, looking));
+    })
+    | inr other ↦ rw other.0 (record {
+      log = stands.log;
+      phase_told = stands.phase_told;
+      looked = λ q less below present. all q below present;
+      goes_on = λ on. omega (arith, other.1, early, stands.phase_told);
+    })
+  ]
+
+  module _ (seen : has_left collector.looked history ≡ false → answered collector.looked history ≡ phase history) where
+    -- the seats up to this one have answered
+    more_seen : (q : ℕ) → q < collector.looked + 1 → q < heap.seats → has_left q history ≡ false → answered q history ≡ phase history
+    more_seen q less below present = elim (eqb_tells q collector.looked) [
+      | inl here ↦ subst (λ n. has_left n history ≡ false → answered n history ≡ phase history) (sym here.1) seen present
+      | inr other ↦ stands.looked q (omega (arith, less, other.1)) below present
+    ]
+
+    on_seen : CollectorStands heap (looked_on heap collector) history
+    on_seen = elim (leb_tells (suc (collector.looked + 1)) heap.seats) as (λ _. CollectorStands heap (looked_on heap collector) history) [
+      | inl more ↦ rw more.0 (record {
+        log = stands.log;
+        phase_told = stands.phase_told;
+        looked = more_seen;
+        goes_on = λ on. absurd (cc (on, looking));
+      })
+      | inr last ↦ rw last.0 (all_seen (λ q below present. more_seen q (omega (arith, last.1, below)) below present))
+    ]
+
+  -- one more seat was looked at
+  look_seen : (found : ℕ) → (has_answered collector.phase found ≡ true → has_left collector.looked history ≡ false → answered collector.looked history ≡ phase history)
+      → CollectorStands heap (looked_at heap collector found) history
+  look_seen found tells = by (has_answered collector.phase found) tells
+    where
+      by : (b : Bool) → (b ≡ true → has_left collector.looked history ≡ false → answered collector.looked history ≡ phase history)
+          → CollectorStands heap (if b then looked_on heap collector else collector) history
+      by true seen = on_seen (seen refl)
+      by false seen = stands
+
+-- the state after a turn of the collector
+abbrev after_turn : State → List ℕ → Collector → State
+after_turn state words collector = record state { words = words; collector = collector }
+
+-- a look at a seat's answer keeps the rule
+pub look_keeps : (heap : Heap) (state : State) (book : Book) → Rule heap state book → state.collector.stage ≡ Looking
+    → IsMachine heap (turned heap state (look_turn heap state.collector))
+    → Keeps heap (turned heap state (look_turn heap state.collector)) book book.begun (look_turn heap state.collector).adds
+look_keeps heap state book rule looking machine =
+    let collector : Collector = state.collector in
+    let q : ℕ = collector.looked in
+    let found : ℕ = at heap state.words (Answer q) in
+    let below : q < heap.seats = subst (FitsStage heap collector) looking rule.machine.collector_fit.at_stage in
+    let stands = rule.seats_stand q below in
+    let told = stands.cycle.answers_told in
+    let early : phase book.history ≤ 3 = rule.heap_stands.cycle.so_far in
+    let tells : has_answered collector.phase found ≡ true → has_left q book.history ≡ false → answered q book.history ≡ phase book.history
+    = λ seen present. word_tells (phase book.history) (answered q book.history) (few_answers heap state.words book q (seat_at state q) stands present) early
+    (subst (λ w. has_answered (phase book.history) w ≡ true) (told.word ∙ rw (sym told.leaves ∙ present) (sym told.told))
+    (subst (λ p. has_answered p found ≡ true) rule.collector_stands.phase_told seen)) in
+    let after : Collector = record (looked_at heap collector found) { log = (looked_at heap collector found).log ++ [] } in
+    subst (λ words. IsMachine heap (after_turn state words after) → Keeps heap (after_turn state words after) book book.begun []) (sym (put-at heap state.words (Answer q)))
+    (λ same. record {
+      now = book;
+      grown = sym (append-nil book.history);
+      calls = refl;
+      rule = record {
+        limits = rule.limits;
+        machine = same;
+        all_seats = rule.all_seats;
+        heap_stands = rule.heap_stands;
+        seats_stand = rule.seats_stand;
+        collector_stands = log_stays heap (looked_at heap collector found) book.history (look_seen heap collector book.history rule.collector_stands looking early found tells);
+      };
+    }) machine

@@ -1,0 +1,202 @@
+-- The answer to a phase keeps the rule: it stands in the history, and so does the reply to the poll.
+use Rattle.std.proofs.Common.{◌≡◌, ◌≢◌, ℕ, ◌+◌, ◌<◌, true, false, List, [], ◌∷◌, ◌++◌, length, filter, drop, inl, refl, sym, ap, ◌∙◌, arith, append_assoc, append-nil}
+use Rattle.std.proofs.lemmas.Bool.{eq-eqb}
+use Rattle.heap_model.specs.declared.command.Command.TheVariants as commands
+use Rattle.heap_model.specs.declared.entry.Entry.{Entry}
+use Rattle.heap_model.specs.declared.entry.Entry.TheVariants.{Said, Answers}
+use Rattle.heap_model.specs.declared.heap.Heap.{Heap}
+use Rattle.heap_model.specs.declared.reply.Reply.TheVariants as replies
+use Rattle.heap_model.specs.Cycles.{graph_of}
+use Rattle.heap_model.specs.Effects.{is_of}
+use Rattle.heap_model.specs.Objects.{party}
+use Rattle.heap_model.specs.PhaseCounts.{phase, answered, has_left}
+use Rattle.heap_model.specs.State.{State as Graph}
+use Rattle.core_machine.specs.declared.address.Address.TheVariants.{Answer}
+use Rattle.core_machine.specs.declared.place.Place.TheVariants as places
+use Rattle.core_machine.specs.declared.place.Polling.TheVariants.{Answering}
+use Rattle.core_machine.specs.AnsweringMoves.{answer_move}
+use Rattle.core_machine.specs.Commands.{target_of}
+use Rattle.core_machine.specs.Fits.{Fits, IsAtRest, Answers as IsAnswering}
+use Rattle.core_machine.specs.Layout.{at, put}
+use Rattle.core_machine.specs.Machine.{State, seat_at, stepped, found_by}
+use Rattle.core_machine.specs.Moves.{seat_after}
+use Rattle.core_machine.specs.Polling.{roots}
+use Rattle.core_machine.specs.Seat.{Seat}
+use Rattle.core_machine.specs.Value.{IsMachine}
+use Rattle.core_machine.proofs.Addresses.{at-put_same}
+use Rattle.core_rule.specs.Book.{Book}
+use Rattle.core_rule.specs.Counts.{OwnCounts}
+use Rattle.core_rule.specs.Cycle.{SeatInCycle}
+use Rattle.core_rule.specs.Phases.{Asks, answer_word}
+use Rattle.core_rule.specs.Rule.{Rule, HeapStands, SeatStands}
+use Rattle.core_rule.proofs.entries.AnswerEntries.{graph_answer, graph_reply, phase_answer, accepts_reply, has_answered, keeps_answer, keeps_reply}
+use Rattle.core_rule.proofs.cycle.AnswerWords.{fragments_answer, heap_cycle_answer, leaves_answer}
+use Rattle.core_rule.proofs.steps.Assemble.{Keeps, seat_steps, fit_after}
+use Rattle.core_rule.proofs.entries.AtRest.{in_flight, none_awaited, spent_own, few_own}
+use Rattle.core_rule.proofs.cycle.CycleFrames.{cycle_stays}
+use Rattle.core_rule.proofs.cycle.CycleHistory.{heap_cycle_more, cycle_other}
+use Rattle.core_rule.proofs.hand.EmptyHand.{none_stored, gathers_none}
+use Rattle.core_rule.proofs.frames.EntryFrames.{SameFragments, heap_past, seat_past}
+use Rattle.core_rule.proofs.hand.HandMoves.{bears_nothing}
+use Rattle.core_rule.proofs.entries.InFlight.{began_idle, began_past}
+use Rattle.core_rule.proofs.entries.Legality.{legal_more}
+use Rattle.core_rule.proofs.entries.Others.{of_other}
+use Rattle.core_rule.proofs.entries.OwnEntries.{own_grows, counts_own}
+use Rattle.core_rule.proofs.entries.PhaseEntries.{phase_stays, answered_stays, left_stays, no_leave_told}
+use Rattle.core_rule.proofs.frames.Replying.{heap_told, other_told}
+use Rattle.core_rule.proofs.graph.SameNodes.{SameNodes, nodes_same}
+use Rattle.core_rule.proofs.frames.SeatFrames.{with_entry}
+use Rattle.core_rule.proofs.entries.SeatLists.{all_told}
+
+module _ (heap : Heap) (state : State) (book : Book) (q : ℕ) (rule : Rule heap state book) (here : q < heap.seats) (place : (seat_at state q).place ≡ places.Polling Answering)
+    (machine : IsMachine heap (stepped heap state q (answer_move q (seat_at state q)))) where
+  abbrev seat : Seat
+  seat = seat_at state q
+
+  abbrev p : ℕ
+  p = seat.asked
+
+  abbrev words : List ℕ
+  words = put heap state.words (Answer q) p
+
+  abbrev now : Seat
+  now = seat_after (answer_move q seat) (at heap state.words (Answer q))
+
+  -- the answer's entry, and then the reply's
+  abbrev first : Entry
+  first = Answers q p
+
+  abbrev second : Entry
+  second = Said q seat.command (replies.Phase p)
+
+  abbrev middle : Book
+  middle = with_entry book first
+
+  abbrev later : Book
+  later = with_entry middle second
+
+  abbrev g : Graph
+  g = graph_of heap book.history
+
+  stands : SeatStands heap state.words book q seat
+  stands = rule.seats_stand q here
+
+  rest : IsAtRest seat
+  rest = rw place at stands.fits.at_place
+
+  fits : Fits heap now
+  fits = fit_after heap state book q rule here machine
+
+  polls : seat.command ≡ commands.Poll
+  polls =
+      let answers : IsAnswering seat × (seat.shaded ≡ length (roots seat)) = rw place at stands.fits.answer_at_place in
+      answers.0.polls
+
+  asks : Asks (phase book.history) seat.answered p
+  asks = rw place at stands.cycle.answer
+
+  stays : seat.left ≡ false
+  stays = in_flight heap seat stands.fits (λ idle. absurd (cc (place, idle)))
+
+  present : (party g q).left ≡ false
+  present = stands.counts.leaves ∙ stays
+
+  small : q < 16
+  small = omega (arith, here, rule.limits.seats_fit)
+
+  own : is_of q first ≡ true
+  own = eq-eqb q q refl
+
+  graph : graph_of heap middle.history ≡ g
+  graph = graph_answer heap book q p seat.command polls
+
+  graph_then : graph_of heap later.history ≡ graph_of heap middle.history
+  graph_then = graph_reply heap book q p seat.command polls
+
+  graph_later : graph_of heap later.history ≡ g
+  graph_later = graph_then ∙ graph
+
+  next : p ≡ answered q book.history + 1
+  next = omega (arith, asks.next, stands.cycle.answers_told.told)
+
+  same : SameFragments heap state.words words
+  same = fragments_answer heap state.words q p small
+
+  nodes : SameNodes g (graph_of heap middle.history)
+  nodes = nodes_same g (graph_of heap middle.history) graph
+
+  nodes_then : SameNodes (graph_of heap middle.history) (graph_of heap later.history)
+  nodes_then = nodes_same (graph_of heap middle.history) (graph_of heap later.history) graph_then
+
+  heap_middle : HeapStands heap words middle
+  heap_middle =
+      heap_past heap state.words words same book first nodes machine.table record { taken = refl; given = refl; freed = refl }
+      (legal_more heap false book.history first rule.heap_stands.legal present (keeps_answer heap book q p seat.command polls asks.now next))
+      (heap_cycle_more heap words book.owner book.colour book.history first refl book.fragments
+      (heap_cycle_answer heap state.words q p small (phase book.history) book.owner book.colour book.fragments rule.heap_stands.cycle)) rule.heap_stands
+
+  heap_later : HeapStands heap words later
+  heap_later =
+      heap_told heap words middle second refl nodes_then (accepts_reply heap book q p seat.command polls present)
+      (keeps_reply heap book q p seat.command polls asks.now next (spent_own heap state book q rule here rest) (few_own heap state book q rule here rest)) heap_middle
+
+  own_cycle : SeatInCycle heap words (phase later.history) (answered q later.history) (has_left q later.history) book.owner book.colour q now
+  own_cycle = record {
+    answers_told = record {
+      told = answered_stays middle.history second q refl ∙ has_answered heap book q p seat.command polls asks.now next;
+      leaves = left_stays middle.history second q (no_leave_told q q seat.command (replies.Phase p) (λ leaves. absurd (cc (leaves, polls))))
+          ∙ left_stays book.history first q refl ∙ stands.cycle.answers_told.leaves;
+      word = at-put_same heap state.words (Answer q) p rule.heap_stands.table small ∙ sym (ap (λ left. answer_word left p) stays);
+      near = λ there. inl (asks.now ∙ sym (phase_stays middle.history second refl ∙ phase_answer heap book q p seat.command polls));
+      loaded = omega arith;
+    };
+    answer = tt;
+    flight = record { set = λ marking snapped. tt; shaded = λ marking. tt; roots = λ marking j less. absurd (omega (arith, less)) };
+    births = λ f bears. absurd (bears_nothing book.owner q seat.reserve seat.hand seat.body rest.no_body stands.holding f bears);
+  }
+
+  own_stands : SeatStands heap words later q now
+  own_stands =
+      let counts_middle : OwnCounts (graph_of heap middle.history) middle.history q seat
+      = counts_own g (graph_of heap middle.history) book.history q seat seat stands.counts first own
+      (rw graph stands.counts.numbered) (rw graph stands.counts.stamped) (rw graph stands.counts.leaves) (omega arith) in
+      record {
+        fits = fits;
+        holding = stands.holding;
+        stored = none_stored heap words q now rest.none_stored;
+        registers = rw graph_later (λ i awake. stands.registers i (none_awaited seat.place (places.Polling Answering) (target_of seat.command) i place (λ none. none)));
+        list = record {
+          awaited = [];
+          own = append-nil now.mine ∙ sym (append_assoc seat.mine (first ∷ []) (second ∷ []))
+              ∙ own_grows q middle.history (seat.mine ++ first ∷ []) second own
+              (own_grows q book.history seat.mine first own (all_told seat.mine stands.list.awaited (filter (is_of q) book.history) stands.list.own (rw place at stands.list.awaits)));
+          awaits = refl;
+        };
+        way = tt;
+        cycle = own_cycle;
+        together = stands.together;
+        counts = counts_own (graph_of heap middle.history) (graph_of heap later.history) middle.history q seat now counts_middle second own
+            (rw graph_then counts_middle.numbered) (rw graph_then counts_middle.stamped) (rw graph_then counts_middle.leaves) (omega arith);
+        began = began_idle middle.history second q (book.begun q) seat.place (began_past book.history first q (book.begun q) seat.place seat.place refl (λ busy. busy) stands.began);
+        gathers = gathers_none heap book.owner q (drop (book.begun q) later.history) now.cursor now.tried now.given rest.none_tried rest.none_given;
+      }
+
+  other_stands : (r : ℕ) → r < heap.seats → r ≢ q → SeatStands heap state.words book r (seat_at state r) → SeatStands heap words later r (seat_at state r)
+  other_stands r below apart other =
+      let away = of_other q r apart in
+      other_told heap words middle second refl nodes_then r (seat_at state r) away (ap (λ (x : Graph). party x r) graph_then)
+      (seat_past heap state.words words same book first nodes r (seat_at state r) away (ap (λ (x : Graph). party x r) graph)
+      (cycle_other heap words book.owner book.colour book.history first refl r (seat_at state r)
+      (cycle_stays heap state.words words book.owner book.owner book.colour book.colour (phase book.history) (answered r book.history) (has_left r book.history) r (seat_at state r)
+      (leaves_answer heap state.words q p small book.owner book.colour (phase book.history) r (seat_at state r) apart) other.cycle) away) other)
+
+  -- the answer keeps the rule
+  answer_kept : Keeps heap (stepped heap state q (answer_move q seat)) book book.begun (first ∷ second ∷ [])
+  answer_kept = seat_steps heap state book q words now later (first ∷ second ∷ []) rule here machine (append_assoc book.history (first ∷ []) (second ∷ [])) refl heap_later own_stands other_stands
+
+pub answer_keeps : (heap : Heap) (state : State) (book : Book) (q : ℕ) → Rule heap state book → q < heap.seats
+    → (seat_at state q).place ≡ places.Polling Answering
+    → IsMachine heap (stepped heap state q (answer_move q (seat_at state q)))
+    → Keeps heap (stepped heap state q (answer_move q (seat_at state q))) book book.begun
+    ((answer_move q (seat_at state q)).shows state.words (found_by heap state (answer_move q (seat_at state q)).step))
+answer_keeps heap state book q rule here place machine = answer_kept heap state book q rule here place machine

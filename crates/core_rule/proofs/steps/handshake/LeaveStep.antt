@@ -1,0 +1,120 @@
+-- A seat's leave keeps the rule.
+use Rattle.std.proofs.Common.{◌≡◌, ◌≢◌, ℕ, zero, suc, ◌<◌, true, false, List, [], length, filter, get_or, replicate, refl, sym, ap, ◌∙◌, subst, arith}
+use Rattle.std.proofs.lemmas.Bool.{eq-eqb}
+use Rattle.heap_words.specs.declared.phase.TheConstants.{LEFT}
+use Rattle.heap_model.specs.declared.command.Command.TheVariants as commands
+use Rattle.heap_model.specs.declared.entry.Entry.{Entry}
+use Rattle.heap_model.specs.declared.entry.Entry.TheVariants as entries
+use Rattle.heap_model.specs.declared.heap.Heap.{Heap}
+use Rattle.heap_model.specs.declared.id.Value.{Value}
+use Rattle.heap_model.specs.declared.id.Value.TheVariants as values
+use Rattle.heap_model.specs.declared.reply.Reply.TheVariants as replies
+use Rattle.heap_model.specs.Changes.{leave}
+use Rattle.heap_model.specs.Command.{IsCommand}
+use Rattle.heap_model.specs.Cycles.{graph_of}
+use Rattle.heap_model.specs.Effects.{is_of}
+use Rattle.heap_model.specs.Growth.{after_reply}
+use Rattle.heap_model.specs.Objects.{party}
+use Rattle.heap_model.specs.PhaseCounts.{phase, is_leave_of}
+use Rattle.heap_model.specs.Phases.{ShowsPhases}
+use Rattle.heap_model.specs.Replies.{Says}
+use Rattle.heap_model.specs.State.{State as Graph, Party}
+use Rattle.core_machine.specs.declared.address.Address.TheVariants.{Answer}
+use Rattle.core_machine.specs.declared.place.Leaving.TheVariants.{Parting}
+use Rattle.core_machine.specs.declared.place.Place.TheVariants as places
+use Rattle.core_machine.specs.declared.register.Register.TheVariants as registers
+use Rattle.core_machine.specs.AnsweringMoves.{leave_move}
+use Rattle.core_machine.specs.Fits.{IsAtRest, IsSilent}
+use Rattle.core_machine.specs.Layout.{at, put}
+use Rattle.core_machine.specs.Machine.{State, seat_at, stepped, found_by}
+use Rattle.core_machine.specs.Moves.{seat_after}
+use Rattle.core_machine.specs.Seat.{Seat}
+use Rattle.core_machine.specs.Value.{IsMachine}
+use Rattle.core_machine.proofs.Addresses.{at-put_same}
+use Rattle.core_rule.specs.Book.{Book}
+use Rattle.core_rule.specs.Objects.{Objects}
+use Rattle.core_rule.specs.Registers as regs
+use Rattle.core_rule.specs.Rule.{Rule}
+use Rattle.core_rule.proofs.cycle.AnswerWords.{fragments_answer, heap_cycle_answer, leaves_answer}
+use Rattle.core_rule.proofs.steps.Assemble.{Keeps}
+use Rattle.core_rule.proofs.entries.AtRest.{in_flight, own_reserve, spent_own}
+use Rattle.core_rule.proofs.frames.EntryFrames.{SameFragments}
+use Rattle.core_rule.proofs.graph.GraphSeats.{SeatChanges, party_is, one_changes}
+use Rattle.core_rule.proofs.entries.Legality.{legal_more, keeps_said}
+use Rattle.core_rule.proofs.objects.ObjectFrames.{objects_words}
+use Rattle.core_rule.proofs.entries.PhaseEntries.{phase_stays, answered_stays, left_once}
+use Rattle.core_rule.proofs.steps.ReplyStep.{reply_keeps, graph_replies}
+use Rattle.core_rule.proofs.entries.SeatLists.{all_told}
+
+-- each register of such a list is nil
+all_nil : {A : Type 0} (x : A) (n i : ℕ) → get_or (replicate n x) i x ≡ x
+all_nil x zero i = refl
+all_nil x (suc n) zero = refl
+all_nil x (suc n) (suc i) = all_nil x n i
+
+-- the party that has left
+abbrev gone : Graph → ℕ → Party
+gone g q = record (party g q) { registers = replicate 16 values.Nil; left = true }
+
+-- a leave keeps the rule
+pub leave_keeps : (heap : Heap) (state : State) (book : Book) (q : ℕ) → Rule heap state book → q < heap.seats
+    → (seat_at state q).place ≡ places.Leaving Parting
+    → IsMachine heap (stepped heap state q (leave_move q (seat_at state q)))
+    → Keeps heap (stepped heap state q (leave_move q (seat_at state q))) book book.begun
+    ((leave_move q (seat_at state q)).shows state.words (found_by heap state (leave_move q (seat_at state q)).step))
+leave_keeps heap state book q rule here place machine =
+    let seat : Seat = seat_at state q in
+    let g : Graph = graph_of heap book.history in
+    let words : List ℕ = put heap state.words (Answer q) LEFT in
+    let stands = rule.seats_stand q here in
+    let at_place : IsAtRest seat × (seat.command ≡ commands.Leave) × (seat.reserve ≡ []) = rw place at stands.fits.at_place in
+    let busy : seat.place ≢ places.Idle = λ idle. absurd (cc (place, idle)) in
+    let present : (party g q).left ≡ false = stands.counts.leaves ∙ in_flight heap seat stands.fits busy in
+    let awaits = rw place at stands.list.awaits in
+    let small : q < 16 = omega (arith, here, rule.limits.seats_fit) in
+    let now : Graph = after_reply g q seat.command replies.Done in
+    let grown : now ≡ leave g q = ap (λ c. after_reply g q c replies.Done) at_place.1 in
+    let changes : SeatChanges g now q = rw grown (one_changes g q (gone g q) present refl refl) in
+    let party_now : party now q ≡ gone g q = ap (λ x. party x q) grown ∙ party_is g q (gone g q) present in
+    let empty : length seat.reserve ≡ 0 = ap length at_place.2 in
+    let same : SameFragments heap state.words words = fragments_answer heap state.words q LEFT small in
+    let objects : Objects heap words g book.made book.owner book.fragments
+    = objects_words heap state.words words g book.made book.owner book.fragments (λ f i k part is within. same.parts f part) rule.heap_stands.objects in
+    let left : Entry = entries.Said q seat.command replies.Done in
+    let leaves : is_leave_of q left ≡ true = ap (λ c. is_leave_of q (entries.Said q c replies.Done)) at_place.1 ∙ eq-eqb q q refl in
+    let silent : IsSilent seat = rw place at stands.fits.answer_at_place in
+    let told = stands.cycle.answers_told in
+    reply_keeps heap state book q words (seat_after (leave_move q seat) (at heap state.words (Answer q))) seat.command replies.Done rule here machine
+    refl at_place.0 (all_told seat.mine stands.list.awaited (filter (is_of q) book.history) stands.list.own awaits)
+    (legal_more heap false book.history (entries.Said q seat.command replies.Done) rule.heap_stands.legal
+    (present, subst IsCommand (sym at_place.1) tt, subst (λ c. Says g q c replies.Done) (sym at_place.1) refl)
+    (keeps_said heap false book.history q seat.command replies.Done refl tt tt (subst (λ c. ShowsPhases heap false book.history q c replies.Done) (sym at_place.1) tt)
+    (spent_own heap state book q rule here at_place.0) (omega (arith, empty, own_reserve heap state book q rule here at_place.0))))
+    record { controls = same.controls; unkept = λ f part free within. same.parts f part }
+    (graph_replies g now q changes heap words book rule.heap_stands.ids objects)
+    record {
+      idle = refl;
+      reserve = refl;
+      mine = refl;
+      made = stands.counts.numbered ∙ sym changes.objects;
+      sets = stands.counts.stamped ∙ sym changes.sets;
+      left = ap (λ (p : Party). p.left) party_now;
+      registers = λ i. all_holds i (ap (λ (p : Party). get_or p.registers i values.Nil) party_now ∙ all_nil values.Nil 16 i);
+    }
+    (heap_cycle_answer heap state.words q LEFT small (phase book.history) book.owner book.colour book.fragments rule.heap_stands.cycle)
+    record {
+      answers_told = record {
+        told = answered_stays book.history left q refl ∙ told.told;
+        leaves = left_once book.history left q leaves;
+        word = at-put_same heap state.words (Answer q) LEFT rule.heap_stands.table small;
+        near = λ present. absurd (cc present);
+        loaded = omega (arith, told.loaded, phase_stays book.history left refl);
+      };
+      answer = tt;
+      flight = record { set = λ marking snapped. tt; shaded = λ marking. tt; roots = λ marking j less. absurd (omega (arith, less, silent.none_shaded)) };
+      births = stands.cycle.births;
+    }
+    (λ r below apart. leaves_answer heap state.words q LEFT small book.owner book.colour (phase book.history) r (seat_at state r) apart)
+  where
+    all_holds : (i : ℕ) {value : Value} → value ≡ values.Nil → regs.Holds book.made book.owner book.fragments (get_or (replicate 16 registers.Nil) i registers.Nil) value
+    all_holds i {value} is = subst (λ h. regs.Holds book.made book.owner book.fragments h value) (sym (all_nil registers.Nil 16 i)) is

@@ -1,0 +1,165 @@
+-- A poll's load keeps the rule: its reply stands there where the seat has answered the phase, and else it goes on to answer it.
+use Rattle.std.specs.Prelude.{if◌then◌else◌, nat_lt}
+use Rattle.std.proofs.Common.{◌≡◌, ◌≢◌, ℕ, ◌+◌, ◌<◌, ◌==◌, true, false, Bool, [], ◌∷◌, length, filter, slice_set, inl, inr, refl, sym, ◌∙◌, subst, arith}
+use Rattle.std.proofs.lemmas.Bool.Decides.{eqb_tells}
+use Rattle.std.proofs.lemmas.List.{append-nil}
+use Rattle.heap_model.specs.declared.command.Command.TheVariants as commands
+use Rattle.heap_model.specs.declared.entry.Entry.TheVariants as entries
+use Rattle.heap_model.specs.declared.heap.Heap.{Heap}
+use Rattle.heap_model.specs.declared.reply.Reply.TheVariants as replies
+use Rattle.heap_model.specs.Command.{IsCommand}
+use Rattle.heap_model.specs.Cycles.{graph_of}
+use Rattle.heap_model.specs.Effects.{is_of}
+use Rattle.heap_model.specs.PhaseCounts.{phase, answered, has_left}
+use Rattle.heap_model.specs.State.{State as Graph}
+use Rattle.core_machine.specs.declared.address.Address.TheVariants.{Phase}
+use Rattle.core_machine.specs.declared.place.Place.TheVariants as places
+use Rattle.core_machine.specs.declared.place.Polling.TheVariants.{Asking, Shading, Answering}
+use Rattle.core_machine.specs.AnsweringMoves.{poll_move}
+use Rattle.core_machine.specs.Commands.{target_of}
+use Rattle.core_machine.specs.Fits.{IsAtRest, IsSilent}
+use Rattle.core_machine.specs.Layout.{at, put}
+use Rattle.core_machine.specs.Machine.{State, seat_at, stepped, found_by}
+use Rattle.core_machine.specs.Polling.{roots, shades_on}
+use Rattle.core_machine.specs.Seat.{Seat, with_entries}
+use Rattle.core_machine.specs.Value.{IsMachine}
+use Rattle.core_machine.proofs.Addresses.{put-at}
+use Rattle.core_rule.specs.Book.{Book}
+use Rattle.core_rule.specs.Cycle.{SeatInCycle}
+use Rattle.core_rule.specs.Phases.{Asks, PollingStands}
+use Rattle.core_rule.specs.Rule.{Rule, SeatStands}
+use Rattle.core_rule.proofs.steps.Assemble.{Keeps, seat_steps, fit_after}
+use Rattle.core_rule.proofs.entries.AtRest.{in_flight, none_awaited}
+use Rattle.core_rule.proofs.entries.InFlight.{began_on}
+use Rattle.core_rule.proofs.graph.LocalReplies.{IsLocalReply, HoldAll}
+use Rattle.core_rule.proofs.steps.LocalStep.{local_reply_keeps}
+use Rattle.core_rule.proofs.entries.OwnEntries.{counts_same}
+use Rattle.core_rule.proofs.entries.PhaseEntries.{no_leave_told}
+use Rattle.core_rule.proofs.graph.PutRegister.{only_none}
+use Rattle.core_rule.proofs.entries.SeatLists.{all_told}
+
+-- the seat after the load, by whether it has answered the phase found
+abbrev polled : ℕ → Seat → ℕ → Bool → Seat
+polled q seat found same = with_entries (if same then record seat { place = places.Idle } else shades_on (record seat { asked = found }))
+    (if same then entries.Said q seat.command (replies.Phase found) ∷ [] else [])
+
+abbrev polls : Heap → State → ℕ → Bool → State
+polls heap state q same = record state {
+  words = put heap state.words Phase (at heap state.words Phase);
+  seats = slice_set state.seats q (polled q (seat_at state q) (at heap state.words Phase) same);
+}
+
+-- what is about to be answered, whether a root is shaded first or not
+asks_at : (phase answer asked : ℕ) (b : Bool) → Asks phase answer asked → PollingStands phase answer asked (if b then Shading else Answering)
+asks_at phase answer asked true asks = asks
+asks_at phase answer asked false asks = asks
+
+module _ (heap : Heap) (state : State) (book : Book) (q : ℕ) (rule : Rule heap state book) (here : q < heap.seats) (place : (seat_at state q).place ≡ places.Polling Asking) where
+  abbrev seat : Seat
+  seat = seat_at state q
+
+  abbrev g : Graph
+  g = graph_of heap book.history
+
+  abbrev found : ℕ
+  found = at heap state.words Phase
+
+  stands : SeatStands heap state.words book q seat
+  stands = rule.seats_stand q here
+
+  rest : IsAtRest seat
+  rest = rw place at stands.fits.at_place
+
+  asks : IsSilent seat × (seat.command ≡ commands.Poll)
+  asks = rw place at stands.fits.answer_at_place
+
+  stays : seat.left ≡ false
+  stays = in_flight heap seat stands.fits (λ idle. absurd (cc (place, idle)))
+
+  is_phase : found ≡ phase book.history
+  is_phase = rule.heap_stands.cycle.word
+
+  mine_told : seat.mine ≡ filter (is_of q) book.history
+  mine_told = all_told seat.mine stands.list.awaited (filter (is_of q) book.history) stands.list.own (rw place at stands.list.awaits)
+
+  holds : HoldAll heap book.history g q book.made book.owner book.fragments g seat.registers
+  holds i = stands.registers i (none_awaited seat.place (places.Polling Asking) (target_of seat.command) i place (λ none. none))
+
+  -- the seat has answered the phase
+  poll_tells : found ≡ seat.answered → IsMachine heap (polls heap state q true) → Keeps heap (polls heap state q true) book book.begun (entries.Said q seat.command (replies.Phase found) ∷ [])
+  poll_tells same machine =
+      let local : IsLocalReply heap book.history g q book.made book.owner book.fragments commands.Poll (replies.Phase found) seat.registers
+      = record {
+        plain = record { none = refl; space = tt; spine = tt; phases = (is_phase, same ∙ sym stands.cycle.answers_told.told); most = refl };
+        says = tt;
+        only = only_none g q;
+        registers = holds;
+      } in
+      local_reply_keeps heap state book q Phase (polled q seat found true) (replies.Phase found) rule here machine rest mine_told (stands.counts.leaves ∙ stays)
+      (subst IsCommand (sym asks.1) tt)
+      (subst (λ c. IsLocalReply heap book.history g q book.made book.owner book.fragments c (replies.Phase found) seat.registers) (sym asks.1) local)
+      (no_leave_told q q seat.command (replies.Phase found) (λ leaves. absurd (cc (leaves, asks.1))))
+      record { idle = refl; reserve = refl; mine = refl; answered = refl; asked = refl; shaded = asks.0.none_shaded; made = refl; sets = refl; left = refl }
+
+  -- it hasn't, so that it is one phase behind
+  own_cycle : found ≢ seat.answered
+      → SeatInCycle heap state.words (phase book.history) (answered q book.history) (has_left q book.history) book.owner book.colour q (polled q seat found false)
+  own_cycle apart =
+      let told = stands.cycle.answers_told in
+      let next : found ≡ seat.answered + 1 = elim (told.near stays) [
+        | inl same ↦ absurd (apart (is_phase ∙ sym same))
+        | inr behind ↦ is_phase ∙ sym behind
+      ] in
+      record {
+        answers_told = record { told = told.told; leaves = told.leaves; word = told.word; near = told.near; loaded = omega (arith, is_phase) };
+        answer = asks_at (phase book.history) seat.answered found (nat_lt seat.shaded (length (roots (record seat { asked = found })))) record { now = is_phase; next = next };
+        flight = record {
+          set = λ marking snapped. tt;
+          shaded = λ marking. tt;
+          roots = λ marking j less. absurd (omega (arith, less, asks.0.none_shaded));
+        };
+        births = stands.cycle.births;
+      }
+
+  poll_goes : found ≢ seat.answered → IsMachine heap (polls heap state q false) → Keeps heap (polls heap state q false) book book.begun []
+  poll_goes apart machine =
+      let next : Seat = polled q seat found false in
+      subst (λ words. IsMachine heap (record state { words = words; seats = slice_set state.seats q next })
+      → Keeps heap (record state { words = words; seats = slice_set state.seats q next }) book book.begun []) (sym (put-at heap state.words Phase))
+      (λ same. seat_steps heap state book q state.words next book [] rule here same (sym (append-nil book.history)) refl rule.heap_stands
+      record {
+        fits = fit_after heap state book q rule here same;
+        holding = stands.holding;
+        stored = stands.stored;
+        registers = λ i awake. holds i;
+        list = record { awaited = []; own = append-nil next.mine ∙ append-nil seat.mine ∙ mine_told; awaits = refl };
+        way = tt;
+        cycle = own_cycle apart;
+        together = stands.together;
+        counts = counts_same g book.history q seat next refl refl refl refl stands.counts;
+        began = began_on book.history q (book.begun q) seat.place next.place (rw place (λ answered. answered)) stands.began;
+        gathers = stands.gathers;
+      }
+      (λ r below apart other. other)) machine
+
+-- a poll's load keeps the rule
+pub poll_keeps : (heap : Heap) (state : State) (book : Book) (q : ℕ) → Rule heap state book → q < heap.seats
+    → (seat_at state q).place ≡ places.Polling Asking
+    → IsMachine heap (stepped heap state q (poll_move q (seat_at state q)))
+    → Keeps heap (stepped heap state q (poll_move q (seat_at state q))) book book.begun
+    ((poll_move q (seat_at state q)).shows state.words (found_by heap state (poll_move q (seat_at state q)).step))
+poll_keeps heap state book q rule here place machine =
+    let found : ℕ = at heap state.words Phase in
+    elim (eqb_tells found (seat_at state q).answered) [
+      | inl same ↦ by true same.0 (poll_tells heap state book q rule here place same.1)
+      | inr apart ↦ by false apart.0 (poll_goes heap state book q rule here place apart.1)
+    ]
+  where
+    by : (b : Bool) → (at heap state.words Phase == (seat_at state q).answered) ≡ b
+        → (IsMachine heap (polls heap state q b)
+        → Keeps heap (polls heap state q b) book book.begun (if b then entries.Said q (seat_at state q).command (replies.Phase (at heap state.words Phase)) ∷ [] else []))
+        → Keeps heap (polls heap state q (at heap state.words Phase == (seat_at state q).answered)) book book.begun
+        (if at heap state.words Phase == (seat_at state q).answered then entries.Said q (seat_at state q).command (replies.Phase (at heap state.words Phase)) ∷ [] else [])
+    by b is kept =
+        subst (λ (b : Bool). IsMachine heap (polls heap state q b)
+        → Keeps heap (polls heap state q b) book book.begun (if b then entries.Said q (seat_at state q).command (replies.Phase (at heap state.words Phase)) ∷ [] else [])) (sym is) kept machine

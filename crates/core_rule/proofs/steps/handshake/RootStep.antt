@@ -1,0 +1,86 @@
+-- Shading a root keeps the rule.
+use Rattle.std.proofs.Common.{◌≡◌, ℕ, ◌+◌, ◌%◌, ◌<◌, ◌==◌, if◌then◌else◌, Bool, true, false, List, [], length, filter, slice_index_or, inl, inr, refl, sym, ◌∙◌, subst, arith, nat_lt}
+use Rattle.std.proofs.lemmas.Bool.{cond_both, eqb-true, cases_lt}
+use Rattle.std.proofs.lemmas.List.{append-nil}
+use Rattle.heap_model.specs.declared.heap.Heap.{Heap}
+use Rattle.heap_model.specs.Cycles.{graph_of}
+use Rattle.heap_model.specs.Effects.{is_of}
+use Rattle.heap_model.specs.Objects.{register}
+use Rattle.heap_model.specs.PhaseCounts.{phase, answered, has_left}
+use Rattle.heap_model.specs.State.{State as Graph}
+use Rattle.core_machine.specs.declared.place.Place.TheVariants as places
+use Rattle.core_machine.specs.declared.place.Polling.TheVariants.{Shading, Answering}
+use Rattle.core_machine.specs.AnsweringMoves.{root_move}
+use Rattle.core_machine.specs.Commands.{target_of}
+use Rattle.core_machine.specs.Fits.{Answers as FitsAnswers}
+use Rattle.core_machine.specs.Machine.{State, seat_at, stepped, found_by}
+use Rattle.core_machine.specs.Polling.{roots, answer_place}
+use Rattle.core_machine.specs.Registers.{heads, register_in}
+use Rattle.core_machine.specs.Seat.{Seat}
+use Rattle.core_machine.specs.Value.{IsMachine}
+use Rattle.core_rule.specs.Book.{Book}
+use Rattle.core_rule.specs.Colours.{IsMarked}
+use Rattle.core_rule.specs.Gathers.{IsAnswered}
+use Rattle.core_rule.specs.Phases.{Asks, PollingStands, AnswerStands}
+use Rattle.core_rule.specs.Registers.{IsAwaited, Holds}
+use Rattle.core_rule.specs.Rule.{Rule}
+use Rattle.core_rule.proofs.steps.Assemble.{Keeps}
+use Rattle.core_rule.proofs.cycle.CycleFrames.{cycle_by_flight}
+use Rattle.core_rule.proofs.ways.LoadedObjects.{KeptHead, heads_kept}
+use Rattle.core_rule.proofs.entries.SeatLists.{list_more}
+use Rattle.core_rule.proofs.colours.ShadeColours.{with_mark, mark_marks, mark_keeps}
+use Rattle.core_rule.proofs.steps.ShadeStep.{shading, words_shaded, shade_keeps, answer_shaded, borne_unshaded}
+
+-- whoever goes on to shade or to answer asks for the phase
+asks_on : (phase answer asked : ℕ) (seat : Seat) → Asks phase answer asked → PollingStands phase answer asked (answer_place seat)
+asks_on phase answer asked seat asks = cond_both (nat_lt seat.shaded (length (roots seat))) Shading Answering (PollingStands phase answer asked) (λ more. asks) (λ done. asks)
+
+-- a root is left in a cycle's third phase alone, and is one of the registers' heads
+roots_third : (third : Bool) (all : List ℕ) (n : ℕ) → n < length (if third then all else []) → third ≡ true
+roots_third true all n less = refl
+roots_third false all n less = absurd (omega (arith, less))
+
+-- shading a root keeps the rule
+pub root_keeps : (heap : Heap) (state : State) (book : Book) (q : ℕ) → Rule heap state book → q < heap.seats
+    → (seat_at state q).place ≡ places.Polling Shading
+    → IsMachine heap (stepped heap state q (root_move (seat_at state q)))
+    → Keeps heap (stepped heap state q (root_move (seat_at state q))) book book.begun
+    ((root_move (seat_at state q)).shows state.words (found_by heap state (root_move (seat_at state q)).step))
+root_keeps heap state book q rule here place machine =
+    let seat : Seat = seat_at state q in
+    let g : Graph = graph_of heap book.history in
+    let p : ℕ = phase book.history in
+    let stands = rule.seats_stand q here in
+    let fits : FitsAnswers seat × (seat.shaded < length (roots seat)) = rw place at stands.fits.answer_at_place in
+    let asks : Asks p seat.answered seat.asked = subst (λ x. AnswerStands p seat.answered seat.asked x) place stands.cycle.answer in
+    let third : (seat.asked % 7 == 3) ≡ true = roots_third (seat.asked % 7 == 3) (heads seat.registers) seat.shaded fits.1 in
+    let is_third : seat.asked % 7 ≡ 3 = eqb-true (seat.asked % 7) 3 third in
+    let all : roots seat ≡ heads seat.registers = rw third refl in
+    let f : ℕ = slice_index_or (roots seat) seat.shaded 0 in
+    let busy : ¬ IsAnswered seat.place = λ done. subst IsAnswered place done in
+    let held : (r : ℕ) → Holds book.made book.owner book.fragments (register_in seat.registers r) (register g q r)
+    = λ r. stands.registers r (λ awaited. subst (λ x. IsAwaited x (target_of seat.command) r) place awaited) in
+    let head : KeptHead book.made book.owner book.fragments f
+    = subst (λ (fs : List ℕ). KeptHead book.made book.owner book.fragments (slice_index_or fs seat.shaded 0)) (sym all)
+    (heads_kept book.made book.owner book.fragments seat.registers (λ r. register g q r) held seat.shaded (subst (λ (fs : List ℕ). seat.shaded < length fs) all fits.1)) in
+    let new : Seat = shading seat (seat.shaded + 1) (places.Polling (answer_place (record seat { shaded = seat.shaded + 1 }))) in
+    shade_keeps heap state book q rule here f head.number head.kept head.is (seat.shaded + 1) (places.Polling (answer_place (record seat { shaded = seat.shaded + 1 })))
+    (λ rests. omega (arith, rests, asks.now, is_third)) machine
+    (λ r unawaited. held r)
+    (list_more g book.made book.owner book.fragments q seat book.history busy stands.list g book.history new [] [] [] refl refl (sym (append-nil (filter (is_of q) book.history))) refl)
+    tt busy
+    (cycle_by_flight heap state.words (words_shaded heap state book q rule here f head.number head.kept head.is) book.owner book.owner book.colour (with_mark book.colour f) p
+    (answered q book.history) (has_left q book.history) q seat new
+    record { answered = refl; left = refl; asked = refl } (answer_shaded heap state book q rule here f head.number head.kept head.is q here)
+    (asks_on p seat.answered seat.asked (record seat { shaded = seat.shaded + 1 }) asks)
+    record {
+      set = λ making snapped. tt;
+      shaded = λ making. tt;
+      roots = λ making j less. elim (cases_lt j seat.shaded) [
+        | inl before ↦ mark_keeps book.colour f _ (stands.cycle.flight.roots making j before)
+        | inr past ↦
+            let last : seat.shaded ≡ j = omega (arith, less, past) in
+            subst (λ n. IsMarked (with_mark book.colour f) (slice_index_or (roots seat) n 0)) last (mark_marks book.colour f)
+      ];
+    }
+    (λ x borne. borne_unshaded heap state book q rule here f head.number head.kept head.is q x borne ∙ stands.cycle.births x borne) stands.cycle)

@@ -1,0 +1,8 @@
+-- Kinds that make an object.
+pub mod BeginStep
+pub mod ClaimStep
+pub mod GiveBackStep
+pub mod RefusalStep
+pub mod StoreStep
+pub mod BirthStep
+pub mod LastBirthStep

@@ -1,0 +1,101 @@
+-- Telling a refusal keeps the rule.
+use Rattle.std.proofs.Common.{◌≡◌, ℕ, ◌+◌, ◌<◌, false, List, [], ◌∷◌, ◌++◌, length, drop, slice_set, refl, sym, ◌∙◌, subst, arith, ap}
+use Rattle.std.proofs.lemmas.Bool.{eq-eqb}
+use Rattle.heap_model.specs.declared.entry.Entry.{Entry}
+use Rattle.heap_model.specs.declared.heap.Heap.{Heap}
+use Rattle.heap_model.specs.Cycles.{graph_of}
+use Rattle.heap_model.specs.Objects.{party}
+use Rattle.heap_model.specs.PhaseCounts.{phase, answered, has_left}
+use Rattle.heap_model.specs.Refusals.{FindsSpace}
+use Rattle.heap_model.specs.Space.{taken_of, spent_of}
+use Rattle.heap_model.specs.State.{State as Graph, opening}
+use Rattle.heap_model.proofs.Histories.{graph_after-more}
+use Rattle.core_machine.specs.declared.address.Address.TheVariants.{Phase}
+use Rattle.core_machine.specs.declared.place.Making.TheVariants.{Refusing}
+use Rattle.core_machine.specs.declared.place.Place.TheVariants as places
+use Rattle.core_machine.specs.Commands.{target_of, IsRecord}
+use Rattle.core_machine.specs.Fits.{Refuses}
+use Rattle.core_machine.specs.Layout.{at}
+use Rattle.core_machine.specs.Machine.{State, seat_at, stepped, found_by}
+use Rattle.core_machine.specs.Moves.{refusal_move, full_entry, seat_after}
+use Rattle.core_machine.specs.Seat.{Seat, need}
+use Rattle.core_machine.specs.Value.{IsMachine}
+use Rattle.core_machine.proofs.Addresses.{put-at}
+use Rattle.core_rule.specs.Book.{Book}
+use Rattle.core_rule.specs.Gathers.{GathersRight}
+use Rattle.core_rule.specs.Rule.{Rule}
+use Rattle.core_rule.proofs.steps.Assemble.{fit_after, present_at, Keeps, seat_steps}
+use Rattle.core_rule.proofs.hand.Bodies.{bare_hand}
+use Rattle.core_rule.proofs.cycle.CycleHistory.{heap_cycle_more, cycle_own, cycle_other}
+use Rattle.core_rule.proofs.hand.EmptyHand.{nothing_together}
+use Rattle.core_rule.proofs.frames.EntryFrames.{heap_past, seat_past, fragments_same}
+use Rattle.core_rule.proofs.gather.GatherMoves.{nothing_tried}
+use Rattle.core_rule.proofs.entries.InFlight.{awaits_none, is_busy, began_idle}
+use Rattle.core_rule.proofs.entries.Legality.{legal_more}
+use Rattle.core_rule.proofs.cycle.MakingCycle.{cycle_goes_on}
+use Rattle.core_rule.proofs.hand.MakingSeats.{none_shaded}
+use Rattle.core_rule.proofs.entries.Others.{of_other}
+use Rattle.core_rule.proofs.entries.OwnEntries.{own_grows, counts_own}
+use Rattle.core_rule.proofs.entries.PhaseEntries.{no_leave_told}
+use Rattle.core_rule.proofs.entries.RecordCommands.{graph_full, accepts_full, full_keeps}
+use Rattle.core_rule.proofs.gather.Refusals.{finds_in_run}
+use Rattle.core_rule.proofs.graph.SameNodes.{nodes_same}
+use Rattle.core_rule.proofs.entries.SeatLists.{making_list, whole_list}
+
+-- a refusal that is told keeps the rule
+pub refusal_keeps : (heap : Heap) (state : State) (book : Book) (q : ℕ) → Rule heap state book → q < heap.seats
+    → (seat_at state q).place ≡ places.Making Refusing
+    → IsMachine heap (stepped heap state q (refusal_move q (seat_at state q)))
+    → Keeps heap (stepped heap state q (refusal_move q (seat_at state q))) book book.begun
+    ((refusal_move q (seat_at state q)).shows state.words (found_by heap state (refusal_move q (seat_at state q)).step))
+refusal_keeps heap state book q rule here place machine =
+    let seat : Seat = seat_at state q in
+    let entry : Entry = full_entry q seat in
+    let stands = rule.seats_stand q here in
+    let fits = stands.fits in
+    let at_place : Refuses heap seat × (seat.hand ≡ []) = rw place at fits.at_place in
+    let refuses = at_place.0 in
+    let g : Graph = graph_of heap book.history in
+    let history : List Entry = book.history ++ entry ∷ [] in
+    let graph : graph_of heap history ≡ g
+    = graph_after-more (opening heap) book.history entry ∙ graph_full seat.command refuses.makes.a_record g q (need seat) (length seat.reserve + seat.given) in
+    let nodes = nodes_same g (graph_of heap history) graph in
+    let own : length seat.reserve + spent_of q book.history ≡ taken_of q book.history
+    = bare_hand seat.reserve seat.hand seat.body (spent_of q book.history) (taken_of q book.history) at_place.1 refuses.no_body stands.counts.unborn in
+    let finds : FindsSpace heap false book.history q (length seat.reserve + seat.given)
+    = finds_in_run heap book.owner book.history q (book.begun q) seat.cursor seat.given (length seat.reserve) fits.cursor_within
+    rule.heap_stands.used own (stands.began.unanswered (is_busy Refusing seat.place place)) (subst (λ n. GathersRight heap book.owner q (drop (book.begun q) book.history) seat.cursor n seat.given) refuses.all_tried stands.gathers) in
+    let present = present_at heap state book q Refusing rule here place in
+    let list = making_list g book.history book.made book.owner book.fragments q seat Refusing place stands.list in
+    let whole : IsMachine heap (record state { words = state.words; seats = slice_set state.seats q (seat_after (refusal_move q seat) (at heap state.words Phase)) })
+    = subst (λ words. IsMachine heap (record state { words = words; seats = slice_set state.seats q (seat_after (refusal_move q seat) (at heap state.words Phase)) })) (put-at heap state.words Phase) machine in
+    let less : length seat.reserve + seat.given < need seat = omega (arith, refuses.too_few) in
+    let legal = legal_more heap false book.history entry rule.heap_stands.legal
+    (accepts_full seat.command refuses.makes.a_record g q (need seat) (length seat.reserve + seat.given) refuses.makes.in_range present)
+    (full_keeps seat.command refuses.makes.a_record heap false book.history q (length seat.reserve + seat.given)
+    (omega (arith, own)) (omega (arith, own, fits.small_reserve)) less finds) in
+    subst (λ words. Keeps heap (record state { words = words; seats = slice_set state.seats q (seat_after (refusal_move q seat) (at heap state.words Phase)) }) book book.begun (entry ∷ []))
+    (sym (put-at heap state.words Phase))
+    (seat_steps heap state book q state.words (seat_after (refusal_move q seat) (at heap state.words Phase)) (record book { history = history }) (entry ∷ [])
+    rule here whole refl refl
+    (heap_past heap state.words state.words (fragments_same heap state.words) book entry nodes rule.heap_stands.table record { taken = refl; given = refl; freed = refl } legal
+    (heap_cycle_more heap state.words book.owner book.colour book.history entry refl book.fragments rule.heap_stands.cycle) rule.heap_stands)
+    record {
+      fits = fit_after heap state book q rule here whole;
+      holding = stands.holding;
+      stored = stands.stored;
+      registers = rw graph (λ r fresh. stands.registers r (awaits_none Refusing seat.place (target_of seat.command) r place));
+      list = whole_list (graph_of heap history) history book.made book.owner book.fragments q (seat_after (refusal_move q seat) (at heap state.words Phase)) refl (own_grows q book.history seat.mine entry (eq-eqb q q refl) list);
+      way = tt;
+      cycle = cycle_own heap state.words book.owner book.colour book.history entry refl q (seat_after (refusal_move q seat) (at heap state.words Phase))
+          (cycle_goes_on heap state.words state.words book.owner book.owner book.colour (phase book.history) (answered q book.history) (has_left q book.history) q seat
+          (seat_after (refusal_move q seat) (at heap state.words Phase)) record { answered = refl; left = refl; asked = refl } tt (none_shaded heap seat Refusing stands.fits place)
+          refl (λ f borne. borne) stands.cycle) refl (no_leave_told q q seat.command _ (λ leaves. subst IsRecord leaves refuses.makes.a_record));
+      together = nothing_together heap seat.cursor 0 seat.hand seat.body at_place.1 refuses.no_body;
+      counts = rw graph (counts_own g g book.history q seat (seat_after (refusal_move q seat) (at heap state.words Phase)) stands.counts entry (eq-eqb q q refl)
+          stands.counts.numbered stands.counts.stamped stands.counts.leaves (omega arith));
+      began = began_idle book.history entry q (book.begun q) seat.place stands.began;
+      gathers = nothing_tried heap book.owner q (drop (book.begun q) history) seat.cursor;
+    }
+    (λ r below apart other. seat_past heap state.words state.words (fragments_same heap state.words) book entry nodes r (seat_at state r) (of_other q r apart) (ap (λ (x : Graph). party x r) graph)
+    (cycle_other heap state.words book.owner book.colour book.history entry refl r (seat_at state r) other.cycle (of_other q r apart)) other))

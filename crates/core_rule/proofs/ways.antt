@@ -1,0 +1,8 @@
+-- What loaded words tell, and the way to a field.
+pub mod Told
+pub mod KeptWords
+pub mod LoadedObjects
+pub mod Rows
+pub mod WayFrames
+pub mod OnwardWays
+pub mod AtObject

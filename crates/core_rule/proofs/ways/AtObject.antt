@@ -1,0 +1,65 @@
+-- A call that works on an object: what its seat knows of the graph.
+use Rattle.std.proofs.Common.{◌≡◌, ℕ, ◌+◌, ◌<◌, ◌≤◌, List, slice_index_or, ◌∙◌, subst, false}
+use Rattle.heap_model.specs.declared.heap.Heap.{Heap}
+use Rattle.heap_model.specs.declared.id.Id.{Id}
+use Rattle.heap_model.specs.declared.id.Value.{Value}
+use Rattle.heap_model.specs.declared.id.Value.TheVariants as values
+use Rattle.heap_model.specs.Cycles.{graph_of}
+use Rattle.heap_model.specs.Legal.{IsPresent}
+use Rattle.heap_model.specs.Objects.{register}
+use Rattle.heap_model.specs.PhaseCounts.{phase}
+use Rattle.heap_model.specs.Space.{taken_of, spent_of}
+use Rattle.core_machine.specs.declared.place.Place.TheVariants as places
+use Rattle.core_machine.specs.declared.place.Reaching.{Reaching}
+use Rattle.core_machine.specs.declared.register.Register.{Register}
+use Rattle.core_machine.specs.declared.register.Register.TheVariants as registers
+use Rattle.core_machine.specs.Commands.{target_of, object_of}
+use Rattle.core_machine.specs.Fits.{IsAtRest}
+use Rattle.core_machine.specs.Machine.{State, seat_at}
+use Rattle.core_machine.specs.Seat.{Seat}
+use Rattle.core_rule.specs.Book.{Book, id_at}
+use Rattle.core_rule.specs.Owners.{Owner}
+use Rattle.core_rule.specs.Phases.{IsNear}
+use Rattle.core_rule.specs.Registers.{Holds, IsAwaited}
+use Rattle.core_rule.specs.Rule.{Rule}
+use Rattle.core_rule.specs.Ways.{OnWay}
+use Rattle.core_rule.proofs.entries.AtRest.{in_flight, spent_own, few_own}
+
+-- the register holds the object of the graph's register
+held_object : (made : List Id) (owner : ℕ → Owner) (fragments : ℕ → List ℕ) (held : Register) (value : Value) (head : ℕ) (id : Id)
+    → held ≡ registers.Object head id → Holds made owner fragments held value → value ≡ values.Object id
+held_object made owner fragments held value head id is holds =
+    let object : Holds made owner fragments (registers.Object head id) value = subst (λ r. Holds made owner fragments r value) is holds in
+    object.0
+
+module _ (heap : Heap) (state : State) (book : Book) (q : ℕ) (rule : Rule heap state book) (here : q < heap.seats)
+    (reaching : Reaching) (place : (seat_at state q).place ≡ places.Reaching reaching) where
+  -- the seat hasn't left
+  stays : (seat_at state q).left ≡ false
+  stays = in_flight heap (seat_at state q) (rule.seats_stand q here).fits (λ idle. absurd (cc (place, idle)))
+
+  pub is_present : IsPresent (graph_of heap book.history) q
+  is_present = (rule.seats_stand q here).counts.leaves ∙ stays
+
+  -- its last answer is to the phase, or to the one before it
+  pub is_near : IsNear (phase book.history) (seat_at state q).answered
+  is_near = (rule.seats_stand q here).cycle.answers_told.near stays
+
+  rest : IsAtRest (seat_at state q)
+  rest = rw place at (rule.seats_stand q here).fits.at_place
+
+  -- it spent no more than it took, and has little left
+  pub has_enough : spent_of q book.history ≤ taken_of q book.history
+  has_enough = spent_own heap state book q rule here rest
+
+  pub has_little : taken_of q book.history ≤ spent_of q book.history + 15
+  has_little = few_own heap state book q rule here rest
+
+  -- its way's object is that of the graph's register
+  pub way_object : ((d r : ℕ) → ¬ IsAwaited (seat_at state q).place d r) → (number : ℕ) → OnWay book.made book.owner book.fragments (seat_at state q) number
+      → register (graph_of heap book.history) q (object_of (seat_at state q).command) ≡ values.Object (id_at book.made number)
+  way_object free number way =
+      let seat : Seat = seat_at state q in
+      let r : ℕ = object_of seat.command in
+      held_object book.made book.owner book.fragments (slice_index_or seat.registers r registers.Nil) _ _ _ way.holds
+      ((rule.seats_stand q here).registers r (free (target_of seat.command) r))

@@ -1,0 +1,105 @@
+-- What the words of a kept object tell.
+use Rattle.std.proofs.Common.{◌≡◌, ℕ, zero, suc, ◌+◌, ◌*◌, ◌^◌, ◌<◌, false, eqb, inl, inr, List, length, slice_get, Some, refl, ap, ◌∙◌, arith}
+use Rattle.std.proofs.lemmas.Bool.{cases_lt}
+use Rattle.std.proofs.lemmas.List.{get_or_past}
+use Rattle.std.proofs.lemmas.Option.{slice_get_within}
+use Rattle.heap_words.specs.declared.name.Name.{Name}
+use Rattle.heap_words.specs.Name.{name_word}
+use Rattle.heap_model.specs.declared.cell.Cell.{Cell}
+use Rattle.heap_model.specs.declared.heap.Heap.{Heap}
+use Rattle.heap_model.specs.declared.id.Id.{Id}
+use Rattle.heap_model.specs.declared.id.Value.{Value}
+use Rattle.heap_model.specs.declared.id.Value.TheVariants as values
+use Rattle.heap_model.specs.Heap.{IsHeap}
+use Rattle.heap_model.specs.State.{State}
+use Rattle.core_machine.specs.declared.address.Address.TheVariants.{Word}
+use Rattle.core_machine.specs.Layout.{at}
+use Rattle.core_machine.specs.Loaded.{link_in, length_in, id_in}
+use Rattle.core_machine.specs.Newborn.{record_meta, link_after}
+use Rattle.core_machine.specs.Reaching.{row_of, part_of}
+use Rattle.core_rule.specs.Book.{fragment_at, id_at, head_of}
+use Rattle.core_rule.specs.ControlWords.{Bits}
+use Rattle.core_rule.specs.Objects.{AreMade, Objects, KeptObject, NamesKept, IsKept, cells_at, value_word, object_word}
+use Rattle.core_rule.specs.Owners.{Owner, Keeps}
+use Rattle.core_rule.proofs.ways.Rows.{field_back, part_within, cell_there, row_within}
+use Rattle.core_rule.proofs.ways.Told.{HasRoom, length_in-meta, link_in-meta, link_in-link, id_in-name}
+
+module _ (head : Id → ℕ) (name : Name) (cells : List Cell) (fragments : List ℕ) where
+  -- the words of an object that are no cells
+  meta_word_of : object_word head name cells fragments 0 0 ≡ record_meta (length cells) fragments
+  unfolding object_word
+  meta_word_of = refl
+
+  name_word_of : object_word head name cells fragments 0 1 ≡ name_word name
+  unfolding object_word
+  name_word_of = refl
+
+  link_word_of : (k : ℕ) → object_word head name cells fragments (suc k) 0 ≡ link_after fragments (suc k)
+  unfolding object_word
+  link_word_of k = let later : eqb (suc k) 0 ≡ false = grind arith in rw later refl
+
+  -- and the cell of a field
+  cell_word_of : (i : ℕ) (cell : Cell) → slice_get cells i ≡ Some cell → object_word head name cells fragments (row_of i) (part_of i) ≡ value_word head cell.value cell.stamp
+  unfolding object_word
+  cell_word_of i cell there = rw (cell_there i, field_back i, there) refl
+
+-- a fragment that has an owner is the heap's
+pub kept_within : (heap : Heap) (words : List ℕ) (owner : ℕ → Owner) (f i k : ℕ) → Bits heap words owner → owner f ≡ Keeps i k → f < 16 * heap.groups
+kept_within heap words owner f i k bits is = elim (cases_lt f (16 * heap.groups)) [
+  | inl below ↦ below
+  | inr past ↦ let none = bits.outside f past in absurd (cc)
+]
+
+module _ (heap : Heap) (words : List ℕ) (g : State) (made : List Id) (owner : ℕ → Owner) (fragments : ℕ → List ℕ)
+    (limits : IsHeap heap) (bits : Bits heap words owner) where
+  -- a value that names a kept object has room
+  pub has_room : (value : Value) → NamesKept made owner fragments value → HasRoom (head_of made fragments) value
+  has_room values.Nil names = tt
+  has_room (values.Number n) names = names
+  has_room (values.Object id) names = omega (arith, limits.groups_fit, kept_within heap words owner _ _ _ bits names.1)
+
+  module _ (ids : AreMade g made) (objects : Objects heap words g made owner fragments) (number : ℕ) (below : number < length made) (kept : IsKept owner fragments number) where
+    the_object : KeptObject heap words owner (head_of made fragments) number (id_at made number) (cells_at g made number) (fragments number)
+    the_object = objects.kept number below kept
+
+    small : (k : ℕ) → k < length (fragments number) → fragment_at (fragments number) k < 2 ^ 30
+    small k within = omega (arith, limits.groups_fit, kept_within heap words owner _ _ _ bits (the_object.owned k within))
+
+    second : fragment_at (fragments number) 1 < 2 ^ 32
+    second = elim (cases_lt 1 (length (fragments number))) [
+      | inl more ↦ omega (arith, small 1 more)
+      | inr one ↦ let none : fragment_at (fragments number) 1 ≡ 0 = get_or_past (fragments number) 1 0 one in omega (arith, none)
+    ]
+
+    some_fragment : 0 < length (fragments number)
+    some_fragment = omega (arith, the_object.whole)
+
+    meta_found : at heap words (Word (fragment_at (fragments number) 0) 0) ≡ record_meta (length (cells_at g made number)) (fragments number)
+    meta_found = the_object.stored 0 0 some_fragment (omega arith) ∙ meta_word_of _ _ _ _
+
+    -- its length stands in its meta
+    pub length_found : length_in (at heap words (Word (fragment_at (fragments number) 0) 0)) ≡ length (cells_at g made number)
+    length_found = ap length_in meta_found ∙ length_in-meta _ (fragments number) (omega (arith, the_object.sized.1)) second
+
+    -- the way leads from each fragment to the next
+    pub link_found : (k : ℕ) → k + 1 < length (fragments number)
+        → link_in (at heap words (Word (fragment_at (fragments number) k) 0)) ≡ fragment_at (fragments number) (k + 1)
+    link_found zero more = ap link_in meta_found ∙ link_in-meta _ (fragments number) (omega (arith, the_object.sized.1)) second
+    link_found (suc k) more =
+        ap link_in (the_object.stored (suc k) 0 (omega (arith, more)) (omega arith) ∙ link_word_of _ _ _ _ k)
+        ∙ link_in-link (fragments number) (suc k) more (small (suc k + 1) more)
+
+    -- its id stands in its name
+    pub name_found : id_in (at heap words (Word (fragment_at (fragments number) 0) 1)) ≡ id_at made number
+    name_found = ap id_in (the_object.stored 0 1 some_fragment (omega arith) ∙ name_word_of _ _ _ _) ∙ id_in-name (id_at made number) (ids.fit number below)
+
+    -- it has the row of each of its fields
+    pub row_there : (i : ℕ) → i < length (cells_at g made number) → row_of i < length (fragments number)
+    row_there i within = omega (arith, the_object.whole, row_within i (length (cells_at g made number)) within)
+
+    -- and in it the field's cell
+    pub field_found : (i : ℕ) (cell : Cell) → slice_get (cells_at g made number) i ≡ Some cell
+        → at heap words (Word (fragment_at (fragments number) (row_of i)) (part_of i)) ≡ value_word (head_of made fragments) cell.value cell.stamp
+    field_found i cell there =
+        the_object.stored (row_of i) (part_of i) (row_there i (slice_get_within _ i cell there)) (part_within i)
+        ∙ cell_word_of _ _ _ _ i cell there

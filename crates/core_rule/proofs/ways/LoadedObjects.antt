@@ -1,0 +1,84 @@
+-- What a set has loaded, and what its register holds, is a kept object's first fragment.
+use Rattle.std.specs.Prelude.{slice_get, slice_index_or}
+use Rattle.std.proofs.Common.{◌≡◌, ℕ, zero, suc, ◌-◌, ◌<◌, List, [], ◌∷◌, length, get_or, Some, refl, sym, ap, ◌∙◌, arith}
+use Rattle.std.proofs.lemmas.Option.{slice_get-get_or}
+use Rattle.heap_model.specs.declared.cell.Cell.{Cell}
+use Rattle.heap_model.specs.declared.heap.Heap.{Heap}
+use Rattle.heap_model.specs.declared.id.Id.{Id}
+use Rattle.heap_model.specs.declared.id.Value.{Value}
+use Rattle.heap_model.specs.declared.id.Value.TheVariants as values
+use Rattle.heap_model.specs.Heap.{IsHeap}
+use Rattle.heap_model.specs.State.{State as Graph, unset}
+use Rattle.core_machine.specs.declared.address.Address.TheVariants.{Word}
+use Rattle.core_machine.specs.declared.register.Register.{Register}
+use Rattle.core_machine.specs.declared.register.Register.TheVariants as registers
+use Rattle.core_machine.specs.Commands.{field_of}
+use Rattle.core_machine.specs.Layout.{at}
+use Rattle.core_machine.specs.Loaded.{head_in}
+use Rattle.core_machine.specs.Reaching.{row_of, part_of}
+use Rattle.core_machine.specs.ReachingMoves.{field_part}
+use Rattle.core_machine.specs.Registers.{head_of as head_of_register, heads}
+use Rattle.core_machine.specs.Seat.{Seat}
+use Rattle.core_rule.specs.Book.{fragment_at, number_of, head_of}
+use Rattle.core_rule.specs.ControlWords.{Bits}
+use Rattle.core_rule.specs.Objects.{AreMade, Objects, NamesKept, IsKept, value_word, cells_at}
+use Rattle.core_rule.specs.Owners.{Owner}
+use Rattle.core_rule.specs.Registers.{Holds}
+use Rattle.core_rule.specs.Ways.{Finds}
+use Rattle.core_rule.proofs.ways.KeptWords.{has_room, field_found}
+use Rattle.core_rule.proofs.ways.Told.{named_head, head_in-value}
+
+-- the first fragment of a kept object
+pub record KeptHead (made : List Id) (owner : ℕ → Owner) (fragments : ℕ → List ℕ) (f : ℕ) : Type 0 where
+  pub number : ℕ
+  pub below : number < length made
+  pub kept : IsKept owner fragments number
+  pub is : f ≡ fragment_at (fragments number) 0
+
+module _ (made : List Id) (owner : ℕ → Owner) (fragments : ℕ → List ℕ) where
+  -- what a value refers to
+  named_kept : (value : Value) → NamesKept made owner fragments value → (f : ℕ) → named_head (head_of made fragments) value ≡ Some f → KeptHead made owner fragments f
+  named_kept (values.Object id) names f is = record { number = number_of made id; below = names.0; kept = names.1; is = cc }
+  named_kept values.Nil names f is = cc
+  named_kept (values.Number n) names f is = cc
+
+  -- what a register that holds a value refers to
+  pub held_head : (held : Register) (value : Value) → Holds made owner fragments held value → head_of_register held ≡ named_head (head_of made fragments) value
+  held_head registers.Nil value holds = ap (named_head (head_of made fragments)) (sym holds)
+  held_head (registers.Number n) value holds = ap (named_head (head_of made fragments)) (sym holds.0)
+  held_head (registers.Object head id) value holds = ap Some holds.2 ∙ ap (named_head (head_of made fragments)) (sym holds.0)
+
+  pub held_kept : (held : Register) (value : Value) → Holds made owner fragments held value → (f : ℕ) → head_of_register held ≡ Some f → KeptHead made owner fragments f
+  held_kept registers.Nil value holds f is = cc
+  held_kept (registers.Number n) value holds f is = cc
+  held_kept (registers.Object head id) value holds f is = record { number = number_of made id; below = holds.1.0; kept = holds.1.1; is = same is ∙ holds.2 }
+    where
+      same : Some head ≡ Some f → f ≡ head
+      same both = cc
+
+  -- each head of some registers is one's
+  pub heads_kept : (held : List Register) (value : ℕ → Value) → ((r : ℕ) → Holds made owner fragments (get_or held r registers.Nil) (value r))
+      → (j : ℕ) → j < length (heads held) → KeptHead made owner fragments (slice_index_or (heads held) j 0)
+  heads_kept [] value holds j less = absurd (omega (arith, less))
+  heads_kept (registers.Nil ∷ held) value holds j less = heads_kept held (λ r. value (suc r)) (λ r. holds (suc r)) j less
+  heads_kept (registers.Number n ∷ held) value holds j less = heads_kept held (λ r. value (suc r)) (λ r. holds (suc r)) j less
+  heads_kept (registers.Object head id ∷ held) value holds zero less = held_kept (registers.Object head id) (value 0) (holds 0) head refl
+  heads_kept (registers.Object head id ∷ held) value holds (suc j) less = heads_kept held (λ r. value (suc r)) (λ r. holds (suc r)) j (omega (arith, less))
+
+module _ (heap : Heap) (words : List ℕ) (g : Graph) (made : List Id) (owner : ℕ → Owner) (fragments : ℕ → List ℕ)
+    (limits : IsHeap heap) (bits : Bits heap words owner) (ids : AreMade g made) (objects : Objects heap words g made owner fragments) where
+  -- what the field of a set refers to
+  pub loaded_kept : (seat : Seat) → seat.links ≡ 0 → Finds (cells_at g made) made owner fragments seat
+      → (f : ℕ) → head_in (at heap words (Word seat.reached (field_part seat))) ≡ Some f → KeptHead made owner fragments f
+  loaded_kept seat arrived finds f is =
+      let field : ℕ = field_of seat.command in
+      let cell : Cell = get_or (cells_at g made finds.number) field unset in
+      let there : slice_get (cells_at g made finds.number) field ≡ Some cell = slice_get-get_or (cells_at g made finds.number) field unset finds.within in
+      let named = objects.named finds.number field finds.way.below finds.way.kept cell there in
+      let whole : row_of field - seat.links ≡ row_of field = omega (arith, arrived) in
+      let word : at heap words (Word seat.reached (field_part seat)) ≡ value_word (head_of made fragments) cell.value cell.stamp
+      = ap (λ x. at heap words (Word x (part_of field))) (finds.way.here ∙ ap (fragment_at (fragments finds.number)) whole)
+      ∙ field_found heap words g made owner fragments limits bits ids objects finds.number finds.way.below finds.way.kept field cell there in
+      named_kept made owner fragments cell.value named.0 f
+      (sym (head_in-value (head_of made fragments) cell.value cell.stamp (has_room heap words g made owner fragments limits bits cell.value named.0) named.1)
+      ∙ ap head_in (sym word) ∙ is)

@@ -1,0 +1,93 @@
+-- The way after a fragment's first word was found.
+use Rattle.std.proofs.Common.{◌≡◌, ℕ, ◌+◌, ◌-◌, ◌<◌, false, eqb, inl, inr, List, sym, ap, ◌∙◌, arith, true}
+use Rattle.std.proofs.lemmas.Bool.{cond_both, eqb-true, eqb-false}
+use Rattle.std.proofs.lemmas.Bool.Decides.{eqb_tells}
+use Rattle.heap_model.specs.declared.cell.Cell.{Cell}
+use Rattle.heap_model.specs.declared.command.Command.{Command}
+use Rattle.heap_model.specs.declared.command.Command.TheVariants as commands
+use Rattle.heap_model.specs.declared.entry.Entry.{Entry}
+use Rattle.heap_model.specs.declared.heap.Heap.{Heap}
+use Rattle.heap_model.specs.declared.id.Id.{Id}
+use Rattle.heap_model.specs.Heap.{IsHeap}
+use Rattle.heap_model.specs.State.{State}
+use Rattle.core_machine.specs.declared.address.Address.TheVariants.{Word}
+use Rattle.core_machine.specs.declared.place.Place.TheVariants as places
+use Rattle.core_machine.specs.declared.place.Reaching.{Reaching}
+use Rattle.core_machine.specs.declared.place.Reaching.TheVariants.{Walking, Getting, Swapping, LoadingOld}
+use Rattle.core_machine.specs.Commands.{field_of}
+use Rattle.core_machine.specs.Layout.{at}
+use Rattle.core_machine.specs.Loaded.{link_in}
+use Rattle.core_machine.specs.Reaching.{row_of, has_barrier, field_place, way_place, stepped_on, onward, reaching}
+use Rattle.core_machine.specs.Seat.{Seat}
+use Rattle.core_rule.specs.Book.{fragment_at}
+use Rattle.core_rule.specs.ControlWords.{Bits}
+use Rattle.core_rule.specs.Objects.{AreMade, Objects, cells_at}
+use Rattle.core_rule.specs.Owners.{Owner}
+use Rattle.core_rule.specs.Ways.{Finds, ReachingStands}
+use Rattle.core_rule.proofs.ways.KeptWords.{link_found, row_there}
+use Rattle.core_rule.proofs.cycle.Unwatched.{IsUnwatched}
+
+-- a command gets its field, or loads or swaps it by the barrier
+field_cases : (P : Reaching → Type 0) (seat : Seat) (command : Command) → P Getting → (has_barrier seat ≡ true → P LoadingOld) → (has_barrier seat ≡ false → P Swapping)
+    → P (field_place seat command)
+field_cases P seat (commands.Get d r i) gets loads swaps = gets
+field_cases P seat _ gets loads swaps = cond_both (has_barrier seat) LoadingOld Swapping P loads swaps
+
+-- so the way leads to one of four places
+pub way_cases : (P : Reaching → Type 0) (seat : Seat) → P Walking → P Getting → (has_barrier seat ≡ true → P LoadingOld) → (has_barrier seat ≡ false → P Swapping)
+    → P (way_place seat)
+way_cases P seat walks gets loads swaps = elim (eqb_tells seat.links 0) as (λ _. P (way_place seat)) [
+  | inl e ↦ rw e.0 (field_cases P seat seat.command gets loads swaps)
+  | inr e ↦ rw e.0 walks
+]
+
+-- none of which is watched
+pub way_unwatched : (seat : Seat) → IsUnwatched (has_barrier seat) (way_place seat)
+way_unwatched seat = way_cases (IsUnwatched (has_barrier seat)) seat tt tt (λ on. tt) (λ off. off)
+
+-- what holds of a seat that stands at its field's fragment, and of one that follows a link, holds of the seat that goes on
+pub onward_cases : (P : Seat → Type 0) (seat : Seat) (found : ℕ) → (seat.links ≡ 0 → P (reaching seat (way_place seat)))
+    → (0 < seat.links → P (reaching (stepped_on seat found) (way_place (stepped_on seat found)))) → P (onward seat found)
+onward_cases P seat found arrived more =
+    cond_both (eqb seat.links 0) _ _ P
+    (λ e. arrived (eqb-true seat.links 0 e))
+    (λ e. let some = eqb-false seat.links 0 e in more (omega (arith, some)))
+
+module _ (cells : ℕ → List Cell) (made : List Id) (owner : ℕ → Owner) (fragments : ℕ → List ℕ) where
+  -- a field that is found is found at the place that comes next
+  pub way_stands : (seat reached : Seat) → Finds cells made owner fragments seat → ReachingStands cells made owner fragments seat (way_place reached)
+  way_stands seat reached finds = way_cases (λ place. ReachingStands cells made owner fragments seat place) reached finds finds (λ on. finds) (λ off. finds)
+
+  -- it is found wherever the call stands
+  pub finds_at : (seat : Seat) (loaded : ℕ) (place : Reaching) (mine : List Entry) → Finds cells made owner fragments seat
+      → Finds cells made owner fragments (record seat { loaded = loaded; place = places.Reaching place; mine = mine })
+  finds_at seat loaded place mine finds = record {
+    number = finds.number;
+    way = record { below = finds.way.below; kept = finds.way.kept; holds = finds.way.holds; ahead = finds.way.ahead; here = finds.way.here };
+    within = finds.within;
+  }
+
+module _ (heap : Heap) (words : List ℕ) (g : State) (made : List Id) (owner : ℕ → Owner) (fragments : ℕ → List ℕ)
+    (limits : IsHeap heap) (bits : Bits heap words owner) (ids : AreMade g made) (objects : Objects heap words g made owner fragments) where
+  -- and after one link more
+  pub finds_on : (seat : Seat) (loaded : ℕ) (place : Reaching) (mine : List Entry) → 0 < seat.links → Finds (cells_at g made) made owner fragments seat
+      → Finds (cells_at g made) made owner fragments
+      (record seat { reached = link_in (at heap words (Word seat.reached 0)); links = seat.links - 1; loaded = loaded; place = places.Reaching place; mine = mine })
+  finds_on seat loaded place mine more finds =
+      let number : ℕ = finds.number in
+      let row : ℕ = row_of (field_of seat.command) in
+      let there = row_there heap words g made owner fragments limits bits ids objects number finds.way.below finds.way.kept (field_of seat.command) finds.within in
+      let next : row - (seat.links - 1) ≡ row - seat.links + 1 = omega (arith, more, finds.way.ahead) in
+      record {
+        number = number;
+        way = record {
+          below = finds.way.below;
+          kept = finds.way.kept;
+          holds = finds.way.holds;
+          ahead = omega (arith, finds.way.ahead);
+          here = ap (λ f. link_in (at heap words (Word f 0))) finds.way.here
+              ∙ link_found heap words g made owner fragments limits bits ids objects number finds.way.below finds.way.kept (row - seat.links) (omega (arith, more, there, finds.way.ahead))
+              ∙ ap (fragment_at (fragments number)) (sym next);
+        };
+        within = finds.within;
+      }

@@ -1,0 +1,64 @@
+-- A way goes on as before where its object does.
+use Rattle.std.proofs.Common.{◌≡◌, ℕ, ◌<◌, List, length, refl}
+use Rattle.heap_model.specs.declared.cell.Cell.{Cell}
+use Rattle.heap_model.specs.declared.id.Id.{Id}
+use Rattle.core_machine.specs.declared.place.Place.{Place}
+use Rattle.core_machine.specs.declared.place.Place.TheVariants as places
+use Rattle.core_machine.specs.declared.place.Reaching.TheVariants.{Opening, Walking, Getting, LoadingOld, ShadingOld, ShadingNew, Swapping}
+use Rattle.core_machine.specs.Seat.{Seat}
+use Rattle.core_rule.specs.Book.{id_at}
+use Rattle.core_rule.specs.Objects.{IsKept}
+use Rattle.core_rule.specs.Owners.{Owner}
+use Rattle.core_rule.specs.Ways.{LoadedKept, OnWay, Finds, WayStands}
+use Rattle.core_rule.proofs.objects.ObjectFrames.{SameKept}
+
+-- the object of this number is kept as before: under its id, in its fragments, with as many cells
+pub record ObjectStays (cells now_cells : ℕ → List Cell) (made now_made : List Id) (owner now_owner : ℕ → Owner) (fragments now_fragments : ℕ → List ℕ) (i : ℕ) : Type 0 where
+  pub below : i < length now_made
+  pub kept : IsKept now_owner now_fragments i
+  pub id : id_at now_made i ≡ id_at made i
+  pub fragments_stay : now_fragments i ≡ fragments i
+  pub cells_stay : length (now_cells i) ≡ length (cells i)
+
+module _ (cells now_cells : ℕ → List Cell) (made now_made : List Id) (owner now_owner : ℕ → Owner) (fragments now_fragments : ℕ → List ℕ)
+    (stay : (i : ℕ) → i < length made → IsKept owner fragments i → ObjectStays cells now_cells made now_made owner now_owner fragments now_fragments i) where
+  way_stays : (seat : Seat) (number : ℕ) → OnWay made owner fragments seat number → OnWay now_made now_owner now_fragments seat number
+  way_stays seat number way =
+      let one = stay number way.below way.kept in
+      record {
+        below = one.below;
+        kept = one.kept;
+        holds = rw (one.fragments_stay, one.id) way.holds;
+        ahead = way.ahead;
+        here = rw one.fragments_stay way.here;
+      }
+
+  finds_stays : (seat : Seat) → Finds cells made owner fragments seat → Finds now_cells now_made now_owner now_fragments seat
+  finds_stays seat finds = record {
+    number = finds.number;
+    way = way_stays seat finds.number finds.way;
+    within = rw (stay finds.number finds.way.below finds.way.kept).cells_stay finds.within;
+  }
+
+  loaded_stays : (seat : Seat) → LoadedKept made owner fragments seat → LoadedKept now_made now_owner now_fragments seat
+  loaded_stays seat loaded =
+      let one = stay loaded.number loaded.below loaded.kept in
+      record { number = loaded.number; below = one.below; kept = one.kept; loads = rw one.fragments_stay loaded.loads }
+
+  -- a seat's way stays at its place
+  pub ways_stay : (seat : Seat) (place : Place) → WayStands cells made owner fragments seat place → WayStands now_cells now_made now_owner now_fragments seat place
+  ways_stay seat (places.Reaching Opening) way = record { number = way.number; way = way_stays seat way.number way.way }
+  ways_stay seat (places.Reaching Walking) way = finds_stays seat way
+  ways_stay seat (places.Reaching Getting) way = finds_stays seat way
+  ways_stay seat (places.Reaching LoadingOld) way = finds_stays seat way
+  ways_stay seat (places.Reaching ShadingOld) way = (finds_stays seat way.0, loaded_stays seat way.1)
+  ways_stay seat (places.Reaching ShadingNew) way = finds_stays seat way
+  ways_stay seat (places.Reaching Swapping) way = finds_stays seat way
+  ways_stay seat _ way = way
+
+-- a way stays where the same fragments are kept
+pub way_owners : (cells : ℕ → List Cell) (owner now : ℕ → Owner) → SameKept owner now → (made : List Id) (fragments : ℕ → List ℕ) (seat : Seat)
+    → WayStands cells made owner fragments seat seat.place → WayStands cells made now fragments seat seat.place
+way_owners cells owner now same made fragments seat way =
+    ways_stay cells cells made made owner now fragments fragments
+    (λ i below kept. record { below = below; kept = same.stays _ _ _ kept; id = refl; fragments_stay = refl; cells_stay = refl }) seat seat.place way

@@ -1,0 +1,8 @@
+-- Words of the table, and the bits of a control word.
+pub mod Addresses
+pub mod WordBits
+pub mod MaskLemmas
+pub mod ClearLemmas
+pub mod ControlLemmas
+pub mod ControlSteps
+pub mod MarkBits
