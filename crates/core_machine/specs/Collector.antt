@@ -6,6 +6,7 @@ use Rattle.heap_model.specs.declared.collector_calls.Turn.{Turn as TurnAnswer}
 use Rattle.heap_model.specs.declared.collector_calls.Turn.TheVariants.{Stepped, Waits}
 use Rattle.heap_model.specs.declared.entry.Entry.{Entry}
 use Rattle.heap_model.specs.declared.entry.Entry.TheVariants.{Advance}
+use Rattle.heap_model.specs.PhasePlan.{cycle_phases, marking}
 use Rattle.core_machine.specs.declared.stage.Stage.{Stage}
 use Rattle.core_machine.specs.declared.stage.Stage.TheVariants.{Looking, Advancing}
 use Rattle.core_machine.specs.declared.step.Step.{Step}
@@ -30,10 +31,10 @@ opening_collector = record { phase = 0; stage = Looking; looked = 0; log = [] }
 abbrev pub has_answered : ℕ → ℕ → Bool
 has_answered phase word = if word == phase then true else word == LEFT
 
--- every seat has answered. In the third phase of a cycle the work is still to come: the collector looks from seat 0 again
+-- every seat has answered. Where marking begins the work is still to come: the collector looks from seat 0 again
 abbrev pub looked_all : Heap → Collector → Collector
 looked_all heap collector =
-    if collector.phase % 7 == 3 then record collector { looked = 0 } else record collector { looked = heap.seats; stage = Advancing }
+    if collector.phase % cycle_phases == marking then record collector { looked = 0 } else record collector { looked = heap.seats; stage = Advancing }
 
 -- one more seat has answered
 abbrev pub looked_on : Heap → Collector → Collector

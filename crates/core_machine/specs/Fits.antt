@@ -3,6 +3,7 @@ use Rattle.std.specs.Prelude.{◌≡◌, ◌*◌, ◌/◌, ◌<◌, ◌≤◌, �
 use Rattle.heap_model.specs.declared.heap.Heap.{Heap}
 use Rattle.heap_model.specs.declared.command.Command.TheVariants as commands
 use Rattle.heap_model.specs.Command.{IsCommand}
+use Rattle.heap_model.specs.Limits.{group_fragments, register_count, number_limit, most_reserve}
 use Rattle.core_machine.specs.declared.place.Place.{Place}
 use Rattle.core_machine.specs.declared.place.Place.TheVariants as places
 use Rattle.core_machine.specs.declared.register.Register.{Register}
@@ -33,11 +34,11 @@ abbrev pub FitsAnswer : Seat → Place → Type 0
 FitsAnswer seat (places.Polling place) = FitsPolling seat place
 FitsAnswer seat _ = IsSilent seat
 
--- a register's number has at most thirty bits, and its object's first fragment is one of the heap's
+-- a register's number is within the limit, and its object's first fragment is one of the heap's
 abbrev pub FitsRegister : Heap → Register → Type 0
 FitsRegister heap Nil = Unit {0}
-FitsRegister heap (Number n) = n < 2 ^ 30
-FitsRegister heap (Object head id) = head < 16 * heap.groups
+FitsRegister heap (Number n) = n < number_limit
+FitsRegister heap (Object head id) = head < group_fragments * heap.groups
 
 -- a seat that has left has no call in flight and no reserve
 pub record IsGone (seat : Seat) : Type 0 where
@@ -46,14 +47,14 @@ pub record IsGone (seat : Seat) : Type 0 where
 
 -- the seat's own data fit together
 pub record Fits (heap : Heap) (seat : Seat) : Type 0 where
-  pub registers_whole : length seat.registers ≡ 16
+  pub registers_whole : length seat.registers ≡ register_count
   pub registers_fit : All (FitsRegister heap) seat.registers
   pub cursor_within : seat.cursor < heap.groups
-  pub small_reserve : length seat.reserve ≤ 15
-  pub reserve_of_cursor : All (λ fragment. fragment / 16 ≡ seat.cursor) seat.reserve
+  pub small_reserve : length seat.reserve ≤ most_reserve
+  pub reserve_of_cursor : All (λ fragment. fragment / group_fragments ≡ seat.cursor) seat.reserve
   pub hand_within : AreFragments heap seat.hand
   pub body_within : AreFragments heap seat.body
-  pub reached_within : seat.reached < 16 * heap.groups
+  pub reached_within : seat.reached < group_fragments * heap.groups
   pub loaded_within : IsWithinHeap heap (head_in seat.loaded)
   pub asked_small : seat.asked < 2 ^ 64
   pub at_place : FitsPlace heap seat seat.place

@@ -1,8 +1,9 @@
 -- What is true of a seat's own data while it makes an object, and while it has nothing in its hand.
-use Rattle.std.specs.Prelude.{◌≡◌, ℕ, ◌+◌, ◌*◌, ◌<◌, ◌≤◌, ◌^◌, List, [], length, All}
+use Rattle.std.specs.Prelude.{◌≡◌, ℕ, ◌+◌, ◌*◌, ◌<◌, ◌≤◌, List, [], length, All}
 use Rattle.heap_model.specs.declared.heap.Heap.{Heap}
 use Rattle.heap_model.specs.declared.command.Command.{Command}
 use Rattle.heap_model.specs.Command.{IsCommand}
+use Rattle.heap_model.specs.Limits.{group_fragments, name_limit}
 use Rattle.core_machine.specs.declared.place.Making.{Making}
 use Rattle.core_machine.specs.declared.place.Making.TheVariants.{Gathering, Returning, Refusing, Storing, Bearing}
 use Rattle.core_machine.specs.Commands.{IsRecord}
@@ -10,7 +11,7 @@ use Rattle.core_machine.specs.Seat.{Seat, need}
 
 -- each is a fragment of the heap
 abbrev pub AreFragments : Heap → List ℕ → Type 0
-AreFragments heap fragments = All (λ fragment. fragment < 16 * heap.groups) fragments
+AreFragments heap fragments = All (λ fragment. fragment < group_fragments * heap.groups) fragments
 
 -- nothing is in the hand, and nothing was claimed or stored
 pub record HasNoHand (hand body : List ℕ) (stored tried given : ℕ) : Type 0 where
@@ -27,7 +28,7 @@ IsAtRest seat = HasNoHand seat.hand seat.body seat.stored seat.tried seat.given
 pub record MakesRecord (command : Command) (made : ℕ) : Type 0 where
   pub a_record : IsRecord command
   pub in_range : IsCommand command
-  pub numbered : made + 1 < 2 ^ 32
+  pub numbered : made + 1 < name_limit
 
 -- nothing is stored or given back yet, too little is gathered, and some group wasn't claimed
 pub record Gathers (heap : Heap) (seat : Seat) : Type 0 where

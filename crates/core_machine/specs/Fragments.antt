@@ -2,10 +2,11 @@
 use Rattle.std.specs.Prelude.{ℕ, ◌+◌, ◌*◌, ◌/◌, ◌%◌, ◌^◌, ◌==◌, Bool, not, if◌then◌else◌, List, [], ◌∷◌, fold, filter, bit_or}
 use Rattle.std.specs.List.{range_with_len}
 use Rattle.std.specs.Int.{bit_at}
+use Rattle.heap_model.specs.Limits.{group_fragments}
 
 -- the fragment is one of the group's sixteen
 abbrev pub in_group : ℕ → ℕ → Bool
-in_group group fragment = fragment / 16 == group
+in_group group fragment = fragment / group_fragments == group
 
 -- the fragment is of another group
 abbrev pub out_of_group : ℕ → ℕ → Bool
@@ -29,11 +30,11 @@ is_clear word fragment = bit_at word (fragment % 16) == 0
 
 -- of the first fragments of a group those whose taken bit isn't set, the lowest first
 unfoldable pub clear_among : ℕ → ℕ → ℕ → List ℕ
-clear_among group word count = filter (is_clear word) (range_with_len (16 * group) count)
+clear_among group word count = filter (is_clear word) (range_with_len (group_fragments * group) count)
 
 -- the fragments of a group whose taken bit isn't set
 abbrev pub clear_in : ℕ → ℕ → List ℕ
-clear_in group word = clear_among group word 16
+clear_in group word = clear_among group word group_fragments
 
 -- how often a fragment stands in a list
 abbrev pub tally : ℕ → List ℕ → ℕ

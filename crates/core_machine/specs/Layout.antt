@@ -1,6 +1,7 @@
 -- The words of a heap's table, and where each of them stands.
 use Rattle.std.specs.Prelude.{◌≡◌, ℕ, ◌+◌, ◌*◌, ◌<◌, List, slice_index, slice_set}
 use Rattle.heap_model.specs.declared.heap.Heap.{Heap}
+use Rattle.heap_model.specs.Limits.{group_fragments, most_seats}
 use Rattle.core_machine.specs.declared.address.Address.{Address}
 use Rattle.core_machine.specs.declared.address.Address.TheVariants.{Phase, Answer, Budget, Spot, Control, Word, Spine}
 
@@ -21,11 +22,11 @@ index_of heap (Spine half offset) = 19 + 65 * heap.groups + 2 * heap.spine * hal
 -- the heap has such a word
 abbrev pub InTable : Heap → Address → Type 0
 InTable heap Phase = Unit {0}
-InTable heap (Answer seat) = seat < 16
+InTable heap (Answer seat) = seat < most_seats
 InTable heap Budget = Unit {0}
 InTable heap Spot = Unit {0}
 InTable heap (Control group) = group < heap.groups
-InTable heap (Word fragment part) = (fragment < 16 * heap.groups) × (part < 4)
+InTable heap (Word fragment part) = (fragment < group_fragments * heap.groups) × (part < 4)
 InTable heap (Spine half offset) = (half < 2) × (offset < 2 * heap.spine)
 
 -- the word at an address

@@ -7,6 +7,7 @@ use Rattle.heap_words.specs.Cell.{cell_of}
 use Rattle.heap_model.specs.declared.heap.Heap.{Heap}
 use Rattle.heap_model.specs.declared.id.Id.{Id}
 use Rattle.heap_model.specs.declared.id.Id.TheVariants.{Board, Made}
+use Rattle.heap_model.specs.Limits.{group_fragments}
 use Rattle.core_machine.specs.declared.address.Address.{Address}
 use Rattle.core_machine.specs.declared.address.Address.TheVariants.{Word}
 use Rattle.core_machine.specs.declared.register.Register.{Register}
@@ -65,11 +66,11 @@ plain_in word = plain_register (cell_of word).kind (cell_of word).value
 
 -- the fragment is one of the heap's, where there is one
 abbrev pub IsWithinHeap : Heap → Option ℕ → Type 0
-IsWithinHeap heap fragment = IfSome fragment (λ f. f < 16 * heap.groups)
+IsWithinHeap heap fragment = IfSome fragment (λ f. f < group_fragments * heap.groups)
 
 -- every word of a fragment leads to a fragment of the heap, or nowhere
 abbrev pub LeadWithin : Heap → List ℕ → Type 0
-LeadWithin heap words = (fragment part : ℕ) → fragment < 16 * heap.groups → part < 4
+LeadWithin heap words = (fragment part : ℕ) → fragment < group_fragments * heap.groups → part < 4
     → IsWithinHeap heap (lead_of part (at heap words (Word fragment part)))
 
 -- the word that was found at the address leads within the heap, where it stands in a fragment

@@ -4,6 +4,7 @@ use Rattle.heap_words.specs.declared.name.Name.{Name}
 use Rattle.heap_model.specs.declared.heap.Heap.{Heap}
 use Rattle.heap_model.specs.declared.id.Id.{Id}
 use Rattle.heap_model.specs.declared.id.Id.TheVariants.{Made}
+use Rattle.heap_model.specs.Limits.{group_fragments}
 use Rattle.core_machine.specs.declared.place.Making.{Making}
 use Rattle.core_machine.specs.declared.place.Making.TheVariants.{Gathering, Returning, Refusing, Storing, Bearing}
 use Rattle.core_machine.specs.declared.place.Place.TheVariants as places
@@ -59,10 +60,10 @@ claimed heap seat found =
 
 -- the group of the first fragment, and of the last
 abbrev pub first_group : List ℕ → ℕ
-first_group fragments = slice_index_or fragments 0 0 / 16
+first_group fragments = slice_index_or fragments 0 0 / group_fragments
 
 abbrev pub last_group : List ℕ → ℕ
-last_group fragments = slice_index_or fragments (length fragments - 1) 0 / 16
+last_group fragments = slice_index_or fragments (length fragments - 1) 0 / group_fragments
 
 -- the fragments of the hand's first group were given back
 abbrev pub given_back : Seat → Seat

@@ -1,10 +1,11 @@
 -- The moves by which an object is made, a row per place.
-use Rattle.std.specs.Prelude.{ℕ, ◌/◌, ◌%◌, ◌+◌, ◌==◌, nat_lt, Bool, false, if◌then◌else◌, List, [], ◌∷◌, length, slice_index_or}
+use Rattle.std.specs.Prelude.{ℕ, ◌/◌, ◌%◌, ◌+◌, ◌==◌, nat_lt, nat_le, Bool, false, if◌then◌else◌, List, [], ◌∷◌, length, slice_index_or}
 use Rattle.std.specs.List.{list_all}
 use Rattle.heap_model.specs.declared.heap.Heap.{Heap}
 use Rattle.heap_model.specs.declared.entry.Entry.{Entry}
 use Rattle.heap_model.specs.declared.entry.Entry.TheVariants.{Said, Takes, GivesBack}
 use Rattle.heap_model.specs.declared.reply.Reply.TheVariants as replies
+use Rattle.heap_model.specs.PhasePlan.{cycle_phases, black_births, clearing}
 use Rattle.core_machine.specs.declared.place.Making.{Making}
 use Rattle.core_machine.specs.declared.place.Making.TheVariants.{Gathering, Returning, Refusing, Storing, Bearing}
 use Rattle.core_machine.specs.declared.step.Step.TheVariants as steps
@@ -51,9 +52,10 @@ due_store number seat = word_store number seat (seat.stored / 4) (seat.stored % 
 abbrev pub store_move : ℕ → Seat → Move
 store_move number seat = plain_move (steps.Making (due_store number seat)) (λ found. stored_more seat) (λ found. [])
 
--- births are black from the answer to the cycle's second phase on, up to that to its sixth
+-- births are black from the answer to a cycle's phase of black births on, until that to its clearing
 abbrev pub bears_black : Seat → Bool
-bears_black seat = if nat_lt 1 (seat.answered % 7) then nat_lt (seat.answered % 7) 6 else false
+bears_black seat =
+    if nat_le black_births (seat.answered % cycle_phases) then nat_lt (seat.answered % cycle_phases) clearing else false
 
 -- the fragments of the hand's last group
 abbrev pub last_part : Seat → List ℕ

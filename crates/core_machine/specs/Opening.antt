@@ -7,6 +7,7 @@ use Rattle.heap_words.specs.Group.{group_word}
 use Rattle.heap_words.specs.Spot.{spot_word}
 use Rattle.heap_model.specs.declared.heap.Heap.{Heap}
 use Rattle.heap_model.specs.declared.id.Id.TheVariants as ids
+use Rattle.heap_model.specs.Limits.{board_fields, board_fragments, last_register}
 use Rattle.core_machine.specs.declared.address.Address.{Address}
 use Rattle.core_machine.specs.declared.address.Address.TheVariants.{Phase, Answer, Budget, Spot, Control, Word, Spine}
 use Rattle.core_machine.specs.declared.register.Register.TheVariants.{Nil, Object}
@@ -27,7 +28,7 @@ board_name = record { owner = 0; count = 0 }
 abbrev pub board_group : ℕ
 board_group = group_word (record { taken = 2047; born = 2047; marked = 0; scanned = 0 })
 
--- the word at each address: there is the board, a record of 32 fields that were never set, and each number without a seat has left
+-- the word at each address: there is the board, a record whose fields were never set, and each number without a seat has left
 abbrev pub opening_word : Heap → Address → ℕ
 opening_word heap Phase = 0
 opening_word heap (Answer number) = if nat_lt number heap.seats then 0 else LEFT
@@ -35,7 +36,7 @@ opening_word heap Budget = 0
 opening_word heap Spot = spot_word (record { half = 0; offset = 0 })
 opening_word heap (Control group) = if group == 0 then board_group else 0
 opening_word heap (Word fragment part) =
-    if nat_lt fragment 11 then record_word board_name 32 board fragment part else 0
+    if nat_lt fragment board_fragments then record_word board_name board_fields board fragment part else 0
 opening_word heap (Spine half offset) = 0
 
 -- the word at an address once every number from the seats up to this one has left
@@ -51,7 +52,7 @@ with_left heap upto (Spine half offset) word = word
 -- the word at an address once so many of the board's words are written
 abbrev pub with_board : ℕ → Address → ℕ → ℕ
 with_board count (Word fragment part) word =
-    if nat_lt (4 * fragment + part) count then record_word board_name 32 board fragment part else word
+    if nat_lt (4 * fragment + part) count then record_word board_name board_fields board fragment part else word
 with_board count Phase word = word
 with_board count (Answer number) word = word
 with_board count Budget word = word
@@ -62,7 +63,7 @@ with_board count (Spine half offset) word = word
 -- a seat at the opening: register 0 holds the board, and each seat's cursor stands at a group of its own as far as there are as many
 abbrev pub opening_seat : Heap → ℕ → Seat
 opening_seat heap number =
-    record nobody { registers = Object 0 ids.Board ∷ replicate 15 Nil; cursor = number % heap.groups; left = false }
+    record nobody { registers = Object 0 ids.Board ∷ replicate last_register Nil; cursor = number % heap.groups; left = false }
 
 -- the state is the one in which the heap opens
 pub record IsOpening (heap : Heap) (state : State) : Type 0 where

@@ -1,6 +1,7 @@
 -- Which word each step touches, and what it writes there.
 use Rattle.std.specs.Prelude.{ℕ, ◌+◌, ◌-◌, ◌*◌, ◌/◌, ◌%◌, ◌^◌, Bool, true, false, bit_and, bit_or}
 use Rattle.heap_words.specs.declared.phase.TheConstants.{LEFT}
+use Rattle.heap_model.specs.Limits.{group_fragments}
 use Rattle.core_machine.specs.declared.address.Address.{Address}
 use Rattle.core_machine.specs.declared.address.Address.TheVariants as addresses
 use Rattle.core_machine.specs.declared.step.Step.{Step}
@@ -41,7 +42,7 @@ reaching_address (WalkLoad fragment) = addresses.Word fragment 0
 reaching_address (NameLoad head) = addresses.Word head 1
 reaching_address (GetLoad fragment part) = addresses.Word fragment part
 reaching_address (OldLoad fragment part) = addresses.Word fragment part
-reaching_address (Shade fragment) = addresses.Control (fragment / 16)
+reaching_address (Shade fragment) = addresses.Control (fragment / group_fragments)
 reaching_address (Swap fragment part word) = addresses.Word fragment part
 
 -- a seat tells what it has answered in its own word

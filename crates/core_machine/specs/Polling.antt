@@ -1,5 +1,7 @@
 -- How a seat goes on while it answers the phase, and while it leaves.
 use Rattle.std.specs.Prelude.{ℕ, ◌+◌, ◌%◌, ◌==◌, nat_lt, true, if◌then◌else◌, List, [], ◌∷◌, length, replicate}
+use Rattle.heap_model.specs.Limits.{register_count}
+use Rattle.heap_model.specs.PhasePlan.{cycle_phases, marking}
 use Rattle.core_machine.specs.declared.place.Place.TheVariants as places
 use Rattle.core_machine.specs.declared.place.Polling.{Polling}
 use Rattle.core_machine.specs.declared.place.Polling.TheVariants.{Shading, Answering}
@@ -9,9 +11,9 @@ use Rattle.core_machine.specs.declared.register.Register.TheVariants.{Nil}
 use Rattle.core_machine.specs.Registers.{heads}
 use Rattle.core_machine.specs.Seat.{Seat}
 
--- what is shaded before the phase is answered: in a cycle's third phase the registers' objects
+-- what is shaded before the phase is answered: where marking begins the registers' objects
 abbrev pub roots : Seat → List ℕ
-roots seat = if seat.asked % 7 == 3 then heads seat.registers else []
+roots seat = if seat.asked % cycle_phases == marking then heads seat.registers else []
 
 -- the next root is shaded, or the answer is stored
 abbrev pub answer_place : Seat → Polling
@@ -43,4 +45,4 @@ emptied seat = record seat { reserve = []; place = places.Leaving Parting }
 
 -- the seat has left
 abbrev pub parted : Seat → Seat
-parted seat = record seat { registers = replicate 16 Nil; left = true; place = places.Idle }
+parted seat = record seat { registers = replicate register_count Nil; left = true; place = places.Idle }

@@ -1,10 +1,11 @@
 -- How a seat goes on while it reads or writes an object: the way to the field, and what is done with it.
-use Rattle.std.specs.Prelude.{ℕ, ◌+◌, ◌-◌, ◌/◌, ◌%◌, ◌==◌, nat_lt, Bool, false, if◌then◌else◌, Option, Some, None, slice_set}
+use Rattle.std.specs.Prelude.{ℕ, ◌+◌, ◌-◌, ◌/◌, ◌%◌, ◌==◌, nat_lt, nat_le, Bool, false, if◌then◌else◌, Option, Some, None, slice_set}
 use Rattle.heap_model.specs.declared.command.Command.{Command}
 use Rattle.heap_model.specs.declared.command.Command.TheVariants.{Get, Len}
 use Rattle.heap_model.specs.declared.id.Id.{Id}
 use Rattle.heap_model.specs.declared.reply.Reply.{Reply}
 use Rattle.heap_model.specs.declared.reply.Reply.TheVariants.{Length, NoField}
+use Rattle.heap_model.specs.PhasePlan.{cycle_phases, barriers, clearing}
 use Rattle.core_machine.specs.declared.place.Place.TheVariants as places
 use Rattle.core_machine.specs.declared.place.Reaching.{Reaching}
 use Rattle.core_machine.specs.declared.place.Reaching.TheVariants.{Opening, Walking, Getting, Naming, LoadingOld, ShadingOld, ShadingNew, Swapping}
@@ -23,9 +24,10 @@ row_of field = (field + 1) / 3
 abbrev pub part_of : ℕ → ℕ
 part_of field = (field + 1) % 3 + 1
 
--- the barrier is on from the answer to a cycle's first phase on, up to that to its sixth
+-- the barrier is on from the answer to a cycle's phase of barriers on, until that to its clearing
 abbrev pub has_barrier : Seat → Bool
-has_barrier seat = if nat_lt 0 (seat.answered % 7) then nat_lt (seat.answered % 7) 6 else false
+has_barrier seat =
+    if nat_le barriers (seat.answered % cycle_phases) then nat_lt (seat.answered % cycle_phases) clearing else false
 
 -- the seat at this place of reaching
 abbrev pub reaching : Seat → Reaching → Seat

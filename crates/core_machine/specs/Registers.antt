@@ -1,5 +1,5 @@
 -- What a seat's registers hold, and how a register's value stands in a cell.
-use Rattle.std.specs.Prelude.{ℕ, ◌<◌, ◌^◌, ◌==◌, Bool, true, false, if◌then◌else◌, List, Option, Some, None, slice_index_or}
+use Rattle.std.specs.Prelude.{ℕ, ◌<◌, ◌==◌, Bool, true, false, if◌then◌else◌, List, Option, Some, None, slice_index_or}
 use Rattle.std.specs.List.{filter_map}
 use Rattle.heap_words.specs.declared.cell.Cell.{Cell}
 use Rattle.heap_words.specs.declared.kind.Kind.TheVariants as kinds
@@ -8,6 +8,7 @@ use Rattle.heap_model.specs.declared.id.Id.{Id}
 use Rattle.heap_model.specs.declared.id.Id.TheVariants.{Board, Made}
 use Rattle.heap_model.specs.declared.id.Value.{Value}
 use Rattle.heap_model.specs.declared.id.Value.TheVariants as values
+use Rattle.heap_model.specs.Limits.{number_limit}
 use Rattle.core_machine.specs.declared.register.Register.{Register}
 use Rattle.core_machine.specs.declared.register.Register.TheVariants.{Nil, Number, Object}
 
@@ -53,8 +54,8 @@ is_same_value (values.Number n) (values.Number m) = n == m
 is_same_value (values.Object id) (values.Object other) = is_same_id id other
 is_same_value _ _ = false
 
--- the number that it holds, if it holds one, has at most thirty bits
+-- the number that it holds, if it holds one, is within the limit
 abbrev pub IsSmall : Register → Type 0
 IsSmall Nil = Unit {0}
-IsSmall (Number n) = n < 2 ^ 30
+IsSmall (Number n) = n < number_limit
 IsSmall (Object head id) = Unit {0}

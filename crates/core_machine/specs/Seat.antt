@@ -1,8 +1,9 @@
 -- What the machine keeps of a seat. The seat's number is its place among the seats, and stands nowhere in it.
-use Rattle.std.specs.Prelude.{ℕ, ◌+◌, ◌<◌, ◌^◌, Bool, true, List, [], ◌++◌}
+use Rattle.std.specs.Prelude.{ℕ, ◌+◌, ◌<◌, Bool, true, List, [], ◌++◌}
 use Rattle.heap_model.specs.declared.entry.Entry.{Entry}
 use Rattle.heap_model.specs.declared.command.Command.{Command}
 use Rattle.heap_model.specs.declared.command.Command.TheVariants as commands
+use Rattle.heap_model.specs.Limits.{name_limit, stamp_limit}
 use Rattle.heap_model.specs.Space.{need_of}
 use Rattle.core_machine.specs.declared.place.Place.{Place}
 use Rattle.core_machine.specs.declared.place.Place.TheVariants.{Idle}
@@ -81,8 +82,8 @@ need seat = need_of seat.command
 
 -- where so many objects were made and sets done, a name is left for the object that the command makes, or a stamp for its set
 abbrev pub HasNumber : ℕ → ℕ → Command → Type 0
-HasNumber made sets (commands.New d fields) = made + 1 < 2 ^ 32
-HasNumber made sets (commands.Set r i v) = sets + 1 < 2 ^ 26
+HasNumber made sets (commands.New d fields) = made + 1 < name_limit
+HasNumber made sets (commands.Set r i v) = sets + 1 < stamp_limit
 HasNumber made sets _ = Unit {0}
 
 -- the seat with more entries

@@ -1,4 +1,5 @@
 ghost use Rattle.std.specs.Prelude.{◌≡◌, ◌+◌, ◌<◌, ◌≤◌, length, slice_index_or};
+ghost use Rattle.heap_model.specs.Limits.{register_count, most_reserve};
 ghost use Rattle.core_machine.specs.declared.step.Step.TheVariants.{Making as Makes};
 ghost use Rattle.core_machine.specs.declared.place.Place.TheVariants.{Leaving as Leaves};
 ghost use Rattle.core_machine.specs.Registers.{heads as heads_of};
@@ -11,6 +12,8 @@ use crate::party::SeatParty;
 use crate::place::{Leaving, Place, Polling};
 use crate::register::Register;
 use crate::step::MakingStep;
+use heap_model::limits::REGISTER_COUNT;
+use heap_model::phase_plan::{CYCLE_PHASES, MARKING};
 use heap_model::{Entry, Reply};
 
 /// How many of the registers hold an object.
@@ -52,7 +55,7 @@ impl SeatParty {
     fn root_count(&self) -> usize
         ensures { result ≡ length (roots self.now.seat) }
     {
-        if self.asked % 7 == 3 {
+        if self.asked % CYCLE_PHASES == MARKING {
             head_count(&self.registers)
         } else {
             0
@@ -98,7 +101,7 @@ impl SeatParty {
     /// Shaded an object of the registers.
     #[tactic(auto, using(crate::proofs::WithinHeap::few_roots))]
     pub(crate) fn learn_root(&mut self)
-        requires registers { length self.old.seat.registers ≡ 16 }
+        requires registers { length self.old.seat.registers ≡ register_count }
         requires more { self.old.seat.shaded < length (roots self.old.seat) }
         ensures seat { self.new.seat ≡ shaded_more self.old.seat }
         ensures spare { self.new.spare ≡ self.old.spare }
@@ -145,7 +148,7 @@ impl SeatParty {
 
     /// Gave the reserve back.
     pub(crate) fn learn_empty(&mut self, number: u8)
-        requires few { length self.old.seat.reserve ≤ 15 }
+        requires few { length self.old.seat.reserve ≤ most_reserve }
         requires spare { 0 < self.old.spare }
         ensures seat { self.new.seat ≡ seat_after (empty_move number self.old.seat) 0 }
         ensures spare { self.old.spare + length self.old.seat.mine ≤ self.new.spare + length self.new.seat.mine }
@@ -165,7 +168,7 @@ impl SeatParty {
         ensures seat { self.new.seat ≡ seat_after (leave_move number self.old.seat) 0 }
         ensures spare { self.old.spare + length self.old.seat.mine ≤ self.new.spare + length self.new.seat.mine }
     {
-        self.registers = [Register::Nil; 16];
+        self.registers = [Register::Nil; REGISTER_COUNT];
         self.left = true;
         self.place = Place::Idle;
         self.say(number, Reply::Done);

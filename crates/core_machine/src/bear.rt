@@ -1,4 +1,5 @@
 ghost use Rattle.std.specs.Prelude.{◌≡◌, ℕ, ◌+◌, ◌*◌, ◌/◌, ◌%◌, ◌<◌, ◌≤◌, ◌^◌, length};
+ghost use Rattle.heap_model.specs.Limits.{register_count, most_seats};
 ghost use Rattle.core_machine.specs.declared.step.Step.TheVariants.{Making as Makes};
 ghost use Rattle.core_machine.specs.Commands.{fields_of, target_of};
 ghost use Rattle.core_machine.specs.Fits.{HasBody};
@@ -12,6 +13,7 @@ use crate::party::SeatParty;
 use crate::place::{Making, Place};
 use crate::register::Register;
 use crate::step::MakingStep;
+use heap_model::phase_plan::{BLACK_BIRTHS, CLEARING, CYCLE_PHASES};
 use heap_model::{Entry, Id, Reply};
 use heap_words::Name;
 
@@ -20,7 +22,7 @@ impl SeatParty {
     fn newborn_word(&self, number: u8, k: usize, part: u8) -> u64
         requires fields { fields_of self.now.seat.command < 2 ^ 13 }
         requires within { k < length self.now.seat.body }
-        requires number { number < 16 }
+        requires number { number < most_seats }
         ensures { result ≡ newborn_word_of number self.now.seat k part }
     {
         let name = Name {
@@ -39,7 +41,7 @@ impl SeatParty {
 
     /// The store that is due.
     pub(crate) fn store(&self, number: u8) -> MakingStep
-        requires number { number < 16 }
+        requires number { number < most_seats }
         requires body { HasBody self.now.seat }
         requires within { self.now.seat.stored < 4 * length self.now.seat.body }
         ensures { result ≡ due_store number self.now.seat }
@@ -73,8 +75,8 @@ impl SeatParty {
     fn bears_black(&self) -> bool
         ensures { result ≡ bears_black_of self.now.seat }
     {
-        let k = self.answered % 7;
-        1 < k && k < 6
+        let k = self.answered % CYCLE_PHASES;
+        BLACK_BIRTHS <= k && k < CLEARING
     }
 
     /// The birth that is due.
@@ -97,7 +99,7 @@ impl SeatParty {
     pub(crate) fn learn_birth(&mut self, number: u8)
         requires body { HasBody self.old.seat }
         requires some { 0 < length self.old.seat.hand }
-        requires registers { target_of self.old.seat.command < 16 }
+        requires registers { target_of self.old.seat.command < register_count }
         requires spare { 0 < self.old.spare }
         ensures seat { self.new.seat ≡ seat_after (bearing_move number self.old.seat) 0 }
         ensures spare { self.old.spare + length self.old.seat.mine ≤ self.new.spare + length self.new.seat.mine }
@@ -114,7 +116,7 @@ impl SeatParty {
     fn make(&mut self, number: u8)
         requires body { HasBody self.old.seat }
         requires some { 0 < length self.old.seat.body }
-        requires registers { target_of self.old.seat.command < 16 }
+        requires registers { target_of self.old.seat.command < register_count }
         requires spare { 0 < self.old.spare }
         ensures seat { self.new.seat ≡ seat_after (last_birth_move number self.old.seat) 0 }
         ensures spare { self.old.spare + length self.old.seat.mine ≤ self.new.spare + length self.new.seat.mine }

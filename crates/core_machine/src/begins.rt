@@ -7,10 +7,11 @@ ghost use Rattle.core_machine.specs.Machine.{MayBegin, begun};
 
 use crate::party::SeatParty;
 use crate::place::{Place, Polling};
+use heap_model::limits::STAMP_LIMIT;
 use heap_model::{Command, Heap};
 
 /// The most sets that a seat does.
-const MOST_SETS: u32 = (1 << 26) - 1;
+const MOST_SETS: u32 = STAMP_LIMIT - 1;
 
 /// Whether the machine serves the command.
 fn is_served(command: &Command) -> bool

@@ -5,6 +5,7 @@ ghost use Rattle.core_machine.specs.Fits.{CollectorFits};
 
 use crate::stage::Stage;
 use crate::step::TurningStep;
+use heap_model::phase_plan::{CYCLE_PHASES, MARKING};
 use heap_model::{Entry, Heap, Memory, Turn};
 use heap_words::LEFT;
 use std::alloc::Global;
@@ -104,7 +105,7 @@ impl CollectorParty {
         if self.looked < seats {
             return;
         }
-        if self.phase % 7 == 3 {
+        if self.phase % CYCLE_PHASES == MARKING {
             self.looked = 0;
         } else {
             self.stage = Stage::Advancing;

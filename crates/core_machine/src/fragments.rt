@@ -1,12 +1,14 @@
 ghost use Rattle.std.specs.Prelude.{◌≡◌, ◌+◌, ◌*◌, ◌<◌, ◌≤◌, ◌++◌, ◌/◌, ◌-◌, length, slice_index_or};
 ghost use Rattle.std.specs.List.{list_all};
+ghost use Rattle.heap_model.specs.Limits.{group_fragments, most_groups};
 ghost use Rattle.core_machine.specs.Making.{first_group as first_group_of, last_group as last_group_of};
 ghost use Rattle.core_machine.specs.Fragments.{in_group, part_in, part_out, mask as mask_of, clear_in};
 
 use arrayvec::ArrayVec;
+use heap_model::limits::{GROUP_FRAGMENTS, MOST_RESERVE};
 
 /// The most fragments that a seat keeps between two calls, and one more.
-pub const MOST_KEPT: usize = 16;
+pub const MOST_KEPT: usize = MOST_RESERVE as usize + 1;
 
 /// The most fragments that a hand holds: those of the largest record, less one, and a group.
 pub const MOST_HELD: usize = 31;
@@ -27,7 +29,7 @@ pub fn mask_in(fragments: &[u16], group: u16) -> u16
 {
     fragments
         .iter()
-        .filter(|fragment| **fragment / 16 == group)
+        .filter(|fragment| **fragment / GROUP_FRAGMENTS == group)
         .fold(0, |bits, fragment| bits | 1 << (*fragment % 16))
 }
 
@@ -48,7 +50,7 @@ pub fn count_in(fragments: &[u16], group: u16) -> usize
 {
     fragments
         .iter()
-        .filter(|fragment| **fragment / 16 == group)
+        .filter(|fragment| **fragment / GROUP_FRAGMENTS == group)
         .count()
 }
 
@@ -56,7 +58,9 @@ pub fn count_in(fragments: &[u16], group: u16) -> usize
 pub fn all_in(fragments: &[u16], group: u16) -> bool
     ensures { result ≡ list_all (in_group group) fragments.now }
 {
-    fragments.iter().all(|fragment| *fragment / 16 == group)
+    fragments
+        .iter()
+        .all(|fragment| *fragment / GROUP_FRAGMENTS == group)
 }
 
 /// The fragments that aren't of this group.
@@ -66,7 +70,7 @@ pub fn rest_of(fragments: &[u16], group: u16) -> Hand
 {
     let mut rest = Hand::new();
     for fragment in fragments {
-        if *fragment / 16 != group {
+        if *fragment / GROUP_FRAGMENTS != group {
             rest.push(*fragment);
         }
     }
@@ -75,14 +79,14 @@ pub fn rest_of(fragments: &[u16], group: u16) -> Hand
 
 /// Adds the fragments of the group whose taken bit isn't set in its control word.
 pub fn add_clear(hand: &mut Hand, group: u16, word: u64)
-    requires room { length hand.old.items + 16 ≤ MOST_HELD }
-    requires group { group < 4096 }
+    requires room { length hand.old.items + group_fragments ≤ MOST_HELD }
+    requires group { group < most_groups }
     ensures items { hand.new.items ≡ hand.old.items ++ clear_in group word }
-    ensures few { length hand.new.items ≤ length hand.old.items + 16 }
+    ensures few { length hand.new.items ≤ length hand.old.items + group_fragments }
 {
-    for place in 0..16 {
+    for place in 0..GROUP_FRAGMENTS {
         if word >> place & 1 == 0 {
-            hand.push(16 * group + place);
+            hand.push(GROUP_FRAGMENTS * group + place);
         }
     }
 }
@@ -92,7 +96,7 @@ pub fn first_group(fragments: &[u16]) -> u16
     requires { 0 < length fragments.now }
     ensures { result ≡ first_group_of fragments.now }
 {
-    fragments[0] / 16
+    fragments[0] / GROUP_FRAGMENTS
 }
 
 /// The group of the last fragment.
@@ -100,7 +104,7 @@ pub fn last_group(fragments: &[u16]) -> u16
     requires { 0 < length fragments.now }
     ensures { result ≡ last_group_of fragments.now }
 {
-    fragments[fragments.len() - 1] / 16
+    fragments[fragments.len() - 1] / GROUP_FRAGMENTS
 }
 
 /// The same fragments in a buffer of their own.

@@ -1,5 +1,6 @@
 ghost use Rattle.std.specs.Prelude.{◌≡◌, ℕ, ◌+◌, ◌<◌, ◌≤◌, length};
 ghost use Rattle.heap_model.specs.Heap.{IsHeap};
+ghost use Rattle.heap_model.specs.Limits.{most_reserve};
 ghost use Rattle.core_machine.specs.declared.step.Step.TheVariants.{Making as Makes};
 ghost use Rattle.core_machine.specs.Fits.{Gathers, Refuses};
 ghost use Rattle.core_machine.specs.Seat.{need};
@@ -38,7 +39,7 @@ impl SeatParty {
         requires groups { 0 < heap.now.groups }
         requires small { self.old.seat.cursor + self.old.seat.tried < 65536 }
         requires enough { need self.old.seat ≤ length self.old.seat.reserve + length self.old.seat.hand }
-        requires few { length self.old.seat.reserve + length self.old.seat.hand ≤ need self.old.seat + 15 }
+        requires few { length self.old.seat.reserve + length self.old.seat.hand ≤ need self.old.seat + most_reserve }
         requires record { need self.old.seat ≤ 16 }
         ensures seat { self.new.seat ≡ settled heap.now self.old.seat }
         ensures spare { self.new.spare ≡ self.old.spare }
@@ -59,7 +60,7 @@ impl SeatParty {
     pub(crate) fn go_on(&mut self, heap: &Heap)
         requires groups { 0 < heap.now.groups }
         requires small { self.old.seat.cursor + self.old.seat.tried < 65536 }
-        requires few { length self.old.seat.reserve + length self.old.seat.hand ≤ need self.old.seat + 15 }
+        requires few { length self.old.seat.reserve + length self.old.seat.hand ≤ need self.old.seat + most_reserve }
         requires record { need self.old.seat ≤ 16 }
         ensures seat { self.new.seat ≡ goes_on heap.now self.old.seat }
         ensures spare { self.new.spare ≡ self.old.spare }

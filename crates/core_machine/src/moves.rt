@@ -1,5 +1,6 @@
 ghost use Rattle.std.specs.Prelude.{◌≡◌, ◌+◌, ◌<◌, ◌≤◌, length, IfSome};
 ghost use Rattle.heap_model.specs.Heap.{IsHeap};
+ghost use Rattle.heap_model.specs.Limits.{register_count, most_reserve};
 ghost use Rattle.core_machine.specs.Fits.{Fits, FitsMaking, FitsPolling};
 ghost use Rattle.core_machine.specs.FitsReaching.{FitsReaching};
 ghost use Rattle.core_machine.specs.Loaded.{FoundWithin};
@@ -55,7 +56,7 @@ impl SeatParty {
 
     /// Learns what a step of answering found.
     fn learn_polling(&mut self, number: u8, place: Polling, found: u64)
-        requires registers { length self.old.seat.registers ≡ 16 }
+        requires registers { length self.old.seat.registers ≡ register_count }
         requires at_place { FitsPolling self.old.seat place }
         requires spare { 1 < self.old.spare }
         ensures seat { self.new.seat ≡ seat_after (polling_move number self.old.seat place) found }
@@ -70,7 +71,7 @@ impl SeatParty {
 
     /// Learns that a step of leaving was made.
     fn learn_leaving(&mut self, number: u8, place: Leaving)
-        requires few { length self.old.seat.reserve ≤ 15 }
+        requires few { length self.old.seat.reserve ≤ most_reserve }
         requires spare { 0 < self.old.spare }
         ensures seat { self.new.seat ≡ seat_after (leaving_move number self.old.seat place) 0 }
         ensures spare { self.old.spare + length self.old.seat.mine ≤ self.new.spare + length self.new.seat.mine }

@@ -1,5 +1,6 @@
 ghost use Rattle.std.specs.Prelude.{◌≡◌, ℕ, ◌+◌, ◌*◌, ◌<◌, ◌≤◌, ◌^◌, length, map, replicate, All, IfOk};
 ghost use Rattle.std.specs.List.{range_with_len};
+ghost use Rattle.heap_model.specs.Limits.{board_fragments, most_seats};
 ghost use Rattle.core_machine.specs.declared.address.Address.{Address};
 ghost use Rattle.heap_model.specs.Heap.{IsHeap};
 ghost use Rattle.core_machine.specs.Layout.{at, put, InTable, table_length};
@@ -10,6 +11,7 @@ use crate::collector::CollectorParty;
 use crate::machine::Machine;
 use crate::newborn::Newborn;
 use crate::party::SeatParty;
+use heap_model::limits::{BOARD_FIELDS, BOARD_FRAGMENTS, MOST_SEATS};
 use heap_model::{Heap, Memory};
 use heap_words::{Group, LEFT, Name, Spot};
 use std::alloc::Global;
@@ -86,9 +88,9 @@ fn leave_without_seats(words: &mut [u64], heap: &Heap)
     requires limits { IsHeap heap.now }
     requires table { length words.old ≡ table_length heap.now }
     ensures table { length words.new ≡ table_length heap.now }
-    ensures left { (a : Address) → InTable heap.now a → at heap.now words.new a ≡ with_left heap.now 16 a (at heap.now words.old a) }
+    ensures left { (a : Address) → InTable heap.now a → at heap.now words.new a ≡ with_left heap.now most_seats a (at heap.now words.old a) }
 {
-    for number in heap.seats..16 {
+    for number in heap.seats..MOST_SEATS {
         store(words, heap, Address::Answer(number), LEFT);
     }
 }
@@ -98,14 +100,14 @@ fn store_board(words: &mut [u64], heap: &Heap)
     requires limits { IsHeap heap.now }
     requires table { length words.old ≡ table_length heap.now }
     ensures table { length words.new ≡ table_length heap.now }
-    ensures board { (a : Address) → InTable heap.now a → at heap.now words.new a ≡ with_board 44 a (at heap.now words.old a) }
+    ensures board { (a : Address) → InTable heap.now a → at heap.now words.new a ≡ with_board (4 * board_fragments) a (at heap.now words.old a) }
 {
     let board = Newborn {
         name: Name { owner: 0, count: 0 },
-        fields: 32,
+        fields: BOARD_FIELDS,
         fragments: &BOARD,
     };
-    for place in 0..44u16 {
+    for place in 0..4 * BOARD_FRAGMENTS {
         let fragment = place / 4;
         let part = (place % 4) as u8;
         let word = board.word(fragment as usize, part);

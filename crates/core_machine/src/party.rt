@@ -7,6 +7,7 @@ ghost use Rattle.core_machine.specs.Opening.{opening_seat};
 use crate::fragments::{Hand, Reserve};
 use crate::place::Place;
 use crate::register::Register;
+use heap_model::limits::REGISTER_COUNT;
 use heap_model::{Command, Entry, Heap, Id, Memory, Reply};
 use std::alloc::Global;
 use std::marker::Model;
@@ -14,7 +15,7 @@ use std::marker::Model;
 /// What is kept of a seat: its registers, its fragments, its call in flight, what it answered, and its entries.
 #[derive(Drop)]
 pub struct SeatParty {
-    pub(crate) registers: [Register; 16],
+    pub(crate) registers: [Register; REGISTER_COUNT],
     pub(crate) reserve: Reserve,
     pub(crate) cursor: u16,
     pub(crate) hand: Hand,
@@ -75,7 +76,7 @@ impl SeatParty {
         requires { IsHeap heap.now }
         ensures { result.seat ≡ opening_seat heap.now number }
     {
-        let mut registers = [Register::Nil; 16];
+        let mut registers = [Register::Nil; REGISTER_COUNT];
         registers[0] = Register::Object {
             head: 0,
             id: Id::Board,

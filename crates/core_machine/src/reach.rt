@@ -1,4 +1,5 @@
 ghost use Rattle.std.specs.Prelude.{◌≡◌, ◌+◌, ◌<◌, ◌≤◌, ◌^◌, length, IfSome};
+ghost use Rattle.heap_model.specs.Limits.{register_count, most_seats, stamp_limit};
 ghost use Rattle.core_machine.specs.Seat.{with_entries};
 ghost use Rattle.core_machine.specs.Commands.{target_of, source_of};
 ghost use Rattle.core_machine.specs.Loaded.{head_in as head_in_of};
@@ -12,6 +13,7 @@ use crate::loaded::{head_in, id_in, plain_in, stamp_in};
 use crate::party::SeatParty;
 use crate::place::{Place, Reaching};
 use crate::register::Register;
+use heap_model::limits::STAMP_LIMIT;
 use heap_model::{Reply, Value};
 
 /// The new value is shaded where it is an object; then comes the swap.
@@ -38,7 +40,7 @@ impl SeatParty {
 
     /// What a set puts into the field.
     pub(crate) fn new_register(&self) -> Register
-        requires { source_of self.now.seat.command < 16 }
+        requires { source_of self.now.seat.command < register_count }
         ensures { result ≡ new_register_of self.now.seat }
     {
         self.registers[source(&self.command) as usize]
@@ -46,19 +48,19 @@ impl SeatParty {
 
     /// The new word of the field.
     pub(crate) fn new_word(&self, number: u8) -> u64
-        requires source { source_of self.now.seat.command < 16 }
+        requires source { source_of self.now.seat.command < register_count }
         requires small { IsSmall (new_register_of self.now.seat) }
-        requires number { number < 16 }
-        requires stamp { self.now.seat.sets + 1 < 2 ^ 26 }
+        requires number { number < most_seats }
+        requires stamp { self.now.seat.sets + 1 < stamp_limit }
         ensures { result ≡ new_word_of number self.now.seat }
     {
-        let stamp = (u32::from(number) + 1 << 26) + self.sets + 1;
+        let stamp = (u32::from(number) + 1) * STAMP_LIMIT + self.sets + 1;
         self.new_register().word(stamp)
     }
 
     /// The register has another value, and the call is over.
     fn fill(&mut self, register: Register)
-        requires { target_of self.old.seat.command < 16 }
+        requires { target_of self.old.seat.command < register_count }
         ensures seat { self.new.seat ≡ filled self.old.seat register }
         ensures spare { self.new.spare ≡ self.old.spare }
     {
@@ -68,7 +70,7 @@ impl SeatParty {
 
     /// Learns the field of a get.
     pub(crate) fn learn_get(&mut self, number: u8, found: u64)
-        requires target { target_of self.old.seat.command < 16 }
+        requires target { target_of self.old.seat.command < register_count }
         requires spare { 0 < self.old.spare }
         ensures seat { self.new.seat ≡ with_entries (got self.old.seat found (head_in_of found)) (got_adds number self.old.seat found (head_in_of found)) }
         ensures spare { self.old.spare + length self.old.seat.mine ≤ self.new.spare + length self.new.seat.mine }
@@ -91,7 +93,7 @@ impl SeatParty {
 
     /// Learns the name of the object that the field of a get refers to.
     pub(crate) fn learn_name(&mut self, number: u8, found: u64)
-        requires target { target_of self.old.seat.command < 16 }
+        requires target { target_of self.old.seat.command < register_count }
         requires head { IfSome (head_in_of self.old.seat.loaded) (λ head. head < 2 ^ 16) }
         requires spare { 0 < self.old.spare }
         ensures seat { self.new.seat ≡ seat_after (name_move number self.old.seat) found }
@@ -112,7 +114,7 @@ impl SeatParty {
 
     /// Learns the old value of a set's field.
     pub(crate) fn learn_old(&mut self, found: u64)
-        requires { source_of self.old.seat.command < 16 }
+        requires { source_of self.old.seat.command < register_count }
         ensures seat { self.new.seat ≡ seat_after (old_move self.old.seat) found }
         ensures spare { self.new.spare ≡ self.old.spare }
     {
@@ -126,7 +128,7 @@ impl SeatParty {
 
     /// The old value is dealt with.
     pub(crate) fn finish_old(&mut self)
-        requires { source_of self.old.seat.command < 16 }
+        requires { source_of self.old.seat.command < register_count }
         ensures seat { self.new.seat ≡ old_done self.old.seat }
         ensures spare { self.new.spare ≡ self.old.spare }
     {
@@ -136,7 +138,7 @@ impl SeatParty {
 
     /// Learns what the swap took out of the field.
     pub(crate) fn learn_swap(&mut self, number: u8, found: u64)
-        requires sets { self.old.seat.sets < 2 ^ 26 }
+        requires sets { self.old.seat.sets < stamp_limit }
         requires spare { 0 < self.old.spare }
         ensures seat { self.new.seat ≡ seat_after (swap_move number self.old.seat) found }
         ensures spare { self.old.spare + length self.old.seat.mine ≤ self.new.spare + length self.new.seat.mine }

@@ -2,6 +2,7 @@ ghost use Rattle.std.specs.Prelude.{◌≡◌};
 ghost use Rattle.core_machine.specs.Operation.{address_of, written, making_address, making_written, birth_bits as birth_bits_of, reaching_address, reaching_written, shade_bit as shade_bit_of, answering_address, answering_written, turning_address, turning_written};
 
 use crate::address::Address;
+use heap_model::limits::GROUP_FRAGMENTS;
 use heap_words::LEFT;
 
 /// One atomic step: one operation on one word of the table.
@@ -137,7 +138,7 @@ impl ReachingStep {
             ReachingStep::GetLoad { fragment, part }
             | ReachingStep::OldLoad { fragment, part }
             | ReachingStep::Swap { fragment, part, .. } => Address::Word { fragment, part },
-            ReachingStep::Shade { fragment } => Address::Control(fragment / 16),
+            ReachingStep::Shade { fragment } => Address::Control(fragment / GROUP_FRAGMENTS),
         }
     }
 

@@ -1,4 +1,5 @@
 ghost use Rattle.std.specs.Prelude.{◌≡◌, ◌+◌, ◌*◌, ◌<◌, ◌≤◌, ◌^◌, length, IfSome};
+ghost use Rattle.heap_model.specs.Limits.{last_index, register_count};
 ghost use Rattle.core_machine.specs.Commands.{field_of};
 ghost use Rattle.core_machine.specs.Loaded.{lead_of};
 ghost use Rattle.core_machine.specs.Reaching.{row_of, part_of, has_barrier as has_barrier_of, field_place as field_place_of, way_place as way_place_of, opened, onward, closed, meta_reply as meta_reply_of};
@@ -11,11 +12,12 @@ use crate::loaded::{length_in, link_in};
 use crate::party::SeatParty;
 use crate::place::{Place, Reaching};
 use crate::register::Register;
+use heap_model::phase_plan::{BARRIERS, CLEARING, CYCLE_PHASES};
 use heap_model::{Command, Reply};
 
 /// The row in which a field stands: 0 is the object's first fragment, 1 its second.
 fn row(field: u32) -> u16
-    requires { field ≤ 4096 }
+    requires { field ≤ last_index }
     ensures { result ≡ row_of field }
 {
     ((field + 1) / 3) as u16
@@ -23,7 +25,7 @@ fn row(field: u32) -> u16
 
 /// The word of its fragment in which a field stands.
 fn part(field: u32) -> u8
-    requires { field ≤ 4096 }
+    requires { field ≤ last_index }
     ensures { result ≡ part_of field }
 {
     ((field + 1) % 3 + 1) as u8
@@ -44,8 +46,8 @@ fn meta_reply(command: &Command, found: u64) -> Option<Reply>
 impl SeatParty {
     /// The way begins at the object that the register holds; without an object the reply is told at once.
     pub(crate) fn open(&mut self, r: u8)
-        requires register { r < 16 }
-        requires field { field_of self.old.seat.command ≤ 4096 }
+        requires register { r < register_count }
+        requires field { field_of self.old.seat.command ≤ last_index }
         ensures seat { self.new.seat ≡ opened self.old.seat (register_in self.old.seat.registers r) }
         ensures spare { self.new.spare ≡ self.old.spare }
     {
@@ -60,7 +62,7 @@ impl SeatParty {
 
     /// The word of its fragment in which the call's field stands.
     pub(crate) fn field_part(&self) -> u8
-        requires { field_of self.now.seat.command ≤ 4096 }
+        requires { field_of self.now.seat.command ≤ last_index }
         ensures { result ≡ field_part_of self.now.seat }
     {
         part(field(&self.command))
@@ -70,8 +72,8 @@ impl SeatParty {
     fn has_barrier(&self) -> bool
         ensures { result ≡ has_barrier_of self.now.seat }
     {
-        let k = self.answered % 7;
-        0 < k && k < 6
+        let k = self.answered % CYCLE_PHASES;
+        BARRIERS <= k && k < CLEARING
     }
 
     /// What is done with the field.
