@@ -7,3 +7,5 @@ pub mod Opened
 pub mod Runs
 pub mod Spine
 pub mod Whole
+pub mod FirstLines
+pub mod OneStatus

@@ -4,5 +4,6 @@ pub mod Serving
 pub mod Verdict
 pub mod Works
 pub mod Outcome
+pub mod Due
 pub mod Calls
 pub mod Playing

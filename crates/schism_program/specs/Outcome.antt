@@ -1,7 +1,7 @@
 -- What the program's statuses say of what it read and wrote.
 use Rattle.std.specs.Prelude.{ℕ, ◌+◌, ◌≤◌, List, length, Option}
 use Rattle.script_text.specs.declared.cause.Cause.{Cause}
-use Rattle.io_edge.specs.Left.{GivesAll, LosesNext}
+use Rattle.io_edge.specs.Left.{GivesAll, LosesNext, LosesUpTo}
 use Rattle.io_edge.specs.Taken.{Takes, TakesFront}
 use Rattle.schism_program.specs.declared.status.Status.{Status}
 use Rattle.schism_program.specs.declared.status.Status.TheVariants as statuses
@@ -51,6 +51,12 @@ pub record ReadsTooMuch (words : List (List ℕ)) (left left' : Option (List ℕ
   pub work : Work
   pub asked : AskFor words work
   pub lost : LosesNext left left' (most_bytes work + 1)
+
+-- the words ask for the work, and at most one byte more than the limit was read
+pub record ReadsNoMore (words : List (List ℕ)) (left left' : Option (List ℕ)) : Type 0 where
+  pub work : Work
+  pub asked : AskFor words work
+  pub lost : LosesUpTo left left' (most_bytes work + 1)
 
 -- the statuses after which something was written
 abbrev pub IsWriting : Status → Type 0

@@ -17,6 +17,10 @@ pub record Serves (input : List ℕ) (script : Script) : Type 0 where
   pub spelled : IsScript forms.Play input script
   pub built : unbuilt_line script ≡ None
 
+-- the input is a script that the program serves
+abbrev pub IsPlayable : List ℕ → Type 0
+IsPlayable input = (script : Script) × Serves input script
+
 -- the text is that of a play of the input's script
 pub record Plays (input text : List ℕ) : Type 0 where
   pub script : Script

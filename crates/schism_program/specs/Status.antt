@@ -1,5 +1,5 @@
 -- The numbers and texts of statuses.
-use Rattle.std.specs.Prelude.{ℕ, List, [], ◌++◌, codes, decimal}
+use Rattle.std.specs.Prelude.{ℕ, List, [], ◌∷◌, ◌++◌, codes, decimal}
 use Rattle.script_text.specs.declared.cause.Cause.{Cause}
 use Rattle.script_text.specs.declared.cause.Cause.TheVariants.{NoHeader, BadHeap, NoSeat, NoCommand, BadNumber, OutOfRange, TooManyWords, TooManyLines, BadEntry, NoEnd, HistoryLines, Unbuilt}
 use Rattle.schism_program.specs.declared.status.Status.{Status}
@@ -31,7 +31,7 @@ cause_name NoEnd = codes "NoEnd"
 cause_name HistoryLines = codes "HistoryLines"
 cause_name Unbuilt = codes "Unbuilt"
 
--- what standard error says of a status
+-- what is said of a status
 abbrev pub status_words : Status → List ℕ
 status_words Done = []
 status_words (Refused line cause) = codes "refused at line " ++ decimal line ++ codes ": " ++ cause_name cause
@@ -41,3 +41,8 @@ status_words WriteFault = codes "write fault"
 status_words Memory = codes "memory"
 status_words TooLong = codes "too long"
 status_words (NotLegal line) = codes "not legal at line " ++ decimal line
+
+-- the line that standard error gets, which is none where all is done
+abbrev pub status_line : Status → List ℕ
+status_line Done = []
+status_line status = status_words status ++ 10 ∷ []

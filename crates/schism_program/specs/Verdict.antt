@@ -9,6 +9,10 @@ use Rattle.log_merge.specs.Lines.{IsFirstIllegal}
 abbrev pub verdict_line : ℕ → List ℕ
 verdict_line count = codes "legal " ++ decimal count
 
+-- the input is a legal history
+abbrev pub IsLegalText : List ℕ → Type 0
+IsLegalText input = (history : History) × IsHistory input history × IsLegalHistory history
+
 -- the input is a legal history, and the text tells how many entries it has
 pub record FindsLegal (input text : List ℕ) : Type 0 where
   pub history : History

@@ -5,8 +5,8 @@ use Rattle.reply_text.specs.Faults.{first_history_fault}
 use Rattle.schism_program.specs.declared.work.Work.{Work}
 use Rattle.schism_program.specs.declared.work.Work.TheVariants.{Play, Check}
 use Rattle.schism_program.specs.declared.work.TheConstants.{MOST_SCRIPT, MOST_HISTORY}
-use Rattle.schism_program.specs.Serving.{FailsToPlay, Plays}
-use Rattle.schism_program.specs.Verdict.{FindsIllegal, FindsLegal}
+use Rattle.schism_program.specs.Serving.{FailsToPlay, IsPlayable, Plays}
+use Rattle.schism_program.specs.Verdict.{FindsIllegal, FindsLegal, IsLegalText}
 
 -- the words after the program's name that ask for the work
 abbrev pub form_words : Work → List (List ℕ)
@@ -25,6 +25,11 @@ IsForm words = (work : Work) × AskFor words work
 abbrev pub most_bytes : Work → ℕ
 most_bytes Play = MOST_SCRIPT
 most_bytes Check = MOST_HISTORY
+
+-- the work can be done with the input: it is a script that is served, or a legal history
+abbrev pub Suits : Work → List ℕ → Type 0
+Suits Play input = IsPlayable input
+Suits Check input = IsLegalText input
 
 -- the work makes this text of the input
 abbrev pub Makes : Work → List ℕ → List ℕ → Type 0

@@ -1,9 +1,10 @@
-ghost use Rattle.std.specs.Prelude.{◌≡◌};
+ghost use Rattle.std.specs.Prelude.{◌≡◌, ◌≢◌, ◌<◌, length};
 ghost use Rattle.schism_program.specs.Status.{cause_name, number_of, status_words};
 
 use arrayvec::ArrayString;
 use itoa::Buffer;
 use script_text::Cause;
+use std::io::ErrorKind;
 
 /// How the program ends.
 #[derive(Clone, Copy, Debug, PartialEq, Eq)]
@@ -20,6 +21,17 @@ pub enum Status {
 }
 
 impl Status {
+    /// The status where the words can't be had, by why not: a word that is no text is in no form.
+    pub fn without_words(kind: ErrorKind) -> Status
+        ensures no_text { kind ≡ ErrorKind.InvalidData → result ≡ Status.Usage }
+        ensures other { kind ≢ ErrorKind.InvalidData → result ≡ Status.Memory }
+    {
+        match kind {
+            ErrorKind::InvalidData => Status::Usage,
+            _ => Status::Memory,
+        }
+    }
+
     /// The exit status of the process.
     pub fn number(&self) -> u8
         ensures { result ≡ number_of self.now }
@@ -58,7 +70,8 @@ fn name_of(cause: Cause) -> &'static str
 
 /// What the program says of its end, without a line feed; of `Done` it says nothing.
 pub fn status_text(status: &Status) -> ArrayString<64>
-    ensures { result.bytes ≡ status_words status.now }
+    ensures words { result.bytes ≡ status_words status.now }
+    ensures short { length result.bytes < 64 }
 {
     let mut text = ArrayString::new();
     match *status {

@@ -2,11 +2,13 @@ mod judged;
 mod machine;
 mod several_seats;
 
+use crate::ending::report;
 use crate::status::{Status, status_text};
 use crate::top::schism;
-use io_edge::{MemSink, MemSource};
+use io_edge::{MemSink, MemSource, NeverSink, NeverSource};
 use script_text::Cause;
 use std::alloc::{AllocError, Global};
+use std::process::ExitCode;
 use std::test::Fail;
 
 const FIRST: &str = "schism 1\nheap 1 0 1\n0 new 1 2\n0 num 2 9\n0 set 1 0 2\n0 get 3 1 0\n";
@@ -351,6 +353,31 @@ fn says_which_side_failed_in_a_check(rt: HostRuntime) -> Result<(), Fail> {
     Ok(())
 }
 
+// What is told of the text, where there is room for so many bytes of it.
+#[test]
+fn ends_as_it_should_where_no_side_fails(rt: HostRuntime) -> Result<(), Fail> {
+    let alloc = rt.alloc();
+    for (word, text, room, status, told) in [
+        ("play", FIRST, 190, Status::Done, Some(FIRST_PLAYED)),
+        ("play", FIRST, 189, Status::Done, None),
+        ("play", "", 0, refused(1, Cause::NoHeader), Some("")),
+        ("check", FIRST_PLAYED, 8, Status::Done, Some("legal 7\n")),
+        ("check", FIRST_PLAYED, 7, Status::Done, None),
+        ("plays", FIRST, 0, Status::Usage, Some("")),
+    ] {
+        let mut source = NeverSource::new(Vec::from_slice(alloc, text.as_bytes())?);
+        let mut sink = NeverSink::new(Vec::with_capacity(alloc, room)?);
+        let ended = schism(alloc, &[word], &mut source, &mut sink);
+        assert_eq!(rt; ended, status, "{word} with room for {room}");
+        assert_eq!(rt;
+            sink.bytes(),
+            told.map(|text| text.as_bytes()),
+            "{word} with room for {room}"
+        );
+    }
+    Ok(())
+}
+
 #[test]
 fn names_each_status(rt: HostRuntime) {
     let bad_heap = refused(2, Cause::BadHeap);
@@ -370,4 +397,26 @@ fn names_each_status(rt: HostRuntime) {
         assert_eq!(rt; status.number(), number, "{text}");
         assert_eq!(rt; status_text(&status).as_str(), text);
     }
+}
+
+#[test]
+fn reports_a_status_by_a_line_and_a_number(rt: HostRuntime) -> Result<(), Fail> {
+    for (status, number, line) in [
+        (Status::Done, 0, ""),
+        (
+            refused(2, Cause::BadHeap),
+            1,
+            "refused at line 2: BadHeap\n",
+        ),
+        (Status::Memory, 5, "memory\n"),
+    ] {
+        let mut errors = NeverSink::new(Vec::with_capacity(rt.alloc(), 64)?);
+        assert_eq!(rt;
+            report(&status, &mut errors),
+            ExitCode::from(number),
+            "{line}"
+        );
+        assert_eq!(rt; errors.bytes(), Some(line.as_bytes()));
+    }
+    Ok(())
 }

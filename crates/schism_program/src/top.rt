@@ -1,7 +1,8 @@
-ghost use Rattle.std.specs.Prelude.{◌≡◌, ◌≢◌, ℕ, ◌↔◌, map};
+ghost use Rattle.std.specs.Prelude.{◌≡◌, ◌≢◌, ℕ, ◌↔◌, ◌⊎◌, map};
 ghost use Rattle.script_text.specs.declared.cause.Cause.{Cause};
 ghost use Rattle.io_edge.specs.Faults.{Rose};
-ghost use Rattle.schism_program.specs.Outcome.{IsNotLegal, IsRefused, IsWriting, ReadsTooMuch, WritesAll, WritesFront};
+ghost use Rattle.schism_program.specs.Due.{IsDue};
+ghost use Rattle.schism_program.specs.Outcome.{IsNotLegal, IsRefused, IsWriting, ReadsNoMore, ReadsTooMuch, WritesAll, WritesFront};
 ghost use Rattle.schism_program.specs.Works.{IsForm};
 
 use crate::fault::WorkFault;
@@ -37,6 +38,15 @@ pub fn schism<S: Source, K: Sink>(
     ensures front { result ≡ Status.WriteFault → WritesFront (map (λ w. w.now) words.now)
         (S.left source.old) (S.left source.new) (K.taken sink.old) (K.taken sink.new) }
 
+    // What words and input call for comes where no fault was counted, unless memory is wanting.
+    ensures complete { (status : Status) →
+        IsDue (map (λ w. w.now) words.now) (S.left source.old) status →
+        ¬ Rose (S.faults source.old) (S.faults source.new) →
+        ¬ Rose (K.faults sink.old) (K.faults sink.new) →
+        (result ≡ status) ⊎ (result ≡ Status.Memory) }
+
+    ensures most { result ≢ Status.Usage → ReadsNoMore (map (λ w. w.now) words.now)
+        (S.left source.old) (S.left source.new) }
     ensures unwritten { ¬ IsWriting result → sink.new ≡ sink.old }
     ensures read_count { result ≢ Status.ReadFault → S.faults source.new ≡ S.faults source.old }
     ensures write_count { result ≢ Status.WriteFault → K.faults sink.new ≡ K.faults sink.old }
