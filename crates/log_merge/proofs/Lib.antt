@@ -1,5 +1,8 @@
-mod LineLemmas
 mod LegalLemmas
+mod LineLemmas
+pub mod LoneCalls
+pub mod LoneEntries
+pub mod LoneLemmas
+pub mod LoneLists
 mod PassingLemmas
 mod TotalLemmas
-pub mod LoneLemmas
