@@ -1,4 +1,7 @@
-mod LineLemmas
 mod LegalLemmas
-mod PassingLemmas
+mod LineLemmas
+pub mod LoneCalls
+pub mod LoneEntries
 pub mod LoneLemmas
+pub mod LoneLists
+mod PassingLemmas

@@ -1,7 +1,7 @@
 -- What commands do to a seat that is alone on its heap.
-use Rattle.std.proofs.Common.{◌≡◌, ◌≢◌, ℕ, zero, suc, ◌+◌, ◌<◌, ◌≤◌, ◌^◌, Bool, false, List, [], ◌∷◌, ◌++◌, length, get_or, set, map, slice_get, option_map, Option, Some, None, IfSome, refl, sym, ap, ◌∙◌, subst, arith, length-set, append_assoc}
+use Rattle.std.proofs.Common.{◌≡◌, ◌≢◌, ℕ, zero, suc, ◌+◌, ◌<◌, ◌≤◌, Bool, true, false, List, [], ◌∷◌, ◌++◌, length, get_or, set, map, replicate, slice_get, option_map, Option, Some, None, IfSome, refl, sym, ap, ◌∙◌, subst, arith, length-set}
 use Rattle.std.specs.Option.{unwrap_or}
-use Rattle.std.proofs.lemmas.List.{get_or-set_same, get_or-set_other, get_or_past}
+use Rattle.std.proofs.lemmas.List.{get_or-set_same, get_or-set_other, get_or_past, length-map, length-replicate, map-append}
 use Rattle.std.proofs.lemmas.Option.{slice_get-map}
 use Rattle.heap_model.specs.declared.id.Id.{Id}
 use Rattle.heap_model.specs.declared.id.Id.TheVariants.{Board, Made}
@@ -10,21 +10,14 @@ use Rattle.heap_model.specs.declared.id.Value.TheVariants.{Nil, Number, Object}
 use Rattle.heap_model.specs.declared.cell.Cell.{Cell}
 use Rattle.heap_model.specs.declared.command.Command.{Command}
 use Rattle.heap_model.specs.declared.command.Command.TheVariants as commands
-use Rattle.heap_model.specs.declared.reply.Reply.{Reply}
 use Rattle.heap_model.specs.declared.reply.Reply.TheVariants as replies
 use Rattle.heap_model.specs.declared.entry.Entry.{Entry}
-use Rattle.heap_model.specs.declared.entry.Entry.TheVariants.{Said, Takes}
 use Rattle.heap_model.specs.Objects.{party, register, target, nobody}
-use Rattle.heap_model.specs.State.{State, Node, Party, opening, fresh}
+use Rattle.heap_model.specs.State.{State, Node, Party, unset, fresh}
 use Rattle.heap_model.specs.Growth.{after_reply}
-use Rattle.heap_model.specs.Changes.{with_party, write, with_cell, with_object_cell, count_set, set_cell}
-use Rattle.heap_model.specs.Space.{taken_of, spent_of}
-use Rattle.heap_model.specs.Needs.{made_by, record_fragments}
+use Rattle.heap_model.specs.Changes.{with_party, write, with_cell, with_object_cell, count_set, set_cell, add, leave}
 use Rattle.heap_model.specs.SeatState.{SeatState, own_graph}
-use Rattle.heap_model.specs.SeatCalls.{Adds, ComesBefore}
-use Rattle.heap_model.specs.SeatReplies.{LacksFragments}
-use Rattle.log_merge.specs.LoneSeat.{lone_heap, lone_graph, lone_length, IsLoneGraph, IsLone}
-use Rattle.heap_model.proofs.Histories.{graph_after-more, total_of-more}
+use Rattle.log_merge.specs.LoneSeat.{lone_heap, lone_graph, lone_length, IsLoneGraph, AsksFor}
 
 -- the one seat is another now
 IsLoneGraph-updated : (g : State) (p : Party) {registers : List Value} {lengths : List ℕ} {sets : ℕ} {left : Bool} → length g.seats ≡ 1 → length g.board.cells ≡ 32 → p.registers ≡ registers → map (λ object. length object.cells) p.objects ≡ lengths → p.sets ≡ sets → p.left ≡ left → IsLoneGraph (with_party g 0 p) registers lengths sets left
@@ -82,14 +75,39 @@ write-lone g (Object (Made (suc q) count)) i cell is =
 pub IsLoneGraph-set : (g : State) (r i v : ℕ) {registers : List Value} {lengths : List ℕ} {sets : ℕ} {left : Bool} → IsLoneGraph g registers lengths sets left → IsLoneGraph (set_cell g 0 r i v) registers lengths (sets + 1) left
 IsLoneGraph-set g r i v is = write-lone (count_set g 0) (register g 0 r) i _ (count_set-lone g is)
 
--- the seat keeps nothing after a reply without an object
-pub IsLone-said : (mine : List Entry) (command : Command) (reply : Reply) {registers registers' : List Value} {lengths lengths' : List ℕ} {sets sets' : ℕ} {left left' : Bool} → IsLone mine registers lengths sets left → made_by command reply ≡ 0 → IsLoneGraph (after_reply (lone_graph mine) 0 command reply) registers' lengths' sets' left' → length lengths' < 2 ^ 32 → sets' < 2 ^ 26 → IsLone (mine ++ Said 0 command reply ∷ []) registers' lengths' sets' left'
-IsLone-said mine command reply {registers} {registers'} {lengths} {lengths'} {sets} {sets'} {left} {left'} is none graph objects few = record {
-  graph = subst (λ g. IsLoneGraph g registers' lengths' sets' left') (sym (graph_after-more (opening lone_heap) mine (Said 0 command reply))) graph;
-  nothing_kept = omega (arith, is.nothing_kept, none, total_of-more 0 (λ e. e.taken) mine (Said 0 command reply), total_of-more 0 (λ e. e.given) mine (Said 0 command reply), total_of-more 0 (λ e. e.born) mine (Said 0 command reply));
-  few_objects = objects;
-  few_sets = few;
-}
+-- there are as many objects as lengths
+pub lone_count : (g : State) {registers : List Value} {lengths : List ℕ} {sets : ℕ} {left : Bool} → IsLoneGraph g registers lengths sets left → length (party g 0).objects ≡ length lengths
+lone_count g is = sym (length-map (party g 0).objects (λ object. length object.cells)) ∙ ap length is.same_lengths
+
+-- the seat has left, and holds nothing
+pub IsLoneGraph-left : (g : State) {registers : List Value} {lengths : List ℕ} {sets : ℕ} {left : Bool} → IsLoneGraph g registers lengths sets left → IsLoneGraph (leave g 0) (replicate 16 Nil) lengths sets true
+IsLoneGraph-left g is = IsLoneGraph-updated g _ is.alone is.board refl is.same_lengths is.same_sets refl
+
+-- an object of so many cells more, which register d holds
+IsLoneGraph-added : (g : State) (d cells : ℕ) (array : Bool) {registers : List Value} {lengths : List ℕ} {sets : ℕ} {left : Bool} → IsLoneGraph g registers lengths sets left
+    → IsLoneGraph (add g 0 d (fresh array cells)) (set registers d (Object (Made 0 (length lengths)))) (lengths ++ cells ∷ []) sets left
+IsLoneGraph-added g d cells array {registers} {lengths} is =
+    let objects = (party g 0).objects in
+    IsLoneGraph-updated g _ is.alone is.board
+    (ap (λ rs. set rs d (Object (Made 0 (length objects)))) is.same_registers ∙ ap (λ n. set registers d (Object (Made 0 n))) (lone_count g is))
+    (map-append (λ object. length object.cells) objects (fresh array cells ∷ []) ∙ ap (λ ns. ns ++ length (replicate cells unset) ∷ []) is.same_lengths ∙ ap (λ n. lengths ++ n ∷ []) (length-replicate cells unset))
+    is.same_sets is.same_left
+
+pub IsLoneGraph-made : (g : State) (d cells : ℕ) (command : Command) (id : Id) {registers : List Value} {lengths : List ℕ} {sets : ℕ} {left : Bool} → AsksFor d cells command → IsLoneGraph g registers lengths sets left
+    → IsLoneGraph (after_reply g 0 command (replies.Made id)) (set registers d (Object (Made 0 (length lengths)))) (lengths ++ cells ∷ []) sets left
+IsLoneGraph-made g d cells (commands.New e fields) id {registers} {lengths} {sets} {left} asks is =
+    subst (λ n. IsLoneGraph (add g 0 n (fresh false fields)) (set registers d (Object (Made 0 (length lengths)))) (lengths ++ cells ∷ []) sets left) asks.0
+    (subst (λ n. IsLoneGraph (add g 0 d (fresh false n)) (set registers d (Object (Made 0 (length lengths)))) (lengths ++ cells ∷ []) sets left) asks.1 (IsLoneGraph-added g d cells false is))
+IsLoneGraph-made g d cells (commands.Array e n) id {registers} {lengths} {sets} {left} asks is =
+    subst (λ m. IsLoneGraph (add g 0 m (fresh true n)) (set registers d (Object (Made 0 (length lengths)))) (lengths ++ cells ∷ []) sets left) asks.0
+    (subst (λ m. IsLoneGraph (add g 0 d (fresh true m)) (set registers d (Object (Made 0 (length lengths)))) (lengths ++ cells ∷ []) sets left) asks.1 (IsLoneGraph-added g d cells true is))
+IsLoneGraph-made g d cells command id asks is = absurd asks
+
+-- a refusal for want of fragments changes nothing
+pub after_full : (g : State) (d cells : ℕ) (command : Command) (need found : ℕ) → AsksFor d cells command → after_reply g 0 command (replies.Full need found) ≡ g
+after_full g d cells (commands.New e fields) need found asks = refl
+after_full g d cells (commands.Array e n) need found asks = refl
+after_full g d cells command need found asks = absurd asks
 
 -- the lengths are those of the objects that values refer to
 lone_length-target : (g : State) (value : Value) {registers : List Value} {lengths : List ℕ} {sets : ℕ} {left : Bool} → IsLoneGraph g registers lengths sets left → option_map (λ object. length object.cells) (target g value) ≡ lone_length lengths value
@@ -103,10 +121,10 @@ lone_length-target g (Object (Made (suc q) count)) is =
     ap (λ (p : Party). option_map (λ object. length object.cells) (slice_get p.objects count)) (get_or_past g.seats (suc q) nobody past)
 
 -- what holds of the length of a value's object holds of the object
-pub own_length : (seat : SeatState) (mine : List Entry) (spare : ℕ) {registers : List Value} {lengths : List ℕ} {sets : ℕ} {left : Bool} → record { heap = lone_heap; number = 0; mine = mine; spare = spare } ≡ seat → IsLone mine registers lengths sets left → (value : Value) (P : ℕ → Type 0) → IfSome (lone_length lengths value) P → IfSome (target (own_graph seat) value) (λ object. P (length object.cells))
+pub own_length : (seat : SeatState) (mine : List Entry) (spare : ℕ) {registers : List Value} {lengths : List ℕ} {sets : ℕ} {left : Bool} → record { heap = lone_heap; number = 0; mine = mine; spare = spare } ≡ seat → IsLoneGraph (lone_graph mine) registers lengths sets left → (value : Value) (P : ℕ → Type 0) → IfSome (lone_length lengths value) P → IfSome (target (own_graph seat) value) (λ object. P (length object.cells))
 own_length seat mine spare {registers} {lengths} same is value P holds =
     subst (λ (s : SeatState). IfSome (target (own_graph s) value) (λ object. P (length object.cells))) same
-    (of_object (target (lone_graph mine) value) (subst (λ o. IfSome o P) (sym (lone_length-target (lone_graph mine) value is.graph)) holds))
+    (of_object (target (lone_graph mine) value) (subst (λ o. IfSome o P) (sym (lone_length-target (lone_graph mine) value is)) holds))
   where
     of_object : (object : Option Node) → IfSome (option_map (λ o. length o.cells) object) P → IfSome object (λ o. P (length o.cells))
     of_object None h = tt
@@ -115,26 +133,3 @@ own_length seat mine spare {registers} {lengths} same is value P holds =
 pub IfSome-unwrap_or : (o : Option ℕ) (d : ℕ) → IfSome o (λ n. unwrap_or o d ≡ n)
 IfSome-unwrap_or None d = tt
 IfSome-unwrap_or (Some n) d = refl
-
--- a seat that keeps nothing finds nothing
-pub LacksFragments-none : (old new : SeatState) (d fields need : ℕ) → old.number ≡ 0 → spent_of 0 old.mine ≡ taken_of 0 old.mine → new.mine ≡ old.mine ++ Said 0 (commands.New d fields) (replies.Full need 0) ∷ [] → need ≡ record_fragments fields → LacksFragments old new (record_fragments fields) need 0
-LacksFragments-none old new d fields need number kept mine needed =
-    let said = Said 0 (commands.New d fields) (replies.Full need 0) in
-    let taken : taken_of 0 new.mine ≡ taken_of 0 old.mine = ap (taken_of 0) mine ∙ omega (arith, total_of-more 0 (λ e. e.taken) old.mine said) in
-    let spent : spent_of 0 new.mine ≡ spent_of 0 old.mine =
-    ap (spent_of 0) mine ∙ omega (arith, total_of-more 0 (λ e. e.given) old.mine said, total_of-more 0 (λ e. e.born) old.mine said) in
-    record {
-      needed = needed;
-      too_few = omega (arith, needed);
-      all_found = rw number (omega (arith, kept, taken));
-      given_back = rw number (omega (arith, kept, taken, spent));
-    }
-
--- an object of what was taken for it
-pub Adds-taken : (old new : SeatState) (count : ℕ) (command : Command) (id : Id) → new.heap ≡ old.heap → new.number ≡ old.number → new.mine ≡ (old.mine ++ Takes old.number count ∷ []) ++ Said old.number command (replies.Made id) ∷ [] → old.spare + length old.mine ≤ new.spare + length new.mine → ComesBefore old.number command (replies.Made id) (Takes old.number count ∷ []) → Adds old new command (replies.Made id)
-Adds-taken old new count command id heap number mine spare comes = record {
-  heap = heap;
-  number = number;
-  entries = (Takes old.number count ∷ [], comes, mine ∙ append_assoc old.mine (Takes old.number count ∷ []) (Said old.number command (replies.Made id) ∷ []));
-  spare = spare;
-}

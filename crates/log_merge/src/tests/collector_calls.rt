@@ -1,20 +1,23 @@
-ghost use Rattle.std.specs.Prelude.{◌≡◌, ◌≤◌, []};
+ghost use Rattle.std.specs.Prelude.{◌≡◌, ◌+◌, ◌<◌, ◌≤◌, [], ◌∷◌, ◌++◌, vec_len, vec_capacity, IfSome};
+ghost use Rattle.heap_model.specs.CollectorCalls.{StepsTo};
 
-use heap_model::{CollectorCalls, Entry, Memory, Turn};
+use super::entry_of;
+use heap_model::{CollectorCalls, Entry, Id, Memory, Turn};
 use std::alloc::Global;
 use std::marker::Model;
 use std::test::Fail;
 
-/// A collector that has nothing to collect: between two phases it waits once for the seat 0.
+/// A collector that waits once for the seat 0 between two phases. In each cycle it swings one array, frees 3 fragments
+/// and returns 2 spine words.
 #[derive(Drop)]
-struct Idle {
+struct Steady {
     log: Vec<Entry>,
     phase: u64,
     turns: u64,
     last_turn: Option<Turn>,
 }
 
-impl Model for Idle {
+impl Model for Steady {
     ghost use Rattle.std.specs.Prelude.{◌-◌, ◌≤◌, length, vec_len, vec_capacity};
     ghost use Rattle.heap_model.specs.CollectorCalls.{CollectorState};
 
@@ -31,11 +34,11 @@ impl Model for Idle {
     ghost invariant = { λ c. c.phase ≤ length c.log.items };
 }
 
-impl Idle {
-    fn new(alloc: Global) -> Idle
+impl Steady {
+    fn new(alloc: Global) -> Steady
         ensures { result.log ≡ [] }
     {
-        Idle {
+        Steady {
             log: Vec::new(alloc),
             phase: 0,
             turns: 0,
@@ -44,27 +47,54 @@ impl Idle {
     }
 }
 
-impl CollectorCalls for Idle {
+/// What a step adds that ends no phase.
+fn work(phase: u64, turns: u64) -> Option<Entry>
+    ensures { IfSome result (λ entry. StepsTo phase entry phase) }
+{
+    match (phase % 7, turns % 4) {
+        (4, 0) => Some(Entry::Swings(Id::Made { seat: 0, count: 0 })),
+        (5, 0) => Some(Entry::Frees(3)),
+        (5, 2) => Some(Entry::Returns(2)),
+        _ => None,
+    }
+}
+
+/// Adds an entry, for which there is room.
+fn note(log: &mut Vec<Entry>, entry: Entry)
+    requires { vec_len log.old < vec_capacity log.old }
+    ensures items { log.new.items ≡ log.old.items ++ entry ∷ [] }
+    ensures len { vec_len log.new ≡ vec_len log.old + 1 }
+    ensures capacity { vec_capacity log.old ≤ vec_capacity log.new }
+{
+    let _ = log.push(entry);
+}
+
+impl CollectorCalls for Steady {
     ghost state = { λ collector. collector };
 
     fn turn(&mut self) -> Turn {
+        let phase = self.phase;
         let turn = if self.turns % 2 == 0 {
+            if let Some(entry) = work(phase, self.turns) {
+                note(&mut self.log, entry);
+            }
             Turn::Stepped
-        } else if self.turns % 4 == 1 && self.phase > 0 {
+        } else if self.turns % 4 == 1 && phase > 0 {
             Turn::Waits {
                 seat: 0,
-                answered: self.phase - 1,
-                phase: self.phase,
+                answered: phase - 1,
+                phase,
             }
-        } else if self.phase % 7 == 6 {
-            let cycle = self.phase / 7;
-            let _ = self.log.push(Entry::Ends { cycle, kept: 0 });
-            self.phase += 1;
-            Turn::Ended { cycle, kept: 0 }
         } else {
-            let _ = self.log.push(Entry::Advance(self.phase + 1));
             self.phase += 1;
-            Turn::Stepped
+            if phase % 7 == 6 {
+                let cycle = phase / 7;
+                note(&mut self.log, Entry::Ends { cycle, kept: 0 });
+                Turn::Ended { cycle, kept: 0 }
+            } else {
+                note(&mut self.log, Entry::Advance(phase + 1));
+                Turn::Stepped
+            }
         };
         self.turns = self.turns.saturating_add(1);
         self.last_turn = Some(turn);
@@ -89,44 +119,52 @@ impl CollectorCalls for Idle {
     }
 }
 
-/// What the first turns answer: each second one goes on to a phase, or waits.
-const FIRST_TURNS: [Turn; 6] = [
-    Turn::Stepped,
-    Turn::Stepped,
-    Turn::Stepped,
-    Turn::Stepped,
-    Turn::Stepped,
-    Turn::Waits {
-        seat: 0,
-        answered: 1,
-        phase: 2,
-    },
+/// What the collector has told when its first cycle has ended.
+const FIRST_CYCLE: &[&str] = &[
+    "c phase 1",
+    "c phase 2",
+    "c phase 3",
+    "c phase 4",
+    "c swings 0.0",
+    "c phase 5",
+    "c frees 3",
+    "c returns 2",
+    "c phase 6",
+    "c ends 0 kept 0",
 ];
 
+/// What the turns of the first cycle answer: 0 for a step, 7 for the cycle's end, and else the phase that the seat 0 has yet
+/// to answer.
+const ANSWERS: [u64; 24] = [
+    0, 0, 0, 0, 0, 2, 0, 0, 0, 3, 0, 0, 0, 4, 0, 0, 0, 5, 0, 0, 0, 6, 0, 7,
+];
+
+fn answer_of(number: u64) -> Turn {
+    match number {
+        0 => Turn::Stepped,
+        7 => Turn::Ended { cycle: 0, kept: 0 },
+        phase => Turn::Waits {
+            seat: 0,
+            answered: phase - 1,
+            phase,
+        },
+    }
+}
+
 #[test]
-fn turns_through_the_bound(rt: HostRuntime) -> Result<(), Fail> {
-    let mut collector = Idle::new(rt.alloc());
-    for turn in FIRST_TURNS {
+fn turns_through_a_cycle(rt: HostRuntime) -> Result<(), Fail> {
+    let alloc = rt.alloc();
+    let mut collector = Steady::new(alloc);
+    for number in ANSWERS {
         collector.room(2)?;
-        assert_eq!(rt;
-            next_turn(&mut collector),
-            turn,
-            "turn {}",
-            collector.turns()
-        );
+        let turn = next_turn(&mut collector);
+        assert_eq!(rt; turn, answer_of(number), "turn {}", collector.turns());
     }
-    assert_eq!(rt; collector.phase(), 2);
-    let log = [Entry::Advance(1), Entry::Advance(2)];
+    let mut log = Vec::new(alloc);
+    for line in FIRST_CYCLE {
+        log.push(entry_of(alloc, line)?)?;
+    }
     assert_eq!(rt; collector.log.as_slice(), log.as_slice());
-    for _ in 6..23 {
-        collector.room(2)?;
-        let _ = next_turn(&mut collector);
-    }
-    collector.room(2)?;
-    assert_eq!(rt;
-        next_turn(&mut collector),
-        Turn::Ended { cycle: 0, kept: 0 }
-    );
     assert_eq!(rt; collector.turns(), 24);
     assert_eq!(rt; collector.phase(), 7);
     Ok(())

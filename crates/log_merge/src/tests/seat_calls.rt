@@ -1,105 +1,157 @@
-ghost use Rattle.std.specs.Prelude.{◌≡◌, ◌+◌, ◌≤◌, ◌<◌, ◌^◌, false, length};
-ghost use Rattle.heap_model.specs.SeatState.{SeatState, own_party};
+ghost use Rattle.std.specs.Prelude.{IsTrue};
+ghost use Rattle.heap_model.specs.SeatCalls.{IsReady};
 
-use heap_model::{
-    Command, Entry, Full, Id, NoObject, PlaceRefusal, Reply, SeatCalls, SpaceRefusal, Value,
-};
+use heap_model::{Command, Entry, SeatCalls};
 use lone::Lone;
-use std::process::Abort;
+use reply_text::read_history;
 use std::test::Fail;
 
 mod lone;
 
-/// Asserts that the seat may be called.
-fn ready<R: Abort, S: SeatCalls>(rt: &R, seat: &S)
-    ensures present { (own_party (S.state seat.now)).left ≡ false }
-    ensures room { 40 ≤ (S.state seat.now).spare }
-    ensures name { length (own_party (S.state seat.now)).objects + 1 < 2 ^ 32 }
-    ensures stamp { (own_party (S.state seat.now)).sets + 1 < 2 ^ 26 }
+/// What a seat does that is alone on a heap of one group and six spine words, and how many objects it has made and sets
+/// it has done then. The board leaves 5 fragments.
+const STORIES: [(&str, u32, u32); 4] = [
+    // A record of 15 fields has 6 fragments, and so has an array of 17 cells. All that is free is claimed at once.
+    (
+        "0 takes 5\n\
+         0 gives back 5\n\
+         0 new 1 15 = full need 6 found 5\n\
+         0 takes 5\n\
+         0 gives back 5\n\
+         0 array 1 17 = full need 6 found 5\n\
+         0 array 1 25 = spine need 7 used 0\n\
+         0 takes 5\n\
+         0 array 1 4 = 0.0\n\
+         0 new 2 8 = 0.1\n\
+         0 new 3 1 = full need 1 found 0\n\
+         0 array 3 21 = spine need 6 used 1\n\
+         0 array 3 20 = full need 6 found 0\n\
+         0 len 1 = 4\n\
+         0 len 2 = 8\n\
+         0 get 4 1 3 = nil at -\n\
+         0 get 4 1 4 = no field\n\
+         0 get 4 2 7 = nil at -\n\
+         0 leave = ok\n\
+         space used 16 of 16 spine 1 of 6\n\
+         end used 16\n",
+        2,
+        0,
+    ),
+    (
+        "0 takes 5\n\
+         0 new 1 2 = 0.0\n\
+         0 new 2 15 = full need 6 found 4\n\
+         0 new 2 3 = 0.1\n\
+         0 gives back 2\n\
+         0 leave = ok\n\
+         space used 14 of 16 spine 0 of 6\n\
+         end used 14\n",
+        2,
+        0,
+    ),
+    (
+        "0 poll = 0\n\
+         c phase 1\n\
+         0 answers 1\n\
+         0 poll = 1\n\
+         0 poll = 1\n\
+         c phase 2\n\
+         0 answers 2\n\
+         0 poll = 2\n\
+         space used 11 of 16 spine 0 of 6\n\
+         end used 11\n",
+        0,
+        0,
+    ),
+    (
+        "0 get 3 0 31 = nil at -\n\
+         0 get 3 0 32 = no field\n\
+         0 get 3 1 0 = no object\n\
+         0 set 0 31 1 = was -\n\
+         0 set 0 32 1 = no field\n\
+         0 set 1 0 1 = no object\n\
+         0 len 0 = 32\n\
+         0 len 1 = no object\n\
+         0 num 4 7 = ok\n\
+         0 len 4 = no object\n\
+         0 copy 5 4 = ok\n\
+         0 same 4 5 = yes\n\
+         0 nil 4 = ok\n\
+         0 same 4 5 = no\n\
+         space used 11 of 16 spine 0 of 6\n\
+         end used 11\n",
+        0,
+        1,
+    ),
+];
+
+/// Whether the seat may be called by the command.
+fn may_call<S: SeatCalls>(seat: &S, command: &Command) -> bool
+    ensures { IsTrue result → IsReady (S.state seat.now) command.now }
 {
-    assert!(rt; !seat.left());
-    assert!(rt; seat.spare() >= 40);
-    assert!(rt; seat.names_left() > 0);
-    assert!(rt; seat.stamps_left() > 0);
+    let room = 2 * command.need() as usize + 4;
+    let counts = seat.names_left() > 0 && seat.stamps_left() > 0;
+    command.is_in_range() && !seat.left() && seat.spare() >= room && counts
 }
 
-const FIRST: Id = Id::Made { seat: 0, count: 0 };
-
-#[test]
-fn makes_one_record(rt: HostRuntime) -> Result<(), Fail> {
-    let mut seat = Lone::new(rt.alloc(), 1)?;
-    seat.room(100)?;
-    ready(&rt, &seat);
-    assert_eq!(rt; seat.new_record(1, 2), Ok(FIRST));
-    ready(&rt, &seat);
-    assert_eq!(rt; seat.new_record(2, 5), Err(Full { need: 2, found: 0 }));
-    ready(&rt, &seat);
-    let spine_full = SpaceRefusal::SpineFull { need: 3, used: 0 };
-    assert_eq!(rt; seat.new_array(2, 9), Err(spine_full));
-    assert_eq!(rt; seat.names_left(), 4294967294);
-    ready(&rt, &seat);
-    seat.leave();
-    assert!(rt; seat.left());
-    let log = [
-        Entry::Takes { seat: 0, count: 1 },
-        said(Command::New { d: 1, fields: 2 }, Reply::Made(FIRST)),
-        said(
-            Command::New { d: 2, fields: 5 },
-            Reply::Full { need: 2, found: 0 },
-        ),
-        said(
-            Command::Array { d: 2, cells: 9 },
-            Reply::SpineFull { need: 3, used: 0 },
-        ),
-        said(Command::Leave, Reply::Done),
-    ];
-    assert_eq!(rt; seat.log(), log.as_slice());
-    Ok(())
-}
-
-fn said(command: Command, reply: Reply) -> Entry {
-    Entry::Said {
-        seat: 0,
-        command,
-        reply,
+/// Calls the seat by the command.
+fn call<S: SeatCalls>(seat: &mut S, command: Command)
+    requires { IsReady (S.state seat.old) command }
+{
+    match command {
+        Command::New { d, fields } => {
+            let _ = seat.new_record(d, fields);
+        }
+        Command::Array { d, cells } => {
+            let _ = seat.new_array(d, cells);
+        }
+        Command::Get { d, r, i } => {
+            let _ = seat.get(d, r, i);
+        }
+        Command::Set { r, i, v } => {
+            let _ = seat.set(r, i, v);
+        }
+        Command::Num { d, n } => seat.num(d, n),
+        Command::Nil { d } => seat.nil(d),
+        Command::Copy { d, r } => seat.copy(d, r),
+        Command::Same { a, b } => {
+            let _ = seat.same(a, b);
+        }
+        Command::Len { r } => {
+            let _ = seat.len(r);
+        }
+        Command::Poll => {
+            let _ = seat.poll();
+        }
+        Command::Collect => {}
+        Command::Leave => seat.leave(),
     }
 }
 
 #[test]
-fn reaches_places(rt: HostRuntime) -> Result<(), Fail> {
-    let mut seat = Lone::new(rt.alloc(), 1)?;
-    seat.room(100)?;
-    ready(&rt, &seat);
-    assert_eq!(rt; seat.get(3, 0, 31), Ok((Value::Nil, 0)));
-    ready(&rt, &seat);
-    assert_eq!(rt; seat.get(3, 0, 32), Err(PlaceRefusal::NoField));
-    ready(&rt, &seat);
-    assert_eq!(rt; seat.set(0, 0, 1), Ok(0));
-    ready(&rt, &seat);
-    assert_eq!(rt; seat.set(1, 0, 1), Err(PlaceRefusal::NoObject));
-    assert_eq!(rt; seat.stamps_left(), 67108862);
-    ready(&rt, &seat);
-    assert_eq!(rt; seat.len(0), Ok(32));
-    ready(&rt, &seat);
-    assert_eq!(rt; seat.len(1), Err(NoObject));
-    Ok(())
-}
-
-#[test]
-fn moves_values(rt: HostRuntime) -> Result<(), Fail> {
-    let mut seat = Lone::new(rt.alloc(), 1)?;
-    seat.room(100)?;
-    ready(&rt, &seat);
-    assert_eq!(rt; seat.poll(), 0);
-    ready(&rt, &seat);
-    seat.num(4, 7);
-    ready(&rt, &seat);
-    seat.copy(5, 4);
-    ready(&rt, &seat);
-    assert!(rt; seat.same(4, 5));
-    ready(&rt, &seat);
-    seat.nil(4);
-    ready(&rt, &seat);
-    assert!(rt; !seat.same(4, 5));
+fn does_as_told(rt: HostRuntime) -> Result<(), Fail> {
+    let alloc = rt.alloc();
+    for (story, made, sets) in STORIES {
+        let text = format!(in alloc; "history 1 play\nheap 1 6 1\n{story}")?;
+        let mut seat = Lone::new(alloc)?;
+        let mut wanted = Vec::new(alloc);
+        for entry in read_history(alloc, text.as_bytes())?.entries.as_slice() {
+            if let Entry::Advance(_) = *entry {
+                seat.begin_phase();
+                continue;
+            }
+            wanted.push(*entry)?;
+            let Entry::Said { command, .. } = *entry else {
+                continue;
+            };
+            seat.room(100)?;
+            assert!(rt; may_call(&seat, &command));
+            call(&mut seat, command);
+        }
+        assert_eq!(rt; seat.log(), wanted.as_slice());
+        assert_eq!(rt; seat.names_left(), u32::MAX - made);
+        assert_eq!(rt; seat.stamps_left(), 67108863 - sets);
+        assert!(rt; super::checked(alloc, &text)?.is_ok());
+    }
     Ok(())
 }

@@ -1,19 +1,28 @@
-ghost use Rattle.std.specs.Prelude.{◌≡◌, ◌+◌, ◌<◌, ◌≤◌, ◌↔◌, [], ◌∷◌, ◌++◌, length, vec_len, vec_capacity, IfOk, IfSome};
-ghost use Rattle.heap_model.specs.declared.entry.Entry.TheVariants.{Said};
-ghost use Rattle.heap_model.specs.Needs.{made_by};
-ghost use Rattle.heap_model.specs.SeatState.{IsNoObject, HoldsNoObject};
+ghost use Rattle.std.specs.Prelude.{◌≡◌, ◌+◌, ◌≤◌, ◌<◌, ◌^◌, ◌↔◌, ℕ, [], length, IfOk, IfErr, IfSome};
+ghost use Rattle.heap_model.specs.Command.{IsCommand};
+ghost use Rattle.heap_model.specs.Needs.{made_by, need_of};
+ghost use Rattle.heap_model.specs.SeatState.{HoldsNoObject};
 ghost use Rattle.heap_model.specs.SeatCalls.{ComesBefore, Adds};
-ghost use Rattle.heap_model.specs.SeatReplies.{refusal_reply};
-ghost use Rattle.log_merge.specs.LoneSeat.{lone_length};
+ghost use Rattle.heap_model.specs.SeatReplies.{record_reply, LacksFragments, next_id};
+ghost use Rattle.log_merge.specs.LoneSeat.{AsksFor};
 
+use entries::{note, say};
 use heap_model::{
     Command, Entry, Full, Id, Memory, NoObject, PlaceRefusal, Reply, SeatCalls, SpaceRefusal, Value,
 };
+use places::{length_of, place, reply_of};
+use space::{Space, gather, give_back};
 use std::alloc::Global;
 use std::marker::Model;
 
-/// A seat alone on a heap without spine words. It makes as many records as it has room for, and never keeps what
-/// is set in a cell.
+mod entries;
+mod places;
+mod space;
+
+/// The spine words of the heap.
+const SPINE: u32 = 6;
+
+/// A seat alone on a heap of one group, of which the board leaves 5 fragments. It never keeps what is set in a cell.
 #[derive(Drop)]
 pub struct Lone {
     mine: Vec<Entry>,
@@ -21,12 +30,16 @@ pub struct Lone {
     lengths: Vec<u16>,
     sets: u32,
     left: bool,
+    space: Space,
+    words: u32,
+    answered: u64,
+    phase: u64,
 }
 
 impl Model for Lone {
     ghost use Rattle.std.specs.Prelude.{◌-◌, vec_len, vec_capacity};
     ghost use Rattle.heap_model.specs.SeatState.{SeatState};
-    ghost use Rattle.log_merge.specs.LoneSeat.{lone_heap, IsLone};
+    ghost use Rattle.log_merge.specs.LoneSeat.{lone_heap, IsLone, HasSpace};
 
     ghost Value = { SeatState };
 
@@ -37,11 +50,12 @@ impl Model for Lone {
       spare = vec_capacity s.mine - vec_len s.mine;
     } };
 
-    ghost invariant = { λ s. IsLone s.mine.items s.registers s.lengths.items s.sets s.left };
+    ghost invariant = { λ s. IsLone s.mine.items s.registers s.lengths.items s.sets s.left s.space.unborn s.answered
+        × HasSpace s.space.unborn s.space.free s.words (vec_len s.lengths) (vec_capacity s.lengths) };
 }
 
 impl Lone {
-    pub fn new(alloc: Global, records: usize) -> Result<Lone, Memory>
+    pub fn new(alloc: Global) -> Result<Lone, Memory>
         ensures { IfOk result (λ seat. seat.mine ≡ []) }
     {
         let mut registers = [Value::Nil; 16];
@@ -49,67 +63,27 @@ impl Lone {
         Ok(Lone {
             mine: Vec::new(alloc),
             registers,
-            lengths: Vec::with_capacity(alloc, records)?,
+            lengths: Vec::with_capacity(alloc, 5)?,
             sets: 0,
             left: false,
+            space: Space { unborn: 0, free: 5 },
+            words: 0,
+            answered: 0,
+            phase: 0,
         })
     }
-}
 
-impl Lone {
     pub fn log(&self) -> &[Entry]
         ensures { result.now ≡ self.now.mine }
     {
         &self.mine
     }
-}
 
-/// Adds an entry where there is room for it.
-fn note(mine: &mut Vec<Entry>, entry: Entry)
-    requires { vec_len mine.old < vec_capacity mine.old }
-    ensures items { mine.new.items ≡ mine.old.items ++ entry ∷ [] }
-    ensures len { vec_len mine.new ≡ vec_len mine.old + 1 }
-    ensures capacity { vec_capacity mine.old ≤ vec_capacity mine.new }
-{
-    let _ = mine.push(entry);
-}
-
-fn say(mine: &mut Vec<Entry>, command: Command, reply: Reply)
-    requires { vec_len mine.old < vec_capacity mine.old }
-    ensures items { mine.new.items ≡ mine.old.items ++ Said 0 command reply ∷ [] }
-    ensures len { vec_len mine.new ≡ vec_len mine.old + 1 }
-    ensures capacity { vec_capacity mine.old ≤ vec_capacity mine.new }
-{
-    note(
-        mine,
-        Entry::Said {
-            seat: 0,
-            command,
-            reply,
-        },
-    );
-}
-
-/// Whether the place is there: the board has 32 cells, and the seat's own objects have these lengths.
-fn place(lengths: &[u16], value: Value, i: u32) -> Result<(), PlaceRefusal>
-    ensures no_object { (result ≡ Err PlaceRefusal.NoObject) ↔ IsNoObject value }
-    ensures no_field { IfSome (lone_length lengths.now value) (λ length.
-        (result ≡ Err PlaceRefusal.NoField) ↔ (length ≤ i)) }
-{
-    match (value, length_of(lengths, value)) {
-        (Value::Nil | Value::Number(_), _) => Err(PlaceRefusal::NoObject),
-        (Value::Object(_), Some(length)) if i < length as u32 => Ok(()),
-        (Value::Object(_), _) => Err(PlaceRefusal::NoField),
-    }
-}
-
-fn length_of(lengths: &[u16], value: Value) -> Option<u16>
-    ensures { result ≡ lone_length lengths.now value }
-{
-    match value {
-        Value::Object(Id::Board) => Some(32),
-        Value::Object(Id::Made { seat: 0, count }) => lengths.get(count as usize).copied(),
-        _ => None,
+    /// A phase begins, which the seat's next poll answers.
+    pub fn begin_phase(&mut self)
+        ensures { self.new ≡ self.old }
+    {
+        self.phase = self.phase.saturating_add(1);
     }
 }
 
@@ -117,7 +91,7 @@ impl Lone {
     ghost use Rattle.heap_model.specs.Objects.{register};
     ghost use Rattle.heap_model.specs.Growth.{after_reply};
     ghost use Rattle.heap_model.specs.Changes.{put};
-    ghost use Rattle.heap_model.specs.SeatState.{own_graph, own_object, held};
+    ghost use Rattle.heap_model.specs.SeatState.{own_graph, own_object, own_party, held};
 
     fn value(&self, r: u8) -> Value
         requires { r ≤ 15 }
@@ -139,11 +113,11 @@ impl Lone {
     /// Adds a reply that changes nothing.
     fn answer(&mut self, command: Command, reply: Reply)
         requires room { 1 ≤ self.old.spare }
+        requires in_range { IsCommand command }
         requires same { after_reply (own_graph self.old) 0 command reply ≡ own_graph self.old }
         requires unmade { made_by command reply ≡ 0 }
-        requires alone { ComesBefore 0 command reply [] }
-        ensures added { Adds self.old self.new command reply }
-        ensures said { self.new.mine ≡ self.old.mine ++ Said 0 command reply ∷ [] }
+        requires alone { (unborn last : ℕ) → ComesBefore 0 unborn last command reply [] }
+        ensures { Adds self.old self.new command reply }
     {
         say(&mut self.mine, command, reply);
     }
@@ -152,13 +126,46 @@ impl Lone {
     fn put(&mut self, d: u8, value: Value, command: Command, reply: Reply)
         requires target { d ≤ 15 }
         requires room { 1 ≤ self.old.spare }
+        requires in_range { IsCommand command }
         requires puts { after_reply (own_graph self.old) 0 command reply ≡ put (own_graph self.old) 0 d value }
         requires unmade { made_by command reply ≡ 0 }
-        requires alone { ComesBefore 0 command reply [] }
+        requires alone { (unborn last : ℕ) → ComesBefore 0 unborn last command reply [] }
         ensures { Adds self.old self.new command reply }
     {
         self.registers[d as usize] = value;
         say(&mut self.mine, command, reply);
+    }
+
+    /// Makes the object that the command asks for, where the seat gathers enough.
+    fn allot(&mut self, d: u8, cells: u16, command: Command) -> Result<Id, Full>
+        requires asked { AsksFor d cells command }
+        requires in_range { IsCommand command }
+        requires room { 3 ≤ self.old.spare }
+        requires named { length (own_party self.old).objects + 1 < 2 ^ 32 }
+        ensures added { Adds self.old self.new command (record_reply result) }
+        ensures made { IfOk result (λ id. id ≡ next_id self.old) }
+        ensures full { IfErr result (λ full.
+            LacksFragments self.old self.new (need_of command) full.need full.found) }
+    {
+        let need = command.need();
+        match gather(&mut self.mine, self.space, need) {
+            Ok(space) => {
+                let id = Id::Made {
+                    seat: 0,
+                    count: self.lengths.len() as u32,
+                };
+                note(&mut self.lengths, cells);
+                self.registers[d as usize] = Value::Object(id);
+                self.space = space;
+                self.space.unborn -= need;
+                say(&mut self.mine, command, Reply::Made(id));
+                Ok(id)
+            }
+            Err(found) => {
+                say(&mut self.mine, command, Reply::Full { need, found });
+                Err(Full { need, found })
+            }
+        }
     }
 }
 
@@ -166,42 +173,38 @@ impl SeatCalls for Lone {
     ghost state = { λ seat. seat };
 
     fn poll(&mut self) -> u64 {
-        self.answer(Command::Poll, Reply::Phase(0));
-        0
+        if self.answered < self.phase {
+            self.answered += 1;
+            let answers = Entry::Answers {
+                seat: 0,
+                phase: self.answered,
+            };
+            note(&mut self.mine, answers);
+        }
+        say(&mut self.mine, Command::Poll, Reply::Phase(self.answered));
+        self.answered
     }
 
     fn new_record(&mut self, d: u8, fields: u16) -> Result<Id, Full> {
-        let command = Command::New { d, fields };
-        let need = 1 + (fields as u32).saturating_sub(2).div_ceil(3);
-        if self.lengths.len() == self.lengths.capacity() {
-            self.answer(command, Reply::Full { need, found: 0 });
-            return Err(Full { need, found: 0 });
-        }
-        let id = Id::Made {
-            seat: 0,
-            count: self.lengths.len() as u32,
-        };
-        let _ = self.lengths.push(fields);
-        self.registers[d as usize] = Value::Object(id);
-        note(
-            &mut self.mine,
-            Entry::Takes {
-                seat: 0,
-                count: need,
-            },
-        );
-        say(&mut self.mine, command, Reply::Made(id));
-        Ok(id)
+        self.allot(d, fields, Command::New { d, fields })
     }
 
     fn new_array(&mut self, d: u8, cells: u16) -> Result<Id, SpaceRefusal> {
-        let _ = &self.sets;
-        let need = (cells as u32).div_ceil(4);
-        self.answer(
-            Command::Array { d, cells },
-            Reply::SpineFull { need, used: 0 },
-        );
-        Err(SpaceRefusal::SpineFull { need, used: 0 })
+        let command = Command::Array { d, cells };
+        let need = command.spine_need();
+        let used = self.words;
+        if used + need > SPINE {
+            self.answer(command, Reply::SpineFull { need, used });
+            return Err(SpaceRefusal::SpineFull { need, used });
+        }
+        self.words = used + need;
+        match self.allot(d, cells, command) {
+            Ok(id) => Ok(id),
+            Err(Full { need, found }) => {
+                self.words = used;
+                Err(SpaceRefusal::Full { need, found })
+            }
+        }
     }
 
     fn get(&mut self, d: u8, r: u8, i: u32) -> Result<(Value, u32), PlaceRefusal> {
@@ -269,6 +272,12 @@ impl SeatCalls for Lone {
     }
 
     fn leave(&mut self) {
+        let Space { unborn, free } = self.space;
+        give_back(&mut self.mine, unborn);
+        self.space = Space {
+            unborn: 0,
+            free: free + unborn,
+        };
         self.registers = [Value::Nil; 16];
         self.left = true;
         say(&mut self.mine, Command::Leave, Reply::Done);
@@ -293,14 +302,5 @@ impl SeatCalls for Lone {
 
     fn left(&self) -> bool {
         self.left
-    }
-}
-
-fn reply_of(refusal: PlaceRefusal) -> Reply
-    ensures { result ≡ refusal_reply refusal }
-{
-    match refusal {
-        PlaceRefusal::NoObject => Reply::NoObject,
-        PlaceRefusal::NoField => Reply::NoField,
     }
 }

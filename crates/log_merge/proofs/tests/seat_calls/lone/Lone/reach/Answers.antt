@@ -6,5 +6,5 @@ use Rattle.log_merge.proofs.tests.seat_calls.lone.Lone.reach.Goals as goal
 
 pub returns-clause-no_field : goal.returns-clause-no_field
 returns-clause-no_field c =
-    own_length c.args.self.now c.self.inside.mine.items _ c.self.view_is c.self.invariant (held c.args.self.now c.args.r) (λ n. (c.place.result ≡ Err NoField) ↔ (n ≤ c.args.i))
+    own_length c.args.self.now c.self.inside.mine.items _ c.self.view_is c.self.invariant.0.graph (held c.args.self.now c.args.r) (λ n. (c.place.result ≡ Err NoField) ↔ (n ≤ c.args.i))
     (rw (c.deref.ensures.value, c.value.ensures.held) at c.place.ensures.no_field)

@@ -9,5 +9,5 @@ use Rattle.log_merge.proofs.tests.seat_calls.lone.LoneSeatCalls.len.Goals as goa
 pub returns-clause-own : goal.returns-clause-own
 returns-clause-own c =
     let there : lone_length c.self.inside.lengths.items (held c.args.self.now c.args.r) ≡ c.length_of.result = search rules in
-    own_length c.args.self.now c.self.inside.mine.items _ c.self.view_is c.self.invariant (held c.args.self.now c.args.r) (λ n. ◌≡◌ {A = Result ℕ NoObject} (Ok c.unwrap_or-length.result) (Ok n))
+    own_length c.args.self.now c.self.inside.mine.items _ c.self.view_is c.self.invariant.0.graph (held c.args.self.now c.args.r) (λ n. ◌≡◌ {A = Result ℕ NoObject} (Ok c.unwrap_or-length.result) (Ok n))
     (rw there (IfSome_then c.length_of.result (IfSome-unwrap_or c.length_of.result 0) (λ n is. ap Ok (c.unwrap_or-length.ensures ∙ is))))
