@@ -4,6 +4,7 @@ use Rattle.std.specs.List.{flat_map, range_with_len}
 use Rattle.heap_model.specs.declared.heap.Heap.{Heap}
 use Rattle.heap_model.specs.declared.entry.Entry.{Entry}
 use Rattle.script_text.specs.declared.script.Line.{Line}
+use Rattle.heap_model.specs.Limits.{group_fragments}
 use Rattle.heap_model.specs.SeatCalls.{leave_entries}
 use Rattle.core_machine.specs.Calls.{free_fragments}
 use Rattle.core_machine.specs.Machine.{State, seat_at}
@@ -26,4 +27,4 @@ pub record HaveLeft (heap : Heap) (old new : State) (before after : List Entry) 
 
 -- so many fragments have a taken bit
 abbrev pub IsInUse : Heap → State → ℕ → Type 0
-IsInUse heap state used = used + free_fragments heap state.words ≡ 16 * heap.groups
+IsInUse heap state used = used + free_fragments heap state.words ≡ group_fragments * heap.groups

@@ -4,7 +4,6 @@ use Rattle.script_text.specs.declared.cause.Cause.{Cause}
 use Rattle.reply_text.specs.Faults.{first_history_fault}
 use Rattle.schism_program.specs.declared.work.Work.{Work}
 use Rattle.schism_program.specs.declared.work.Work.TheVariants.{Play, Check}
-use Rattle.schism_program.specs.declared.work.TheConstants.{MOST_SCRIPT, MOST_HISTORY}
 use Rattle.schism_program.specs.Serving.{FailsToPlay, IsPlayable, Plays}
 use Rattle.schism_program.specs.Verdict.{FindsIllegal, FindsLegal, IsLegalText}
 
@@ -21,10 +20,18 @@ AskFor words work = words ≡ form_words work
 abbrev pub IsForm : List (List ℕ) → Type 0
 IsForm words = (work : Work) × AskFor words work
 
+-- the most bytes of a script
+abbrev pub most_script : ℕ
+most_script = 1048576
+
+-- the most bytes of a history
+abbrev pub most_history : ℕ
+most_history = 16777216
+
 -- the most bytes of an input
 abbrev pub most_bytes : Work → ℕ
-most_bytes Play = MOST_SCRIPT
-most_bytes Check = MOST_HISTORY
+most_bytes Play = most_script
+most_bytes Check = most_history
 
 -- the work can be done with the input: it is a script that is served, or a legal history
 abbrev pub Suits : Work → List ℕ → Type 0

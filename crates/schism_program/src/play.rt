@@ -1,5 +1,6 @@
 ghost use Rattle.std.specs.Prelude.{◌≡◌, ◌*◌, [], length, OnOk, IfOk};
 ghost use Rattle.script_text.specs.declared.script.Form.TheVariants.{Play};
+ghost use Rattle.heap_model.specs.Limits.{group_fragments};
 ghost use Rattle.script_text.specs.Built.{IsBuilt};
 ghost use Rattle.script_text.specs.Writing.{IsOfForm};
 ghost use Rattle.core_machine.specs.Opening.{IsOpening};
@@ -10,6 +11,7 @@ ghost use Rattle.schism_program.specs.Playing.{HasAnswered, HaveLeft, IsInUse};
 use crate::calls::note_call;
 use core_machine::Machine;
 use core_rule::law_every_run;
+use heap_model::limits::GROUP_FRAGMENTS;
 use heap_model::{Command, Entry, Memory};
 use reply_text::{Entries, History, SpaceMark};
 use script_text::{Form, Line, Script};
@@ -55,7 +57,7 @@ fn leave_all(machine: &mut Machine, history: &mut Vec<Entry>) -> Result<(), Memo
 fn in_use(machine: &Machine) -> u64
     ensures { IsInUse machine.now.heap machine.now.state result }
 {
-    let total = 16 * machine.heap().groups as usize;
+    let total = GROUP_FRAGMENTS as usize * machine.heap().groups as usize;
     (total - machine.free()) as u64
 }
 
@@ -63,7 +65,7 @@ fn in_use(machine: &Machine) -> u64
 fn mark_of(machine: &Machine, history: &[Entry]) -> SpaceMark
     ensures before { result.before ≡ length history.now }
     ensures used { IsInUse machine.now.heap machine.now.state result.used }
-    ensures total { result.total ≡ 16 * machine.now.heap.groups }
+    ensures total { result.total ≡ group_fragments * machine.now.heap.groups }
     ensures spine { result.spine ≡ 0 }
     ensures budget { result.budget ≡ machine.now.heap.spine }
 {
@@ -71,7 +73,7 @@ fn mark_of(machine: &Machine, history: &[Entry]) -> SpaceMark
     SpaceMark {
         before: history.len(),
         used: in_use(machine),
-        total: 16 * u64::from(heap.groups),
+        total: u64::from(GROUP_FRAGMENTS) * u64::from(heap.groups),
         spine: 0,
         budget: u64::from(heap.spine),
     }
