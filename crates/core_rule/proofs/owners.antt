@@ -3,3 +3,4 @@ pub mod OwnerLemmas
 pub mod Handed
 pub mod Keeping
 pub mod KeptOwners
+pub mod OwnerFrames
