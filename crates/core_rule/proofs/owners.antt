@@ -4,3 +4,4 @@ pub mod Handed
 pub mod Keeping
 pub mod KeptOwners
 pub mod OwnerFrames
+pub mod Seated
