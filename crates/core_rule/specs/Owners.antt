@@ -61,11 +61,9 @@ handed o owner fs f = if nat_lt 0 (tally f fs) then o else owner f
 
 -- the seat that has the fragment, if one has it, is below this number
 abbrev pub IsSeated : ℕ → Owner → Type 0
-IsSeated seats Free = Unit {0}
 IsSeated seats (Holds q) = q < seats
 IsSeated seats (Bears q) = q < seats
-IsSeated seats (Keeps i k) = Unit {0}
-IsSeated seats (Dead i k) = Unit {0}
+IsSeated seats _ = Unit {0}
 
 -- what a seat has is one of so many seats', and fragment 0 is the board's first one
 pub record OwnersStand (seats : ℕ) (owner : ℕ → Owner) : Type 0 where

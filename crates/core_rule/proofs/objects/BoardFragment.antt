@@ -20,8 +20,8 @@ module _ (seats : ℕ) (owner : ℕ → Owner) (owners : OwnersStand seats owner
   board_alone f i k is first = let same : Keeps i k ≡ Keeps 0 0 = sym is ∙ ap owner first ∙ owners.board in (cc, cc)
 
   -- what a seat has isn't fragment 0
-  pub own_past : (q f : ℕ) → IsOwn q (owner f) → f ≢ 0
-  own_past q f own first = own_keeps_none q 0 0 (owner f) own (ap owner first ∙ owners.board)
+  pub own_not_zero : (q f : ℕ) → IsOwn q (owner f) → f ≢ 0
+  own_not_zero q f own first = own_keeps_none q 0 0 (owner f) own (ap owner first ∙ owners.board)
 
   -- which is in no reserve, no hand and no body
   pub none_at_hand : (q : ℕ) (reserve hand body : List ℕ) → Holding owner q reserve hand body → (tally 0 reserve ≡ 0) × (tally 0 hand ≡ 0) × (tally 0 body ≡ 0)
@@ -31,7 +31,7 @@ module _ (seats : ℕ) (owner : ℕ → Owner) (owners : OwnersStand seats owner
         omega (arith, holding.held 0, none),
         elim (none_or_some (tally 0 body)) [
           | inl away ↦ away
-          | inr there ↦ absurd (own_past q 0 (body_own owner q reserve hand body holding 0 there) refl)
+          | inr there ↦ absurd (own_not_zero q 0 (body_own owner q reserve hand body holding 0 there) refl)
         ],
       )
 
@@ -51,11 +51,11 @@ module _ (seats : ℕ) (owner : ℕ → Owner) (owners : OwnersStand seats owner
         ap (λ i. fragment_at (fragments i) 0) number ∙ board_first
 
     -- no other one of a kept object is
-    pub chain_past : (i k : ℕ) → i < length made → IsKept owner fragments i → k < length (fragments i) → 0 < k → fragment_at (fragments i) k ≢ 0
-    chain_past i k below kept within later first =
+    pub chain_not_zero : (i k : ℕ) → i < length made → IsKept owner fragments i → k < length (fragments i) → 0 < k → fragment_at (fragments i) k ≢ 0
+    chain_not_zero i k below kept within later first =
         let both = board_alone (fragment_at (fragments i) k) i k ((objects.kept i below kept).owned k within) first in
         omega (arith, later, both.1)
 
     -- and so no other object begins with it
-    pub head_past : (i : ℕ) → IsKept owner fragments i → i ≢ 0 → fragment_at (fragments i) 0 ≢ 0
-    head_past i kept other first = other (board_alone (fragment_at (fragments i) 0) i 0 kept first).0
+    pub head_not_zero : (i : ℕ) → IsKept owner fragments i → i ≢ 0 → fragment_at (fragments i) 0 ≢ 0
+    head_not_zero i kept other first = other (board_alone (fragment_at (fragments i) 0) i 0 kept first).0

@@ -13,7 +13,7 @@ use Rattle.core_rule.specs.Colours.{Leads}
 use Rattle.core_rule.specs.ControlWords.{Bits}
 use Rattle.core_rule.specs.Objects.{AreMade, Objects, IsKept}
 use Rattle.core_rule.specs.Owners.{Owner, OwnersStand}
-use Rattle.core_rule.proofs.objects.BoardFragment.{chain_past}
+use Rattle.core_rule.proofs.objects.BoardFragment.{chain_not_zero}
 use Rattle.core_rule.proofs.ways.KeptWords.{kept_within, link_found}
 
 -- an option that stands for a number but 0 has it
@@ -31,5 +31,5 @@ chain_leads heap words g made owner fragments limits bits ids owners objects i k
   below = omega arith;
   to = some_lead (lead_of 0 (at heap words (Word (fragment_at (fragments i) k) 0))) (fragment_at (fragments i) (k + 1))
       (link_found heap words g made owner fragments limits bits ids objects i below kept k more)
-      (chain_past heap.seats owner owners heap words g made fragments objects i (k + 1) below kept more (omega arith));
+      (chain_not_zero heap.seats owner owners heap words g made fragments objects i (k + 1) below kept more (omega arith));
 }
