@@ -2,6 +2,8 @@
 pub mod CellWords
 pub mod ObjectsSet
 pub mod ObjectFrames
+pub mod BoardFragment
+pub mod BoardRegister
 pub mod Newborn
 pub mod NamesGrowth
 pub mod ObjectsGrowth

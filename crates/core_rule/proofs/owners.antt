@@ -3,3 +3,5 @@ pub mod OwnerLemmas
 pub mod Handed
 pub mod Keeping
 pub mod KeptOwners
+pub mod OwnerFrames
+pub mod Seated

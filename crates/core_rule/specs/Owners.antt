@@ -1,5 +1,5 @@
 -- Whose each fragment is.
-use Rattle.std.specs.Prelude.{ℕ, ◌==◌, if◌then◌else◌, nat_lt, List}
+use Rattle.std.specs.Prelude.{◌≡◌, ℕ, ◌<◌, ◌==◌, if◌then◌else◌, nat_lt, List}
 use Rattle.core_machine.specs.Fragments.{tally}
 
 -- one where the two are the same
@@ -58,3 +58,14 @@ bears_bit q (Dead i k) = 0
 -- the fragments of the list are this one's, the others their owners'
 abbrev pub handed : Owner → (ℕ → Owner) → List ℕ → ℕ → Owner
 handed o owner fs f = if nat_lt 0 (tally f fs) then o else owner f
+
+-- the seat that has the fragment, if one has it, is below this number
+abbrev pub IsSeated : ℕ → Owner → Type 0
+IsSeated seats (Holds q) = q < seats
+IsSeated seats (Bears q) = q < seats
+IsSeated seats _ = Unit {0}
+
+-- what a seat has is one of so many seats', and fragment 0 is the board's first one
+pub record OwnersStand (seats : ℕ) (owner : ℕ → Owner) : Type 0 where
+  pub seated : (f : ℕ) → IsSeated seats (owner f)
+  pub board : owner 0 ≡ Keeps 0 0

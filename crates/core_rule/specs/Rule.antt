@@ -13,6 +13,7 @@ use Rattle.core_machine.specs.Value.{IsMachine}
 use Rattle.core_rule.specs.Book.{Book}
 use Rattle.core_rule.specs.ControlWords.{Bits}
 use Rattle.core_rule.specs.Objects.{AreMade, Objects, cells_at}
+use Rattle.core_rule.specs.Owners.{OwnersStand}
 use Rattle.core_rule.specs.Registers.{Registers}
 use Rattle.core_rule.specs.Holding.{Holding, IsStored}
 use Rattle.core_rule.specs.Counts.{OwnCounts, OwnList, AreUsed}
@@ -27,6 +28,7 @@ use Rattle.core_rule.specs.Gathers.{GathersRight, Began}
 pub record HeapStands (heap : Heap) (words : List ℕ) (book : Book) : Type 0 where
   pub table : length words ≡ table_length heap
   pub control_words : Bits heap words book.owner
+  pub owners : OwnersStand heap.seats book.owner
   pub ids : AreMade (graph_of heap book.history) book.made
   pub objects : Objects heap words (graph_of heap book.history) book.made book.owner book.fragments
   pub used : AreUsed heap book.owner book.history

@@ -43,6 +43,7 @@ module _ (heap : Heap) (words : List ℕ) (book : Book) (q : ℕ) where
   heap_begins stands = record {
     table = stands.table;
     control_words = stands.control_words;
+    owners = stands.owners;
     ids = stands.ids;
     objects = stands.objects;
     used = stands.used;

@@ -61,6 +61,7 @@ module _ (heap : Heap) (words now : List ℕ) (same : SameFragments heap words n
   heap_past whole uses legal cycle stands = record {
     table = whole;
     control_words = bits_same heap words now book.owner same.controls stands.control_words;
+    owners = stands.owners;
     ids = ids_stay before after book.made nodes stands.ids;
     objects = objects_stay before after book.made nodes book.owner book.fragments heap now
         (objects_words heap words now before book.made book.owner book.fragments (λ f i k part keeps within. same.parts f part) stands.objects);

@@ -32,6 +32,7 @@ use Rattle.core_rule.proofs.entries.InFlight.{tried_within}
 use Rattle.core_rule.proofs.cycle.MakingCycle.{cycle_goes_on, answer_after_control, heap_hands, borne_before, cycle_control}
 use Rattle.core_rule.proofs.objects.ObjectFrames.{SameKept, objects_owners, part_kept, objects_control, free_keeps_none, registers_owners}
 use Rattle.core_rule.proofs.entries.Others.{of_other, own-other, began_stays}
+use Rattle.core_rule.proofs.owners.OwnerFrames.{owners_handed}
 use Rattle.core_rule.proofs.frames.SeatFrames.{counts_stay, same_party}
 use Rattle.core_rule.proofs.entries.SeatLists.{list_owners}
 use Rattle.core_rule.proofs.entries.SpaceEntries.{graph_gives, legal_gives}
@@ -81,6 +82,7 @@ module _ (heap : Heap) (state : State) (book : Book) (q : ℕ) (rule : Rule heap
       record {
         table = length-put heap state.words (Control g) word ∙ stands.table;
         control_words = bits;
+        owners = owners_handed heap.seats book.owner stands.owners Free fs tt kept_given;
         ids = rw graph_given stands.ids;
         objects = rw graph_given (objects_owners book.owner owner kept_given book.made book.fragments heap words_given before
             (objects_control heap state.words before book.made book.owner book.fragments g word below stands.objects));

@@ -9,7 +9,7 @@ use Rattle.core_machine.specs.Opening.{board, board_group}
 use Rattle.core_machine.specs.Sums.{sum_upto}
 use Rattle.core_rule.specs.Book.{fragment_at}
 use Rattle.core_rule.specs.Counts.{AreUsed}
-use Rattle.core_rule.specs.Owners.{Owner, Free, Keeps, taken_bit, born_bit}
+use Rattle.core_rule.specs.Owners.{Owner, Free, Keeps, IsSeated, OwnersStand, taken_bit, born_bit}
 use Rattle.core_rule.proofs.lists.SumLemmas.{sum_parts, sum_ones, sum_nothing}
 
 -- the first eleven fragments are the board's
@@ -27,6 +27,10 @@ opening_cases P f kept free = elim (cases_lt f 11) [
   | inl below ↦ subst P (sym (boards f below)) (kept below)
   | inr past ↦ subst P (sym (nobodys f past)) (free past)
 ]
+
+-- no seat has a fragment, and the first is the board's first
+pub opening_seated : (seats : ℕ) → OwnersStand seats opening_owner
+opening_seated seats = record { seated = λ f. opening_cases (IsSeated seats) f (λ below. tt) (λ past. tt); board = refl }
 
 -- one more below the bound
 below_more : (P : ℕ → Type 0) (n : ℕ) → ((f : ℕ) → f < n → P f) → P n → (f : ℕ) → f < suc n → P f

@@ -31,7 +31,7 @@ use Rattle.core_rule.proofs.hand.EmptyHand.{nothing_together}
 use Rattle.core_rule.proofs.gather.GatherMoves.{nothing_tried}
 use Rattle.core_rule.proofs.graph.GraphRegisters.{opening_at}
 use Rattle.core_rule.proofs.runs.OpeningObjects.{opening_made, opening_fragments, opening_ids, opening_bits, opening_marks, opening_objects}
-use Rattle.core_rule.proofs.runs.OpeningOwners.{opening_owner, opening_cases, opening_used}
+use Rattle.core_rule.proofs.runs.OpeningOwners.{opening_owner, opening_cases, opening_seated, opening_used}
 
 -- the book when a heap opens: nothing has happened, and there is the board alone
 abbrev pub opening_book : Book
@@ -98,6 +98,7 @@ opening_rule heap state fits machine opens = record {
   heap_stands = record {
     table = opens.table;
     control_words = opening_bits heap state.words fits.some_group opens.words_open;
+    owners = opening_seated heap.seats;
     ids = opening_ids heap;
     objects = opening_objects heap state.words fits.some_group opens.words_open;
     used = opening_used heap fits.some_group;

@@ -106,6 +106,7 @@ module _ (heap : Heap) (state : State) (book : Book) (q : ℕ) (words : List ℕ
       record {
         table = machine.table;
         control_words = bits_same heap state.words words book.owner same.controls heap_stands.control_words;
+        owners = heap_stands.owners;
         ids = rw graph grows.ids;
         objects = rw graph grows.objects;
         used = said_used book.history q command reply heap book.owner heap_stands.used;

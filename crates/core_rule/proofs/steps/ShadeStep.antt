@@ -87,6 +87,7 @@ module _ (heap : Heap) (state : State) (book : Book) (q : ℕ) (rule : Rule heap
       record {
         table = length-put heap state.words (Control (f / 16)) _ ∙ old.table;
         control_words = bits_shade heap state.words book.owner book.colour f old.table shade_within old.control_words;
+        owners = old.owners;
         ids = old.ids;
         objects = objects_control heap state.words (graph_of heap book.history) book.made book.owner book.fragments (f / 16) _ group_below old.objects;
         used = old.used;

@@ -36,6 +36,7 @@ use Rattle.core_rule.proofs.cycle.MakingCycle.{answer_after_control, cycle_contr
 use Rattle.core_rule.proofs.hand.MakingSeats.{none_shaded}
 use Rattle.core_rule.proofs.objects.ObjectFrames.{bears_keeps_none, holds_keeps_none, objects_control, objects_owners, registers_owners, part_kept}
 use Rattle.core_rule.proofs.entries.OwnEntries.{counts_same}
+use Rattle.core_rule.proofs.owners.OwnerFrames.{owners_handed}
 use Rattle.core_rule.proofs.entries.SeatLists.{making_list, list_of_making, list_owners}
 use Rattle.core_rule.proofs.hand.StoredFrames.{stored_control}
 use Rattle.core_rule.proofs.cycle.Unwatched.{cycle_apart}
@@ -74,6 +75,7 @@ birth_keeps heap state book q rule here place more machine =
       table = length-put heap state.words (Control g) word ∙ heap_stands.table;
       control_words = birth_bits_after heap state.words book.owner g heap_stands.table below heap_stands.control_words seat.hand q
           (hand_once book.owner q seat.reserve seat.hand seat.body stands.holding) (hand_held book.owner q seat.reserve seat.hand seat.body stands.holding) (bears_black seat);
+      owners = owners_handed heap.seats book.owner heap_stands.owners (Bears q) part here kept;
       ids = heap_stands.ids;
       objects = objects_owners book.owner owner kept book.made book.fragments heap (put heap state.words (Control g) word) (graph_of heap book.history)
           (objects_control heap state.words (graph_of heap book.history) book.made book.owner book.fragments g word below heap_stands.objects);

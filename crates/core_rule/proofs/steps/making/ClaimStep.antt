@@ -47,6 +47,7 @@ use Rattle.core_rule.proofs.entries.InFlight.{awaits_none, is_busy}
 use Rattle.core_rule.proofs.cycle.MakingCycle.{answer_after_control, cycle_control, cycle_goes_on, heap_hands, borne_before}
 use Rattle.core_rule.proofs.hand.MakingSeats.{none_shaded}
 use Rattle.core_rule.proofs.objects.ObjectFrames.{handed_kept, holds_keeps_none, objects_control, objects_owners, registers_owners}
+use Rattle.core_rule.proofs.owners.OwnerFrames.{owners_handed}
 use Rattle.core_rule.proofs.owners.OwnerLemmas.{free_by_bit}
 use Rattle.core_rule.proofs.entries.SeatLists.{making_list, list_of_making, list_owners}
 use Rattle.core_rule.proofs.hand.StoredFrames.{stored_control}
@@ -125,6 +126,7 @@ claim_keeps heap state book q rule here place machine =
     record {
       table = length-put heap state.words (Control g) word ∙ heap_stands.table;
       control_words = claim_bits heap state.words book.owner g heap_stands.table below heap_stands.control_words q;
+      owners = owners_handed heap.seats book.owner heap_stands.owners (Holds q) fs here kept;
       ids = rw tells.graph heap_stands.ids;
       objects = rw tells.graph (objects_owners book.owner owner kept book.made book.fragments heap words g_of
           (objects_control heap state.words g_of book.made book.owner book.fragments g word below heap_stands.objects));

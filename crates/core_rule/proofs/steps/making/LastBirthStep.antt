@@ -51,6 +51,7 @@ use Rattle.core_rule.proofs.objects.ObjectFrames.{objects_control}
 use Rattle.core_rule.proofs.objects.ObjectsGrowth.{NewBody, objects_grown}
 use Rattle.core_rule.proofs.entries.Others.{own-other, began_stays, gathers_stay, of_other}
 use Rattle.core_rule.proofs.entries.OwnEntries.{own_grows}
+use Rattle.core_rule.proofs.owners.OwnerFrames.{owners_kept}
 use Rattle.core_rule.proofs.owners.OwnerLemmas.{own_keeps_none}
 use Rattle.core_rule.proofs.entries.PhaseEntries.{no_leave_told}
 use Rattle.core_rule.proofs.entries.RecordCommands.{need_made, ranges_made}
@@ -119,6 +120,7 @@ last_birth_keeps heap state book q rule here place last machine =
       table = length-put heap state.words (Control group) word ∙ rule.heap_stands.table;
       control_words = kept_bits heap state.words book.owner q seat.reserve seat.hand body group (length book.made) (bears_black seat) rule.heap_stands.table below
           rule.heap_stands.control_words stands.holding some last;
+      owners = owners_kept heap.seats book.owner rule.heap_stands.owners (length book.made) body unkept;
       ids = rw graph (ids_grown g grown book.made id (fresh false fields) ids more (omega (arith, here, rule.limits.seats_fit), omega (arith, has.makes.numbered)));
       objects = rw graph (objects_control heap state.words grown now.made now.owner now.fragments group word below
           (objects_grown heap state.words g grown book.made id book.owner book.fragments fields body ids more new rule.heap_stands.objects));

@@ -61,6 +61,7 @@ store_keeps heap state book q rule here place machine =
     record {
       table = length-put heap state.words (Word f part) word ∙ rule.heap_stands.table;
       control_words = bits_store heap state.words book.owner f part word rule.heap_stands.control_words;
+      owners = rule.heap_stands.owners;
       ids = rule.heap_stands.ids;
       objects = objects_store heap state.words (graph_of heap book.history) book.made book.owner book.fragments f part word fits_part
           (λ i k. own_keeps_none q i k (book.owner f) own) rule.heap_stands.objects;
