@@ -5,12 +5,12 @@ use Rattle.core_machine.specs.declared.place.Place.{Place}
 use Rattle.core_machine.specs.declared.place.Place.TheVariants as places
 use Rattle.core_machine.specs.declared.place.Reaching.{Reaching}
 use Rattle.core_machine.specs.declared.place.Reaching.TheVariants.{ShadingOld, ShadingNew, Swapping}
-use Rattle.core_machine.specs.Loaded.{head_in}
-use Rattle.core_machine.specs.Polling.{roots}
-use Rattle.core_machine.specs.Reaching.{has_barrier}
-use Rattle.core_machine.specs.ReachingMoves.{field_part, new_register}
-use Rattle.core_machine.specs.Registers.{head_of}
-use Rattle.core_machine.specs.Seat.{Seat}
+use Rattle.core_machine.specs.table.Loaded.{head_in}
+use Rattle.core_machine.specs.seat.Polling.{roots}
+use Rattle.core_machine.specs.seat.Reaching.{has_barrier}
+use Rattle.core_machine.specs.seat.ReachingMoves.{field_part, new_register}
+use Rattle.core_machine.specs.seat.Registers.{head_of}
+use Rattle.core_machine.specs.seat.Seat.{Seat}
 use Rattle.core_rule.specs.Book.{Colour}
 use Rattle.core_rule.specs.Colours.{IsMarked, Leads, IsBetween}
 

@@ -6,9 +6,9 @@ use Rattle.heap_model.specs.Heap.{IsHeap}
 use Rattle.heap_model.specs.Account.{IsLegal}
 use Rattle.heap_model.specs.Space.{gained, lost}
 use Rattle.core_machine.specs.declared.place.Place.TheVariants.{Idle}
-use Rattle.core_machine.specs.Calls.{free_fragments}
-use Rattle.core_machine.specs.Machine.{State, seat_at, Event, Begins, Steps, Turns, Can, after, entries, Run, after_all, history}
-use Rattle.core_machine.specs.Opening.{IsOpening}
+use Rattle.core_machine.specs.machine.Calls.{free_fragments}
+use Rattle.core_machine.specs.machine.Machine.{State, seat_at, Event, Begins, Steps, Turns, Can, after, entries, Run, after_all, history}
+use Rattle.core_machine.specs.machine.Opening.{IsOpening}
 use Rattle.core_rule.specs.Book.{Book}
 use Rattle.core_rule.specs.Rule.{Rule}
 
