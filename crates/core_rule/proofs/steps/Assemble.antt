@@ -9,10 +9,12 @@ use Rattle.heap_model.specs.Cycles.{graph_of}
 use Rattle.heap_model.specs.Objects.{party}
 use Rattle.heap_model.specs.PhaseCounts.{phase, answered, has_left}
 use Rattle.core_machine.specs.declared.place.Making.{Making}
+use Rattle.core_machine.specs.declared.place.Place.{Place}
 use Rattle.core_machine.specs.declared.place.Place.TheVariants as places
 use Rattle.core_machine.specs.collector.Collector.{Collector}
 use Rattle.core_machine.specs.seat.Fits.{Fits}
-use Rattle.core_machine.specs.machine.Machine.{State, seat_at}
+use Rattle.core_machine.specs.Moves.{Move}
+use Rattle.core_machine.specs.machine.Machine.{State, seat_at, stepped, found_by}
 use Rattle.core_machine.specs.seat.Seat.{Seat, nobody}
 use Rattle.core_machine.specs.machine.Value.{IsMachine}
 use Rattle.core_rule.specs.Book.{Book}
@@ -63,6 +65,16 @@ pub record Keeps (heap : Heap) (state : State) (book : Book) (begun : ℕ → �
   pub grown : now.history ≡ book.history ++ added
   pub calls : now.begun ≡ begun
   pub rule : Rule heap state now
+
+-- a seat's move keeps the rule
+abbrev pub MoveKeeps : Heap → State → Book → ℕ → Move → Type 0
+MoveKeeps heap state book q move = IsMachine heap (stepped heap state q move)
+    → Keeps heap (stepped heap state q move) book book.begun (move.shows state.words (found_by heap state move.step))
+
+-- so does the move that is due to any seat at this place
+abbrev pub StepKeeps : Place → (Heap → ℕ → Seat → Move) → Type 0
+StepKeeps place move = (heap : Heap) (state : State) (book : Book) (q : ℕ) → Rule heap state book → q < heap.seats
+    → (seat_at state q).place ≡ place → MoveKeeps heap state book q (move heap q (seat_at state q))
 
 -- so some book stands for it
 pub stands_for : (heap : Heap) (state : State) (book : Book) (begun : ℕ → ℕ) (added : List Entry) → Keeps heap state book begun added

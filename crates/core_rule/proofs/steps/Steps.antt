@@ -14,14 +14,14 @@ use Rattle.core_machine.specs.declared.place.Reaching.TheVariants.{Opening, Walk
 use Rattle.core_machine.specs.declared.collector.stage.Stage.{Stage}
 use Rattle.core_machine.specs.declared.collector.stage.Stage.TheVariants.{Looking, Advancing}
 use Rattle.core_machine.specs.collector.Collector.{turn_at, next_turn, MayTurn}
-use Rattle.core_machine.specs.machine.Machine.{State, seat_at, moved, shown, stepped, found_by, after, Begins, Can, turned}
+use Rattle.core_machine.specs.machine.Machine.{State, seat_at, moved, shown, after, Begins, Can, turned}
 use Rattle.core_machine.specs.Moves.{move_at, is_last_birth, last_birth_move, birth_move}
 use Rattle.core_machine.specs.machine.Value.{IsMachine}
 use Rattle.core_rule.specs.Book.{Book}
 use Rattle.core_rule.specs.Rule.{Rule}
 use Rattle.core_rule.proofs.steps.collector.AdvanceStep.{advance_keeps}
 use Rattle.core_rule.proofs.steps.handshake.AnswerStep.{answer_keeps}
-use Rattle.core_rule.proofs.steps.Assemble.{Keeps}
+use Rattle.core_rule.proofs.steps.Assemble.{Keeps, MoveKeeps}
 use Rattle.core_rule.proofs.steps.access.BeginOthers.{begin_others_keep}
 use Rattle.core_rule.proofs.entries.Begins.{begins}
 use Rattle.core_rule.proofs.steps.making.BeginStep.{begin_keeps}
@@ -60,10 +60,7 @@ module _ (heap : Heap) (state : State) (book : Book) (q : ℕ) (rule : Rule heap
       bearing (is_last_birth (seat_at state q)) refl machine
     where
       bearing : (last : Bool) → is_last_birth (seat_at state q) ≡ last
-          → IsMachine heap (stepped heap state q (if last then last_birth_move q (seat_at state q) else birth_move (seat_at state q)))
-          → Keeps heap (stepped heap state q (if last then last_birth_move q (seat_at state q) else birth_move (seat_at state q))) book book.begun
-          ((if last then last_birth_move q (seat_at state q) else birth_move (seat_at state q)).shows state.words
-          (found_by heap state (if last then last_birth_move q (seat_at state q) else birth_move (seat_at state q)).step))
+          → MoveKeeps heap state book q (if last then last_birth_move q (seat_at state q) else birth_move (seat_at state q))
       bearing true last whole = last_birth_keeps heap state book q rule here placed last whole
       bearing false more whole = birth_keeps heap state book q rule here placed more whole
   keeps_at places.Telling placed machine = telling_keeps heap state book q rule here placed machine

@@ -26,7 +26,7 @@ use Rattle.core_machine.specs.seat.Commands.{target_of, field_of}
 use Rattle.core_machine.specs.seat.FitsReaching.{Gets, IsGet}
 use Rattle.core_machine.specs.table.Layout.{at}
 use Rattle.core_machine.specs.table.Loaded.{head_in, id_in, stamp_in, plain_in}
-use Rattle.core_machine.specs.machine.Machine.{State, seat_at, stepped, found_by}
+use Rattle.core_machine.specs.machine.Machine.{State, seat_at}
 use Rattle.core_machine.specs.seat.Reaching.{row_of, part_of, got}
 use Rattle.core_machine.specs.seat.ReachingMoves.{get_move, field_part, got_adds, got_shows, said}
 use Rattle.core_machine.specs.seat.Registers.{value_of}
@@ -38,7 +38,7 @@ use Rattle.core_rule.specs.Objects.{NamesKept, cells_at, value_word}
 use Rattle.core_rule.specs.Registers.{Holds, IsAwaited}
 use Rattle.core_rule.specs.Rule.{Rule}
 use Rattle.core_rule.specs.Ways.{Finds}
-use Rattle.core_rule.proofs.steps.Assemble.{Keeps}
+use Rattle.core_rule.proofs.steps.Assemble.{Keeps, StepKeeps}
 use Rattle.core_rule.proofs.ways.AtObject.{is_present, has_enough, has_little, way_object}
 use Rattle.core_rule.proofs.graph.GraphRegisters.{registers_length}
 use Rattle.core_rule.proofs.ways.KeptWords.{has_room, field_found, name_found}
@@ -125,11 +125,7 @@ module _ (heap : Heap) (state : State) (book : Book) (q : ℕ) (rule : Rule heap
       (rw place at stands.fits.answer_at_place) tt)
 
 -- loading a field keeps the rule
-pub get_keeps : (heap : Heap) (state : State) (book : Book) (q : ℕ) → Rule heap state book → q < heap.seats
-    → (seat_at state q).place ≡ places.Reaching Getting
-    → IsMachine heap (stepped heap state q (get_move heap q (seat_at state q)))
-    → Keeps heap (stepped heap state q (get_move heap q (seat_at state q))) book book.begun
-    ((get_move heap q (seat_at state q)).shows state.words (found_by heap state (get_move heap q (seat_at state q)).step))
+pub get_keeps : StepKeeps (places.Reaching Getting) get_move
 get_keeps heap state book q rule here place machine =
     let seat : Seat = seat_at state q in
     let g : Graph = graph_of heap book.history in

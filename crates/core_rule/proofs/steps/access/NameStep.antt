@@ -3,7 +3,6 @@ use Rattle.std.specs.Prelude.{unwrap_or}
 use Rattle.std.proofs.Common.{◌≡◌, ℕ, ◌<◌, List, [], ◌++◌, length, slice_set, Option, IsSome, refl, sym, ap, ◌∙◌, subst, arith}
 use Rattle.std.proofs.lemmas.List.{append-nil}
 use Rattle.heap_model.specs.declared.entry.Entry.{Entry}
-use Rattle.heap_model.specs.declared.heap.Heap.{Heap}
 use Rattle.heap_model.specs.declared.id.Id.{Id}
 use Rattle.heap_model.specs.declared.id.Value.TheVariants as values
 use Rattle.heap_model.specs.declared.reply.Reply.TheVariants.{Got}
@@ -18,15 +17,13 @@ use Rattle.core_machine.specs.seat.Commands.{target_of}
 use Rattle.core_machine.specs.seat.FitsReaching.{Gets}
 use Rattle.core_machine.specs.table.Layout.{at}
 use Rattle.core_machine.specs.table.Loaded.{head_in, id_in, stamp_in}
-use Rattle.core_machine.specs.machine.Machine.{State, seat_at, stepped, found_by}
+use Rattle.core_machine.specs.machine.Machine.{seat_at}
 use Rattle.core_machine.specs.seat.ReachingMoves.{name_move, loaded_head, said}
 use Rattle.core_machine.specs.seat.Seat.{Seat}
-use Rattle.core_machine.specs.machine.Value.{IsMachine}
-use Rattle.core_rule.specs.Book.{Book, number_of, head_of}
+use Rattle.core_rule.specs.Book.{number_of, head_of}
 use Rattle.core_rule.specs.Counts.{AwaitsName}
 use Rattle.core_rule.specs.Registers.{Registers, Holds}
-use Rattle.core_rule.specs.Rule.{Rule}
-use Rattle.core_rule.proofs.steps.Assemble.{Keeps}
+use Rattle.core_rule.proofs.steps.Assemble.{StepKeeps}
 use Rattle.core_rule.proofs.ways.KeptWords.{name_found}
 use Rattle.core_rule.proofs.steps.Loads.{went_cycle, load_goes}
 use Rattle.core_rule.proofs.graph.Numbering.{id_at-number_of}
@@ -34,11 +31,7 @@ use Rattle.core_rule.proofs.graph.ObjectReplies.{target_within}
 use Rattle.core_rule.proofs.graph.PutRegister.{registers_with}
 
 -- loading the name keeps the rule
-pub name_keeps : (heap : Heap) (state : State) (book : Book) (q : ℕ) → Rule heap state book → q < heap.seats
-    → (seat_at state q).place ≡ places.Reaching Naming
-    → IsMachine heap (stepped heap state q (name_move q (seat_at state q)))
-    → Keeps heap (stepped heap state q (name_move q (seat_at state q))) book book.begun
-    ((name_move q (seat_at state q)).shows state.words (found_by heap state (name_move q (seat_at state q)).step))
+pub name_keeps : StepKeeps (places.Reaching Naming) (λ heap. name_move)
 name_keeps heap state book q rule here place machine =
     let seat : Seat = seat_at state q in
     let g : Graph = graph_of heap book.history in

@@ -12,7 +12,7 @@ use Rattle.core_machine.specs.seat.Commands.{target_of}
 use Rattle.core_machine.specs.seat.Fits.{IsSilent}
 use Rattle.core_machine.specs.table.Layout.{at}
 use Rattle.core_machine.specs.table.Loaded.{link_in}
-use Rattle.core_machine.specs.machine.Machine.{State, seat_at, stepped, found_by}
+use Rattle.core_machine.specs.machine.Machine.{State, seat_at}
 use Rattle.core_machine.specs.seat.Reaching.{has_barrier, way_place, stepped_on, onward}
 use Rattle.core_machine.specs.seat.ReachingMoves.{walk_move}
 use Rattle.core_machine.specs.seat.Seat.{Seat, with_entries}
@@ -24,7 +24,7 @@ use Rattle.core_rule.specs.Objects.{cells_at}
 use Rattle.core_rule.specs.Registers.{IsAwaited}
 use Rattle.core_rule.specs.Rule.{Rule}
 use Rattle.core_rule.specs.Ways.{Finds}
-use Rattle.core_rule.proofs.steps.Assemble.{Keeps}
+use Rattle.core_rule.proofs.steps.Assemble.{Keeps, StepKeeps}
 use Rattle.core_rule.proofs.entries.InFlight.{began_on}
 use Rattle.core_rule.proofs.steps.Loads.{went_cycle, went, loaded_state, load_goes}
 use Rattle.core_rule.proofs.ways.OnwardWays.{way_unwatched, way_cases, onward_cases, way_stands, finds_at, finds_on}
@@ -75,11 +75,7 @@ module _ (heap : Heap) (state : State) (book : Book) (q : ℕ) (rule : Rule heap
       seat seat.loaded (way_place (stepped_on seat found_first)) _ more finds))
 
 -- walking a link keeps the rule
-pub walk_keeps : (heap : Heap) (state : State) (book : Book) (q : ℕ) → Rule heap state book → q < heap.seats
-    → (seat_at state q).place ≡ places.Reaching Walking
-    → IsMachine heap (stepped heap state q (walk_move (seat_at state q)))
-    → Keeps heap (stepped heap state q (walk_move (seat_at state q))) book book.begun
-    ((walk_move (seat_at state q)).shows state.words (found_by heap state (walk_move (seat_at state q)).step))
+pub walk_keeps : StepKeeps (places.Reaching Walking) (λ heap q. walk_move)
 walk_keeps heap state book q rule here place machine =
     let finds : Finds (cells_at (graph_of heap book.history) book.made) book.made book.owner book.fragments (seat_at state q)
     = rw place at (rule.seats_stand q here).way in

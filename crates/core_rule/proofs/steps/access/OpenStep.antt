@@ -23,7 +23,7 @@ use Rattle.core_machine.specs.seat.Commands.{target_of, field_of}
 use Rattle.core_machine.specs.seat.FitsReaching.{NamesObject, NamesField, Opens}
 use Rattle.core_machine.specs.table.Layout.{at}
 use Rattle.core_machine.specs.table.Loaded.{length_in}
-use Rattle.core_machine.specs.machine.Machine.{State, seat_at, stepped, found_by}
+use Rattle.core_machine.specs.machine.Machine.{State, seat_at}
 use Rattle.core_machine.specs.seat.Reaching.{row_of, meta_reply, met}
 use Rattle.core_machine.specs.seat.ReachingMoves.{open_move, said, said_some}
 use Rattle.core_machine.specs.seat.Seat.{Seat, with_entries}
@@ -34,7 +34,7 @@ use Rattle.core_rule.specs.Objects.{cells_at}
 use Rattle.core_rule.specs.Registers.{IsAwaited}
 use Rattle.core_rule.specs.Rule.{Rule}
 use Rattle.core_rule.specs.Ways.{SetsOut}
-use Rattle.core_rule.proofs.steps.Assemble.{Keeps}
+use Rattle.core_rule.proofs.steps.Assemble.{Keeps, StepKeeps}
 use Rattle.core_rule.proofs.ways.AtObject.{is_present, has_enough, has_little, way_object}
 use Rattle.core_rule.proofs.ways.KeptWords.{length_found}
 use Rattle.core_rule.proofs.steps.Loads.{went_cycle, went, loaded_state, load_tells}
@@ -88,11 +88,7 @@ module _ (heap : Heap) (state : State) (book : Book) (q : ℕ) (rule : Rule heap
       (went_cycle heap state book q rule here (Word seat.reached 0) seat.registers 0 0 0 places.Idle (entry ∷ []) machine (rw place at stands.fits.answer_at_place) tt)
 
 -- loading the length keeps the rule
-pub open_keeps : (heap : Heap) (state : State) (book : Book) (q : ℕ) → Rule heap state book → q < heap.seats
-    → (seat_at state q).place ≡ places.Reaching Opening
-    → IsMachine heap (stepped heap state q (open_move q (seat_at state q)))
-    → Keeps heap (stepped heap state q (open_move q (seat_at state q))) book book.begun
-    ((open_move q (seat_at state q)).shows state.words (found_by heap state (open_move q (seat_at state q)).step))
+pub open_keeps : StepKeeps (places.Reaching Opening) (λ heap. open_move)
 open_keeps heap state book q rule here place machine =
     let seat : Seat = seat_at state q in
     let g : Graph = graph_of heap book.history in

@@ -1,7 +1,6 @@
 -- Shading the new value of a set keeps the rule.
 use Rattle.std.specs.Prelude.{unwrap_or}
-use Rattle.std.proofs.Common.{◌≡◌, ℕ, ◌<◌, true, [], ◌++◌, Option, Some, None, IfSome, inl, refl, subst, IsSome}
-use Rattle.heap_model.specs.declared.heap.Heap.{Heap}
+use Rattle.std.proofs.Common.{◌≡◌, ℕ, true, [], ◌++◌, Option, Some, None, IfSome, inl, refl, subst, IsSome}
 use Rattle.heap_model.specs.Cycles.{graph_of}
 use Rattle.heap_model.specs.PhaseCounts.{phase}
 use Rattle.heap_model.specs.State.{State as Graph}
@@ -10,19 +9,17 @@ use Rattle.core_machine.specs.declared.place.Reaching.TheVariants.{ShadingNew, S
 use Rattle.core_machine.specs.seat.Commands.{source_of}
 use Rattle.core_machine.specs.seat.FitsReaching.{Sets}
 use Rattle.core_machine.specs.table.Loaded.{head_in}
-use Rattle.core_machine.specs.machine.Machine.{State, seat_at, stepped, found_by}
+use Rattle.core_machine.specs.machine.Machine.{seat_at}
 use Rattle.core_machine.specs.seat.Reaching.{has_barrier}
 use Rattle.core_machine.specs.seat.ReachingMoves.{shade_new_move, new_register}
 use Rattle.core_machine.specs.seat.Registers.{head_of}
 use Rattle.core_machine.specs.seat.Seat.{Seat}
-use Rattle.core_machine.specs.machine.Value.{IsMachine}
-use Rattle.core_rule.specs.Book.{Book, Colour}
+use Rattle.core_rule.specs.Book.{Colour}
 use Rattle.core_rule.specs.Colours.{IsMarked, IsBetween}
 use Rattle.core_rule.specs.Flight.{Watches, FieldStands, ShadedStands, WhileReaching}
 use Rattle.core_rule.specs.Objects.{cells_at}
-use Rattle.core_rule.specs.Rule.{Rule}
 use Rattle.core_rule.specs.Ways.{Finds}
-use Rattle.core_rule.proofs.steps.Assemble.{Keeps}
+use Rattle.core_rule.proofs.steps.Assemble.{StepKeeps}
 use Rattle.core_rule.proofs.steps.BarrierSteps.{shades_on, leads_back, holds_all}
 use Rattle.core_rule.proofs.cycle.CycleFrames.{watches_stay}
 use Rattle.core_rule.proofs.ways.LoadedObjects.{held_kept}
@@ -32,11 +29,7 @@ use Rattle.core_rule.proofs.colours.ShadeColours.{with_mark, mark_marks, mark_ke
 use Rattle.core_rule.proofs.steps.ShadeStep.{words_shaded}
 
 -- shading the new value keeps the rule
-pub shade_new_keeps : (heap : Heap) (state : State) (book : Book) (q : ℕ) → Rule heap state book → q < heap.seats
-    → (seat_at state q).place ≡ places.Reaching ShadingNew
-    → IsMachine heap (stepped heap state q (shade_new_move (seat_at state q)))
-    → Keeps heap (stepped heap state q (shade_new_move (seat_at state q))) book book.begun
-    ((shade_new_move (seat_at state q)).shows state.words (found_by heap state (shade_new_move (seat_at state q)).step))
+pub shade_new_keeps : StepKeeps (places.Reaching ShadingNew) (λ heap q. shade_new_move)
 shade_new_keeps heap state book q rule here place machine =
     let seat : Seat = seat_at state q in
     let g : Graph = graph_of heap book.history in

@@ -1,6 +1,5 @@
 -- Shading the old value of a set keeps the rule.
-use Rattle.std.proofs.Common.{◌≡◌, ℕ, ◌<◌, true, [], ◌++◌, Some, None, IfSome, inl, inr, refl, sym, ap, ◌∙◌, subst, ◌⊎◌, IsSome, slice_set}
-use Rattle.heap_model.specs.declared.heap.Heap.{Heap}
+use Rattle.std.proofs.Common.{◌≡◌, ℕ, true, [], ◌++◌, Some, None, IfSome, inl, inr, refl, sym, ap, ◌∙◌, subst, ◌⊎◌, IsSome, slice_set}
 use Rattle.heap_model.specs.Cycles.{graph_of}
 use Rattle.heap_model.specs.PhaseCounts.{phase}
 use Rattle.heap_model.specs.State.{State as Graph}
@@ -9,19 +8,18 @@ use Rattle.core_machine.specs.declared.place.Reaching.{Reaching}
 use Rattle.core_machine.specs.declared.place.Reaching.TheVariants.{ShadingOld, ShadingNew, Swapping}
 use Rattle.core_machine.specs.seat.FitsReaching.{Sets}
 use Rattle.core_machine.specs.table.Loaded.{head_in}
-use Rattle.core_machine.specs.machine.Machine.{State, seat_at, stepped, found_by}
+use Rattle.core_machine.specs.machine.Machine.{seat_at}
 use Rattle.core_machine.specs.seat.Reaching.{has_barrier}
 use Rattle.core_machine.specs.seat.ReachingMoves.{shade_old_move, loaded_head, new_register, field_part}
 use Rattle.core_machine.specs.seat.Registers.{head_of}
 use Rattle.core_machine.specs.seat.Seat.{Seat}
 use Rattle.core_machine.specs.machine.Value.{IsMachine}
-use Rattle.core_rule.specs.Book.{Book, Colour, fragment_at}
+use Rattle.core_rule.specs.Book.{Colour, fragment_at}
 use Rattle.core_rule.specs.Colours.{IsMarked, Leads, IsBetween}
 use Rattle.core_rule.specs.Flight.{Watches, FieldStands, WhileReaching}
 use Rattle.core_rule.specs.Objects.{cells_at}
-use Rattle.core_rule.specs.Rule.{Rule}
 use Rattle.core_rule.specs.Ways.{Finds, LoadedKept}
-use Rattle.core_rule.proofs.steps.Assemble.{Keeps}
+use Rattle.core_rule.proofs.steps.Assemble.{Keeps, StepKeeps}
 use Rattle.core_rule.proofs.steps.BarrierSteps.{new_cases, shades_on, leads_back}
 use Rattle.core_rule.proofs.ways.LoadedObjects.{KeptHead}
 use Rattle.core_rule.proofs.ways.OnwardWays.{finds_at}
@@ -30,11 +28,7 @@ use Rattle.core_rule.proofs.colours.ShadeColours.{with_mark, mark_marks, mark_ke
 use Rattle.core_rule.proofs.steps.ShadeStep.{shading, words_shaded}
 
 -- shading the old value keeps the rule
-pub shade_old_keeps : (heap : Heap) (state : State) (book : Book) (q : ℕ) → Rule heap state book → q < heap.seats
-    → (seat_at state q).place ≡ places.Reaching ShadingOld
-    → IsMachine heap (stepped heap state q (shade_old_move (seat_at state q)))
-    → Keeps heap (stepped heap state q (shade_old_move (seat_at state q))) book book.begun
-    ((shade_old_move (seat_at state q)).shows state.words (found_by heap state (shade_old_move (seat_at state q)).step))
+pub shade_old_keeps : StepKeeps (places.Reaching ShadingOld) (λ heap q. shade_old_move)
 shade_old_keeps heap state book q rule here place machine =
     let seat : Seat = seat_at state q in
     let g : Graph = graph_of heap book.history in

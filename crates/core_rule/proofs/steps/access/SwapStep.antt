@@ -31,19 +31,17 @@ use Rattle.core_machine.specs.seat.Fits.{IsAtRest, IsSilent}
 use Rattle.core_machine.specs.seat.FitsReaching.{IsSet, Sets as FitsSets}
 use Rattle.core_machine.specs.table.Layout.{at, put}
 use Rattle.core_machine.specs.table.Loaded.{stamp_in}
-use Rattle.core_machine.specs.machine.Machine.{State, seat_at, stepped, found_by}
+use Rattle.core_machine.specs.machine.Machine.{seat_at}
 use Rattle.core_machine.specs.Move.{seat_after}
 use Rattle.core_machine.specs.seat.Reaching.{has_barrier, row_of}
 use Rattle.core_machine.specs.seat.ReachingMoves.{swap_move, field_part, new_word}
 use Rattle.core_machine.specs.seat.Registers.{register_in}
 use Rattle.core_machine.specs.seat.Seat.{Seat, HasNumber}
-use Rattle.core_machine.specs.machine.Value.{IsMachine}
-use Rattle.core_rule.specs.Book.{Book, fragment_at, id_at, head_of}
+use Rattle.core_rule.specs.Book.{fragment_at, id_at, head_of}
 use Rattle.core_rule.specs.Objects.{AreMade, NamesKept, Objects, cells_in, cells_at, value_word}
 use Rattle.core_rule.specs.Registers.{Holds}
-use Rattle.core_rule.specs.Rule.{Rule}
 use Rattle.core_rule.specs.Ways.{Finds}
-use Rattle.core_rule.proofs.steps.Assemble.{Keeps}
+use Rattle.core_rule.proofs.steps.Assemble.{StepKeeps}
 use Rattle.core_rule.proofs.entries.AtRest.{in_flight, spent_own, few_own, none_awaited}
 use Rattle.core_rule.proofs.graph.CellSet.{Sets, sets_cell}
 use Rattle.core_rule.proofs.objects.CellWords.{stamp_of_value, register_is_value, register_names}
@@ -89,11 +87,7 @@ module _ (command : Command) (is : IsSet command) where
       command is
 
 -- the swap keeps the rule
-pub swap_keeps : (heap : Heap) (state : State) (book : Book) (q : ℕ) → Rule heap state book → q < heap.seats
-    → (seat_at state q).place ≡ places.Reaching Swapping
-    → IsMachine heap (stepped heap state q (swap_move q (seat_at state q)))
-    → Keeps heap (stepped heap state q (swap_move q (seat_at state q))) book book.begun
-    ((swap_move q (seat_at state q)).shows state.words (found_by heap state (swap_move q (seat_at state q)).step))
+pub swap_keeps : StepKeeps (places.Reaching Swapping) (λ heap. swap_move)
 swap_keeps heap state book q rule here place machine =
     let seat : Seat = seat_at state q in
     let g : Graph = graph_of heap book.history in

@@ -1,6 +1,5 @@
 -- Telling the reply of a call that looks at no word keeps the rule.
-use Rattle.std.proofs.Common.{◌≡◌, ◌≢◌, ℕ, ◌<◌, false, filter, refl, ◌∙◌, subst}
-use Rattle.heap_model.specs.declared.heap.Heap.{Heap}
+use Rattle.std.proofs.Common.{◌≡◌, ◌≢◌, false, filter, refl, ◌∙◌, subst}
 use Rattle.heap_model.specs.Command.{IsCommand}
 use Rattle.heap_model.specs.Cycles.{graph_of}
 use Rattle.heap_model.specs.Effects.{is_of}
@@ -11,14 +10,11 @@ use Rattle.core_machine.specs.declared.place.Place.TheVariants as places
 use Rattle.core_machine.specs.seat.Commands.{target_of}
 use Rattle.core_machine.specs.seat.Fits.{IsAtRest, IsLocal, IsSilent}
 use Rattle.core_machine.specs.table.Layout.{at}
-use Rattle.core_machine.specs.machine.Machine.{State, seat_at, stepped, found_by}
+use Rattle.core_machine.specs.machine.Machine.{seat_at}
 use Rattle.core_machine.specs.Moves.{telling_move, seat_after}
 use Rattle.core_machine.specs.seat.Seat.{Seat}
 use Rattle.core_machine.specs.seat.Telling.{local_reply}
-use Rattle.core_machine.specs.machine.Value.{IsMachine}
-use Rattle.core_rule.specs.Book.{Book}
-use Rattle.core_rule.specs.Rule.{Rule}
-use Rattle.core_rule.proofs.steps.Assemble.{Keeps}
+use Rattle.core_rule.proofs.steps.Assemble.{StepKeeps}
 use Rattle.core_rule.proofs.entries.AtRest.{in_flight, none_awaited}
 use Rattle.core_rule.proofs.graph.GraphRegisters.{registers_length}
 use Rattle.core_rule.proofs.graph.LocalReplies.{local_replies}
@@ -27,11 +23,7 @@ use Rattle.core_rule.proofs.entries.PhaseEntries.{no_leave_told}
 use Rattle.core_rule.proofs.entries.SeatLists.{all_told}
 
 -- telling such a reply keeps the rule
-pub telling_keeps : (heap : Heap) (state : State) (book : Book) (q : ℕ) → Rule heap state book → q < heap.seats
-    → (seat_at state q).place ≡ places.Telling
-    → IsMachine heap (stepped heap state q (telling_move q (seat_at state q)))
-    → Keeps heap (stepped heap state q (telling_move q (seat_at state q))) book book.begun
-    ((telling_move q (seat_at state q)).shows state.words (found_by heap state (telling_move q (seat_at state q)).step))
+pub telling_keeps : StepKeeps places.Telling (λ heap. telling_move)
 telling_keeps heap state book q rule here place machine =
     let seat : Seat = seat_at state q in
     let g : Graph = graph_of heap book.history in

@@ -18,7 +18,7 @@ use Rattle.core_machine.specs.seat.AnsweringMoves.{answer_move}
 use Rattle.core_machine.specs.seat.Commands.{target_of}
 use Rattle.core_machine.specs.seat.Fits.{Fits, IsAtRest, Answers as IsAnswering}
 use Rattle.core_machine.specs.table.Layout.{at, put}
-use Rattle.core_machine.specs.machine.Machine.{State, seat_at, stepped, found_by}
+use Rattle.core_machine.specs.machine.Machine.{State, seat_at, stepped}
 use Rattle.core_machine.specs.Moves.{seat_after}
 use Rattle.core_machine.specs.seat.Polling.{roots}
 use Rattle.core_machine.specs.seat.Seat.{Seat}
@@ -31,7 +31,7 @@ use Rattle.core_rule.specs.Phases.{Asks, answer_word}
 use Rattle.core_rule.specs.Rule.{Rule, HeapStands, SeatStands}
 use Rattle.core_rule.proofs.entries.AnswerEntries.{graph_answer, graph_reply, phase_answer, accepts_reply, has_answered, keeps_answer, keeps_reply}
 use Rattle.core_rule.proofs.cycle.AnswerWords.{fragments_answer, heap_cycle_answer, leaves_answer}
-use Rattle.core_rule.proofs.steps.Assemble.{Keeps, seat_steps, fit_after}
+use Rattle.core_rule.proofs.steps.Assemble.{Keeps, seat_steps, fit_after, StepKeeps}
 use Rattle.core_rule.proofs.entries.AtRest.{in_flight, none_awaited, spent_own, few_own}
 use Rattle.core_rule.proofs.cycle.CycleFrames.{cycle_stays}
 use Rattle.core_rule.proofs.cycle.CycleHistory.{heap_cycle_more, cycle_other}
@@ -194,9 +194,5 @@ module _ (heap : Heap) (state : State) (book : Book) (q : ℕ) (rule : Rule heap
   answer_kept : Keeps heap (stepped heap state q (answer_move q seat)) book book.begun (first ∷ second ∷ [])
   answer_kept = seat_steps heap state book q words now later (first ∷ second ∷ []) rule here machine (append_assoc book.history (first ∷ []) (second ∷ [])) refl heap_later own_stands other_stands
 
-pub answer_keeps : (heap : Heap) (state : State) (book : Book) (q : ℕ) → Rule heap state book → q < heap.seats
-    → (seat_at state q).place ≡ places.Polling Answering
-    → IsMachine heap (stepped heap state q (answer_move q (seat_at state q)))
-    → Keeps heap (stepped heap state q (answer_move q (seat_at state q))) book book.begun
-    ((answer_move q (seat_at state q)).shows state.words (found_by heap state (answer_move q (seat_at state q)).step))
+pub answer_keeps : StepKeeps (places.Polling Answering) (λ heap. answer_move)
 answer_keeps heap state book q rule here place machine = answer_kept heap state book q rule here place machine

@@ -4,7 +4,6 @@ use Rattle.std.proofs.lemmas.Bool.{eq-eqb}
 use Rattle.heap_model.specs.declared.command.Command.TheVariants as commands
 use Rattle.heap_model.specs.declared.entry.Entry.{Entry}
 use Rattle.heap_model.specs.declared.entry.Entry.TheVariants as entries
-use Rattle.heap_model.specs.declared.heap.Heap.{Heap}
 use Rattle.heap_model.specs.Cycles.{graph_of}
 use Rattle.heap_model.specs.Effects.{is_of}
 use Rattle.heap_model.specs.Objects.{party}
@@ -19,14 +18,12 @@ use Rattle.core_machine.specs.seat.AnsweringMoves.{empty_move}
 use Rattle.core_machine.specs.seat.Commands.{target_of}
 use Rattle.core_machine.specs.seat.Fits.{IsAtRest, IsSilent}
 use Rattle.core_machine.specs.table.Layout.{at}
-use Rattle.core_machine.specs.machine.Machine.{State, seat_at, stepped, found_by}
+use Rattle.core_machine.specs.machine.Machine.{seat_at}
 use Rattle.core_machine.specs.Moves.{seat_after}
 use Rattle.core_machine.specs.seat.Seat.{Seat}
-use Rattle.core_machine.specs.machine.Value.{IsMachine}
 use Rattle.core_rule.specs.Book.{Book}
 use Rattle.core_rule.specs.Gathers.{IsAnswered}
-use Rattle.core_rule.specs.Rule.{Rule}
-use Rattle.core_rule.proofs.steps.Assemble.{Keeps, seat_steps, fit_after}
+use Rattle.core_rule.proofs.steps.Assemble.{seat_steps, fit_after, StepKeeps}
 use Rattle.core_rule.proofs.entries.AtRest.{in_flight, own_reserve, none_awaited}
 use Rattle.core_rule.proofs.hand.EmptyHand.{nothing_together, gathers_none}
 use Rattle.core_rule.proofs.frames.GivingBack.{words_given, book_given, graph_given, kept_given, heap_given, cycle_given, other_given}
@@ -38,11 +35,7 @@ use Rattle.core_rule.proofs.entries.SeatLists.{whole_list, all_told}
 use Rattle.core_rule.proofs.hand.StoredFrames.{stored_control}
 
 -- the give back keeps the rule
-pub empty_keeps : (heap : Heap) (state : State) (book : Book) (q : ℕ) → Rule heap state book → q < heap.seats
-    → (seat_at state q).place ≡ places.Leaving Emptying
-    → IsMachine heap (stepped heap state q (empty_move q (seat_at state q)))
-    → Keeps heap (stepped heap state q (empty_move q (seat_at state q))) book book.begun
-    ((empty_move q (seat_at state q)).shows state.words (found_by heap state (empty_move q (seat_at state q)).step))
+pub empty_keeps : StepKeeps (places.Leaving Emptying) (λ heap. empty_move)
 empty_keeps heap state book q rule here place machine =
     let seat : Seat = seat_at state q in
     let stands = rule.seats_stand q here in

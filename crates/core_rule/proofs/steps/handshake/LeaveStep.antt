@@ -5,7 +5,6 @@ use Rattle.heap_words.specs.declared.phase.TheConstants.{LEFT}
 use Rattle.heap_model.specs.declared.command.Command.TheVariants as commands
 use Rattle.heap_model.specs.declared.entry.Entry.{Entry}
 use Rattle.heap_model.specs.declared.entry.Entry.TheVariants as entries
-use Rattle.heap_model.specs.declared.heap.Heap.{Heap}
 use Rattle.heap_model.specs.declared.id.Value.{Value}
 use Rattle.heap_model.specs.declared.id.Value.TheVariants as values
 use Rattle.heap_model.specs.declared.reply.Reply.TheVariants as replies
@@ -26,17 +25,14 @@ use Rattle.core_machine.specs.declared.seat.register.Register.TheVariants as reg
 use Rattle.core_machine.specs.seat.AnsweringMoves.{leave_move}
 use Rattle.core_machine.specs.seat.Fits.{IsAtRest, IsSilent}
 use Rattle.core_machine.specs.table.Layout.{at, put}
-use Rattle.core_machine.specs.machine.Machine.{State, seat_at, stepped, found_by}
+use Rattle.core_machine.specs.machine.Machine.{seat_at}
 use Rattle.core_machine.specs.Moves.{seat_after}
 use Rattle.core_machine.specs.seat.Seat.{Seat}
-use Rattle.core_machine.specs.machine.Value.{IsMachine}
 use Rattle.core_machine.proofs.table_lemmas.Addresses.{at-put_same}
-use Rattle.core_rule.specs.Book.{Book}
 use Rattle.core_rule.specs.Objects.{Objects}
 use Rattle.core_rule.specs.Registers as regs
-use Rattle.core_rule.specs.Rule.{Rule}
 use Rattle.core_rule.proofs.cycle.AnswerWords.{fragments_answer, heap_cycle_answer, leaves_answer}
-use Rattle.core_rule.proofs.steps.Assemble.{Keeps}
+use Rattle.core_rule.proofs.steps.Assemble.{StepKeeps}
 use Rattle.core_rule.proofs.entries.AtRest.{in_flight, own_reserve, spent_own}
 use Rattle.core_rule.proofs.frames.EntryFrames.{SameFragments}
 use Rattle.core_rule.proofs.graph.GraphSeats.{SeatChanges, party_is, one_changes}
@@ -57,11 +53,7 @@ abbrev gone : Graph → ℕ → Party
 gone g q = record (party g q) { registers = replicate 16 values.Nil; left = true }
 
 -- a leave keeps the rule
-pub leave_keeps : (heap : Heap) (state : State) (book : Book) (q : ℕ) → Rule heap state book → q < heap.seats
-    → (seat_at state q).place ≡ places.Leaving Parting
-    → IsMachine heap (stepped heap state q (leave_move q (seat_at state q)))
-    → Keeps heap (stepped heap state q (leave_move q (seat_at state q))) book book.begun
-    ((leave_move q (seat_at state q)).shows state.words (found_by heap state (leave_move q (seat_at state q)).step))
+pub leave_keeps : StepKeeps (places.Leaving Parting) (λ heap. leave_move)
 leave_keeps heap state book q rule here place machine =
     let seat : Seat = seat_at state q in
     let g : Graph = graph_of heap book.history in

@@ -19,7 +19,7 @@ use Rattle.core_machine.specs.seat.AnsweringMoves.{poll_move}
 use Rattle.core_machine.specs.seat.Commands.{target_of}
 use Rattle.core_machine.specs.seat.Fits.{IsAtRest, IsSilent}
 use Rattle.core_machine.specs.table.Layout.{at, put}
-use Rattle.core_machine.specs.machine.Machine.{State, seat_at, stepped, found_by}
+use Rattle.core_machine.specs.machine.Machine.{State, seat_at}
 use Rattle.core_machine.specs.seat.Polling.{roots, shades_on}
 use Rattle.core_machine.specs.seat.Seat.{Seat, with_entries}
 use Rattle.core_machine.specs.machine.Value.{IsMachine}
@@ -28,7 +28,7 @@ use Rattle.core_rule.specs.Book.{Book}
 use Rattle.core_rule.specs.Cycle.{SeatInCycle}
 use Rattle.core_rule.specs.Phases.{Asks, PollingStands}
 use Rattle.core_rule.specs.Rule.{Rule, SeatStands}
-use Rattle.core_rule.proofs.steps.Assemble.{Keeps, seat_steps, fit_after}
+use Rattle.core_rule.proofs.steps.Assemble.{Keeps, seat_steps, fit_after, StepKeeps}
 use Rattle.core_rule.proofs.entries.AtRest.{in_flight, none_awaited}
 use Rattle.core_rule.proofs.entries.InFlight.{began_on}
 use Rattle.core_rule.proofs.graph.LocalReplies.{IsLocalReply, HoldAll}
@@ -143,11 +143,7 @@ module _ (heap : Heap) (state : State) (book : Book) (q : ℕ) (rule : Rule heap
       (λ r below apart other. other)) machine
 
 -- a poll's load keeps the rule
-pub poll_keeps : (heap : Heap) (state : State) (book : Book) (q : ℕ) → Rule heap state book → q < heap.seats
-    → (seat_at state q).place ≡ places.Polling Asking
-    → IsMachine heap (stepped heap state q (poll_move q (seat_at state q)))
-    → Keeps heap (stepped heap state q (poll_move q (seat_at state q))) book book.begun
-    ((poll_move q (seat_at state q)).shows state.words (found_by heap state (poll_move q (seat_at state q)).step))
+pub poll_keeps : StepKeeps (places.Polling Asking) (λ heap. poll_move)
 poll_keeps heap state book q rule here place machine =
     let found : ℕ = at heap state.words Phase in
     elim (eqb_tells found (seat_at state q).answered) [

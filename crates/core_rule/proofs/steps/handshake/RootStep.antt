@@ -2,7 +2,6 @@
 use Rattle.std.proofs.Common.{◌≡◌, ℕ, ◌+◌, ◌%◌, ◌<◌, ◌==◌, if◌then◌else◌, Bool, true, false, List, [], length, filter, slice_index_or, inl, inr, refl, sym, ◌∙◌, subst, arith, nat_lt}
 use Rattle.std.proofs.lemmas.Bool.{cond_both, eqb-true, cases_lt}
 use Rattle.std.proofs.lemmas.List.{append-nil}
-use Rattle.heap_model.specs.declared.heap.Heap.{Heap}
 use Rattle.heap_model.specs.Cycles.{graph_of}
 use Rattle.heap_model.specs.Effects.{is_of}
 use Rattle.heap_model.specs.Objects.{register}
@@ -13,18 +12,15 @@ use Rattle.core_machine.specs.declared.place.Polling.TheVariants.{Shading, Answe
 use Rattle.core_machine.specs.seat.AnsweringMoves.{root_move}
 use Rattle.core_machine.specs.seat.Commands.{target_of}
 use Rattle.core_machine.specs.seat.Fits.{Answers as FitsAnswers}
-use Rattle.core_machine.specs.machine.Machine.{State, seat_at, stepped, found_by}
+use Rattle.core_machine.specs.machine.Machine.{seat_at}
 use Rattle.core_machine.specs.seat.Polling.{roots, answer_place}
 use Rattle.core_machine.specs.seat.Registers.{heads, register_in}
 use Rattle.core_machine.specs.seat.Seat.{Seat}
-use Rattle.core_machine.specs.machine.Value.{IsMachine}
-use Rattle.core_rule.specs.Book.{Book}
 use Rattle.core_rule.specs.Colours.{IsMarked}
 use Rattle.core_rule.specs.Gathers.{IsAnswered}
 use Rattle.core_rule.specs.Phases.{Asks, PollingStands, AnswerStands}
 use Rattle.core_rule.specs.Registers.{IsAwaited, Holds}
-use Rattle.core_rule.specs.Rule.{Rule}
-use Rattle.core_rule.proofs.steps.Assemble.{Keeps}
+use Rattle.core_rule.proofs.steps.Assemble.{StepKeeps}
 use Rattle.core_rule.proofs.cycle.CycleFrames.{cycle_by_flight}
 use Rattle.core_rule.proofs.ways.LoadedObjects.{KeptHead, heads_kept}
 use Rattle.core_rule.proofs.entries.SeatLists.{list_more}
@@ -41,11 +37,7 @@ roots_third true all n less = refl
 roots_third false all n less = absurd (omega (arith, less))
 
 -- shading a root keeps the rule
-pub root_keeps : (heap : Heap) (state : State) (book : Book) (q : ℕ) → Rule heap state book → q < heap.seats
-    → (seat_at state q).place ≡ places.Polling Shading
-    → IsMachine heap (stepped heap state q (root_move (seat_at state q)))
-    → Keeps heap (stepped heap state q (root_move (seat_at state q))) book book.begun
-    ((root_move (seat_at state q)).shows state.words (found_by heap state (root_move (seat_at state q)).step))
+pub root_keeps : StepKeeps (places.Polling Shading) (λ heap q. root_move)
 root_keeps heap state book q rule here place machine =
     let seat : Seat = seat_at state q in
     let g : Graph = graph_of heap book.history in

@@ -10,19 +10,18 @@ use Rattle.core_machine.specs.declared.place.Place.TheVariants as places
 use Rattle.core_machine.specs.seat.Commands.{target_of}
 use Rattle.core_machine.specs.table.Fragments.{part_in, part_out, mask}
 use Rattle.core_machine.specs.table.Layout.{at, put}
-use Rattle.core_machine.specs.machine.Machine.{State, seat_at, stepped, found_by}
+use Rattle.core_machine.specs.machine.Machine.{State, seat_at}
 use Rattle.core_machine.specs.seat.Making.{last_group}
 use Rattle.core_machine.specs.Moves.{birth_move, bears_black, is_last_birth, seat_after}
 use Rattle.core_machine.specs.table.Operation.{birth_bits}
 use Rattle.core_machine.specs.seat.Seat.{Seat}
-use Rattle.core_machine.specs.machine.Value.{IsMachine}
 use Rattle.core_machine.proofs.table_lemmas.Addresses.{length-put}
 use Rattle.core_rule.specs.Book.{Book, Colour, White, fragment_at}
 use Rattle.core_rule.specs.Colours.{IsMarked, birth_colour}
 use Rattle.core_rule.specs.Objects.{cells_at}
 use Rattle.core_rule.specs.Owners.{Owner, Bears, born_bit, handed}
 use Rattle.core_rule.specs.Rule.{Rule}
-use Rattle.core_rule.proofs.steps.Assemble.{fit_after, Keeps, seat_steps}
+use Rattle.core_rule.proofs.steps.Assemble.{fit_after, seat_steps, MoveKeeps}
 use Rattle.core_rule.proofs.colours.BirthColours.{painted_cases}
 use Rattle.core_rule.proofs.cycle.BirthCycle.{words_born, colours_born, group_born, some_born, marks_born, heap_born}
 use Rattle.core_rule.proofs.hand.Bodies.{whole_full}
@@ -44,11 +43,7 @@ use Rattle.core_rule.proofs.ways.WayFrames.{way_owners}
 
 -- a birth keeps the rule
 pub birth_keeps : (heap : Heap) (state : State) (book : Book) (q : ℕ) → Rule heap state book → q < heap.seats
-    → (seat_at state q).place ≡ places.Making Bearing
-    → is_last_birth (seat_at state q) ≡ false
-    → IsMachine heap (stepped heap state q (birth_move (seat_at state q)))
-    → Keeps heap (stepped heap state q (birth_move (seat_at state q))) book book.begun
-    ((birth_move (seat_at state q)).shows state.words (found_by heap state (birth_move (seat_at state q)).step))
+    → (seat_at state q).place ≡ places.Making Bearing → is_last_birth (seat_at state q) ≡ false → MoveKeeps heap state book q (birth_move (seat_at state q))
 birth_keeps heap state book q rule here place more machine =
     let seat : Seat = seat_at state q in
     let stands = rule.seats_stand q here in

@@ -15,24 +15,21 @@ use Rattle.core_machine.specs.seat.Commands.{target_of}
 use Rattle.core_machine.specs.seat.Fits.{Gathers}
 use Rattle.core_machine.specs.table.Fragments.{clear_in, tally}
 use Rattle.core_machine.specs.table.Layout.{at, put, table_length}
-use Rattle.core_machine.specs.machine.Machine.{State, seat_at, stepped, found_by}
+use Rattle.core_machine.specs.machine.Machine.{seat_at}
 use Rattle.core_machine.specs.seat.Making.{next_group}
 use Rattle.core_machine.specs.Moves.{claim_move, takes_some, seat_after}
 use Rattle.core_machine.specs.table.Operation.{all_taken}
 use Rattle.core_machine.specs.seat.Seat.{Seat}
-use Rattle.core_machine.specs.machine.Value.{IsMachine}
 use Rattle.core_machine.proofs.table_lemmas.Addresses.{length-put}
 use Rattle.core_machine.proofs.table_lemmas.Owned.{clear_in-group}
-use Rattle.core_rule.specs.Book.{Book}
 use Rattle.core_rule.specs.ControlWords.{Bits}
 use Rattle.core_rule.specs.Counts.{AreUsed}
 use Rattle.core_rule.specs.Gathers.{GathersRight}
 use Rattle.core_rule.specs.Holding.{whole_hand}
 use Rattle.core_rule.specs.Objects.{cells_at}
 use Rattle.core_rule.specs.Owners.{Owner, Free, Holds, Bears, Keeps as KeepsPart, free_bit, born_bit, handed}
-use Rattle.core_rule.specs.Rule.{Rule}
 use Rattle.core_rule.specs.Together.{AreTogether}
-use Rattle.core_rule.proofs.steps.Assemble.{fit_after, present_at, Keeps, seat_steps}
+use Rattle.core_rule.proofs.steps.Assemble.{fit_after, present_at, seat_steps, StepKeeps}
 use Rattle.core_rule.proofs.colours.BirthColours.{marks_claim}
 use Rattle.core_rule.proofs.hand.Bodies.{whole_empty}
 use Rattle.core_rule.proofs.hand.ClaimOrder.{together_goes_on, together_claims}
@@ -89,11 +86,7 @@ holds_bears_none : {q r : ℕ} → Holds q ≢ Bears r
 holds_bears_none e = cc
 
 -- a claim keeps the rule
-pub claim_keeps : (heap : Heap) (state : State) (book : Book) (q : ℕ) → Rule heap state book → q < heap.seats
-    → (seat_at state q).place ≡ places.Making Gathering
-    → IsMachine heap (stepped heap state q (claim_move heap q (seat_at state q)))
-    → Keeps heap (stepped heap state q (claim_move heap q (seat_at state q))) book book.begun
-    ((claim_move heap q (seat_at state q)).shows state.words (found_by heap state (claim_move heap q (seat_at state q)).step))
+pub claim_keeps : StepKeeps (places.Making Gathering) claim_move
 claim_keeps heap state book q rule here place machine =
     let seat : Seat = seat_at state q in
     let stands = rule.seats_stand q here in

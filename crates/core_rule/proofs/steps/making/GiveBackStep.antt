@@ -3,7 +3,6 @@ use Rattle.std.proofs.Common.{◌≡◌, ℕ, ◌+◌, ◌<◌, ◌≤◌, List,
 use Rattle.std.proofs.lemmas.Bool.{eq-eqb}
 use Rattle.heap_model.specs.declared.entry.Entry.{Entry}
 use Rattle.heap_model.specs.declared.entry.Entry.TheVariants as entries
-use Rattle.heap_model.specs.declared.heap.Heap.{Heap}
 use Rattle.heap_model.specs.Cycles.{graph_of}
 use Rattle.heap_model.specs.Space.{taken_of, spent_of}
 use Rattle.heap_model.specs.State.{State as Graph}
@@ -14,15 +13,13 @@ use Rattle.core_machine.specs.seat.Commands.{target_of}
 use Rattle.core_machine.specs.seat.Fits.{Refuses}
 use Rattle.core_machine.specs.table.Fragments.{part_in, part_out}
 use Rattle.core_machine.specs.table.Layout.{at}
-use Rattle.core_machine.specs.machine.Machine.{State, seat_at, stepped, found_by}
+use Rattle.core_machine.specs.machine.Machine.{seat_at}
 use Rattle.core_machine.specs.seat.Making.{first_group, returning}
 use Rattle.core_machine.specs.Moves.{give_back_move, seat_after}
 use Rattle.core_machine.specs.seat.Seat.{Seat}
-use Rattle.core_machine.specs.machine.Value.{IsMachine}
 use Rattle.core_rule.specs.Book.{Book}
 use Rattle.core_rule.specs.Holding.{whole_hand}
-use Rattle.core_rule.specs.Rule.{Rule}
-use Rattle.core_rule.proofs.steps.Assemble.{fit_after, present_at, Keeps, seat_steps}
+use Rattle.core_rule.proofs.steps.Assemble.{fit_after, present_at, seat_steps, StepKeeps}
 use Rattle.core_rule.proofs.hand.Bodies.{whole_empty}
 use Rattle.core_rule.proofs.hand.ClaimOrder.{together_gives}
 use Rattle.core_rule.proofs.words.ControlSteps.{give_back_bits}
@@ -46,11 +43,7 @@ gives_own : (reserve hand body : List ℕ) (g spent taken : ℕ) → body ≡ []
 gives_own reserve hand body g spent taken none own = omega (arith, own, left_of_hand reserve hand body g none)
 
 -- a give back keeps the rule
-pub give_back_keeps : (heap : Heap) (state : State) (book : Book) (q : ℕ) → Rule heap state book → q < heap.seats
-    → (seat_at state q).place ≡ places.Making Returning
-    → IsMachine heap (stepped heap state q (give_back_move q (seat_at state q)))
-    → Keeps heap (stepped heap state q (give_back_move q (seat_at state q))) book book.begun
-    ((give_back_move q (seat_at state q)).shows state.words (found_by heap state (give_back_move q (seat_at state q)).step))
+pub give_back_keeps : StepKeeps (places.Making Returning) (λ heap. give_back_move)
 give_back_keeps heap state book q rule here place machine =
     let seat : Seat = seat_at state q in
     let stands = rule.seats_stand q here in

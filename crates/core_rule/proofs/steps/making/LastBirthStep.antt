@@ -15,19 +15,18 @@ use Rattle.core_machine.specs.seat.Commands.{target_of, fields_of, IsRecord}
 use Rattle.core_machine.specs.seat.Fits.{HasBody}
 use Rattle.core_machine.specs.table.Fragments.{mask, tally}
 use Rattle.core_machine.specs.table.Layout.{at}
-use Rattle.core_machine.specs.machine.Machine.{State, seat_at, stepped, found_by}
+use Rattle.core_machine.specs.machine.Machine.{State, seat_at}
 use Rattle.core_machine.specs.seat.Making.{last_group, next_id, newborn_word}
 use Rattle.core_machine.specs.Moves.{bears_black, last_birth_move, last_part, made_entry, seat_after, is_last_birth}
 use Rattle.core_machine.specs.table.Operation.{birth_bits}
 use Rattle.core_machine.specs.seat.Seat.{Seat}
-use Rattle.core_machine.specs.machine.Value.{IsMachine}
 use Rattle.core_machine.proofs.table_lemmas.Addresses.{length-put}
 use Rattle.core_rule.specs.Book.{Book}
 use Rattle.core_rule.specs.Colours.{birth_colour}
 use Rattle.core_rule.specs.Gathers.{GathersRight}
 use Rattle.core_rule.specs.Objects.{AreMade, cells_at}
 use Rattle.core_rule.specs.Rule.{Rule}
-use Rattle.core_rule.proofs.steps.Assemble.{fit_after, present_at, Keeps, seat_steps}
+use Rattle.core_rule.proofs.steps.Assemble.{fit_after, present_at, seat_steps, MoveKeeps}
 use Rattle.core_rule.proofs.colours.BirthColours.{painted}
 use Rattle.core_rule.proofs.cycle.BirthCycle.{words_born, group_born, some_born, marks_born, heap_born}
 use Rattle.core_rule.proofs.hand.Bodies.{body_once, body_own}
@@ -73,11 +72,7 @@ book_born book q seat = record book {
 
 -- the last birth keeps the rule
 pub last_birth_keeps : (heap : Heap) (state : State) (book : Book) (q : ℕ) → Rule heap state book → q < heap.seats
-    → (seat_at state q).place ≡ places.Making Bearing
-    → is_last_birth (seat_at state q) ≡ true
-    → IsMachine heap (stepped heap state q (last_birth_move q (seat_at state q)))
-    → Keeps heap (stepped heap state q (last_birth_move q (seat_at state q))) book book.begun
-    ((last_birth_move q (seat_at state q)).shows state.words (found_by heap state (last_birth_move q (seat_at state q)).step))
+    → (seat_at state q).place ≡ places.Making Bearing → is_last_birth (seat_at state q) ≡ true → MoveKeeps heap state book q (last_birth_move q (seat_at state q))
 last_birth_keeps heap state book q rule here place last machine =
     let seat : Seat = seat_at state q in
     let body : List ℕ = seat.body in

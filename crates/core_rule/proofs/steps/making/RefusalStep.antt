@@ -1,8 +1,7 @@
 -- Telling a refusal keeps the rule.
-use Rattle.std.proofs.Common.{◌≡◌, ℕ, ◌+◌, ◌<◌, false, List, [], ◌∷◌, ◌++◌, length, drop, slice_set, refl, sym, ◌∙◌, subst, arith, ap}
+use Rattle.std.proofs.Common.{◌≡◌, ◌+◌, ◌<◌, false, List, [], ◌∷◌, ◌++◌, length, drop, slice_set, refl, sym, ◌∙◌, subst, arith, ap}
 use Rattle.std.proofs.lemmas.Bool.{eq-eqb}
 use Rattle.heap_model.specs.declared.entry.Entry.{Entry}
-use Rattle.heap_model.specs.declared.heap.Heap.{Heap}
 use Rattle.heap_model.specs.Cycles.{graph_of}
 use Rattle.heap_model.specs.Objects.{party}
 use Rattle.heap_model.specs.PhaseCounts.{phase, answered, has_left}
@@ -16,15 +15,13 @@ use Rattle.core_machine.specs.declared.place.Place.TheVariants as places
 use Rattle.core_machine.specs.seat.Commands.{target_of, IsRecord}
 use Rattle.core_machine.specs.seat.Fits.{Refuses}
 use Rattle.core_machine.specs.table.Layout.{at}
-use Rattle.core_machine.specs.machine.Machine.{State, seat_at, stepped, found_by}
+use Rattle.core_machine.specs.machine.Machine.{seat_at}
 use Rattle.core_machine.specs.Moves.{refusal_move, full_entry, seat_after}
 use Rattle.core_machine.specs.seat.Seat.{Seat, need}
 use Rattle.core_machine.specs.machine.Value.{IsMachine}
 use Rattle.core_machine.proofs.table_lemmas.Addresses.{put-at}
-use Rattle.core_rule.specs.Book.{Book}
 use Rattle.core_rule.specs.Gathers.{GathersRight}
-use Rattle.core_rule.specs.Rule.{Rule}
-use Rattle.core_rule.proofs.steps.Assemble.{fit_after, present_at, Keeps, seat_steps}
+use Rattle.core_rule.proofs.steps.Assemble.{fit_after, present_at, Keeps, seat_steps, StepKeeps}
 use Rattle.core_rule.proofs.hand.Bodies.{bare_hand}
 use Rattle.core_rule.proofs.cycle.CycleHistory.{heap_cycle_more, cycle_own, cycle_other}
 use Rattle.core_rule.proofs.hand.EmptyHand.{nothing_together}
@@ -43,11 +40,7 @@ use Rattle.core_rule.proofs.graph.SameNodes.{nodes_same}
 use Rattle.core_rule.proofs.entries.SeatLists.{making_list, whole_list}
 
 -- a refusal that is told keeps the rule
-pub refusal_keeps : (heap : Heap) (state : State) (book : Book) (q : ℕ) → Rule heap state book → q < heap.seats
-    → (seat_at state q).place ≡ places.Making Refusing
-    → IsMachine heap (stepped heap state q (refusal_move q (seat_at state q)))
-    → Keeps heap (stepped heap state q (refusal_move q (seat_at state q))) book book.begun
-    ((refusal_move q (seat_at state q)).shows state.words (found_by heap state (refusal_move q (seat_at state q)).step))
+pub refusal_keeps : StepKeeps (places.Making Refusing) (λ heap. refusal_move)
 refusal_keeps heap state book q rule here place machine =
     let seat : Seat = seat_at state q in
     let entry : Entry = full_entry q seat in

@@ -1,7 +1,6 @@
 -- A store into a seat's new object keeps the rule.
 use Rattle.std.proofs.Common.{◌≡◌, ℕ, ◌*◌, ◌/◌, ◌%◌, ◌<◌, ◌≤◌, List, [], length, refl, sym, ap, ◌∙◌, subst, arith}
 use Rattle.std.proofs.lemmas.List.{append-nil}
-use Rattle.heap_model.specs.declared.heap.Heap.{Heap}
 use Rattle.heap_model.specs.Cycles.{graph_of}
 use Rattle.heap_model.specs.PhaseCounts.{phase, answered, has_left}
 use Rattle.core_machine.specs.declared.table.address.Address.TheVariants.{Answer, Word}
@@ -11,17 +10,15 @@ use Rattle.core_machine.specs.seat.Commands.{target_of}
 use Rattle.core_machine.specs.seat.Fits.{HasBody}
 use Rattle.core_machine.specs.table.Fragments.{tally}
 use Rattle.core_machine.specs.table.Layout.{at, put}
-use Rattle.core_machine.specs.machine.Machine.{State, seat_at, stepped, found_by}
+use Rattle.core_machine.specs.machine.Machine.{seat_at}
 use Rattle.core_machine.specs.seat.Making.{newborn_word}
 use Rattle.core_machine.specs.Moves.{store_move, seat_after}
 use Rattle.core_machine.specs.seat.Seat.{Seat}
-use Rattle.core_machine.specs.machine.Value.{IsMachine}
 use Rattle.core_machine.proofs.table_lemmas.Addresses.{length-put}
-use Rattle.core_rule.specs.Book.{Book, fragment_at}
+use Rattle.core_rule.specs.Book.{fragment_at}
 use Rattle.core_rule.specs.Owners.{born_bit}
-use Rattle.core_rule.specs.Rule.{Rule}
 use Rattle.core_rule.proofs.words.Addresses.{at-put_apart}
-use Rattle.core_rule.proofs.steps.Assemble.{fit_after, Keeps, seat_steps}
+use Rattle.core_rule.proofs.steps.Assemble.{fit_after, seat_steps, StepKeeps}
 use Rattle.core_rule.proofs.hand.Bodies.{body_once, body_at-own}
 use Rattle.core_rule.proofs.cycle.FieldFrames.{cycle_store, heap_store, watched_kept}
 use Rattle.core_rule.proofs.hand.HandMoves.{hand_held}
@@ -37,11 +34,7 @@ use Rattle.core_rule.proofs.hand.StoredFrames.{stored_store}
 use Rattle.core_rule.proofs.hand.StoreLemmas.{bits_store, store_next}
 
 -- a store keeps the rule
-pub store_keeps : (heap : Heap) (state : State) (book : Book) (q : ℕ) → Rule heap state book → q < heap.seats
-    → (seat_at state q).place ≡ places.Making Storing
-    → IsMachine heap (stepped heap state q (store_move q (seat_at state q)))
-    → Keeps heap (stepped heap state q (store_move q (seat_at state q))) book book.begun
-    ((store_move q (seat_at state q)).shows state.words (found_by heap state (store_move q (seat_at state q)).step))
+pub store_keeps : StepKeeps (places.Making Storing) (λ heap. store_move)
 store_keeps heap state book q rule here place machine =
     let seat : Seat = seat_at state q in
     let f : ℕ = fragment_at seat.body (seat.stored / 4) in
