@@ -13,8 +13,8 @@ use Rattle.core_machine.specs.declared.place.Polling.TheVariants.{Asking, Shadin
 use Rattle.core_machine.specs.declared.place.Reaching.TheVariants.{Opening, Walking, Getting, Naming, LoadingOld, ShadingOld, ShadingNew, Swapping}
 use Rattle.core_machine.specs.declared.collector.stage.Stage.{Stage}
 use Rattle.core_machine.specs.declared.collector.stage.Stage.TheVariants.{Looking, Advancing}
-use Rattle.core_machine.specs.collector.Collector.{turn_at, next_turn, MayTurn}
-use Rattle.core_machine.specs.machine.Machine.{State, seat_at, moved, shown, after, Begins, Can, turned}
+use Rattle.core_machine.specs.collector.Collector.{turn_at}
+use Rattle.core_machine.specs.machine.Machine.{State, seat_at, moved, shown, after, Begins, Can}
 use Rattle.core_machine.specs.Moves.{move_at, is_last_birth, last_birth_move, birth_move}
 use Rattle.core_machine.specs.machine.Value.{IsMachine}
 use Rattle.core_rule.specs.Book.{Book}
@@ -40,10 +40,11 @@ use Rattle.core_rule.proofs.steps.access.OpenStep.{open_keeps}
 use Rattle.core_rule.proofs.steps.handshake.PollStep.{poll_keeps}
 use Rattle.core_rule.proofs.steps.making.RefusalStep.{refusal_keeps}
 use Rattle.core_rule.proofs.steps.handshake.RootStep.{root_keeps}
-use Rattle.core_rule.proofs.runs.Runs.{EachStepKeeps, EachBeginKeeps}
+use Rattle.core_rule.proofs.runs.Runs.{EachStepKeeps, EachBeginKeeps, EachTurnKeeps}
 use Rattle.core_rule.proofs.steps.access.ShadeNewStep.{shade_new_keeps}
 use Rattle.core_rule.proofs.steps.access.ShadeOldStep.{shade_old_keeps}
 use Rattle.core_rule.proofs.steps.making.StoreStep.{store_keeps}
+use Rattle.core_rule.proofs.steps.TurnSteps.{TurnKeeps}
 use Rattle.core_rule.proofs.steps.access.SwapStep.{swap_keeps}
 use Rattle.core_rule.proofs.steps.access.TellingStep.{telling_keeps}
 
@@ -91,12 +92,9 @@ pub each_begin_keeps : EachBeginKeeps
 each_begin_keeps heap state book q command rule can machine = begins_at heap state book q command rule (rw (← rule.all_seats) can.0) can machine
 
 -- each turn of the collector keeps the rule
-pub each_turn_keeps : (heap : Heap) (state : State) (book : Book) → Rule heap state book → MayTurn state.collector state.collector.stage
-    → IsMachine heap (turned heap state (next_turn heap state.collector))
-    → Keeps heap (turned heap state (next_turn heap state.collector)) book book.begun (next_turn heap state.collector).adds
+pub each_turn_keeps : EachTurnKeeps
 each_turn_keeps heap state book rule may machine = at_stage state.collector.stage refl machine
   where
-    at_stage : (stage : Stage) → state.collector.stage ≡ stage → IsMachine heap (turned heap state (turn_at heap state.collector stage))
-        → Keeps heap (turned heap state (turn_at heap state.collector stage)) book book.begun (turn_at heap state.collector stage).adds
+    at_stage : (stage : Stage) → state.collector.stage ≡ stage → TurnKeeps heap state book (turn_at heap state.collector stage)
     at_stage Looking looking after = look_keeps heap state book rule looking after
     at_stage Advancing advancing after = advance_keeps heap state book rule advancing after

@@ -11,11 +11,10 @@ use Rattle.heap_model.specs.State.{State as Graph, opening}
 use Rattle.heap_model.proofs.Histories.{graph_after-more}
 use Rattle.core_machine.specs.declared.table.address.Address.TheVariants.{Answer, Phase}
 use Rattle.core_machine.specs.declared.collector.stage.Stage.TheVariants.{Advancing}
-use Rattle.core_machine.specs.collector.Collector.{advance_turn}
+use Rattle.core_machine.specs.collector.Collector.{advance_turn, collector_after}
 use Rattle.core_machine.specs.seat.Fits.{FitsStage}
 use Rattle.core_machine.specs.table.Layout.{put, table_length}
-use Rattle.core_machine.specs.machine.Machine.{State, seat_at, turned}
-use Rattle.core_machine.specs.machine.Value.{IsMachine}
+use Rattle.core_machine.specs.machine.Machine.{State, seat_at}
 use Rattle.core_machine.proofs.table_lemmas.Addresses.{at-put_same}
 use Rattle.core_rule.specs.Book.{Book}
 use Rattle.core_rule.specs.Colours.{Leads}
@@ -23,7 +22,7 @@ use Rattle.core_rule.specs.Counts.{is_collectors}
 use Rattle.core_rule.specs.Cycle.{HeapInCycle}
 use Rattle.core_rule.specs.Rule.{Rule, HeapStands, SeatStands}
 use Rattle.core_rule.proofs.words.Addresses.{at-put_apart}
-use Rattle.core_rule.proofs.steps.Assemble.{Keeps}
+use Rattle.core_rule.proofs.steps.TurnSteps.{TurnKeeps, turn_steps}
 use Rattle.core_rule.proofs.cycle.CycleFrames.{cycle_told}
 use Rattle.core_rule.proofs.frames.EntryFrames.{fragments_phase, heap_past, seat_past}
 use Rattle.core_rule.proofs.colours.LeadsFrames.{leads_apart}
@@ -96,23 +95,13 @@ module _ (heap : Heap) (state : State) (book : Book) (rule : Rule heap state boo
       (at-put_apart heap state.words Phase (Answer r) next (λ e. omega (arith, e))) leads_on stands.fits (all_answered r below) stands.cycle)) stands
 
   -- the begin of the next phase keeps the rule
-  pub advance_keeps : IsMachine heap (turned heap state (advance_turn state.collector))
-      → Keeps heap (turned heap state (advance_turn state.collector)) book book.begun (advance_turn state.collector).adds
-  advance_keeps machine = record {
-    now = later;
-    grown = refl;
-    calls = refl;
-    rule = record {
-      limits = rule.limits;
-      machine = machine;
-      all_seats = rule.all_seats;
-      heap_stands = heap_on machine.table;
-      seats_stand = seat_on;
-      collector_stands = record {
+  pub advance_keeps : TurnKeeps heap state book (advance_turn state.collector)
+  advance_keeps machine =
+      turn_steps heap state book words (collector_after (advance_turn state.collector) 0) later (Advance next ∷ []) rule machine refl (heap_on machine.table)
+      (λ r below stands. seat_on r below)
+      record {
         log = rw (filter-append is_collectors book.history (Advance next ∷ []), rule.collector_stands.log) refl;
         phase_told = told ∙ sym grown;
         looked = λ q none below present. absurd (omega (arith, none));
         goes_on = λ on. cc;
-      };
-    };
-  }
+      }
