@@ -1,12 +1,10 @@
 -- The rule: a book stands for a state.
-use Rattle.std.specs.Prelude.{◌≡◌, ℕ, ◌<◌, false, List, length, drop}
+use Rattle.std.specs.Prelude.{ℕ, ◌<◌, false, List, drop}
 use Rattle.heap_model.specs.declared.heap.Heap.{Heap}
-use Rattle.heap_model.specs.Heap.{IsHeap}
 use Rattle.heap_model.specs.Account.{IsLegal}
 use Rattle.heap_model.specs.Cycles.{graph_of}
 use Rattle.core_machine.specs.seat.Commands.{target_of}
 use Rattle.core_machine.specs.seat.Fits.{Fits}
-use Rattle.core_machine.specs.table.Layout.{table_length}
 use Rattle.core_machine.specs.machine.Machine.{State, seat_at}
 use Rattle.core_machine.specs.seat.Seat.{Seat}
 use Rattle.core_machine.specs.machine.Value.{IsMachine}
@@ -26,7 +24,6 @@ use Rattle.core_rule.specs.Gathers.{GathersRight, Began}
 
 -- what is true of the heap
 pub record HeapStands (heap : Heap) (words : List ℕ) (book : Book) : Type 0 where
-  pub table : length words ≡ table_length heap
   pub control_words : Bits heap words book.owner
   pub owners : OwnersStand heap.seats book.owner
   pub ids : AreMade (graph_of heap book.history) book.made
@@ -50,9 +47,7 @@ pub record SeatStands (heap : Heap) (words : List ℕ) (book : Book) (q : ℕ) (
   pub gathers : GathersRight heap book.owner q (drop (book.begun q) book.history) seat.cursor seat.tried seat.given
 
 pub record Rule (heap : Heap) (state : State) (book : Book) : Type 0 where
-  pub limits : IsHeap heap
   pub machine : IsMachine heap state
-  pub all_seats : length state.seats ≡ heap.seats
   pub heap_stands : HeapStands heap state.words book
   pub seats_stand : (q : ℕ) → q < heap.seats → SeatStands heap state.words book q (seat_at state q)
   pub collector_stands : CollectorStands heap state.collector book.history

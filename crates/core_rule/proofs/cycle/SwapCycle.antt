@@ -49,7 +49,7 @@ module _ (heap : Heap) (state : State) (book : Book) (q : ℕ) (rule : Rule heap
   new_leads =
       field_lead seat word ∙ ap head_in is_word
       ∙ head_in-value (head_of book.made book.fragments) value stamp
-      (has_room heap state.words (graph_of heap book.history) book.made book.owner book.fragments rule.limits rule.heap_stands.control_words value names) small
+      (has_room heap state.words (graph_of heap book.history) book.made book.owner book.fragments rule.machine.limits rule.heap_stands.control_words value names) small
       ∙ sym (held_head book.made book.owner book.fragments (new_register seat) value holds)
 
   -- which is marked while black fragments are made
@@ -62,7 +62,7 @@ module _ (heap : Heap) (state : State) (book : Book) (q : ℕ) (rule : Rule heap
       of_some (IsMarked book.colour) (head_of_register (new_register seat)) x (sym new_leads ∙ leads) (shaded on).1
 
   leads_now : IsBetween 2 5 p → (f part x : ℕ) → Leads heap words_swapped f part x → Leads heap state.words f part x ⊎ IsMarked book.colour x
-  leads_now making f part x leads = elim (leads_put heap state.words seat.reached (field_part seat) word rule.heap_stands.table (part_below seat) f part x leads) [
+  leads_now making f part x leads = elim (leads_put heap state.words seat.reached (field_part seat) word rule.machine.table (part_below seat) f part x leads) [
     | inl before ↦ inl before
     | inr new ↦ inr (new_marked making x new.2)
   ]
@@ -89,7 +89,7 @@ module _ (heap : Heap) (state : State) (book : Book) (q : ℕ) (rule : Rule heap
 
   -- no answer changes
   pub answer_swapped : (r : ℕ) → r < heap.seats → at heap words_swapped (Answer r) ≡ at heap state.words (Answer r)
-  answer_swapped r below = at-put_apart heap state.words (Word seat.reached (field_part seat)) (Answer r) word (λ e. omega (arith, e, below, rule.limits.seats_fit))
+  answer_swapped r below = at-put_apart heap state.words (Word seat.reached (field_part seat)) (Answer r) word (λ e. omega (arith, e, below, rule.machine.limits.seats_fit))
 
   -- and what the others need is left
   pub leaves_swapped : (r : ℕ) → r < heap.seats → r ≢ q → LeavesCycle heap state.words words_swapped book.owner book.owner book.colour book.colour p r (seat_at state r)

@@ -41,7 +41,6 @@ module _ (heap : Heap) (words : List ℕ) (book : Book) (q : ℕ) where
   -- the heap stands
   pub heap_begins : HeapStands heap words book → HeapStands heap words book_begun
   heap_begins stands = record {
-    table = stands.table;
     control_words = stands.control_words;
     owners = stands.owners;
     ids = stands.ids;

@@ -1,5 +1,5 @@
 -- What stands of the heap and of each seat when fragments of a group that a seat holds are given back.
-use Rattle.std.proofs.Common.{◌≡◌, ◌≢◌, ℕ, ◌+◌, ◌<◌, ◌≤◌, false, List, [], ◌∷◌, ◌++◌, length, refl, ap, ◌∙◌, arith, ◌*◌}
+use Rattle.std.proofs.Common.{◌≡◌, ◌≢◌, ℕ, ◌+◌, ◌<◌, ◌≤◌, false, List, [], ◌∷◌, ◌++◌, length, refl, ap, arith, ◌*◌}
 use Rattle.heap_model.specs.declared.entry.Entry.{Entry}
 use Rattle.heap_model.specs.declared.entry.Entry.TheVariants as entries
 use Rattle.heap_model.specs.declared.heap.Heap.{Heap}
@@ -15,7 +15,6 @@ use Rattle.core_machine.specs.table.Layout.{at, put}
 use Rattle.core_machine.specs.machine.Machine.{State, seat_at}
 use Rattle.core_machine.specs.table.Operation.{untaken}
 use Rattle.core_machine.specs.seat.Seat.{Seat}
-use Rattle.core_machine.proofs.table_lemmas.Addresses.{length-put}
 use Rattle.core_rule.specs.Book.{Book}
 use Rattle.core_rule.specs.ControlWords.{Bits}
 use Rattle.core_rule.specs.Cycle.{SeatInCycle}
@@ -80,7 +79,6 @@ module _ (heap : Heap) (state : State) (book : Book) (q : ℕ) (rule : Rule heap
   heap_given bits present some own =
       let stands = rule.heap_stands in
       record {
-        table = length-put heap state.words (Control g) word ∙ stands.table;
         control_words = bits;
         owners = owners_handed heap.seats book.owner stands.owners Free fs tt kept_given;
         ids = rw graph_given stands.ids;
@@ -90,7 +88,7 @@ module _ (heap : Heap) (state : State) (book : Book) (q : ℕ) (rule : Rule heap
         legal = legal_gives heap book.history q (length fs) stands.legal present some own;
         cycle = heap_cycle_more heap words_given owner book.colour book.history entry refl book.fragments
             (heap_hands heap state.words book.owner book.colour book.fragments (phase book.history) g word Free fs below
-            refl (λ f there. ap born_bit (held f there)) kept_given (marks_give heap state.words book.colour g fs stands.table below stands.cycle.marks) stands.cycle);
+            refl (λ f there. ap born_bit (held f there)) kept_given (marks_give heap state.words book.colour g fs rule.machine.table below stands.cycle.marks) stands.cycle);
       }
 
   -- the seat has its part in the cycle, where it goes on with none of a set or an answer
@@ -100,7 +98,7 @@ module _ (heap : Heap) (state : State) (book : Book) (q : ℕ) (rule : Rule heap
       let cycle = (rule.seats_stand q here).cycle in
       cycle_own heap words_given owner book.colour book.history entry refl q now
       (cycle_goes_on heap state.words words_given book.owner owner book.colour (phase book.history) (answered q book.history) (has_left q book.history) q (seat_at state q) now same apart none
-      (answer_after_control heap state.words word g q (omega (arith, here, rule.limits.seats_fit))) (λ f. borne_before Free book.owner fs q f free_bears_none) cycle) refl refl
+      (answer_after_control heap state.words word g q (omega (arith, here, rule.machine.limits.seats_fit))) (λ f. borne_before Free book.owner fs q f free_bears_none) cycle) refl refl
 
   -- each other seat stands
   pub other_given : (r : ℕ) → r < heap.seats → r ≢ q → SeatStands heap state.words book r (seat_at state r) → SeatStands heap words_given book_given r (seat_at state r)
@@ -115,7 +113,7 @@ module _ (heap : Heap) (state : State) (book : Book) (q : ℕ) (rule : Rule heap
         way = rw graph_given (way_owners (cells_at before book.made) book.owner owner kept_given book.made book.fragments seat other.way);
         cycle = cycle_other heap words_given owner book.colour book.history entry refl r seat
             (cycle_control heap state.words book.owner owner book.colour book.colour (phase book.history) (answered r book.history) (has_left r book.history) r seat g word below
-            (omega (arith, under, rule.limits.seats_fit)) (λ f marked. marked) (λ f borne. (borne_before Free book.owner fs r f free_bears_none borne, refl)) other.cycle) away;
+            (omega (arith, under, rule.machine.limits.seats_fit)) (λ f marked. marked) (λ f borne. (borne_before Free book.owner fs r f free_bears_none borne, refl)) other.cycle) away;
         together = other.together;
         counts = rw graph_given (counts_stay before before r (same_party before before r refl) book.history entry seat away other.counts);
         began = began_stays book.history entry r (book.begun r) seat.place away other.began;

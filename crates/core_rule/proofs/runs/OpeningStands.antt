@@ -1,7 +1,7 @@
 -- The rule holds when a heap opens.
 use Rattle.std.proofs.Common.{◌≡◌, ℕ, zero, suc, ◌+◌, ◌<◌, inl, List, [], ◌∷◌, length, get_or, replicate, refl, sym, ap, ◌∙◌, subst, arith}
 use Rattle.std.proofs.lemmas.Bool.{lt-ltb}
-use Rattle.std.proofs.lemmas.List.FromFn.{get_or-map-range_with_len, length-map-range_with_len}
+use Rattle.std.proofs.lemmas.List.FromFn.{get_or-map-range_with_len}
 use Rattle.heap_model.specs.declared.heap.Heap.{Heap}
 use Rattle.heap_model.specs.declared.id.Id.TheVariants as ids
 use Rattle.heap_model.specs.declared.id.Value.{Value}
@@ -92,11 +92,8 @@ opening_seat_at heap state q opens below = ap (λ seats. get_or seats q nobody) 
 -- the opening book stands for an opening state
 opening_rule : (heap : Heap) (state : State) → IsHeap heap → IsMachine heap state → IsOpening heap state → Rule heap state opening_book
 opening_rule heap state fits machine opens = record {
-  limits = fits;
   machine = machine;
-  all_seats = ap length opens.seats_open ∙ length-map-range_with_len (opening_seat heap) 0 heap.seats;
   heap_stands = record {
-    table = opens.table;
     control_words = opening_bits heap state.words fits.some_group opens.words_open;
     owners = opening_seated heap.seats;
     ids = opening_ids heap;

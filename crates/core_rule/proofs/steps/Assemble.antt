@@ -95,7 +95,7 @@ present_at heap state book q making rule here placed =
 pub fit_after : (heap : Heap) (state : State) (book : Book) (q : ℕ) {words : List ℕ} {seat : Seat} → Rule heap state book → q < heap.seats
     → IsMachine heap (record state { words = words; seats = slice_set state.seats q seat }) → Fits heap seat
 fit_after heap state book q {words} {seat} rule here machine =
-    let below : q < length state.seats = rw rule.all_seats here in
+    let below : q < length state.seats = rw rule.machine.seated here in
     subst (Fits heap) (get_or-set_same state.seats q seat nobody below) (machine.fit q (rw (length-set state.seats q seat) below))
 
 -- the rule after a seat's step
@@ -107,16 +107,14 @@ pub seat_steps : (heap : Heap) (state : State) (book : Book) (q : ℕ) (words : 
     → Keeps heap (record state { words = words; seats = slice_set state.seats q seat }) book now.begun added
 seat_steps heap state book q words seat now added rule here machine grown none heap_after self others =
     let stand : (r : ℕ) → r < heap.seats → SeatStands heap words now r (slice_index_or (slice_set state.seats q seat) r nobody)
-    = λ r below. each_seat (λ n s. SeatStands heap words now n s) state.seats q seat (subst (λ n. q < n) (sym rule.all_seats) here) self r
+    = λ r below. each_seat (λ n s. SeatStands heap words now n s) state.seats q seat (subst (λ n. q < n) (sym rule.machine.seated) here) self r
     (λ apart. others r below apart (rule.seats_stand r below)) in
     record {
       now = now;
       grown = grown;
       calls = refl;
       rule = record {
-        limits = rule.limits;
         machine = machine;
-        all_seats = length-set state.seats q seat ∙ rule.all_seats;
         heap_stands = heap_after;
         seats_stand = stand;
         collector_stands = collector_stays heap state.collector book.history added now.history grown none

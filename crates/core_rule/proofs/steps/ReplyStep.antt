@@ -104,7 +104,6 @@ module _ (heap : Heap) (state : State) (book : Book) (q : ℕ) (words : List ℕ
       = bare_hand seat.reserve seat.hand seat.body (spent_of q book.history) (taken_of q book.history) rest.empty_hand rest.no_body stands.counts.unborn in
       seat_steps heap state book q words now later (entry ∷ []) rule here machine refl refl
       record {
-        table = machine.table;
         control_words = bits_same heap state.words words book.owner same.controls heap_stands.control_words;
         owners = heap_stands.owners;
         ids = rw graph grows.ids;

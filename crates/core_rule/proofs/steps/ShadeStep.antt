@@ -13,7 +13,6 @@ use Rattle.core_machine.specs.machine.Machine.{State, seat_at}
 use Rattle.core_machine.specs.table.Operation.{shade_bit}
 use Rattle.core_machine.specs.seat.Seat.{Seat}
 use Rattle.core_machine.specs.machine.Value.{IsMachine}
-use Rattle.core_machine.proofs.table_lemmas.Addresses.{length-put}
 use Rattle.core_rule.specs.Book.{Book, fragment_at}
 use Rattle.core_rule.specs.Counts.{OwnList}
 use Rattle.core_rule.specs.Cycle.{SeatInCycle}
@@ -55,7 +54,7 @@ module _ (heap : Heap) (state : State) (book : Book) (q : ℕ) (rule : Rule heap
 
   -- another seat's answer stays
   pub answer_shaded : (r : ℕ) → r < heap.seats → at heap words_shaded (Answer r) ≡ at heap state.words (Answer r)
-  answer_shaded r less = at-put_apart heap state.words (Control (f / 16)) (Answer r) _ (λ e. omega (arith, e, less, rule.limits.seats_fit))
+  answer_shaded r less = at-put_apart heap state.words (Control (f / 16)) (Answer r) _ (λ e. omega (arith, e, less, rule.machine.limits.seats_fit))
 
   -- what a seat bears has the colour that it had
   pub borne_unshaded : (r x : ℕ) → book.owner x ≡ Bears r → with_mark book.colour f x ≡ book.colour x
@@ -85,8 +84,7 @@ module _ (heap : Heap) (state : State) (book : Book) (q : ℕ) (rule : Rule heap
       let old = rule.heap_stands in
       seat_steps heap state book q words_shaded new (record book { colour = with_mark book.colour f }) [] rule here machine (sym (append-nil book.history)) refl
       record {
-        table = length-put heap state.words (Control (f / 16)) _ ∙ old.table;
-        control_words = bits_shade heap state.words book.owner book.colour f old.table shade_within old.control_words;
+        control_words = bits_shade heap state.words book.owner book.colour f rule.machine.table shade_within old.control_words;
         owners = old.owners;
         ids = old.ids;
         objects = objects_control heap state.words (graph_of heap book.history) book.made book.owner book.fragments (f / 16) _ group_below old.objects;
@@ -94,8 +92,8 @@ module _ (heap : Heap) (state : State) (book : Book) (q : ℕ) (rule : Rule heap
         cycle = record {
           word = at-put_apart heap state.words (Control (f / 16)) Phase _ (λ e. omega (arith, e)) ∙ old.cycle.word;
           so_far = old.cycle.so_far;
-          marks = marks_shade heap state.words book.owner book.colour f old.table shade_within old.cycle.marks;
-          coloured = coloured_shade heap state.words book.owner book.colour f old.table shade_within book.fragments (phase book.history) number owned first runs old.cycle.coloured;
+          marks = marks_shade heap state.words book.owner book.colour f rule.machine.table shade_within old.cycle.marks;
+          coloured = coloured_shade heap state.words book.owner book.colour f rule.machine.table shade_within book.fragments (phase book.history) number owned first runs old.cycle.coloured;
         };
         legal = old.legal;
       }

@@ -89,7 +89,7 @@ begins_at heap state book q (commands.New d fields) rule here can machine = begi
 begins_at heap state book q command rule here can machine = begin_others_keep heap state book q command rule here can.1 (λ made. made) machine
 
 pub each_begin_keeps : EachBeginKeeps
-each_begin_keeps heap state book q command rule can machine = begins_at heap state book q command rule (rw (← rule.all_seats) can.0) can machine
+each_begin_keeps heap state book q command rule can machine = begins_at heap state book q command rule (rw (← rule.machine.seated) can.0) can machine
 
 -- each turn of the collector keeps the rule
 pub each_turn_keeps : EachTurnKeeps

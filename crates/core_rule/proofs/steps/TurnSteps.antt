@@ -39,9 +39,7 @@ turn_steps heap state book words collector now added rule machine grown heap_aft
   grown = grown;
   calls = refl;
   rule = record {
-    limits = rule.limits;
     machine = machine;
-    all_seats = rule.all_seats;
     heap_stands = heap_after;
     seats_stand = λ r below. seats r below (rule.seats_stand r below);
     collector_stands = collector_after;

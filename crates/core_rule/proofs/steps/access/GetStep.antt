@@ -144,11 +144,11 @@ get_keeps heap state book q rule here place machine =
     let cell : Cell = get_or (cells_at g book.made number) field unset in
     let there : slice_get (cells_at g book.made number) field ≡ Some cell = slice_get-get_or (cells_at g book.made number) field unset finds.within in
     let named = heap_stands.objects.named number field way.below way.kept cell there in
-    let room : HasRoom head cell.value = has_room heap words g book.made book.owner book.fragments rule.limits bits cell.value named.0 in
+    let room : HasRoom head cell.value = has_room heap words g book.made book.owner book.fragments rule.machine.limits bits cell.value named.0 in
     let arrived : row_of field - seat.links ≡ row_of field = omega (arith, gets.2) in
     let word : found ≡ value_word head cell.value cell.stamp
     = ap (λ f. at heap words (Word f (part_of field))) (way.here ∙ ap (fragment_at (book.fragments number)) arrived)
-    ∙ field_found heap words g book.made book.owner book.fragments rule.limits bits heap_stands.ids heap_stands.objects number way.below way.kept field cell there in
+    ∙ field_found heap words g book.made book.owner book.fragments rule.machine.limits bits heap_stands.ids heap_stands.objects number way.below way.kept field cell there in
     let stamp : stamp_in found ≡ cell.stamp = ap stamp_in word ∙ stamp_in-value head cell.value cell.stamp room named.1 in
     let plain : plain_in found ≡ plain_of cell.value = ap plain_in word ∙ plain_in-value head cell.value cell.stamp room named.1 in
     let loads : head_in found ≡ named_head head cell.value = ap head_in word ∙ head_in-value head cell.value cell.stamp room named.1 in
@@ -170,7 +170,7 @@ get_keeps heap state book q rule here place machine =
       | values.Object id ↦ λ e machine.
           let kept : NamesKept book.made book.owner book.fragments (values.Object id) = subst (NamesKept book.made book.owner book.fragments) e named.0 in
           let name : id_in (at heap words (Word (head id) 1)) ≡ id
-          = name_found heap words g book.made book.owner book.fragments rule.limits bits heap_stands.ids heap_stands.objects (number_of book.made id) kept.0 kept.1
+          = name_found heap words g book.made book.owner book.fragments rule.machine.limits bits heap_stands.ids heap_stands.objects (number_of book.made id) kept.0 kept.1
           ∙ id_at-number_of book.made id kept.0 in
           subst (λ x. Keeps heap (loaded_state heap state q (Word seat.reached (field_part seat)) (with_entries (got seat found (Some (head id))) [])) book book.begun (said q seat (Got (values.Object x) (stamp_in found)))) (sym name)
           (pending_keeps heap state book q rule here place gets.1 gets.0.in_range found id kept (loads ∙ ap (named_head head) e)

@@ -48,7 +48,7 @@ name_keeps heap state book q rule here place machine =
     let head : at_name ≡ head_of book.made book.fragments id = ap (λ (o : Option ℕ). unwrap_or o 0) awaits.loads in
     let name : id_in found ≡ id
     = ap (λ f. id_in (at heap state.words (Word f 1))) head
-    ∙ name_found heap state.words g book.made book.owner book.fragments rule.limits heap_stands.control_words heap_stands.ids heap_stands.objects (number_of book.made id) awaits.kept.0 awaits.kept.1
+    ∙ name_found heap state.words g book.made book.owner book.fragments rule.machine.limits heap_stands.control_words heap_stands.ids heap_stands.objects (number_of book.made id) awaits.kept.0 awaits.kept.1
     ∙ id_at-number_of book.made id awaits.kept.0 in
     let holds : Holds book.made book.owner book.fragments (registers.Object at_name (id_in found)) (register g q d)
     = subst (λ x. Holds book.made book.owner book.fragments (registers.Object at_name x) (register g q d)) (sym name) (awaits.held, awaits.kept, head) in

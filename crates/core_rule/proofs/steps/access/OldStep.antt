@@ -48,7 +48,7 @@ old_keeps heap state book q rule here place machine =
           (λ is_on. (none_holds (IsMarked book.colour) (head_in found) none, none_holds (IsMarked book.colour) new_head no_new)))
           (λ f some. on ShadingNew (λ s. refl) (at_next ShadingNew) (λ making x lead. absurd (unnamed (sym none ∙ leads x lead))) (none_holds (IsMarked book.colour) (head_in found) none))
       | Some f ↦ λ some.
-          let head = loaded_kept heap state.words g book.made book.owner book.fragments rule.limits old.control_words old.ids old.objects seat fits.0.2 finds f some in
+          let head = loaded_kept heap state.words g book.made book.owner book.fragments rule.machine.limits old.control_words old.ids old.objects seat fits.0.2 finds f some in
           on ShadingOld (λ s. refl) (at_next ShadingOld, record { number = head.number; below = head.below; kept = head.kept; loads = some ∙ ap Some head.is })
           (λ making x lead. inl (leads x lead)) tt
     ] in

@@ -71,7 +71,7 @@ module _ (heap : Heap) (state : State) (book : Book) (q : ℕ) (rule : Rule heap
       (λ arrived. goes_to seat.reached seat.links seat refl
       (finds_at (cells_at g book.made) book.made book.owner book.fragments seat seat.loaded (way_place seat) _ finds))
       (λ more. goes_to (link_in found_first) (seat.links - 1) (stepped_on seat found_first) refl
-      (finds_on heap state.words g book.made book.owner book.fragments rule.limits rule.heap_stands.control_words rule.heap_stands.ids rule.heap_stands.objects
+      (finds_on heap state.words g book.made book.owner book.fragments rule.machine.limits rule.heap_stands.control_words rule.heap_stands.ids rule.heap_stands.objects
       seat seat.loaded (way_place (stepped_on seat found_first)) _ more finds))
 
 -- walking a link keeps the rule

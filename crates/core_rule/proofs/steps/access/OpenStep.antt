@@ -103,7 +103,7 @@ open_keeps heap state book q rule here place machine =
     let at_head : seat.reached ≡ fragment_at (book.fragments number) 0 = way.here ∙ ap (fragment_at (book.fragments number)) none_walked in
     let size : length_in found ≡ length (cells_at g book.made number)
     = ap (λ f. length_in (at heap state.words (Word f 0))) at_head
-    ∙ length_found heap state.words g book.made book.owner book.fragments rule.limits rule.heap_stands.control_words rule.heap_stands.ids rule.heap_stands.objects number way.below way.kept in
+    ∙ length_found heap state.words g book.made book.owner book.fragments rule.machine.limits rule.heap_stands.control_words rule.heap_stands.ids rule.heap_stands.objects number way.below way.kept in
     let present = is_present heap state book q rule here Opening place in
     let made = rule.heap_stands.ids.in_graph number way.below in
     let held = way_object heap state book q rule here Opening place (free heap state book q rule here place) number way in

@@ -134,7 +134,7 @@ swap_keeps heap state book q rule here place machine =
     let is_word : word ≡ value_word (head_of book.made book.fragments) cell.value cell.stamp
     = register_is_value book.made book.owner book.fragments (register_in seat.registers (source_of seat.command)) cell.value (stamp_of q (seat.sets + 1)) (holds (source_of seat.command))
     ∙ ap (λ s. value_word (head_of book.made book.fragments) cell.value (stamp_of q (s + 1))) stands.counts.stamped in
-    let small : cell.stamp < 2 ^ 32 = omega (arith, few, here, rule.limits.seats_fit) in
+    let small : cell.stamp < 2 ^ 32 = omega (arith, few, here, rule.machine.limits.seats_fit) in
     let names : NamesKept book.made book.owner book.fragments cell.value × (cell.stamp < 2 ^ 32)
     = (register_names book.made book.owner book.fragments (register_in seat.registers (source_of seat.command)) cell.value (holds (source_of seat.command)), small) in
     let inside : fragment < 16 * heap.groups = subst (λ f. f < 16 * heap.groups) arrived stands.fits.reached_within in
@@ -150,7 +150,7 @@ swap_keeps heap state book q rule here place machine =
       ids = ids_set heap state.words g now q book.made book.owner book.fragments n i cell word ids objects finds.way.below finds.way.kept sets finds.within;
       objects = subst (λ f. Objects heap (put heap state.words (Word f part) word) now book.made book.owner book.fragments) (sym arrived)
           (objects_set heap state.words g now q book.made book.owner book.fragments n i cell word ids objects finds.way.below finds.way.kept sets finds.within
-          rule.heap_stands.table inside is_word names);
+          rule.machine.table inside is_word names);
       lengths = lengths_stay heap state.words g now q book.made book.owner book.fragments n i cell word ids objects finds.way.below finds.way.kept sets finds.within;
       others = sets.others;
     }

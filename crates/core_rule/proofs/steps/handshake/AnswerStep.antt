@@ -102,7 +102,7 @@ module _ (heap : Heap) (state : State) (book : Book) (q : ℕ) (rule : Rule heap
   present = stands.counts.leaves ∙ stays
 
   small : q < 16
-  small = omega (arith, here, rule.limits.seats_fit)
+  small = omega (arith, here, rule.machine.limits.seats_fit)
 
   own : is_of q first ≡ true
   own = eq-eqb q q refl
@@ -130,7 +130,7 @@ module _ (heap : Heap) (state : State) (book : Book) (q : ℕ) (rule : Rule heap
 
   heap_middle : HeapStands heap words middle
   heap_middle =
-      heap_past heap state.words words same book first nodes machine.table record { taken = refl; given = refl; freed = refl }
+      heap_past heap state.words words same book first nodes record { taken = refl; given = refl; freed = refl }
       (legal_more heap false book.history first rule.heap_stands.legal present (keeps_answer heap book q p seat.command polls asks.now next))
       (heap_cycle_more heap words book.owner book.colour book.history first refl book.fragments
       (heap_cycle_answer heap state.words q p small (phase book.history) book.owner book.colour book.fragments rule.heap_stands.cycle)) rule.heap_stands
@@ -146,7 +146,7 @@ module _ (heap : Heap) (state : State) (book : Book) (q : ℕ) (rule : Rule heap
       told = answered_stays middle.history second q refl ∙ has_answered heap book q p seat.command polls asks.now next;
       leaves = left_stays middle.history second q (no_leave_told q q seat.command (replies.Phase p) (λ leaves. absurd (cc (leaves, polls))))
           ∙ left_stays book.history first q refl ∙ stands.cycle.answers_told.leaves;
-      word = at-put_same heap state.words (Answer q) p rule.heap_stands.table small ∙ sym (ap (λ left. answer_word left p) stays);
+      word = at-put_same heap state.words (Answer q) p rule.machine.table small ∙ sym (ap (λ left. answer_word left p) stays);
       near = λ there. inl (asks.now ∙ sym (phase_stays middle.history second refl ∙ phase_answer heap book q p seat.command polls));
       loaded = omega arith;
     };

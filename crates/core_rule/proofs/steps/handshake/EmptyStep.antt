@@ -59,7 +59,7 @@ empty_keeps heap state book q rule here place machine =
     let own : length fs + spent_of q book.history ≡ taken_of q book.history = own_reserve heap state book q rule here rest in
     seat_steps heap state book q (words_given heap state book q rule here seat.cursor fs below held once) now later (entry ∷ []) rule here machine refl refl
     (heap_given heap state book q rule here seat.cursor fs below held once
-    (emptied_bits book.owner q fs seat.hand seat.body stands.holding heap state.words seat.cursor rule.heap_stands.table below stands.fits.reserve_of_cursor rule.heap_stands.control_words)
+    (emptied_bits book.owner q fs seat.hand seat.body stands.holding heap state.words seat.cursor rule.machine.table below stands.fits.reserve_of_cursor rule.heap_stands.control_words)
     present at_place.2 (omega (arith, own)))
     record {
       fits = fit_after heap state book q rule here machine;

@@ -63,7 +63,7 @@ leave_keeps heap state book q rule here place machine =
     let busy : seat.place ≢ places.Idle = λ idle. absurd (cc (place, idle)) in
     let present : (party g q).left ≡ false = stands.counts.leaves ∙ in_flight heap seat stands.fits busy in
     let awaits = rw place at stands.list.awaits in
-    let small : q < 16 = omega (arith, here, rule.limits.seats_fit) in
+    let small : q < 16 = omega (arith, here, rule.machine.limits.seats_fit) in
     let now : Graph = after_reply g q seat.command replies.Done in
     let grown : now ≡ leave g q = ap (λ c. after_reply g q c replies.Done) at_place.1 in
     let changes : SeatChanges g now q = rw grown (one_changes g q (gone g q) present refl refl) in
@@ -98,7 +98,7 @@ leave_keeps heap state book q rule here place machine =
       answers_told = record {
         told = answered_stays book.history left q refl ∙ told.told;
         leaves = left_once book.history left q leaves;
-        word = at-put_same heap state.words (Answer q) LEFT rule.heap_stands.table small;
+        word = at-put_same heap state.words (Answer q) LEFT rule.machine.table small;
         near = λ present. absurd (cc present);
         loaded = omega (arith, told.loaded, phase_stays book.history left refl);
       };

@@ -15,7 +15,6 @@ use Rattle.core_machine.specs.seat.Making.{last_group}
 use Rattle.core_machine.specs.Moves.{birth_move, bears_black, is_last_birth, seat_after}
 use Rattle.core_machine.specs.table.Operation.{birth_bits}
 use Rattle.core_machine.specs.seat.Seat.{Seat}
-use Rattle.core_machine.proofs.table_lemmas.Addresses.{length-put}
 use Rattle.core_rule.specs.Book.{Book, Colour, White, fragment_at}
 use Rattle.core_rule.specs.Colours.{IsMarked, birth_colour}
 use Rattle.core_rule.specs.Objects.{cells_at}
@@ -67,8 +66,7 @@ birth_keeps heap state book q rule here place more machine =
     seat_steps heap state book q words (seat_after (birth_move seat) found) (record book { owner = owner; colour = colour }) []
     rule here machine (sym (append-nil book.history)) refl
     record {
-      table = length-put heap state.words (Control g) word ∙ heap_stands.table;
-      control_words = birth_bits_after heap state.words book.owner g heap_stands.table below heap_stands.control_words seat.hand q
+      control_words = birth_bits_after heap state.words book.owner g rule.machine.table below heap_stands.control_words seat.hand q
           (hand_once book.owner q seat.reserve seat.hand seat.body stands.holding) (hand_held book.owner q seat.reserve seat.hand seat.body stands.holding) (bears_black seat);
       owners = owners_handed heap.seats book.owner heap_stands.owners (Bears q) part here kept;
       ids = heap_stands.ids;
@@ -91,7 +89,7 @@ birth_keeps heap state book q rule here place more machine =
       way = rw place tt;
       cycle = cycle_apart heap state.words words book.owner owner book.colour colour (phase book.history) (answered q book.history) (has_left q book.history) q
           seat (seat_after (birth_move seat) found) record { answered = refl; left = refl; asked = refl } (rw place tt) (none_shaded heap seat Bearing stands.fits place)
-          (answer_after_control heap state.words word g q (omega (arith, here, rule.limits.seats_fit)))
+          (answer_after_control heap state.words word g q (omega (arith, here, rule.machine.limits.seats_fit)))
           (born_more book.owner book.colour part q black stands.cycle.births) stands.cycle;
       together = together_bears heap seat.cursor seat.tried seat.hand seat.body stands.fits.hand_within some stands.together;
       counts = counts_same (graph_of heap book.history) book.history q seat (seat_after (birth_move seat) found) refl refl refl
@@ -107,7 +105,7 @@ birth_keeps heap state book q rule here place more machine =
       list = list_owners (graph_of heap book.history) book.owner owner kept book.made book.fragments r (seat_at state r) book.history book.history refl other.list;
       way = way_owners (cells_at (graph_of heap book.history) book.made) book.owner owner kept book.made book.fragments (seat_at state r) other.way;
       cycle = cycle_control heap state.words book.owner owner book.colour colour (phase book.history) (answered r book.history) (has_left r book.history) r (seat_at state r) g word below
-          (omega (arith, under, rule.limits.seats_fit)) marks (born_others book.owner book.colour part q black r apart) other.cycle;
+          (omega (arith, under, rule.machine.limits.seats_fit)) marks (born_others book.owner book.colour part q black r apart) other.cycle;
       together = other.together;
       counts = other.counts;
       began = other.began;

@@ -20,7 +20,6 @@ use Rattle.core_machine.specs.seat.Making.{next_group}
 use Rattle.core_machine.specs.Moves.{claim_move, takes_some, seat_after}
 use Rattle.core_machine.specs.table.Operation.{all_taken}
 use Rattle.core_machine.specs.seat.Seat.{Seat}
-use Rattle.core_machine.proofs.table_lemmas.Addresses.{length-put}
 use Rattle.core_machine.proofs.table_lemmas.Owned.{clear_in-group}
 use Rattle.core_rule.specs.ControlWords.{Bits}
 use Rattle.core_rule.specs.Counts.{AreUsed}
@@ -105,20 +104,19 @@ claim_keeps heap state book q rule here place machine =
     let gathers : Gathers heap seat = rw place at stands.fits.at_place in
     let below = next_within heap seat stands.fits.cursor_within in
     let once : (f : ℕ) → tally f fs ≤ 1 = λ f. clear_once g found f in
-    let inside = clear_within heap state.words book.owner g heap_stands.table below heap_stands.control_words in
-    let free = clear_is_free heap state.words book.owner g heap_stands.table below heap_stands.control_words in
+    let inside = clear_within heap state.words book.owner g rule.machine.table below heap_stands.control_words in
+    let free = clear_is_free heap state.words book.owner g rule.machine.table below heap_stands.control_words in
     let kept = handed_kept (Holds q) book.owner fs (holds_keeps_none q) (λ f i k there. free_kept book.owner f i k (free f there)) in
     let stays = same_goes_on heap mid in
     let same = stays.same in
     let present = present_at heap state book q Gathering rule here place in
     let list = making_list g_of book.history book.made book.owner book.fragments q seat Gathering place stands.list in
     let tells = told heap state book q fs rule here (is_busy Gathering seat.place place) present gathers.none_given once inside free
-    (none_free heap state.words book.owner g heap_stands.table below heap_stands.control_words q book.history heap_stands.used) in
+    (none_free heap state.words book.owner g rule.machine.table below heap_stands.control_words q book.history heap_stands.used) in
     seat_steps heap state book q words next (record book { history = history; owner = owner }) added
     rule here machine refl tells.log
     record {
-      table = length-put heap state.words (Control g) word ∙ heap_stands.table;
-      control_words = claim_bits heap state.words book.owner g heap_stands.table below heap_stands.control_words q;
+      control_words = claim_bits heap state.words book.owner g rule.machine.table below heap_stands.control_words q;
       owners = owners_handed heap.seats book.owner heap_stands.owners (Holds q) fs here kept;
       ids = rw tells.graph heap_stands.ids;
       objects = rw tells.graph (objects_owners book.owner owner kept book.made book.fragments heap words g_of
@@ -126,7 +124,7 @@ claim_keeps heap state book q rule here place machine =
       used = tells.used;
       legal = tells.legal;
       cycle = tells.phases words owner book.colour book.fragments (heap_hands heap state.words book.owner book.colour book.fragments (phase book.history) g word (Holds q) fs below
-          refl (λ f there. ap born_bit (free f there)) kept (marks_claim heap state.words book.colour g heap_stands.table below heap_stands.cycle.marks) heap_stands.cycle);
+          refl (λ f there. ap born_bit (free f there)) kept (marks_claim heap state.words book.colour g rule.machine.table below heap_stands.cycle.marks) heap_stands.cycle);
     }
     record {
       fits = fit_after heap state book q rule here machine;
@@ -141,7 +139,7 @@ claim_keeps heap state book q rule here place machine =
       cycle = tells.cycles words owner book.colour q next
           (cycle_goes_on heap state.words words book.owner owner book.colour (phase book.history) (answered q book.history) (has_left q book.history) q seat next
           record { answered = same.answered; left = same.left; asked = same.asked } (rw stays.placed tt) (same.shaded ∙ none_shaded heap seat Gathering stands.fits place)
-          (answer_after_control heap state.words word g q (omega (arith, here, rule.limits.seats_fit)))
+          (answer_after_control heap state.words word g q (omega (arith, here, rule.machine.limits.seats_fit)))
           (λ f. borne_before (Holds q) book.owner fs q f holds_bears_none) stands.cycle);
       together = together_goes_on heap mid gathers.no_body stands.fits.cursor_within stands.fits.reserve_of_cursor
           (subst (λ b. AreTogether heap seat.cursor (seat.tried + 1) (seat.hand ++ fs) b) (sym gathers.no_body)
@@ -160,7 +158,7 @@ claim_keeps heap state book q rule here place machine =
       way = rw tells.graph (way_owners (cells_at g_of book.made) book.owner owner kept book.made book.fragments (seat_at state r) other.way);
       cycle = tells.cycles words owner book.colour r (seat_at state r)
           (cycle_control heap state.words book.owner owner book.colour book.colour (phase book.history) (answered r book.history) (has_left r book.history) r (seat_at state r) g word below
-          (omega (arith, under, rule.limits.seats_fit)) (λ f marked. marked) (λ f borne. (borne_before (Holds q) book.owner fs r f holds_bears_none borne, refl)) other.cycle);
+          (omega (arith, under, rule.machine.limits.seats_fit)) (λ f marked. marked) (λ f borne. (borne_before (Holds q) book.owner fs r f holds_bears_none borne, refl)) other.cycle);
       together = other.together;
       counts = rw tells.graph (tells.other_counts r under apart);
       began = tells.other_began r under apart;

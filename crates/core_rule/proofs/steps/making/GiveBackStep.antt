@@ -65,7 +65,7 @@ give_back_keeps heap state book q rule here place machine =
     let later : Book = book_given heap state book q rule here g part below held once in
     seat_steps heap state book q (words_given heap state book q rule here g part below held once) now later (entry ∷ []) rule here machine refl refl
     (heap_given heap state book q rule here g part below held once
-    (give_back_bits heap state.words book.owner g rule.heap_stands.table below rule.heap_stands.control_words seat.hand q
+    (give_back_bits heap state.words book.owner g rule.machine.table below rule.heap_stands.control_words seat.hand q
     (hand_once book.owner q seat.reserve seat.hand seat.body stands.holding) (hand_held book.owner q seat.reserve seat.hand seat.body stands.holding))
     present some (gives_own seat.reserve seat.hand seat.body g (spent_of q book.history) (taken_of q book.history) refuses.no_body stands.counts.unborn))
     record {

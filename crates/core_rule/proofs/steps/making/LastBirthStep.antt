@@ -20,7 +20,6 @@ use Rattle.core_machine.specs.seat.Making.{last_group, next_id, newborn_word}
 use Rattle.core_machine.specs.Moves.{bears_black, last_birth_move, last_part, made_entry, seat_after, is_last_birth}
 use Rattle.core_machine.specs.table.Operation.{birth_bits}
 use Rattle.core_machine.specs.seat.Seat.{Seat}
-use Rattle.core_machine.proofs.table_lemmas.Addresses.{length-put}
 use Rattle.core_rule.specs.Book.{Book}
 use Rattle.core_rule.specs.Colours.{birth_colour}
 use Rattle.core_rule.specs.Gathers.{GathersRight}
@@ -112,11 +111,10 @@ last_birth_keeps heap state book q rule here place last machine =
     let marks = marks_born heap state book q rule here place in
     seat_steps heap state book q words (seat_after (last_birth_move q seat) found) now (entry ∷ []) rule here machine refl refl
     record {
-      table = length-put heap state.words (Control group) word ∙ rule.heap_stands.table;
-      control_words = kept_bits heap state.words book.owner q seat.reserve seat.hand body group (length book.made) (bears_black seat) rule.heap_stands.table below
+      control_words = kept_bits heap state.words book.owner q seat.reserve seat.hand body group (length book.made) (bears_black seat) rule.machine.table below
           rule.heap_stands.control_words stands.holding some last;
       owners = owners_kept heap.seats book.owner rule.heap_stands.owners (length book.made) body unkept;
-      ids = rw graph (ids_grown g grown book.made id (fresh false fields) ids more (omega (arith, here, rule.limits.seats_fit), omega (arith, has.makes.numbered)));
+      ids = rw graph (ids_grown g grown book.made id (fresh false fields) ids more (omega (arith, here, rule.machine.limits.seats_fit), omega (arith, has.makes.numbered)));
       objects = rw graph (objects_control heap state.words grown now.made now.owner now.fragments group word below
           (objects_grown heap state.words g grown book.made id book.owner book.fragments fields body ids more new rule.heap_stands.objects));
       used = used_made heap now.owner book.history q seat (used_same heap book.owner now.owner book.history
@@ -142,7 +140,7 @@ last_birth_keeps heap state book q rule here place last machine =
       cycle = cycle_own heap words now.owner now.colour book.history entry refl q (seat_after (last_birth_move q seat) found)
           (cycle_apart heap state.words words book.owner now.owner book.colour now.colour (phase book.history) (answered q book.history) (has_left q book.history) q
           seat (seat_after (last_birth_move q seat) found) record { answered = refl; left = refl; asked = refl } tt (none_shaded heap seat Bearing stands.fits place)
-          (answer_after_control heap state.words word group q (omega (arith, here, rule.limits.seats_fit)))
+          (answer_after_control heap state.words word group q (omega (arith, here, rule.machine.limits.seats_fit)))
           (kept_own book.owner book.colour q seat.reserve seat.hand body stands.holding some group (length book.made) last black stands.cycle.births) stands.cycle)
           refl (no_leave_told q q seat.command _ (λ leaves. subst IsRecord leaves has.makes.a_record));
       together = nothing_together heap seat.cursor seat.tried [] [] refl refl;
@@ -166,7 +164,7 @@ last_birth_keeps heap state book q rule here place last machine =
           (object_grows g grown book.made id book.owner book.fragments (fresh false fields) body unkept ids more) (seat_at state r) (seat_at state r).place other.way);
       cycle = cycle_other heap words now.owner now.colour book.history entry refl r (seat_at state r)
           (cycle_control heap state.words book.owner now.owner book.colour now.colour (phase book.history) (answered r book.history) (has_left r book.history) r (seat_at state r) group word below
-          (omega (arith, less, rule.limits.seats_fit)) marks
+          (omega (arith, less, rule.machine.limits.seats_fit)) marks
           (kept_borne book.owner book.colour q seat.reserve seat.hand body stands.holding some group (length book.made) last black stands.cycle.births r) other.cycle) (of_other q r apart);
       together = other.together;
       counts = rw graph (counts_stay g grown r (same_party g grown r (party_other g q d (fresh false fields) present r apart)) book.history entry (seat_at state r) (of_other q r apart) other.counts);

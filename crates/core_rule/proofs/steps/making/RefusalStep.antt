@@ -71,7 +71,7 @@ refusal_keeps heap state book q rule here place machine =
     (sym (put-at heap state.words Phase))
     (seat_steps heap state book q state.words (seat_after (refusal_move q seat) (at heap state.words Phase)) (record book { history = history }) (entry ∷ [])
     rule here whole refl refl
-    (heap_past heap state.words state.words (fragments_same heap state.words) book entry nodes rule.heap_stands.table record { taken = refl; given = refl; freed = refl } legal
+    (heap_past heap state.words state.words (fragments_same heap state.words) book entry nodes record { taken = refl; given = refl; freed = refl } legal
     (heap_cycle_more heap state.words book.owner book.colour book.history entry refl book.fragments rule.heap_stands.cycle) rule.heap_stands)
     record {
       fits = fit_after heap state book q rule here whole;

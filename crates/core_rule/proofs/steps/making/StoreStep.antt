@@ -14,7 +14,6 @@ use Rattle.core_machine.specs.machine.Machine.{seat_at}
 use Rattle.core_machine.specs.seat.Making.{newborn_word}
 use Rattle.core_machine.specs.Moves.{store_move, seat_after}
 use Rattle.core_machine.specs.seat.Seat.{Seat}
-use Rattle.core_machine.proofs.table_lemmas.Addresses.{length-put}
 use Rattle.core_rule.specs.Book.{fragment_at}
 use Rattle.core_rule.specs.Owners.{born_bit}
 use Rattle.core_rule.proofs.words.Addresses.{at-put_apart}
@@ -52,7 +51,6 @@ store_keeps heap state book q rule here place machine =
     let once = body_once book.owner q seat.reserve seat.hand seat.body stands.holding (omega (arith, row)) in
     seat_steps heap state book q words (seat_after (store_move q seat) found) book [] rule here machine (sym (append-nil book.history)) refl
     record {
-      table = length-put heap state.words (Word f part) word ∙ rule.heap_stands.table;
       control_words = bits_store heap state.words book.owner f part word rule.heap_stands.control_words;
       owners = rule.heap_stands.owners;
       ids = rule.heap_stands.ids;
@@ -65,14 +63,14 @@ store_keeps heap state book q rule here place machine =
     record {
       fits = fit_after heap state book q rule here machine;
       holding = stands.holding;
-      stored = store_next heap seat.body (newborn_word q seat) state.words seat.stored once stands.fits.body_within at_place.2 rule.heap_stands.table stands.stored;
+      stored = store_next heap seat.body (newborn_word q seat) state.words seat.stored once stands.fits.body_within at_place.2 rule.machine.table stands.stored;
       registers = λ r fresh. stands.registers r (awaits_none Storing seat.place (target_of seat.command) r place);
       list = whole_list (graph_of heap book.history) book.history book.made book.owner book.fragments q (seat_after (store_move q seat) found) refl
           (append-nil seat.mine ∙ making_list (graph_of heap book.history) book.history book.made book.owner book.fragments q seat Storing place stands.list);
       way = tt;
       cycle = cycle_goes_on heap state.words words book.owner book.owner book.colour (phase book.history) (answered q book.history) (has_left q book.history) q seat
           (seat_after (store_move q seat) found) record { answered = refl; left = refl; asked = refl } tt (none_shaded heap seat Storing stands.fits place)
-          (at-put_apart heap state.words (Word f part) (Answer q) word (λ e. omega (arith, e, here, rule.limits.seats_fit))) (λ x borne. borne) stands.cycle;
+          (at-put_apart heap state.words (Word f part) (Answer q) word (λ e. omega (arith, e, here, rule.machine.limits.seats_fit))) (λ x borne. borne) stands.cycle;
       together = stands.together;
       counts = counts_same (graph_of heap book.history) book.history q seat (seat_after (store_move q seat) found) refl refl refl refl stands.counts;
       began = began_on book.history q (book.begun q) seat.place (seat_after (store_move q seat) found).place (is_busy Storing seat.place place) stands.began;
@@ -87,8 +85,8 @@ store_keeps heap state book q rule here place machine =
       list = other.list;
       way = other.way;
       cycle = cycle_store heap state.words book.owner book.colour (phase book.history) (answered r book.history) (has_left r book.history) r (seat_at state r) q f part word
-          (omega (arith, below, rule.limits.seats_fit)) fits_part own
-          (λ reaching is watches. watched_kept heap state.words (graph_of heap book.history) book.made book.owner book.fragments rule.limits rule.heap_stands.control_words rule.heap_stands.ids
+          (omega (arith, below, rule.machine.limits.seats_fit)) fits_part own
+          (λ reaching is watches. watched_kept heap state.words (graph_of heap book.history) book.made book.owner book.fragments rule.machine.limits rule.heap_stands.control_words rule.heap_stands.ids
           rule.heap_stands.objects (seat_at state r) (seat_at state r).place reaching is watches other.way) other.cycle;
       together = other.together;
       counts = other.counts;
