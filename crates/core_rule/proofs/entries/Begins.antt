@@ -61,14 +61,13 @@ module _ (heap : Heap) (words : List ℕ) (book : Book) (q : ℕ) where
   pub other_begins : (r : ℕ) (seat : Seat) → r ≢ q → SeatStands heap words book r seat → SeatStands heap words book_begun r seat
   other_begins r seat apart other = record {
     fits = other.fits;
-    holding = other.holding;
-    stored = other.stored;
-    registers = other.registers;
-    list = other.list;
-    way = other.way;
+    own = other.own;
+    names = other.names;
+    told = record {
+      list = other.told.list;
+      counts = other.told.counts;
+      began = rw (of_other r q (λ e. apart (sym e))) other.told.began;
+      gathers = rw (of_other r q (λ e. apart (sym e))) other.told.gathers;
+    };
     cycle = other.cycle;
-    together = other.together;
-    counts = other.counts;
-    began = rw (of_other r q (λ e. apart (sym e))) other.began;
-    gathers = rw (of_other r q (λ e. apart (sym e))) other.gathers;
   }

@@ -60,7 +60,7 @@ module _ (heap : Heap) (state : State) (book : Book) (q : ℕ) (fs : List ℕ) (
     (once : (f : ℕ) → tally f fs ≤ 1) (below : (f : ℕ) → 1 ≤ tally f fs → f < 16 * heap.groups) (free : (f : ℕ) → 1 ≤ tally f fs → book.owner f ≡ Free)
     (none : (f : ℕ) → f / 16 ≡ ((seat_at state q).cursor + (seat_at state q).tried) % heap.groups → free_bit (handed (Holds q) book.owner fs f) ≡ 0) where
   nothing_given : GathersRight heap book.owner q (drop (book.begun q) book.history) (seat_at state q).cursor (seat_at state q).tried 0
-  nothing_given = subst (λ n. GathersRight heap book.owner q (drop (book.begun q) book.history) (seat_at state q).cursor (seat_at state q).tried n) none_given (rule.seats_stand q here).gathers
+  nothing_given = subst (λ n. GathersRight heap book.owner q (drop (book.begun q) book.history) (seat_at state q).cursor (seat_at state q).tried n) none_given (rule.seats_stand q here).told.gathers
 
   -- it got some
   told_some : 1 ≤ length fs → ClaimTold heap state book q (handed (Holds q) book.owner fs) (length fs) (book.history ++ entries.Takes q (length fs) ∷ []) (entries.Takes q (length fs) ∷ [])
@@ -77,14 +77,14 @@ module _ (heap : Heap) (state : State) (book : Book) (q : ℕ) (fs : List ℕ) (
         cycles = λ words owner colour r seat cycle. cycle_own heap words owner colour book.history entry refl r seat cycle refl refl;
         own = λ mine was. own_grows q book.history mine entry (eq-eqb q q refl) was;
         others_own = λ r apart. own-other r book.history entry (of_other q r apart);
-        counts = λ now same sets left more. counts_own (graph_of heap book.history) (graph_of heap book.history) book.history q (seat_at state q) now stands.counts entry (eq-eqb q q refl)
-            (same ∙ stands.counts.numbered) (sets ∙ stands.counts.stamped) (stands.counts.leaves ∙ sym left) (omega (arith, more));
-        began = λ now. began_past book.history entry q (book.begun q) (seat_at state q).place now refl (λ still. busy) stands.began;
-        gathers = own_claims heap book.owner book.history q fs once below used (book.begun q) stands.began.earlier (seat_at state q).cursor (seat_at state q).tried 0 free none nothing_given;
-        other_counts = λ r under apart. counts_stay (graph_of heap book.history) (graph_of heap book.history) r (same_party (graph_of heap book.history) (graph_of heap book.history) r refl) book.history entry (seat_at state r) (of_other q r apart) (rule.seats_stand r under).counts;
-        other_began = λ r under apart. began_stays book.history entry r (book.begun r) (seat_at state r).place (of_other q r apart) (rule.seats_stand r under).began;
-        other_gathers = λ r under apart. other_claims heap book.owner book.history q fs once below used (book.begun r) (rule.seats_stand r under).began.earlier
-            (seat_at state r).cursor (seat_at state r).tried (seat_at state r).given free r apart (rule.seats_stand r under).gathers;
+        counts = λ now same sets left more. counts_own (graph_of heap book.history) (graph_of heap book.history) book.history q (seat_at state q) now stands.told.counts entry (eq-eqb q q refl)
+            (same ∙ stands.told.counts.numbered) (sets ∙ stands.told.counts.stamped) (stands.told.counts.leaves ∙ sym left) (omega (arith, more));
+        began = λ now. began_past book.history entry q (book.begun q) (seat_at state q).place now refl (λ still. busy) stands.told.began;
+        gathers = own_claims heap book.owner book.history q fs once below used (book.begun q) stands.told.began.earlier (seat_at state q).cursor (seat_at state q).tried 0 free none nothing_given;
+        other_counts = λ r under apart. counts_stay (graph_of heap book.history) (graph_of heap book.history) r (same_party (graph_of heap book.history) (graph_of heap book.history) r refl) book.history entry (seat_at state r) (of_other q r apart) (rule.seats_stand r under).told.counts;
+        other_began = λ r under apart. began_stays book.history entry r (book.begun r) (seat_at state r).place (of_other q r apart) (rule.seats_stand r under).told.began;
+        other_gathers = λ r under apart. other_claims heap book.owner book.history q fs once below used (book.begun r) (rule.seats_stand r under).told.began.earlier
+            (seat_at state r).cursor (seat_at state r).tried (seat_at state r).given free r apart (rule.seats_stand r under).told.gathers;
       }
 
   -- it got none
@@ -101,13 +101,13 @@ module _ (heap : Heap) (state : State) (book : Book) (q : ℕ) (fs : List ℕ) (
         cycles = λ words owner colour r seat cycle. cycle;
         own = λ mine was. append-nil mine ∙ was;
         others_own = λ r apart. refl;
-        counts = λ now same sets left more. counts_same (graph_of heap book.history) book.history q (seat_at state q) now same sets left (no_more _ _ (length fs) more nothing) stands.counts;
-        began = λ now. record { earlier = stands.began.earlier; unanswered = λ active. stands.began.unanswered busy };
-        gathers = own_claims_none heap book.owner book.history q fs once below used (book.begun q) stands.began.earlier (seat_at state q).cursor (seat_at state q).tried 0 free none nothing_given;
-        other_counts = λ r under apart. (rule.seats_stand r under).counts;
-        other_began = λ r under apart. (rule.seats_stand r under).began;
-        other_gathers = λ r under apart. other_claims_none heap book.owner book.history q fs once below used (book.begun r) (rule.seats_stand r under).began.earlier
-            (seat_at state r).cursor (seat_at state r).tried (seat_at state r).given free nothing r (rule.seats_stand r under).gathers;
+        counts = λ now same sets left more. counts_same (graph_of heap book.history) book.history q (seat_at state q) now same sets left (no_more _ _ (length fs) more nothing) stands.told.counts;
+        began = λ now. record { earlier = stands.told.began.earlier; unanswered = λ active. stands.told.began.unanswered busy };
+        gathers = own_claims_none heap book.owner book.history q fs once below used (book.begun q) stands.told.began.earlier (seat_at state q).cursor (seat_at state q).tried 0 free none nothing_given;
+        other_counts = λ r under apart. (rule.seats_stand r under).told.counts;
+        other_began = λ r under apart. (rule.seats_stand r under).told.began;
+        other_gathers = λ r under apart. other_claims_none heap book.owner book.history q fs once below used (book.begun r) (rule.seats_stand r under).told.began.earlier
+            (seat_at state r).cursor (seat_at state r).tried (seat_at state r).given free nothing r (rule.seats_stand r under).told.gathers;
       }
 
   told_none : length fs ≡ 0 → ClaimTold heap state book q (handed (Holds q) book.owner fs) (length fs) (book.history ++ []) []

@@ -76,4 +76,4 @@ module _ (heap : Heap) (words now : List ℕ) (same : SameFragments heap words n
       → SeatStands heap words book r seat → SeatStands heap now later r seat
   seat_past r seat other party cycle stands =
       seat_stays heap words now book entry r seat other (same_party before after r party)
-      (λ i. ap (λ (cells : List Cell). length cells) (cells_stay before after book.made nodes i)) (λ u less. same.parts _ _ ∙ stands.stored u less) cycle stands
+      (λ i. ap (λ (cells : List Cell). length cells) (cells_stay before after book.made nodes i)) (λ u less. same.parts _ _ ∙ stands.own.stored u less) cycle stands

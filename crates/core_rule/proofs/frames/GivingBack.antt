@@ -106,17 +106,23 @@ module _ (heap : Heap) (state : State) (book : Book) (q : ℕ) (rule : Rule heap
       let seat : Seat = seat_at state r in
       let away = of_other q r apart in record {
         fits = other.fits;
-        holding = holding_given book.owner r seat.reserve seat.hand seat.body other.holding fs q apart held;
-        stored = stored_control heap state.words r seat g word below other.stored;
-        registers = rw graph_given (registers_owners book.owner owner kept_given book.made book.fragments before r seat.registers seat.place (target_of seat.command) other.registers);
-        list = rw graph_given (list_owners before book.owner owner kept_given book.made book.fragments r seat book.history book_given.history (own-other r book.history entry away) other.list);
-        way = rw graph_given (way_owners (cells_at before book.made) book.owner owner kept_given book.made book.fragments seat other.way);
+        own = record {
+          holding = holding_given book.owner r seat.reserve seat.hand seat.body other.own.holding fs q apart held;
+          stored = stored_control heap state.words r seat g word below other.own.stored;
+          together = other.own.together;
+        };
+        names = record {
+          registers = rw graph_given (registers_owners book.owner owner kept_given book.made book.fragments before r seat.registers seat.place (target_of seat.command) other.names.registers);
+          way = rw graph_given (way_owners (cells_at before book.made) book.owner owner kept_given book.made book.fragments seat other.names.way);
+        };
+        told = record {
+          list = rw graph_given (list_owners before book.owner owner kept_given book.made book.fragments r seat book.history book_given.history (own-other r book.history entry away) other.told.list);
+          counts = rw graph_given (counts_stay before before r (same_party before before r refl) book.history entry seat away other.told.counts);
+          began = began_stays book.history entry r (book.begun r) seat.place away other.told.began;
+          gathers = other_gives heap book.owner book.history q fs once inside rule.heap_stands.used (book.begun r) other.told.began.earlier seat.cursor seat.tried seat.given held
+              other.fits.cursor_within (tried_within heap seat seat.place other.fits.at_place) r apart other.told.gathers;
+        };
         cycle = cycle_other heap words_given owner book.colour book.history entry refl r seat
             (cycle_control heap state.words book.owner owner book.colour book.colour (phase book.history) (answered r book.history) (has_left r book.history) r seat g word below
             (omega (arith, under, rule.machine.limits.seats_fit)) (λ f marked. marked) (λ f borne. (borne_before Free book.owner fs r f free_bears_none borne, refl)) other.cycle) away;
-        together = other.together;
-        counts = rw graph_given (counts_stay before before r (same_party before before r refl) book.history entry seat away other.counts);
-        began = began_stays book.history entry r (book.begun r) seat.place away other.began;
-        gathers = other_gives heap book.owner book.history q fs once inside rule.heap_stands.used (book.begun r) other.began.earlier seat.cursor seat.tried seat.given held
-            other.fits.cursor_within (tried_within heap seat seat.place other.fits.at_place) r apart other.gathers;
       }

@@ -75,17 +75,19 @@ pub seat_stays : (heap : Heap) (words now : List ℕ) (book : Book) (entry : Ent
     → SeatStands heap words book r seat → SeatStands heap now (with_entry book entry) r seat
 seat_stays heap words now book entry r seat other same longs stored cycle old = record {
   fits = old.fits;
-  holding = old.holding;
-  stored = stored;
-  registers = registers_stay (graph_of heap book.history) (graph_of heap (book.history ++ entry ∷ [])) r same book.made book.owner book.fragments seat.registers seat.place (target_of seat.command) old.registers;
-  list = list_stays (graph_of heap book.history) (graph_of heap (book.history ++ entry ∷ [])) book.made book.made book.owner book.owner book.fragments book.fragments r seat
-      (same_names book.made book.owner book.fragments) (register_stays (graph_of heap book.history) (graph_of heap (book.history ++ entry ∷ [])) r same)
-      book.history (book.history ++ entry ∷ []) (own-other r book.history entry other) old.list;
-  way = ways_stay (cells_at (graph_of heap book.history) book.made) (cells_at (graph_of heap (book.history ++ entry ∷ [])) book.made) book.made book.made book.owner book.owner book.fragments book.fragments
-      (λ i below kept. record { below = below; kept = kept; id = refl; fragments_stay = refl; cells_stay = longs i }) seat seat.place old.way;
+  own = record { holding = old.own.holding; stored = stored; together = old.own.together };
+  names = record {
+    registers = registers_stay (graph_of heap book.history) (graph_of heap (book.history ++ entry ∷ [])) r same book.made book.owner book.fragments seat.registers seat.place (target_of seat.command) old.names.registers;
+    way = ways_stay (cells_at (graph_of heap book.history) book.made) (cells_at (graph_of heap (book.history ++ entry ∷ [])) book.made) book.made book.made book.owner book.owner book.fragments book.fragments
+        (λ i below kept. record { below = below; kept = kept; id = refl; fragments_stay = refl; cells_stay = longs i }) seat seat.place old.names.way;
+  };
+  told = record {
+    list = list_stays (graph_of heap book.history) (graph_of heap (book.history ++ entry ∷ [])) book.made book.made book.owner book.owner book.fragments book.fragments r seat
+        (same_names book.made book.owner book.fragments) (register_stays (graph_of heap book.history) (graph_of heap (book.history ++ entry ∷ [])) r same)
+        book.history (book.history ++ entry ∷ []) (own-other r book.history entry other) old.told.list;
+    counts = counts_stay (graph_of heap book.history) (graph_of heap (book.history ++ entry ∷ [])) r same book.history entry seat other old.told.counts;
+    began = began_stays book.history entry r (book.begun r) seat.place other old.told.began;
+    gathers = gathers_stay heap book.owner r book.history (book.begun r) entry seat.cursor seat.tried seat.given old.told.began.earlier old.told.gathers;
+  };
   cycle = cycle;
-  together = old.together;
-  counts = counts_stay (graph_of heap book.history) (graph_of heap (book.history ++ entry ∷ [])) r same book.history entry seat other old.counts;
-  began = began_stays book.history entry r (book.begun r) seat.place other old.began;
-  gathers = gathers_stay heap book.owner r book.history (book.begun r) entry seat.cursor seat.tried seat.given old.began.earlier old.gathers;
 }

@@ -72,7 +72,7 @@ step_plays stays steps heap state book q plays alone can =
     let keeps = steps heap state book q plays.rule here (stays heap state (Steps q) plays.rule.machine can) in
     let adds : AddsPlay heap book.history q (entries heap state (Steps q))
     = adds_play heap state book q (seat_at state q).place plays.rule here refl (plays.own q here active) in
-    let earlier : book.begun q ≤ length book.history = (plays.rule.seats_stand q here).began.earlier in
+    let earlier : book.begun q ≤ length book.history = (plays.rule.seats_stand q here).told.began.earlier in
     let own_now : list_all (is_of q) (drop (keeps.now.begun q) keeps.now.history) ≡ true
     = rw (keeps.calls, keeps.grown) (own_more q (book.begun q) book.history (entries heap state (Steps q)) earlier (plays.own q here active) adds.own) in
     record {

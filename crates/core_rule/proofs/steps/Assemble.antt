@@ -86,7 +86,7 @@ pub present_at : (heap : Heap) (state : State) (book : Book) (q : ℕ) (making :
     → (seat_at state q).place ≡ places.Making making → (party (graph_of heap book.history) q).left ≡ false
 present_at heap state book q making rule here placed =
     let stands = rule.seats_stand q here in
-    stands.counts.leaves ∙ in_flight heap (seat_at state q) stands.fits (λ idle. busy (sym placed ∙ idle))
+    stands.told.counts.leaves ∙ in_flight heap (seat_at state q) stands.fits (λ idle. busy (sym placed ∙ idle))
   where
     busy : places.Making making ≡ places.Idle → ⊥
     busy e = cc

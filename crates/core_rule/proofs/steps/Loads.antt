@@ -87,16 +87,15 @@ module _ (heap : Heap) (state : State) (book : Book) (q : ℕ) (rule : Rule heap
       (seat_steps heap state book q state.words new book [] rule here same_machine (sym (append-nil book.history)) refl rule.heap_stands
       record {
         fits = fit_after heap state book q rule here same_machine;
-        holding = stands.holding;
-        stored = stands.stored;
-        registers = held;
-        list = list;
-        way = way;
+        own = record { holding = stands.own.holding; stored = stands.own.stored; together = stands.own.together };
+        names = record { registers = held; way = way };
+        told = record {
+          list = list;
+          counts = counts_same (graph_of heap book.history) book.history q (seat_at state q) new refl refl refl refl stands.told.counts;
+          began = began;
+          gathers = stands.told.gathers;
+        };
         cycle = cycle;
-        together = stands.together;
-        counts = counts_same (graph_of heap book.history) book.history q (seat_at state q) new refl refl refl refl stands.counts;
-        began = began;
-        gathers = stands.gathers;
       }
       (λ r below apart other. other))
 
@@ -122,18 +121,20 @@ module _ (heap : Heap) (state : State) (book : Book) (q : ℕ) (rule : Rule heap
         (heap_told heap state.words book entry nothing change.changes.nodes accepts keeps rule.heap_stands)
         record {
           fits = fit_after heap state book q rule here same_machine;
-          holding = stands.holding;
-          stored = stands.stored;
-          registers = rw graph held;
-          list = rw graph list;
-          way = subst (λ (x : Graph). WayStands (cells_at x book.made) book.made book.owner book.fragments new place) (sym graph) way;
+          own = record { holding = stands.own.holding; stored = stands.own.stored; together = stands.own.together };
+          names = record {
+            registers = rw graph held;
+            way = subst (λ (x : Graph). WayStands (cells_at x book.made) book.made book.owner book.fragments new place) (sym graph) way;
+          };
+          told = record {
+            list = rw graph list;
+            counts = counts_own g now book.history q (seat_at state q) new stands.told.counts entry (eq-eqb q q refl)
+                (stands.told.counts.numbered ∙ sym change.changes.objects) (stands.told.counts.stamped ∙ sym change.changes.sets) (change.left ∙ stands.told.counts.leaves)
+                (omega (arith, no_part entry (λ e. e.given) nothing refl, no_part entry (λ e. e.born) nothing refl, no_part entry (λ e. e.taken) nothing refl));
+            began = began_told book.history entry q (book.begun q) (seat_at state q).place place answers stands.told.began;
+            gathers = gathers_stay heap book.owner q book.history (book.begun q) entry (seat_at state q).cursor (seat_at state q).tried (seat_at state q).given stands.told.began.earlier stands.told.gathers;
+          };
           cycle = cycle_own heap state.words book.owner book.colour book.history entry (no_part entry (λ e. e.phases) nothing refl) q new cycle
               (no_part entry (λ e. e.answers) nothing refl) stays;
-          together = stands.together;
-          counts = counts_own g now book.history q (seat_at state q) new stands.counts entry (eq-eqb q q refl)
-              (stands.counts.numbered ∙ sym change.changes.objects) (stands.counts.stamped ∙ sym change.changes.sets) (change.left ∙ stands.counts.leaves)
-              (omega (arith, no_part entry (λ e. e.given) nothing refl, no_part entry (λ e. e.born) nothing refl, no_part entry (λ e. e.taken) nothing refl));
-          began = began_told book.history entry q (book.begun q) (seat_at state q).place place answers stands.began;
-          gathers = gathers_stay heap book.owner q book.history (book.begun q) entry (seat_at state q).cursor (seat_at state q).tried (seat_at state q).given stands.began.earlier stands.gathers;
         }
         (λ r below apart other. other_told heap state.words book entry nothing change.changes.nodes r (seat_at state r) (of_other q r apart) (change.changes.others r apart) other))

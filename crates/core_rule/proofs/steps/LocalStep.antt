@@ -63,7 +63,7 @@ local_reply_keeps heap state book q a now reply rule here machine rest told pres
     let seat : Seat = seat_at state q in
     let g : Graph = graph_of heap book.history in
     let stands = rule.seats_stand q here in
-    let counts = stands.counts in
+    let counts = stands.told.counts in
     let words : List ℕ = put heap state.words a (at heap state.words a) in
     let same : words ≡ state.words = put-at heap state.words a in
     reply_keeps heap state book q (put heap state.words a (at heap state.words a)) now seat.command reply rule here machine

@@ -101,7 +101,7 @@ module _ (heap : Heap) (state : State) (book : Book) (q : ℕ) (words : List ℕ
       let fits : Fits heap now = fit_after heap state book q rule here machine in
       let idle : IsAtRest now = rw replies.idle at fits.at_place in
       let own : length seat.reserve + spent_of q book.history ≡ taken_of q book.history
-      = bare_hand seat.reserve seat.hand seat.body (spent_of q book.history) (taken_of q book.history) rest.empty_hand rest.no_body stands.counts.unborn in
+      = bare_hand seat.reserve seat.hand seat.body (spent_of q book.history) (taken_of q book.history) rest.empty_hand rest.no_body stands.told.counts.unborn in
       seat_steps heap state book q words now later (entry ∷ []) rule here machine refl refl
       record {
         control_words = bits_same heap state.words words book.owner same.controls heap_stands.control_words;
@@ -114,32 +114,35 @@ module _ (heap : Heap) (state : State) (book : Book) (q : ℕ) (words : List ℕ
       }
       record {
         fits = fits;
-        holding = holding_as book.owner q seat.reserve seat.hand seat.body now.reserve now.hand now.body replies.reserve
-            (idle.empty_hand ∙ sym rest.empty_hand) (idle.no_body ∙ sym rest.no_body) stands.holding;
-        stored = none_stored heap words q now idle.none_stored;
-        registers = rw graph (λ i awake. replies.registers i);
-        list = record {
-          awaited = [];
-          own = append-nil now.mine ∙ replies.mine ∙ own_grows q book.history seat.mine entry (said_own book.history q command reply) told;
-          awaits = rw replies.idle refl;
+        own = record {
+          holding = holding_as book.owner q seat.reserve seat.hand seat.body now.reserve now.hand now.body replies.reserve
+              (idle.empty_hand ∙ sym rest.empty_hand) (idle.no_body ∙ sym rest.no_body) stands.own.holding;
+          stored = none_stored heap words q now idle.none_stored;
+          together = nothing_together heap now.cursor now.tried now.hand now.body idle.empty_hand idle.no_body;
         };
-        way = rw replies.idle tt;
+        names = record { registers = rw graph (λ i awake. replies.registers i); way = rw replies.idle tt };
+        told = record {
+          list = record {
+            awaited = [];
+            own = append-nil now.mine ∙ replies.mine ∙ own_grows q book.history seat.mine entry (said_own book.history q command reply) told;
+            awaits = rw replies.idle refl;
+          };
+          counts = rw graph record {
+            numbered = replies.made;
+            stamped = replies.sets;
+            leaves = replies.left;
+            unborn = bare_unborn seat.reserve now.reserve now.hand now.body (spent_of q later.history) (taken_of q later.history) replies.reserve idle.empty_hand idle.no_body
+                (omega (arith, own, said_taken book.history q command reply none, said_spent book.history q command reply none));
+          };
+          began = rw replies.idle (began_idle book.history entry q (book.begun q) seat.place stands.told.began);
+          gathers = gathers_none heap book.owner q (drop (book.begun q) later.history) now.cursor now.tried now.given idle.none_tried idle.none_given;
+        };
         cycle = cycle;
-        together = nothing_together heap now.cursor now.tried now.hand now.body idle.empty_hand idle.no_body;
-        counts = rw graph record {
-          numbered = replies.made;
-          stamped = replies.sets;
-          leaves = replies.left;
-          unborn = bare_unborn seat.reserve now.reserve now.hand now.body (spent_of q later.history) (taken_of q later.history) replies.reserve idle.empty_hand idle.no_body
-              (omega (arith, own, said_taken book.history q command reply none, said_spent book.history q command reply none));
-        };
-        began = rw replies.idle (began_idle book.history entry q (book.begun q) seat.place stands.began);
-        gathers = gathers_none heap book.owner q (drop (book.begun q) later.history) now.cursor now.tried now.given idle.none_tried idle.none_given;
       }
       (λ r below apart other. seat_stays heap state.words words book entry r (seat_at state r) (of_other q r apart)
       (rw graph (grows.others r apart))
       (rw graph grows.lengths)
-      (stored_stays heap book.owner state.words words r (seat_at state r) same other.holding (stored_within heap (seat_at state r) (seat_at state r).place other.fits.at_place) other.stored)
+      (stored_stays heap book.owner state.words words r (seat_at state r) same other.own.holding (stored_within heap (seat_at state r) (seat_at state r).place other.fits.at_place) other.own.stored)
       (cycle_other heap words book.owner book.colour book.history entry refl r (seat_at state r)
       (cycle_stays heap state.words words book.owner book.owner book.colour book.colour (phase book.history) (answered r book.history) (has_left r book.history) r (seat_at state r)
       (leaves r below apart) other.cycle) (of_other q r apart))

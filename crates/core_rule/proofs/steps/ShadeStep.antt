@@ -99,28 +99,21 @@ module _ (heap : Heap) (state : State) (book : Book) (q : ℕ) (rule : Rule heap
       }
       record {
         fits = fit_after heap state book q rule here machine;
-        holding = stands.holding;
-        stored = stored_control heap state.words q seat (f / 16) _ group_below stands.stored;
-        registers = held;
-        list = list;
-        way = way;
+        own = record { holding = stands.own.holding; stored = stored_control heap state.words q seat (f / 16) _ group_below stands.own.stored; together = stands.own.together };
+        names = record { registers = held; way = way };
+        told = record {
+          list = list;
+          counts = counts_same (graph_of heap book.history) book.history q seat new refl refl refl refl stands.told.counts;
+          began = began_on book.history q (book.begun q) seat.place place busy stands.told.began;
+          gathers = stands.told.gathers;
+        };
         cycle = cycle;
-        together = stands.together;
-        counts = counts_same (graph_of heap book.history) book.history q seat new refl refl refl refl stands.counts;
-        began = began_on book.history q (book.begun q) seat.place place busy stands.began;
-        gathers = stands.gathers;
       }
       (λ r less apart other. record {
         fits = other.fits;
-        holding = other.holding;
-        stored = stored_control heap state.words r (seat_at state r) (f / 16) _ group_below other.stored;
-        registers = other.registers;
-        list = other.list;
-        way = other.way;
+        own = record { holding = other.own.holding; stored = stored_control heap state.words r (seat_at state r) (f / 16) _ group_below other.own.stored; together = other.own.together };
+        names = other.names;
+        told = other.told;
         cycle = cycle_stays heap state.words words_shaded book.owner book.owner book.colour (with_mark book.colour f) (phase book.history) (answered r book.history) (has_left r book.history)
             r (seat_at state r) (others_left r less (seat_at state r)) other.cycle;
-        together = other.together;
-        counts = other.counts;
-        began = other.began;
-        gathers = other.gathers;
       })

@@ -39,7 +39,7 @@ module _ (heap : Heap) (state : State) (book : Book) (q : ℕ) (rule : Rule heap
   stays = in_flight heap (seat_at state q) (rule.seats_stand q here).fits (λ idle. absurd (cc (place, idle)))
 
   pub is_present : IsPresent (graph_of heap book.history) q
-  is_present = (rule.seats_stand q here).counts.leaves ∙ stays
+  is_present = (rule.seats_stand q here).told.counts.leaves ∙ stays
 
   -- its last answer is to the phase, or to the one before it
   pub is_near : IsNear (phase book.history) (seat_at state q).answered
@@ -62,4 +62,4 @@ module _ (heap : Heap) (state : State) (book : Book) (q : ℕ) (rule : Rule heap
       let seat : Seat = seat_at state q in
       let r : ℕ = object_of seat.command in
       held_object book.made book.owner book.fragments (slice_index_or seat.registers r registers.Nil) _ _ _ way.holds
-      ((rule.seats_stand q here).registers r (free (target_of seat.command) r))
+      ((rule.seats_stand q here).names.registers r (free (target_of seat.command) r))

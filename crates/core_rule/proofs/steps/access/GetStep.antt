@@ -61,7 +61,7 @@ module _ (heap : Heap) (state : State) (book : Book) (q : ℕ) (rule : Rule heap
   free d r awaited = subst (λ p. IsAwaited p d r) place awaited
 
   held : (r : ℕ) → Holds book.made book.owner book.fragments (slice_index_or (seat_at state q).registers r registers.Nil) (register (graph_of heap book.history) q r)
-  held r = (rule.seats_stand q here).registers r (free (target_of (seat_at state q).command) r)
+  held r = (rule.seats_stand q here).names.registers r (free (target_of (seat_at state q).command) r)
 
   present : (party (graph_of heap book.history) q).left ≡ false
   present = is_present heap state book q rule here Getting place
@@ -91,7 +91,7 @@ module _ (heap : Heap) (state : State) (book : Book) (q : ℕ) (rule : Rule heap
       (put_only g q (target_of seat.command) (value_of new) present) accepts
       (keeps_got heap false book.history q (has_enough heap state book q rule here Getting place) (has_little heap state book q rule here Getting place) (value_of new) stamp seat.command a_get)
       (λ r unawaited. registers_filled book.made book.owner book.fragments g q (target_of seat.command) (value_of new) seat.registers new present in_seat in_graph holds (λ x apart. held x) r)
-      (list_more g book.made book.owner book.fragments q seat book.history busy stands.list (put g q (target_of seat.command) (value_of new)) _ _ (entry ∷ []) [] (entry ∷ []) refl refl
+      (list_more g book.made book.owner book.fragments q seat book.history busy stands.told.list (put g q (target_of seat.command) (value_of new)) _ _ (entry ∷ []) [] (entry ∷ []) refl refl
       (own_entries q book.history entry (eq-eqb q q refl)) refl)
       tt tt (no_leave_told q q seat.command reply (λ leaves. subst IsGet leaves a_get))
       (went_cycle heap state book q rule here (Word seat.reached (field_part seat)) (slice_set seat.registers (target_of seat.command) new) 0 0 0 places.Idle (entry ∷ []) machine
@@ -117,7 +117,7 @@ module _ (heap : Heap) (state : State) (book : Book) (q : ℕ) (rule : Rule heap
       seat.command reply refl (put g q d value) (graph_got g q value (stamp_in found) seat.command a_get) (put_only g q d value present) accepts
       (keeps_got heap false book.history q (has_enough heap state book q rule here Getting place) (has_little heap state book q rule here Getting place) value (stamp_in found) seat.command a_get)
       (λ r unawaited. subst (λ x. Holds book.made book.owner book.fragments (slice_index_or seat.registers r registers.Nil) x) (sym (put_rest g q d value present r unawaited)) (held r))
-      (list_more g book.made book.owner book.fragments q seat book.history busy stands.list (put g q d value) _ _ [] (entry ∷ []) (entry ∷ []) refl refl
+      (list_more g book.made book.owner book.fragments q seat book.history busy stands.told.list (put g q d value) _ _ [] (entry ∷ []) (entry ∷ []) refl refl
       (own_entries q book.history entry (eq-eqb q q refl))
       (record { id = id; kept = kept; loads = loads; held = put_target g q d value present in_graph; told = refl }))
       tt tt (no_leave_told q q seat.command reply (λ leaves. subst IsGet leaves a_get))
@@ -138,7 +138,7 @@ get_keeps heap state book q rule here place machine =
     let bits = heap_stands.control_words in
     let fits : Gets seat × (seat.loaded ≡ 0) = rw place at stands.fits.way_at_place in
     let gets = fits.0 in
-    let finds : Finds (cells_at g book.made) book.made book.owner book.fragments seat = rw place at stands.way in
+    let finds : Finds (cells_at g book.made) book.made book.owner book.fragments seat = rw place at stands.names.way in
     let number : ℕ = finds.number in
     let way = finds.way in
     let cell : Cell = get_or (cells_at g book.made number) field unset in

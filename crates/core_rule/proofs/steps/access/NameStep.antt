@@ -42,9 +42,9 @@ name_keeps heap state book q rule here place machine =
     let heap_stands = rule.heap_stands in
     let fits : Gets seat × IsSome (head_in seat.loaded) = rw place at stands.fits.way_at_place in
     let gets = fits.0 in
-    let awaits : AwaitsName g book.made book.owner book.fragments q seat stands.list.awaited = rw place at stands.list.awaits in
+    let awaits : AwaitsName g book.made book.owner book.fragments q seat stands.told.list.awaited = rw place at stands.told.list.awaits in
     let id : Id = awaits.id in
-    let before : Registers g book.made book.owner book.fragments q seat.registers (places.Reaching Naming) d = rw place at stands.registers in
+    let before : Registers g book.made book.owner book.fragments q seat.registers (places.Reaching Naming) d = rw place at stands.names.registers in
     let head : at_name ≡ head_of book.made book.fragments id = ap (λ (o : Option ℕ). unwrap_or o 0) awaits.loads in
     let name : id_in found ≡ id
     = ap (λ f. id_in (at heap state.words (Word f 1))) head
@@ -54,15 +54,15 @@ name_keeps heap state book q rule here place machine =
     = subst (λ x. Holds book.made book.owner book.fragments (registers.Object at_name x) (register g q d)) (sym name) (awaits.held, awaits.kept, head) in
     let within : d < length seat.registers = omega (arith, stands.fits.registers_whole, target_within seat.command gets.1 gets.0.in_range) in
     let added : List Entry = said q seat (Got (values.Object (id_in found)) (stamp_in seat.loaded)) in
-    let told : stands.list.awaited ≡ added = awaits.told ∙ ap (λ x. said q seat (Got (values.Object x) (stamp_in seat.loaded))) (sym name) in
+    let told : stands.told.list.awaited ≡ added = awaits.told ∙ ap (λ x. said q seat (Got (values.Object x) (stamp_in seat.loaded))) (sym name) in
     load_goes heap state book q rule here (Word at_name 1) (slice_set seat.registers d (registers.Object at_name (id_in found))) 0 0 0 places.Idle added machine
     (λ r unawaited. registers_with book.made book.owner book.fragments g q d seat.registers (registers.Object at_name (id_in found)) within holds before r)
     (record {
       awaited = [];
-      own = append-nil (seat.mine ++ added) ∙ ap (λ (x : List Entry). seat.mine ++ x) (sym told) ∙ stands.list.own;
+      own = append-nil (seat.mine ++ added) ∙ ap (λ (x : List Entry). seat.mine ++ x) (sym told) ∙ stands.told.list.own;
       awaits = refl;
     })
     tt
-    (record { earlier = stands.began.earlier; unanswered = λ busy. absurd (busy tt) })
+    (record { earlier = stands.told.began.earlier; unanswered = λ busy. absurd (busy tt) })
     (went_cycle heap state book q rule here (Word at_name 1) (slice_set seat.registers d (registers.Object at_name (id_in found))) 0 0 0 places.Idle added machine
     (rw place at stands.fits.answer_at_place) tt)

@@ -51,11 +51,11 @@ module _ (heap : Heap) (state : State) (book : Book) (q : ℕ) (rule : Rule heap
       let stands = rule.seats_stand q here in
       let new : Seat = went seat seat.registers reached links seat.loaded (places.Reaching (way_place next)) [] in
       load_goes heap state book q rule here (Word seat.reached 0) seat.registers reached links seat.loaded (places.Reaching (way_place next)) [] machine
-      (λ r unawaited. stands.registers r (free (target_of seat.command) r))
-      (list_more g book.made book.owner book.fragments q seat book.history busy stands.list g book.history new [] [] [] refl refl (sym (append-nil (filter (is_of q) book.history)))
+      (λ r unawaited. stands.names.registers r (free (target_of seat.command) r))
+      (list_more g book.made book.owner book.fragments q seat book.history busy stands.told.list g book.history new [] [] [] refl refl (sym (append-nil (filter (is_of q) book.history)))
       (way_cases (λ place. Awaits g book.made book.owner book.fragments q new (places.Reaching place) []) next refl refl (λ on. refl) (λ off. refl)))
       (way_stands (cells_at g book.made) book.made book.owner book.fragments new next finds)
-      (began_on book.history q (book.begun q) seat.place (places.Reaching (way_place next)) busy stands.began)
+      (began_on book.history q (book.begun q) seat.place (places.Reaching (way_place next)) busy stands.told.began)
       (went_cycle heap state book q rule here (Word seat.reached 0) seat.registers reached links seat.loaded (places.Reaching (way_place next)) [] machine silent
       (subst (λ b. IsUnwatched b (way_place next)) same (way_unwatched next)))
 
@@ -78,6 +78,6 @@ module _ (heap : Heap) (state : State) (book : Book) (q : ℕ) (rule : Rule heap
 pub walk_keeps : StepKeeps (places.Reaching Walking) (λ heap q. walk_move)
 walk_keeps heap state book q rule here place machine =
     let finds : Finds (cells_at (graph_of heap book.history) book.made) book.made book.owner book.fragments (seat_at state q)
-    = rw place at (rule.seats_stand q here).way in
+    = rw place at (rule.seats_stand q here).names.way in
     onward_keeps heap state book q rule here (λ answered. subst IsAnswered place answered) (λ d r awaited. subst (λ p. IsAwaited p d r) place awaited)
     (rw place at (rule.seats_stand q here).fits.answer_at_place) finds machine

@@ -81,8 +81,8 @@ module _ (heap : Heap) (state : State) (book : Book) (q : ℕ) (rule : Rule heap
       let entry : Entry = Said q seat.command reply in
       load_tells heap state book q rule here (Word seat.reached 0) seat.registers 0 0 0 places.Idle (entry ∷ []) machine seat.command reply nothing g stays (only_none g q)
       accepts keeps
-      (λ r unawaited. stands.registers r (free (target_of seat.command) r))
-      (list_more g book.made book.owner book.fragments q seat book.history busy stands.list g _ _ (entry ∷ []) [] (entry ∷ []) refl refl
+      (λ r unawaited. stands.names.registers r (free (target_of seat.command) r))
+      (list_more g book.made book.owner book.fragments q seat book.history busy stands.told.list g _ _ (entry ∷ []) [] (entry ∷ []) refl refl
       (own_entries q book.history entry (eq-eqb q q refl)) refl)
       tt tt stays_here
       (went_cycle heap state book q rule here (Word seat.reached 0) seat.registers 0 0 0 places.Idle (entry ∷ []) machine (rw place at stands.fits.answer_at_place) tt)
@@ -95,7 +95,7 @@ open_keeps heap state book q rule here place machine =
     let stands = rule.seats_stand q here in
     let found : ℕ = at heap state.words (Word seat.reached 0) in
     let opens : Opens seat = rw place at stands.fits.way_at_place in
-    let out : SetsOut book.made book.owner book.fragments seat = rw place at stands.way in
+    let out : SetsOut book.made book.owner book.fragments seat = rw place at stands.names.way in
     let number : ℕ = out.number in
     let way = out.way in
     let id : Id = id_at book.made number in

@@ -95,13 +95,13 @@ swap_keeps heap state book q rule here place machine =
     let rest : IsAtRest seat = rw place at stands.fits.at_place in
     let fits : FitsSets seat × (has_barrier seat ≡ false → seat.loaded ≡ 0) = rw place at stands.fits.way_at_place in
     let a_set : IsSet seat.command = fits.0.1 in
-    let finds : Finds (cells_at g book.made) book.made book.owner book.fragments seat = rw place at stands.way in
+    let finds : Finds (cells_at g book.made) book.made book.owner book.fragments seat = rw place at stands.names.way in
     let busy : seat.place ≢ places.Idle = λ idle. absurd (cc (place, idle)) in
-    let present : (party g q).left ≡ false = stands.counts.leaves ∙ in_flight heap seat stands.fits busy in
-    let awaits = rw place at stands.list.awaits in
+    let present : (party g q).left ≡ false = stands.told.counts.leaves ∙ in_flight heap seat stands.fits busy in
+    let awaits = rw place at stands.told.list.awaits in
     let silent : IsSilent seat = rw place at stands.fits.answer_at_place in
     let holds : (r : ℕ) → Holds book.made book.owner book.fragments (register_in seat.registers r) (register g q r)
-    = λ r. stands.registers r (none_awaited seat.place (places.Reaching Swapping) (target_of seat.command) r place (λ none. none)) in
+    = λ r. stands.names.registers r (none_awaited seat.place (places.Reaching Swapping) (target_of seat.command) r place (λ none. none)) in
     let n : ℕ = finds.number in
     let i : ℕ = field_of seat.command in
     let id : Id = id_at book.made n in
@@ -125,7 +125,7 @@ swap_keeps heap state book q rule here place machine =
     = set_graph seat.command a_set g q stamp ∙ ap (λ (x : Value). write (count_set g q) x i cell) refers in
     let sets : Sets g now q id i cell = subst (λ (x : Graph). Sets g x q id i cell) (sym grown) (sets_cell g q id i cell there.0 present there.1) in
     let numbered : seat.sets + 1 < 2 ^ 26 = set_numbered seat.command a_set seat.made seat.sets fits.0.0.numbered in
-    let few : (party g q).sets + 1 < 2 ^ 26 = omega (arith, numbered, stands.counts.stamped) in
+    let few : (party g q).sets + 1 < 2 ^ 26 = omega (arith, numbered, stands.told.counts.stamped) in
     let old_stamp : stamp ≡ old.stamp
     = ap (λ f. stamp_in (at heap state.words (Word f part))) arrived
     ∙ ap stamp_in (found_is heap state.words g now q book.made book.owner book.fragments n i cell word ids objects finds.way.below finds.way.kept sets finds.within old old_there)
@@ -133,13 +133,13 @@ swap_keeps heap state book q rule here place machine =
     let cells_there : slice_get there.0.cells i ≡ Some old = ap (λ (o : Option Node). slice_get (cells_in o) i) (sym there.1) ∙ old_there in
     let is_word : word ≡ value_word (head_of book.made book.fragments) cell.value cell.stamp
     = register_is_value book.made book.owner book.fragments (register_in seat.registers (source_of seat.command)) cell.value (stamp_of q (seat.sets + 1)) (holds (source_of seat.command))
-    ∙ ap (λ s. value_word (head_of book.made book.fragments) cell.value (stamp_of q (s + 1))) stands.counts.stamped in
+    ∙ ap (λ s. value_word (head_of book.made book.fragments) cell.value (stamp_of q (s + 1))) stands.told.counts.stamped in
     let small : cell.stamp < 2 ^ 32 = omega (arith, few, here, rule.machine.limits.seats_fit) in
     let names : NamesKept book.made book.owner book.fragments cell.value × (cell.stamp < 2 ^ 32)
     = (register_names book.made book.owner book.fragments (register_in seat.registers (source_of seat.command)) cell.value (holds (source_of seat.command)), small) in
     let inside : fragment < 16 * heap.groups = subst (λ f. f < 16 * heap.groups) arrived stands.fits.reached_within in
     reply_keeps heap state book q (put heap state.words (Word seat.reached part) word) (seat_after (swap_move q seat) found) seat.command (replies.Was stamp) rule here machine
-    refl rest (all_told seat.mine stands.list.awaited (filter (is_of q) book.history) stands.list.own awaits)
+    refl rest (all_told seat.mine stands.told.list.awaited (filter (is_of q) book.history) stands.told.list.own awaits)
     (legal_more heap false book.history (entries.Said q seat.command (replies.Was stamp)) rule.heap_stands.legal
     (present, fits.0.0.in_range, set_says seat.command a_set g q id there.0 old stamp refers there.1 cells_there old_stamp few)
     (keeps_said heap false book.history q seat.command (replies.Was stamp) refl tt tt (set_shows seat.command a_set heap book.history q stamp)
@@ -158,9 +158,9 @@ swap_keeps heap state book q rule here place machine =
       idle = refl;
       reserve = refl;
       mine = refl;
-      made = stands.counts.numbered ∙ sym sets.objects;
-      sets = ap (λ s. s + 1) stands.counts.stamped ∙ sym sets.sets;
-      left = sets.left ∙ stands.counts.leaves;
+      made = stands.told.counts.numbered ∙ sym sets.objects;
+      sets = ap (λ s. s + 1) stands.told.counts.stamped ∙ sym sets.sets;
+      left = sets.left ∙ stands.told.counts.leaves;
       registers = λ r. subst (λ (vs : List Value). Holds book.made book.owner book.fragments (register_in seat.registers r) (get_or vs r values.Nil)) (sym sets.registers) (holds r);
     }
     (heap_swapped heap state book q rule here place cell.value cell.stamp (holds (source_of seat.command)) names.0 small word is_word)

@@ -99,7 +99,7 @@ module _ (heap : Heap) (state : State) (book : Book) (q : ℕ) (rule : Rule heap
   stays = in_flight heap seat stands.fits (λ idle. absurd (cc (place, idle)))
 
   present : (party g q).left ≡ false
-  present = stands.counts.leaves ∙ stays
+  present = stands.told.counts.leaves ∙ stays
 
   small : q < 16
   small = omega (arith, here, rule.machine.limits.seats_fit)
@@ -152,33 +152,35 @@ module _ (heap : Heap) (state : State) (book : Book) (q : ℕ) (rule : Rule heap
     };
     answer = tt;
     flight = record { set = λ marking snapped. tt; shaded = λ marking. tt; roots = λ marking j less. absurd (omega (arith, less)) };
-    births = λ f bears. absurd (bears_nothing book.owner q seat.reserve seat.hand seat.body rest.no_body stands.holding f bears);
+    births = λ f bears. absurd (bears_nothing book.owner q seat.reserve seat.hand seat.body rest.no_body stands.own.holding f bears);
   }
 
   own_stands : SeatStands heap words later q now
   own_stands =
       let counts_middle : OwnCounts (graph_of heap middle.history) middle.history q seat
-      = counts_own g (graph_of heap middle.history) book.history q seat seat stands.counts first own
-      (rw graph stands.counts.numbered) (rw graph stands.counts.stamped) (rw graph stands.counts.leaves) (omega arith) in
+      = counts_own g (graph_of heap middle.history) book.history q seat seat stands.told.counts first own
+      (rw graph stands.told.counts.numbered) (rw graph stands.told.counts.stamped) (rw graph stands.told.counts.leaves) (omega arith) in
       record {
         fits = fits;
-        holding = stands.holding;
-        stored = none_stored heap words q now rest.none_stored;
-        registers = rw graph_later (λ i awake. stands.registers i (none_awaited seat.place (places.Polling Answering) (target_of seat.command) i place (λ none. none)));
-        list = record {
-          awaited = [];
-          own = append-nil now.mine ∙ sym (append_assoc seat.mine (first ∷ []) (second ∷ []))
-              ∙ own_grows q middle.history (seat.mine ++ first ∷ []) second own
-              (own_grows q book.history seat.mine first own (all_told seat.mine stands.list.awaited (filter (is_of q) book.history) stands.list.own (rw place at stands.list.awaits)));
-          awaits = refl;
+        own = record { holding = stands.own.holding; stored = none_stored heap words q now rest.none_stored; together = stands.own.together };
+        names = record {
+          registers = rw graph_later (λ i awake. stands.names.registers i (none_awaited seat.place (places.Polling Answering) (target_of seat.command) i place (λ none. none)));
+          way = tt;
         };
-        way = tt;
+        told = record {
+          list = record {
+            awaited = [];
+            own = append-nil now.mine ∙ sym (append_assoc seat.mine (first ∷ []) (second ∷ []))
+                ∙ own_grows q middle.history (seat.mine ++ first ∷ []) second own
+                (own_grows q book.history seat.mine first own (all_told seat.mine stands.told.list.awaited (filter (is_of q) book.history) stands.told.list.own (rw place at stands.told.list.awaits)));
+            awaits = refl;
+          };
+          counts = counts_own (graph_of heap middle.history) (graph_of heap later.history) middle.history q seat now counts_middle second own
+              (rw graph_then counts_middle.numbered) (rw graph_then counts_middle.stamped) (rw graph_then counts_middle.leaves) (omega arith);
+          began = began_idle middle.history second q (book.begun q) seat.place (began_past book.history first q (book.begun q) seat.place seat.place refl (λ busy. busy) stands.told.began);
+          gathers = gathers_none heap book.owner q (drop (book.begun q) later.history) now.cursor now.tried now.given rest.none_tried rest.none_given;
+        };
         cycle = own_cycle;
-        together = stands.together;
-        counts = counts_own (graph_of heap middle.history) (graph_of heap later.history) middle.history q seat now counts_middle second own
-            (rw graph_then counts_middle.numbered) (rw graph_then counts_middle.stamped) (rw graph_then counts_middle.leaves) (omega arith);
-        began = began_idle middle.history second q (book.begun q) seat.place (began_past book.history first q (book.begun q) seat.place seat.place refl (λ busy. busy) stands.began);
-        gathers = gathers_none heap book.owner q (drop (book.begun q) later.history) now.cursor now.tried now.given rest.none_tried rest.none_given;
       }
 
   other_stands : (r : ℕ) → r < heap.seats → r ≢ q → SeatStands heap state.words book r (seat_at state r) → SeatStands heap words later r (seat_at state r)

@@ -47,34 +47,40 @@ empty_keeps heap state book q rule here place machine =
     let rest : IsAtRest seat = at_place.0 in
     let silent : IsSilent seat = rw place at stands.fits.answer_at_place in
     let busy : seat.place ≢ places.Idle = λ idle. absurd (cc (place, idle)) in
-    let present : (party g q).left ≡ false = stands.counts.leaves ∙ in_flight heap seat stands.fits busy in
-    let awaits = rw place at stands.list.awaits in
-    let told : seat.mine ≡ filter (is_of q) book.history = all_told seat.mine stands.list.awaited (filter (is_of q) book.history) stands.list.own awaits in
+    let present : (party g q).left ≡ false = stands.told.counts.leaves ∙ in_flight heap seat stands.fits busy in
+    let awaits = rw place at stands.told.list.awaits in
+    let told : seat.mine ≡ filter (is_of q) book.history = all_told seat.mine stands.told.list.awaited (filter (is_of q) book.history) stands.told.list.own awaits in
     let below : seat.cursor < heap.groups = stands.fits.cursor_within in
-    let held = reserve_held book.owner q fs seat.hand seat.body stands.holding in
-    let once = reserve_once book.owner q fs seat.hand seat.body stands.holding in
+    let held = reserve_held book.owner q fs seat.hand seat.body stands.own.holding in
+    let once = reserve_once book.owner q fs seat.hand seat.body stands.own.holding in
     let graph = graph_given heap state book q rule here seat.cursor fs below held once in
     let kept = kept_given heap state book q rule here seat.cursor fs below held once in
     let later : Book = book_given heap state book q rule here seat.cursor fs below held once in
     let own : length fs + spent_of q book.history ≡ taken_of q book.history = own_reserve heap state book q rule here rest in
     seat_steps heap state book q (words_given heap state book q rule here seat.cursor fs below held once) now later (entry ∷ []) rule here machine refl refl
     (heap_given heap state book q rule here seat.cursor fs below held once
-    (emptied_bits book.owner q fs seat.hand seat.body stands.holding heap state.words seat.cursor rule.machine.table below stands.fits.reserve_of_cursor rule.heap_stands.control_words)
+    (emptied_bits book.owner q fs seat.hand seat.body stands.own.holding heap state.words seat.cursor rule.machine.table below stands.fits.reserve_of_cursor rule.heap_stands.control_words)
     present at_place.2 (omega (arith, own)))
     record {
       fits = fit_after heap state book q rule here machine;
-      holding = holding_emptied book.owner q fs seat.hand seat.body stands.holding;
-      stored = stored_control heap state.words q seat seat.cursor _ below stands.stored;
-      registers = rw graph (λ r fresh. registers_owners book.owner later.owner kept book.made book.fragments g q seat.registers seat.place (target_of seat.command) stands.registers r
-          (none_awaited seat.place (places.Leaving Emptying) (target_of seat.command) r place (λ none. none)));
-      list = whole_list (graph_of heap later.history) later.history book.made later.owner book.fragments q now refl (own_grows q book.history seat.mine entry (eq-eqb q q refl) told);
-      way = tt;
+      own = record {
+        holding = holding_emptied book.owner q fs seat.hand seat.body stands.own.holding;
+        stored = stored_control heap state.words q seat seat.cursor _ below stands.own.stored;
+        together = nothing_together heap seat.cursor seat.tried seat.hand seat.body rest.empty_hand rest.no_body;
+      };
+      names = record {
+        registers = rw graph (λ r fresh. registers_owners book.owner later.owner kept book.made book.fragments g q seat.registers seat.place (target_of seat.command) stands.names.registers r
+            (none_awaited seat.place (places.Leaving Emptying) (target_of seat.command) r place (λ none. none)));
+        way = tt;
+      };
+      told = record {
+        list = whole_list (graph_of heap later.history) later.history book.made later.owner book.fragments q now refl (own_grows q book.history seat.mine entry (eq-eqb q q refl) told);
+        counts = rw graph (counts_own g g book.history q seat now stands.told.counts entry (eq-eqb q q refl)
+            stands.told.counts.numbered stands.told.counts.stamped stands.told.counts.leaves (omega arith));
+        began = began_past book.history entry q (book.begun q) seat.place (places.Leaving Parting) refl (λ still. unanswered seat.place place) stands.told.began;
+        gathers = gathers_none heap later.owner q (drop (book.begun q) later.history) seat.cursor seat.tried seat.given rest.none_tried rest.none_given;
+      };
       cycle = cycle_given heap state book q rule here seat.cursor fs below held once now record { answered = refl; left = refl; asked = refl } tt silent.none_shaded;
-      together = nothing_together heap seat.cursor seat.tried seat.hand seat.body rest.empty_hand rest.no_body;
-      counts = rw graph (counts_own g g book.history q seat now stands.counts entry (eq-eqb q q refl)
-          stands.counts.numbered stands.counts.stamped stands.counts.leaves (omega arith));
-      began = began_past book.history entry q (book.begun q) seat.place (places.Leaving Parting) refl (λ still. unanswered seat.place place) stands.began;
-      gathers = gathers_none heap later.owner q (drop (book.begun q) later.history) seat.cursor seat.tried seat.given rest.none_tried rest.none_given;
     }
     (other_given heap state book q rule here seat.cursor fs below held once)
   where

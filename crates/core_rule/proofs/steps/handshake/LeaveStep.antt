@@ -61,8 +61,8 @@ leave_keeps heap state book q rule here place machine =
     let stands = rule.seats_stand q here in
     let at_place : IsAtRest seat × (seat.command ≡ commands.Leave) × (seat.reserve ≡ []) = rw place at stands.fits.at_place in
     let busy : seat.place ≢ places.Idle = λ idle. absurd (cc (place, idle)) in
-    let present : (party g q).left ≡ false = stands.counts.leaves ∙ in_flight heap seat stands.fits busy in
-    let awaits = rw place at stands.list.awaits in
+    let present : (party g q).left ≡ false = stands.told.counts.leaves ∙ in_flight heap seat stands.fits busy in
+    let awaits = rw place at stands.told.list.awaits in
     let small : q < 16 = omega (arith, here, rule.machine.limits.seats_fit) in
     let now : Graph = after_reply g q seat.command replies.Done in
     let grown : now ≡ leave g q = ap (λ c. after_reply g q c replies.Done) at_place.1 in
@@ -77,7 +77,7 @@ leave_keeps heap state book q rule here place machine =
     let silent : IsSilent seat = rw place at stands.fits.answer_at_place in
     let told = stands.cycle.answers_told in
     reply_keeps heap state book q words (seat_after (leave_move q seat) (at heap state.words (Answer q))) seat.command replies.Done rule here machine
-    refl at_place.0 (all_told seat.mine stands.list.awaited (filter (is_of q) book.history) stands.list.own awaits)
+    refl at_place.0 (all_told seat.mine stands.told.list.awaited (filter (is_of q) book.history) stands.told.list.own awaits)
     (legal_more heap false book.history (entries.Said q seat.command replies.Done) rule.heap_stands.legal
     (present, subst IsCommand (sym at_place.1) tt, subst (λ c. Says g q c replies.Done) (sym at_place.1) refl)
     (keeps_said heap false book.history q seat.command replies.Done refl tt tt (subst (λ c. ShowsPhases heap false book.history q c replies.Done) (sym at_place.1) tt)
@@ -88,8 +88,8 @@ leave_keeps heap state book q rule here place machine =
       idle = refl;
       reserve = refl;
       mine = refl;
-      made = stands.counts.numbered ∙ sym changes.objects;
-      sets = stands.counts.stamped ∙ sym changes.sets;
+      made = stands.told.counts.numbered ∙ sym changes.objects;
+      sets = stands.told.counts.stamped ∙ sym changes.sets;
       left = ap (λ (p : Party). p.left) party_now;
       registers = λ i. all_holds i (ap (λ (p : Party). get_or p.registers i values.Nil) party_now ∙ all_nil values.Nil 16 i);
     }

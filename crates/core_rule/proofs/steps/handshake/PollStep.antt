@@ -80,10 +80,10 @@ module _ (heap : Heap) (state : State) (book : Book) (q : ℕ) (rule : Rule heap
   is_phase = rule.heap_stands.cycle.word
 
   mine_told : seat.mine ≡ filter (is_of q) book.history
-  mine_told = all_told seat.mine stands.list.awaited (filter (is_of q) book.history) stands.list.own (rw place at stands.list.awaits)
+  mine_told = all_told seat.mine stands.told.list.awaited (filter (is_of q) book.history) stands.told.list.own (rw place at stands.told.list.awaits)
 
   holds : HoldAll heap book.history g q book.made book.owner book.fragments g seat.registers
-  holds i = stands.registers i (none_awaited seat.place (places.Polling Asking) (target_of seat.command) i place (λ none. none))
+  holds i = stands.names.registers i (none_awaited seat.place (places.Polling Asking) (target_of seat.command) i place (λ none. none))
 
   -- the seat has answered the phase
   poll_tells : found ≡ seat.answered → IsMachine heap (polls heap state q true) → Keeps heap (polls heap state q true) book book.begun (entries.Said q seat.command (replies.Phase found) ∷ [])
@@ -95,7 +95,7 @@ module _ (heap : Heap) (state : State) (book : Book) (q : ℕ) (rule : Rule heap
         only = only_none g q;
         registers = holds;
       } in
-      local_reply_keeps heap state book q Phase (polled q seat found true) (replies.Phase found) rule here machine rest mine_told (stands.counts.leaves ∙ stays)
+      local_reply_keeps heap state book q Phase (polled q seat found true) (replies.Phase found) rule here machine rest mine_told (stands.told.counts.leaves ∙ stays)
       (subst IsCommand (sym asks.1) tt)
       (subst (λ c. IsLocalReply heap book.history g q book.made book.owner book.fragments c (replies.Phase found) seat.registers) (sym asks.1) local)
       (no_leave_told q q seat.command (replies.Phase found) (λ leaves. absurd (cc (leaves, asks.1))))
@@ -129,16 +129,15 @@ module _ (heap : Heap) (state : State) (book : Book) (q : ℕ) (rule : Rule heap
       (λ same. seat_steps heap state book q state.words next book [] rule here same (sym (append-nil book.history)) refl rule.heap_stands
       record {
         fits = fit_after heap state book q rule here same;
-        holding = stands.holding;
-        stored = stands.stored;
-        registers = λ i awake. holds i;
-        list = record { awaited = []; own = append-nil next.mine ∙ append-nil seat.mine ∙ mine_told; awaits = refl };
-        way = tt;
+        own = record { holding = stands.own.holding; stored = stands.own.stored; together = stands.own.together };
+        names = record { registers = λ i awake. holds i; way = tt };
+        told = record {
+          list = record { awaited = []; own = append-nil next.mine ∙ append-nil seat.mine ∙ mine_told; awaits = refl };
+          counts = counts_same g book.history q seat next refl refl refl refl stands.told.counts;
+          began = began_on book.history q (book.begun q) seat.place next.place (rw place (λ answered. answered)) stands.told.began;
+          gathers = stands.told.gathers;
+        };
         cycle = own_cycle apart;
-        together = stands.together;
-        counts = counts_same g book.history q seat next refl refl refl refl stands.counts;
-        began = began_on book.history q (book.begun q) seat.place next.place (rw place (λ answered. answered)) stands.began;
-        gathers = stands.gathers;
       }
       (λ r below apart other. other)) machine
 

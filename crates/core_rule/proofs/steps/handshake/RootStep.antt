@@ -51,7 +51,7 @@ root_keeps heap state book q rule here place machine =
     let f : ℕ = slice_index_or (roots seat) seat.shaded 0 in
     let busy : ¬ IsAnswered seat.place = λ done. subst IsAnswered place done in
     let held : (r : ℕ) → Holds book.made book.owner book.fragments (register_in seat.registers r) (register g q r)
-    = λ r. stands.registers r (λ awaited. subst (λ x. IsAwaited x (target_of seat.command) r) place awaited) in
+    = λ r. stands.names.registers r (λ awaited. subst (λ x. IsAwaited x (target_of seat.command) r) place awaited) in
     let head : KeptHead book.made book.owner book.fragments f
     = subst (λ (fs : List ℕ). KeptHead book.made book.owner book.fragments (slice_index_or fs seat.shaded 0)) (sym all)
     (heads_kept book.made book.owner book.fragments seat.registers (λ r. register g q r) held seat.shaded (subst (λ (fs : List ℕ). seat.shaded < length fs) all fits.1)) in
@@ -59,7 +59,7 @@ root_keeps heap state book q rule here place machine =
     shade_keeps heap state book q rule here f head.number head.kept head.is (seat.shaded + 1) (places.Polling (answer_place (record seat { shaded = seat.shaded + 1 })))
     (λ rests. omega (arith, rests, asks.now, is_third)) machine
     (λ r unawaited. held r)
-    (list_more g book.made book.owner book.fragments q seat book.history busy stands.list g book.history new [] [] [] refl refl (sym (append-nil (filter (is_of q) book.history))) refl)
+    (list_more g book.made book.owner book.fragments q seat book.history busy stands.told.list g book.history new [] [] [] refl refl (sym (append-nil (filter (is_of q) book.history))) refl)
     tt busy
     (cycle_by_flight heap state.words (words_shaded heap state book q rule here f head.number head.kept head.is) book.owner book.owner book.colour (with_mark book.colour f) p
     (answered q book.history) (has_left q book.history) q seat new

@@ -54,8 +54,8 @@ birth_keeps heap state book q rule here place more machine =
     let owner : ℕ → Owner = handed (Bears q) book.owner part in
     let below = group_born heap state book q rule here place in
     let some = some_born heap state book q rule here place in
-    let held = part_held book.owner q seat.reserve seat.hand seat.body stands.holding g in
-    let once = part_once book.owner q seat.reserve seat.hand seat.body stands.holding g in
+    let held = part_held book.owner q seat.reserve seat.hand seat.body stands.own.holding g in
+    let once = part_once book.owner q seat.reserve seat.hand seat.body stands.own.holding g in
     let inside = held_within heap state.words book.owner heap_stands.control_words q part held in
     let kept = part_kept book.owner q part (Bears q) (bears_keeps_none q) held in
     let frees = birth_frees heap book.owner book.history q part once inside heap_stands.used held in
@@ -67,7 +67,7 @@ birth_keeps heap state book q rule here place more machine =
     rule here machine (sym (append-nil book.history)) refl
     record {
       control_words = birth_bits_after heap state.words book.owner g rule.machine.table below heap_stands.control_words seat.hand q
-          (hand_once book.owner q seat.reserve seat.hand seat.body stands.holding) (hand_held book.owner q seat.reserve seat.hand seat.body stands.holding) (bears_black seat);
+          (hand_once book.owner q seat.reserve seat.hand seat.body stands.own.holding) (hand_held book.owner q seat.reserve seat.hand seat.body stands.own.holding) (bears_black seat);
       owners = owners_handed heap.seats book.owner heap_stands.owners (Bears q) part here kept;
       ids = heap_stands.ids;
       objects = objects_owners book.owner owner kept book.made book.fragments heap (put heap state.words (Control g) word) (graph_of heap book.history)
@@ -81,33 +81,45 @@ birth_keeps heap state book q rule here place more machine =
     }
     record {
       fits = fit_after heap state book q rule here machine;
-      holding = holding_bears book.owner q seat.reserve seat.hand seat.body stands.holding g some;
-      stored = stored_control heap state.words q seat g word below stands.stored;
-      registers = registers_owners book.owner owner kept book.made book.fragments (graph_of heap book.history) q seat.registers seat.place (target_of seat.command) stands.registers;
-      list = list_of_making (graph_of heap book.history) book.history book.made owner book.fragments q (seat_after (birth_move seat) found) Bearing place
-          (append-nil seat.mine ∙ making_list (graph_of heap book.history) book.history book.made book.owner book.fragments q seat Bearing place stands.list);
-      way = rw place tt;
+      own = record {
+        holding = holding_bears book.owner q seat.reserve seat.hand seat.body stands.own.holding g some;
+        stored = stored_control heap state.words q seat g word below stands.own.stored;
+        together = together_bears heap seat.cursor seat.tried seat.hand seat.body stands.fits.hand_within some stands.own.together;
+      };
+      names = record {
+        registers = registers_owners book.owner owner kept book.made book.fragments (graph_of heap book.history) q seat.registers seat.place (target_of seat.command) stands.names.registers;
+        way = rw place tt;
+      };
+      told = record {
+        list = list_of_making (graph_of heap book.history) book.history book.made owner book.fragments q (seat_after (birth_move seat) found) Bearing place
+            (append-nil seat.mine ∙ making_list (graph_of heap book.history) book.history book.made book.owner book.fragments q seat Bearing place stands.told.list);
+        counts = counts_same (graph_of heap book.history) book.history q seat (seat_after (birth_move seat) found) refl refl refl
+            (rw (whole_full (part_out g seat.hand) seat.hand seat.body some) refl) stands.told.counts;
+        began = stands.told.began;
+        gathers = gathers_same heap book.owner owner q (drop (book.begun q) book.history) seat.cursor seat.tried seat.given frees stands.told.gathers;
+      };
       cycle = cycle_apart heap state.words words book.owner owner book.colour colour (phase book.history) (answered q book.history) (has_left q book.history) q
           seat (seat_after (birth_move seat) found) record { answered = refl; left = refl; asked = refl } (rw place tt) (none_shaded heap seat Bearing stands.fits place)
           (answer_after_control heap state.words word g q (omega (arith, here, rule.machine.limits.seats_fit)))
           (born_more book.owner book.colour part q black stands.cycle.births) stands.cycle;
-      together = together_bears heap seat.cursor seat.tried seat.hand seat.body stands.fits.hand_within some stands.together;
-      counts = counts_same (graph_of heap book.history) book.history q seat (seat_after (birth_move seat) found) refl refl refl
-          (rw (whole_full (part_out g seat.hand) seat.hand seat.body some) refl) stands.counts;
-      began = stands.began;
-      gathers = gathers_same heap book.owner owner q (drop (book.begun q) book.history) seat.cursor seat.tried seat.given frees stands.gathers;
     }
     (λ r under apart other. record {
       fits = other.fits;
-      holding = holding_born book.owner r (seat_at state r).reserve (seat_at state r).hand (seat_at state r).body other.holding part q apart held;
-      stored = stored_control heap state.words r (seat_at state r) g word below other.stored;
-      registers = registers_owners book.owner owner kept book.made book.fragments (graph_of heap book.history) r (seat_at state r).registers (seat_at state r).place (target_of (seat_at state r).command) other.registers;
-      list = list_owners (graph_of heap book.history) book.owner owner kept book.made book.fragments r (seat_at state r) book.history book.history refl other.list;
-      way = way_owners (cells_at (graph_of heap book.history) book.made) book.owner owner kept book.made book.fragments (seat_at state r) other.way;
+      own = record {
+        holding = holding_born book.owner r (seat_at state r).reserve (seat_at state r).hand (seat_at state r).body other.own.holding part q apart held;
+        stored = stored_control heap state.words r (seat_at state r) g word below other.own.stored;
+        together = other.own.together;
+      };
+      names = record {
+        registers = registers_owners book.owner owner kept book.made book.fragments (graph_of heap book.history) r (seat_at state r).registers (seat_at state r).place (target_of (seat_at state r).command) other.names.registers;
+        way = way_owners (cells_at (graph_of heap book.history) book.made) book.owner owner kept book.made book.fragments (seat_at state r) other.names.way;
+      };
+      told = record {
+        list = list_owners (graph_of heap book.history) book.owner owner kept book.made book.fragments r (seat_at state r) book.history book.history refl other.told.list;
+        counts = other.told.counts;
+        began = other.told.began;
+        gathers = gathers_same heap book.owner owner r (drop (book.begun r) book.history) (seat_at state r).cursor (seat_at state r).tried (seat_at state r).given frees other.told.gathers;
+      };
       cycle = cycle_control heap state.words book.owner owner book.colour colour (phase book.history) (answered r book.history) (has_left r book.history) r (seat_at state r) g word below
           (omega (arith, under, rule.machine.limits.seats_fit)) marks (born_others book.owner book.colour part q black r apart) other.cycle;
-      together = other.together;
-      counts = other.counts;
-      began = other.began;
-      gathers = gathers_same heap book.owner owner r (drop (book.begun r) book.history) (seat_at state r).cursor (seat_at state r).tried (seat_at state r).given frees other.gathers;
     })

@@ -110,7 +110,7 @@ claim_keeps heap state book q rule here place machine =
     let stays = same_goes_on heap mid in
     let same = stays.same in
     let present = present_at heap state book q Gathering rule here place in
-    let list = making_list g_of book.history book.made book.owner book.fragments q seat Gathering place stands.list in
+    let list = making_list g_of book.history book.made book.owner book.fragments q seat Gathering place stands.told.list in
     let tells = told heap state book q fs rule here (is_busy Gathering seat.place place) present gathers.none_given once inside free
     (none_free heap state.words book.owner g rule.machine.table below heap_stands.control_words q book.history heap_stands.used) in
     seat_steps heap state book q words next (record book { history = history; owner = owner }) added
@@ -128,39 +128,51 @@ claim_keeps heap state book q rule here place machine =
     }
     record {
       fits = fit_after heap state book q rule here machine;
-      holding = holding_goes_on heap owner q mid gathers.no_body
-          (holding_claims book.owner q seat.reserve seat.hand seat.body stands.holding fs once free gathers.no_body);
-      stored = λ u less. absurd (none_below u next.stored seat.stored same.stored gathers.none_stored less);
-      registers = rw (tells.graph, same.registers) (λ r fresh. registers_owners book.owner owner kept book.made book.fragments g_of q seat.registers seat.place (target_of seat.command) stands.registers r (awaits_none Gathering seat.place (target_of seat.command) r place));
-      counts = rw tells.graph (tells.counts next same.made same.sets same.left
-          (length_goes_on heap mid gathers.no_body ∙ more_in_hand seat.reserve seat.hand seat.body fs gathers.no_body));
-      list = list_of_making (graph_of heap history) history book.made owner book.fragments q next stays.making stays.placed (ap (λ m. m ++ added) same.mine ∙ tells.own seat.mine list);
-      way = rw stays.placed tt;
+      own = record {
+        holding = holding_goes_on heap owner q mid gathers.no_body
+            (holding_claims book.owner q seat.reserve seat.hand seat.body stands.own.holding fs once free gathers.no_body);
+        stored = λ u less. absurd (none_below u next.stored seat.stored same.stored gathers.none_stored less);
+        together = together_goes_on heap mid gathers.no_body stands.fits.cursor_within stands.fits.reserve_of_cursor
+            (subst (λ b. AreTogether heap seat.cursor (seat.tried + 1) (seat.hand ++ fs) b) (sym gathers.no_body)
+            (together_claims heap seat.cursor seat.tried seat.hand fs stands.fits.cursor_within gathers.groups_left (clear_in-group g found)
+            (subst (λ b. AreTogether heap seat.cursor seat.tried seat.hand b) gathers.no_body stands.own.together)));
+      };
+      names = record {
+        registers = rw (tells.graph, same.registers) (λ r fresh. registers_owners book.owner owner kept book.made book.fragments g_of q seat.registers seat.place (target_of seat.command) stands.names.registers r (awaits_none Gathering seat.place (target_of seat.command) r place));
+        way = rw stays.placed tt;
+      };
+      told = record {
+        list = list_of_making (graph_of heap history) history book.made owner book.fragments q next stays.making stays.placed (ap (λ m. m ++ added) same.mine ∙ tells.own seat.mine list);
+        counts = rw tells.graph (tells.counts next same.made same.sets same.left
+            (length_goes_on heap mid gathers.no_body ∙ more_in_hand seat.reserve seat.hand seat.body fs gathers.no_body));
+        began = tells.began next.place;
+        gathers = gathers_goes_on heap owner q (drop (book.begun q) history) mid gathers.none_given
+            (subst (λ n. GathersRight heap owner q (drop (book.begun q) history) seat.cursor (seat.tried + 1) n) (sym gathers.none_given) tells.gathers);
+      };
       cycle = tells.cycles words owner book.colour q next
           (cycle_goes_on heap state.words words book.owner owner book.colour (phase book.history) (answered q book.history) (has_left q book.history) q seat next
           record { answered = same.answered; left = same.left; asked = same.asked } (rw stays.placed tt) (same.shaded ∙ none_shaded heap seat Gathering stands.fits place)
           (answer_after_control heap state.words word g q (omega (arith, here, rule.machine.limits.seats_fit)))
           (λ f. borne_before (Holds q) book.owner fs q f holds_bears_none) stands.cycle);
-      together = together_goes_on heap mid gathers.no_body stands.fits.cursor_within stands.fits.reserve_of_cursor
-          (subst (λ b. AreTogether heap seat.cursor (seat.tried + 1) (seat.hand ++ fs) b) (sym gathers.no_body)
-          (together_claims heap seat.cursor seat.tried seat.hand fs stands.fits.cursor_within gathers.groups_left (clear_in-group g found)
-          (subst (λ b. AreTogether heap seat.cursor seat.tried seat.hand b) gathers.no_body stands.together)));
-      began = tells.began next.place;
-      gathers = gathers_goes_on heap owner q (drop (book.begun q) history) mid gathers.none_given
-          (subst (λ n. GathersRight heap owner q (drop (book.begun q) history) seat.cursor (seat.tried + 1) n) (sym gathers.none_given) tells.gathers);
     }
     (λ r under apart other. record {
       fits = other.fits;
-      holding = holding_claimed book.owner r (seat_at state r).reserve (seat_at state r).hand (seat_at state r).body other.holding fs once free q apart;
-      stored = stored_control heap state.words r (seat_at state r) g word below other.stored;
-      registers = rw tells.graph (registers_owners book.owner owner kept book.made book.fragments g_of r (seat_at state r).registers (seat_at state r).place (target_of (seat_at state r).command) other.registers);
-      list = rw tells.graph (list_owners g_of book.owner owner kept book.made book.fragments r (seat_at state r) book.history history (tells.others_own r apart) other.list);
-      way = rw tells.graph (way_owners (cells_at g_of book.made) book.owner owner kept book.made book.fragments (seat_at state r) other.way);
+      own = record {
+        holding = holding_claimed book.owner r (seat_at state r).reserve (seat_at state r).hand (seat_at state r).body other.own.holding fs once free q apart;
+        stored = stored_control heap state.words r (seat_at state r) g word below other.own.stored;
+        together = other.own.together;
+      };
+      names = record {
+        registers = rw tells.graph (registers_owners book.owner owner kept book.made book.fragments g_of r (seat_at state r).registers (seat_at state r).place (target_of (seat_at state r).command) other.names.registers);
+        way = rw tells.graph (way_owners (cells_at g_of book.made) book.owner owner kept book.made book.fragments (seat_at state r) other.names.way);
+      };
+      told = record {
+        list = rw tells.graph (list_owners g_of book.owner owner kept book.made book.fragments r (seat_at state r) book.history history (tells.others_own r apart) other.told.list);
+        counts = rw tells.graph (tells.other_counts r under apart);
+        began = tells.other_began r under apart;
+        gathers = tells.other_gathers r under apart;
+      };
       cycle = tells.cycles words owner book.colour r (seat_at state r)
           (cycle_control heap state.words book.owner owner book.colour book.colour (phase book.history) (answered r book.history) (has_left r book.history) r (seat_at state r) g word below
           (omega (arith, under, rule.machine.limits.seats_fit)) (λ f marked. marked) (λ f borne. (borne_before (Holds q) book.owner fs r f holds_bears_none borne, refl)) other.cycle);
-      together = other.together;
-      counts = rw tells.graph (tells.other_counts r under apart);
-      began = tells.other_began r under apart;
-      gathers = tells.other_gathers r under apart;
     })

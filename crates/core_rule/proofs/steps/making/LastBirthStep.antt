@@ -84,7 +84,7 @@ last_birth_keeps heap state book q rule here place last machine =
     let now : Book = book_born book q seat in
     let stands = rule.seats_stand q here in
     let present = present_at heap state book q Bearing rule here place in
-    let list = making_list (graph_of heap book.history) book.history book.made book.owner book.fragments q seat Bearing place stands.list in
+    let list = making_list (graph_of heap book.history) book.history book.made book.owner book.fragments q seat Bearing place stands.told.list in
     let at_place : HasBody seat × (0 < length seat.hand) × (length seat.hand ≤ length body) × (seat.stored ≡ 4 * length body) = rw place at stands.fits.at_place in
     let has = at_place.0 in
     let below = group_born heap state book q rule here place in
@@ -96,10 +96,10 @@ last_birth_keeps heap state book q rule here place last machine =
     let grown : Graph = add g q d (fresh false fields) in
     let graph : graph_of heap now.history ≡ grown = graph_grown heap book.history q seat has.makes.a_record in
     let ids : AreMade g book.made = rule.heap_stands.ids in
-    let more : OneMore g grown id (fresh false fields) = one_more g q d (fresh false fields) seat.made present stands.counts.numbered in
-    let once = body_once book.owner q seat.reserve seat.hand body stands.holding some in
-    let unkept = λ (f i k : ℕ) (there : 1 ≤ tally f body). own_keeps_none q i k (book.owner f) (body_own book.owner q seat.reserve seat.hand body stands.holding f there) in
-    let stored = all_stored heap state.words body (newborn_word q seat) seat.stored at_place.3 stands.stored in
+    let more : OneMore g grown id (fresh false fields) = one_more g q d (fresh false fields) seat.made present stands.told.counts.numbered in
+    let once = body_once book.owner q seat.reserve seat.hand body stands.own.holding some in
+    let unkept = λ (f i k : ℕ) (there : 1 ≤ tally f body). own_keeps_none q i k (book.owner f) (body_own book.owner q seat.reserve seat.hand body stands.own.holding f there) in
+    let stored = all_stored heap state.words body (newborn_word q seat) seat.stored at_place.3 stands.own.stored in
     let new : NewBody heap state.words book.owner id fields body = record {
       sized = (ranges.2, ranges.3);
       whole = has.whole ∙ need_made seat.command has.makes.a_record;
@@ -112,64 +112,76 @@ last_birth_keeps heap state book q rule here place last machine =
     seat_steps heap state book q words (seat_after (last_birth_move q seat) found) now (entry ∷ []) rule here machine refl refl
     record {
       control_words = kept_bits heap state.words book.owner q seat.reserve seat.hand body group (length book.made) (bears_black seat) rule.machine.table below
-          rule.heap_stands.control_words stands.holding some last;
+          rule.heap_stands.control_words stands.own.holding some last;
       owners = owners_kept heap.seats book.owner rule.heap_stands.owners (length book.made) body unkept;
       ids = rw graph (ids_grown g grown book.made id (fresh false fields) ids more (omega (arith, here, rule.machine.limits.seats_fit), omega (arith, has.makes.numbered)));
       objects = rw graph (objects_control heap state.words grown now.made now.owner now.fragments group word below
           (objects_grown heap state.words g grown book.made id book.owner book.fragments fields body ids more new rule.heap_stands.objects));
       used = used_made heap now.owner book.history q seat (used_same heap book.owner now.owner book.history
-          (kept_taken book.owner q seat.reserve seat.hand body stands.holding some (length book.made)) rule.heap_stands.used);
-      legal = made_legal g book.history q seat stands.counts has.whole some present heap refl has.makes.a_record has.makes.in_range stands.fits.small_reserve rule.heap_stands.legal;
+          (kept_taken book.owner q seat.reserve seat.hand body stands.own.holding some (length book.made)) rule.heap_stands.used);
+      legal = made_legal g book.history q seat stands.told.counts has.whole some present heap refl has.makes.a_record has.makes.in_range stands.fits.small_reserve rule.heap_stands.legal;
       cycle = heap_cycle_more heap words now.owner now.colour book.history entry refl now.fragments
           (heap_born heap state book q rule here place now.owner now.fragments
-          (kept_bears book.owner book.colour q seat.reserve seat.hand body stands.holding some group (length book.made) last black stands.cycle.births)
-          (kept_first book.owner book.colour q seat.reserve seat.hand body stands.holding some group (length book.made) last black stands.cycle.births
+          (kept_bears book.owner book.colour q seat.reserve seat.hand body stands.own.holding some group (length book.made) last black stands.cycle.births)
+          (kept_first book.owner book.colour q seat.reserve seat.hand body stands.own.holding some group (length book.made) last black stands.cycle.births
           heap state.words book.fragments (phase book.history) rule.heap_stands.cycle.coloured marks (λ f i k keeps. old_apart book.made i (rule.heap_stands.objects.back f i k keeps).0)));
     }
     record {
       fits = fit_after heap state book q rule here machine;
-      holding = kept_holding book.owner q seat.reserve seat.hand body stands.holding some (length book.made);
-      stored = λ u none. absurd (omega (arith, none));
-      registers = rw graph (λ r still. registers_own g q d (fresh false fields) present book.made id book.owner book.fragments body unkept once some
-          (number_new g grown book.made id (fresh false fields) ids more) seat.registers (omega (arith, stands.fits.registers_whole, ranges.1))
-          (omega (arith, registers_length heap book.history q present, ranges.1)) (ap (Made q) stands.counts.numbered)
-          (λ i. stands.registers i (awaits_none Bearing seat.place d i place)) r);
-      list = whole_list (graph_of heap now.history) now.history now.made now.owner now.fragments q (seat_after (last_birth_move q seat) found) refl
-          (own_grows q book.history seat.mine entry (eq-eqb q q refl) list);
-      way = tt;
+      own = record {
+        holding = kept_holding book.owner q seat.reserve seat.hand body stands.own.holding some (length book.made);
+        stored = λ u none. absurd (omega (arith, none));
+        together = nothing_together heap seat.cursor seat.tried [] [] refl refl;
+      };
+      names = record {
+        registers = rw graph (λ r still. registers_own g q d (fresh false fields) present book.made id book.owner book.fragments body unkept once some
+            (number_new g grown book.made id (fresh false fields) ids more) seat.registers (omega (arith, stands.fits.registers_whole, ranges.1))
+            (omega (arith, registers_length heap book.history q present, ranges.1)) (ap (Made q) stands.told.counts.numbered)
+            (λ i. stands.names.registers i (awaits_none Bearing seat.place d i place)) r);
+        way = tt;
+      };
+      told = record {
+        list = whole_list (graph_of heap now.history) now.history now.made now.owner now.fragments q (seat_after (last_birth_move q seat) found) refl
+            (own_grows q book.history seat.mine entry (eq-eqb q q refl) list);
+        counts = rw graph (counts_made g book.history q seat stands.told.counts has.whole some present d (fresh false fields) found);
+        began = began_idle book.history entry q (book.begun q) seat.place stands.told.began;
+        gathers = subst (λ n. GathersRight heap now.owner q (drop (book.begun q) now.history) seat.cursor n seat.given) (sym has.none_tried)
+            (subst (λ n. GathersRight heap now.owner q (drop (book.begun q) now.history) seat.cursor 0 n) (sym has.none_given)
+            (nothing_tried heap now.owner q (drop (book.begun q) now.history) seat.cursor));
+      };
       cycle = cycle_own heap words now.owner now.colour book.history entry refl q (seat_after (last_birth_move q seat) found)
           (cycle_apart heap state.words words book.owner now.owner book.colour now.colour (phase book.history) (answered q book.history) (has_left q book.history) q
           seat (seat_after (last_birth_move q seat) found) record { answered = refl; left = refl; asked = refl } tt (none_shaded heap seat Bearing stands.fits place)
           (answer_after_control heap state.words word group q (omega (arith, here, rule.machine.limits.seats_fit)))
-          (kept_own book.owner book.colour q seat.reserve seat.hand body stands.holding some group (length book.made) last black stands.cycle.births) stands.cycle)
+          (kept_own book.owner book.colour q seat.reserve seat.hand body stands.own.holding some group (length book.made) last black stands.cycle.births) stands.cycle)
           refl (no_leave_told q q seat.command _ (λ leaves. subst IsRecord leaves has.makes.a_record));
-      together = nothing_together heap seat.cursor seat.tried [] [] refl refl;
-      counts = rw graph (counts_made g book.history q seat stands.counts has.whole some present d (fresh false fields) found);
-      began = began_idle book.history entry q (book.begun q) seat.place stands.began;
-      gathers = subst (λ n. GathersRight heap now.owner q (drop (book.begun q) now.history) seat.cursor n seat.given) (sym has.none_tried)
-          (subst (λ n. GathersRight heap now.owner q (drop (book.begun q) now.history) seat.cursor 0 n) (sym has.none_given)
-          (nothing_tried heap now.owner q (drop (book.begun q) now.history) seat.cursor));
     }
     (λ r less apart other. record {
       fits = other.fits;
-      holding = kept_others book.owner q seat.reserve seat.hand body stands.holding some (length book.made) r
-          (seat_at state r).reserve (seat_at state r).hand (seat_at state r).body apart other.holding;
-      stored = stored_control heap state.words r (seat_at state r) group word below other.stored;
-      registers = rw graph (registers_others g q d (fresh false fields) present book.made id book.owner book.fragments body unkept r (seat_at state r).registers
-          (seat_at state r).place (target_of (seat_at state r).command) apart other.registers);
-      list = rw graph (list_stays g grown book.made now.made book.owner now.owner book.fragments now.fragments r (seat_at state r)
-          (names_grown book.made id book.owner book.fragments body unkept) (λ i. register_other g q d (fresh false fields) present r i apart) book.history now.history
-          (own-other r book.history entry (of_other q r apart)) other.list);
-      way = rw graph (ways_stay (cells_at g book.made) (cells_at grown now.made) book.made now.made book.owner now.owner book.fragments now.fragments
-          (object_grows g grown book.made id book.owner book.fragments (fresh false fields) body unkept ids more) (seat_at state r) (seat_at state r).place other.way);
+      own = record {
+        holding = kept_others book.owner q seat.reserve seat.hand body stands.own.holding some (length book.made) r
+            (seat_at state r).reserve (seat_at state r).hand (seat_at state r).body apart other.own.holding;
+        stored = stored_control heap state.words r (seat_at state r) group word below other.own.stored;
+        together = other.own.together;
+      };
+      names = record {
+        registers = rw graph (registers_others g q d (fresh false fields) present book.made id book.owner book.fragments body unkept r (seat_at state r).registers
+            (seat_at state r).place (target_of (seat_at state r).command) apart other.names.registers);
+        way = rw graph (ways_stay (cells_at g book.made) (cells_at grown now.made) book.made now.made book.owner now.owner book.fragments now.fragments
+            (object_grows g grown book.made id book.owner book.fragments (fresh false fields) body unkept ids more) (seat_at state r) (seat_at state r).place other.names.way);
+      };
+      told = record {
+        list = rw graph (list_stays g grown book.made now.made book.owner now.owner book.fragments now.fragments r (seat_at state r)
+            (names_grown book.made id book.owner book.fragments body unkept) (λ i. register_other g q d (fresh false fields) present r i apart) book.history now.history
+            (own-other r book.history entry (of_other q r apart)) other.told.list);
+        counts = rw graph (counts_stay g grown r (same_party g grown r (party_other g q d (fresh false fields) present r apart)) book.history entry (seat_at state r) (of_other q r apart) other.told.counts);
+        began = began_stays book.history entry r (book.begun r) (seat_at state r).place (of_other q r apart) other.told.began;
+        gathers = gathers_stay heap now.owner r book.history (book.begun r) entry (seat_at state r).cursor (seat_at state r).tried (seat_at state r).given other.told.began.earlier
+            (gathers_same heap book.owner now.owner r (drop (book.begun r) book.history) (seat_at state r).cursor (seat_at state r).tried (seat_at state r).given
+            (kept_free book.owner q seat.reserve seat.hand body stands.own.holding some (length book.made)) other.told.gathers);
+      };
       cycle = cycle_other heap words now.owner now.colour book.history entry refl r (seat_at state r)
           (cycle_control heap state.words book.owner now.owner book.colour now.colour (phase book.history) (answered r book.history) (has_left r book.history) r (seat_at state r) group word below
           (omega (arith, less, rule.machine.limits.seats_fit)) marks
-          (kept_borne book.owner book.colour q seat.reserve seat.hand body stands.holding some group (length book.made) last black stands.cycle.births r) other.cycle) (of_other q r apart);
-      together = other.together;
-      counts = rw graph (counts_stay g grown r (same_party g grown r (party_other g q d (fresh false fields) present r apart)) book.history entry (seat_at state r) (of_other q r apart) other.counts);
-      began = began_stays book.history entry r (book.begun r) (seat_at state r).place (of_other q r apart) other.began;
-      gathers = gathers_stay heap now.owner r book.history (book.begun r) entry (seat_at state r).cursor (seat_at state r).tried (seat_at state r).given other.began.earlier
-          (gathers_same heap book.owner now.owner r (drop (book.begun r) book.history) (seat_at state r).cursor (seat_at state r).tried (seat_at state r).given
-          (kept_free book.owner q seat.reserve seat.hand body stands.holding some (length book.made)) other.gathers);
+          (kept_borne book.owner book.colour q seat.reserve seat.hand body stands.own.holding some group (length book.made) last black stands.cycle.births r) other.cycle) (of_other q r apart);
     })

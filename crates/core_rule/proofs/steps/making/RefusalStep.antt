@@ -54,12 +54,12 @@ refusal_keeps heap state book q rule here place machine =
     = graph_after-more (opening heap) book.history entry ∙ graph_full seat.command refuses.makes.a_record g q (need seat) (length seat.reserve + seat.given) in
     let nodes = nodes_same g (graph_of heap history) graph in
     let own : length seat.reserve + spent_of q book.history ≡ taken_of q book.history
-    = bare_hand seat.reserve seat.hand seat.body (spent_of q book.history) (taken_of q book.history) at_place.1 refuses.no_body stands.counts.unborn in
+    = bare_hand seat.reserve seat.hand seat.body (spent_of q book.history) (taken_of q book.history) at_place.1 refuses.no_body stands.told.counts.unborn in
     let finds : FindsSpace heap false book.history q (length seat.reserve + seat.given)
     = finds_in_run heap book.owner book.history q (book.begun q) seat.cursor seat.given (length seat.reserve) fits.cursor_within
-    rule.heap_stands.used own (stands.began.unanswered (is_busy Refusing seat.place place)) (subst (λ n. GathersRight heap book.owner q (drop (book.begun q) book.history) seat.cursor n seat.given) refuses.all_tried stands.gathers) in
+    rule.heap_stands.used own (stands.told.began.unanswered (is_busy Refusing seat.place place)) (subst (λ n. GathersRight heap book.owner q (drop (book.begun q) book.history) seat.cursor n seat.given) refuses.all_tried stands.told.gathers) in
     let present = present_at heap state book q Refusing rule here place in
-    let list = making_list g book.history book.made book.owner book.fragments q seat Refusing place stands.list in
+    let list = making_list g book.history book.made book.owner book.fragments q seat Refusing place stands.told.list in
     let whole : IsMachine heap (record state { words = state.words; seats = slice_set state.seats q (seat_after (refusal_move q seat) (at heap state.words Phase)) })
     = subst (λ words. IsMachine heap (record state { words = words; seats = slice_set state.seats q (seat_after (refusal_move q seat) (at heap state.words Phase)) })) (put-at heap state.words Phase) machine in
     let less : length seat.reserve + seat.given < need seat = omega (arith, refuses.too_few) in
@@ -75,20 +75,19 @@ refusal_keeps heap state book q rule here place machine =
     (heap_cycle_more heap state.words book.owner book.colour book.history entry refl book.fragments rule.heap_stands.cycle) rule.heap_stands)
     record {
       fits = fit_after heap state book q rule here whole;
-      holding = stands.holding;
-      stored = stands.stored;
-      registers = rw graph (λ r fresh. stands.registers r (awaits_none Refusing seat.place (target_of seat.command) r place));
-      list = whole_list (graph_of heap history) history book.made book.owner book.fragments q (seat_after (refusal_move q seat) (at heap state.words Phase)) refl (own_grows q book.history seat.mine entry (eq-eqb q q refl) list);
-      way = tt;
+      own = record { holding = stands.own.holding; stored = stands.own.stored; together = nothing_together heap seat.cursor 0 seat.hand seat.body at_place.1 refuses.no_body };
+      names = record { registers = rw graph (λ r fresh. stands.names.registers r (awaits_none Refusing seat.place (target_of seat.command) r place)); way = tt };
+      told = record {
+        list = whole_list (graph_of heap history) history book.made book.owner book.fragments q (seat_after (refusal_move q seat) (at heap state.words Phase)) refl (own_grows q book.history seat.mine entry (eq-eqb q q refl) list);
+        counts = rw graph (counts_own g g book.history q seat (seat_after (refusal_move q seat) (at heap state.words Phase)) stands.told.counts entry (eq-eqb q q refl)
+            stands.told.counts.numbered stands.told.counts.stamped stands.told.counts.leaves (omega arith));
+        began = began_idle book.history entry q (book.begun q) seat.place stands.told.began;
+        gathers = nothing_tried heap book.owner q (drop (book.begun q) history) seat.cursor;
+      };
       cycle = cycle_own heap state.words book.owner book.colour book.history entry refl q (seat_after (refusal_move q seat) (at heap state.words Phase))
           (cycle_goes_on heap state.words state.words book.owner book.owner book.colour (phase book.history) (answered q book.history) (has_left q book.history) q seat
           (seat_after (refusal_move q seat) (at heap state.words Phase)) record { answered = refl; left = refl; asked = refl } tt (none_shaded heap seat Refusing stands.fits place)
           refl (λ f borne. borne) stands.cycle) refl (no_leave_told q q seat.command _ (λ leaves. subst IsRecord leaves refuses.makes.a_record));
-      together = nothing_together heap seat.cursor 0 seat.hand seat.body at_place.1 refuses.no_body;
-      counts = rw graph (counts_own g g book.history q seat (seat_after (refusal_move q seat) (at heap state.words Phase)) stands.counts entry (eq-eqb q q refl)
-          stands.counts.numbered stands.counts.stamped stands.counts.leaves (omega arith));
-      began = began_idle book.history entry q (book.begun q) seat.place stands.began;
-      gathers = nothing_tried heap book.owner q (drop (book.begun q) history) seat.cursor;
     }
     (λ r below apart other. seat_past heap state.words state.words (fragments_same heap state.words) book entry nodes r (seat_at state r) (of_other q r apart) (ap (λ (x : Graph). party x r) graph)
     (cycle_other heap state.words book.owner book.colour book.history entry refl r (seat_at state r) other.cycle (of_other q r apart)) other))

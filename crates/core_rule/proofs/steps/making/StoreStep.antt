@@ -45,10 +45,10 @@ store_keeps heap state book q rule here place machine =
     let at_place : HasBody seat × (seat.hand ≡ seat.body) × (seat.stored < 4 * length seat.body) = rw place at stands.fits.at_place in
     let row : seat.stored / 4 < length seat.body = omega (arith, at_place.2) in
     let fits_part : part < 4 = omega arith in
-    let own : IsOwn q (book.owner f) = body_at-own book.owner q seat.reserve seat.hand seat.body stands.holding (seat.stored / 4) row in
+    let own : IsOwn q (book.owner f) = body_at-own book.owner q seat.reserve seat.hand seat.body stands.own.holding (seat.stored / 4) row in
     let in_hand : 1 ≤ tally f seat.hand = subst (λ fs. 1 ≤ tally f fs) (sym at_place.1) (tally_at seat.body (seat.stored / 4) row) in
-    let unborn : born_bit (book.owner f) ≡ 0 = ap born_bit (hand_held book.owner q seat.reserve seat.hand seat.body stands.holding f in_hand) in
-    let once = body_once book.owner q seat.reserve seat.hand seat.body stands.holding (omega (arith, row)) in
+    let unborn : born_bit (book.owner f) ≡ 0 = ap born_bit (hand_held book.owner q seat.reserve seat.hand seat.body stands.own.holding f in_hand) in
+    let once = body_once book.owner q seat.reserve seat.hand seat.body stands.own.holding (omega (arith, row)) in
     seat_steps heap state book q words (seat_after (store_move q seat) found) book [] rule here machine (sym (append-nil book.history)) refl
     record {
       control_words = bits_store heap state.words book.owner f part word rule.heap_stands.control_words;
@@ -62,34 +62,35 @@ store_keeps heap state book q rule here place machine =
     }
     record {
       fits = fit_after heap state book q rule here machine;
-      holding = stands.holding;
-      stored = store_next heap seat.body (newborn_word q seat) state.words seat.stored once stands.fits.body_within at_place.2 rule.machine.table stands.stored;
-      registers = λ r fresh. stands.registers r (awaits_none Storing seat.place (target_of seat.command) r place);
-      list = whole_list (graph_of heap book.history) book.history book.made book.owner book.fragments q (seat_after (store_move q seat) found) refl
-          (append-nil seat.mine ∙ making_list (graph_of heap book.history) book.history book.made book.owner book.fragments q seat Storing place stands.list);
-      way = tt;
+      own = record {
+        holding = stands.own.holding;
+        stored = store_next heap seat.body (newborn_word q seat) state.words seat.stored once stands.fits.body_within at_place.2 rule.machine.table stands.own.stored;
+        together = stands.own.together;
+      };
+      names = record { registers = λ r fresh. stands.names.registers r (awaits_none Storing seat.place (target_of seat.command) r place); way = tt };
+      told = record {
+        list = whole_list (graph_of heap book.history) book.history book.made book.owner book.fragments q (seat_after (store_move q seat) found) refl
+            (append-nil seat.mine ∙ making_list (graph_of heap book.history) book.history book.made book.owner book.fragments q seat Storing place stands.told.list);
+        counts = counts_same (graph_of heap book.history) book.history q seat (seat_after (store_move q seat) found) refl refl refl refl stands.told.counts;
+        began = began_on book.history q (book.begun q) seat.place (seat_after (store_move q seat) found).place (is_busy Storing seat.place place) stands.told.began;
+        gathers = stands.told.gathers;
+      };
       cycle = cycle_goes_on heap state.words words book.owner book.owner book.colour (phase book.history) (answered q book.history) (has_left q book.history) q seat
           (seat_after (store_move q seat) found) record { answered = refl; left = refl; asked = refl } tt (none_shaded heap seat Storing stands.fits place)
           (at-put_apart heap state.words (Word f part) (Answer q) word (λ e. omega (arith, e, here, rule.machine.limits.seats_fit))) (λ x borne. borne) stands.cycle;
-      together = stands.together;
-      counts = counts_same (graph_of heap book.history) book.history q seat (seat_after (store_move q seat) found) refl refl refl refl stands.counts;
-      began = began_on book.history q (book.begun q) seat.place (seat_after (store_move q seat) found).place (is_busy Storing seat.place place) stands.began;
-      gathers = stands.gathers;
     }
     (λ r below apart other. record {
       fits = other.fits;
-      holding = other.holding;
-      stored = stored_store heap state.words book.owner r (seat_at state r) f part word other.holding
-          (stored_within heap (seat_at state r) (seat_at state r).place other.fits.at_place) fits_part (λ o. apart (own_not_others r q (book.owner f) o own)) other.stored;
-      registers = other.registers;
-      list = other.list;
-      way = other.way;
+      own = record {
+        holding = other.own.holding;
+        stored = stored_store heap state.words book.owner r (seat_at state r) f part word other.own.holding
+            (stored_within heap (seat_at state r) (seat_at state r).place other.fits.at_place) fits_part (λ o. apart (own_not_others r q (book.owner f) o own)) other.own.stored;
+        together = other.own.together;
+      };
+      names = other.names;
+      told = other.told;
       cycle = cycle_store heap state.words book.owner book.colour (phase book.history) (answered r book.history) (has_left r book.history) r (seat_at state r) q f part word
           (omega (arith, below, rule.machine.limits.seats_fit)) fits_part own
           (λ reaching is watches. watched_kept heap state.words (graph_of heap book.history) book.made book.owner book.fragments rule.machine.limits rule.heap_stands.control_words rule.heap_stands.ids
-          rule.heap_stands.objects (seat_at state r) (seat_at state r).place reaching is watches other.way) other.cycle;
-      together = other.together;
-      counts = other.counts;
-      began = other.began;
-      gathers = other.gathers;
+          rule.heap_stands.objects (seat_at state r) (seat_at state r).place reaching is watches other.names.way) other.cycle;
     })
