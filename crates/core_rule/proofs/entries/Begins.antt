@@ -63,11 +63,6 @@ module _ (heap : Heap) (words : List ℕ) (book : Book) (q : ℕ) where
     fits = other.fits;
     own = other.own;
     names = other.names;
-    told = record {
-      list = other.told.list;
-      counts = other.told.counts;
-      began = rw (of_other r q (λ e. apart (sym e))) other.told.began;
-      gathers = rw (of_other r q (λ e. apart (sym e))) other.told.gathers;
-    };
+    told = rw (of_other r q (λ e. apart (sym e))) other.told;
     cycle = other.cycle;
   }

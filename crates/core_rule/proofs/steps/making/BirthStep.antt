@@ -17,7 +17,6 @@ use Rattle.core_machine.specs.table.Operation.{birth_bits}
 use Rattle.core_machine.specs.seat.Seat.{Seat}
 use Rattle.core_rule.specs.Book.{Book, Colour, White, fragment_at}
 use Rattle.core_rule.specs.Colours.{IsMarked, birth_colour}
-use Rattle.core_rule.specs.Objects.{cells_at}
 use Rattle.core_rule.specs.Owners.{Owner, Bears, born_bit, handed}
 use Rattle.core_rule.specs.Rule.{Rule}
 use Rattle.core_rule.proofs.steps.Assemble.{fit_after, seat_steps, MoveKeeps}
@@ -29,16 +28,16 @@ use Rattle.core_rule.proofs.words.ControlSteps.{birth_bits_after}
 use Rattle.core_rule.proofs.counts.CountMoves.{birth_used, birth_frees}
 use Rattle.core_rule.proofs.gather.GatherMoves.{gathers_same}
 use Rattle.core_rule.proofs.owners.Handed.{gains}
-use Rattle.core_rule.proofs.hand.HandMoves.{hand_held, hand_once, part_held, part_once, holding_bears, holding_born, held_within}
+use Rattle.core_rule.proofs.hand.HandMoves.{hand_held, hand_once, part_held, part_once, holding_bears, hand_born, held_within}
 use Rattle.core_rule.proofs.cycle.MakingCycle.{answer_after_control, cycle_control, born_more, born_others}
 use Rattle.core_rule.proofs.hand.MakingSeats.{none_shaded}
-use Rattle.core_rule.proofs.objects.ObjectFrames.{bears_keeps_none, holds_keeps_none, objects_control, objects_owners, registers_owners, part_kept}
+use Rattle.core_rule.proofs.objects.ObjectFrames.{bears_keeps_none, holds_keeps_none, objects_control, objects_owners, part_kept}
 use Rattle.core_rule.proofs.entries.OwnEntries.{counts_same}
 use Rattle.core_rule.proofs.owners.OwnerFrames.{owners_handed}
-use Rattle.core_rule.proofs.entries.SeatLists.{making_list, list_of_making, list_owners}
+use Rattle.core_rule.proofs.entries.SeatLists.{making_list, list_of_making}
+use Rattle.core_rule.proofs.frames.SeatFrames.{same_party, told_nothing, kept_owners, seat_left, registers_owners}
 use Rattle.core_rule.proofs.hand.StoredFrames.{stored_control}
 use Rattle.core_rule.proofs.cycle.Unwatched.{cycle_apart}
-use Rattle.core_rule.proofs.ways.WayFrames.{way_owners}
 
 -- a birth keeps the rule
 pub birth_keeps : (heap : Heap) (state : State) (book : Book) (q : ℕ) → Rule heap state book → q < heap.seats
@@ -103,23 +102,14 @@ birth_keeps heap state book q rule here place more machine =
           (answer_after_control heap state.words word g q (omega (arith, here, rule.machine.limits.seats_fit)))
           (born_more book.owner book.colour part q black stands.cycle.births) stands.cycle;
     }
-    (λ r under apart other. record {
-      fits = other.fits;
-      own = record {
-        holding = holding_born book.owner r (seat_at state r).reserve (seat_at state r).hand (seat_at state r).body other.own.holding part q apart held;
-        stored = stored_control heap state.words r (seat_at state r) g word below other.own.stored;
-        together = other.own.together;
-      };
-      names = record {
-        registers = registers_owners book.owner owner kept book.made book.fragments (graph_of heap book.history) r (seat_at state r).registers (seat_at state r).place (target_of (seat_at state r).command) other.names.registers;
-        way = way_owners (cells_at (graph_of heap book.history) book.made) book.owner owner kept book.made book.fragments (seat_at state r) other.names.way;
-      };
-      told = record {
-        list = list_owners (graph_of heap book.history) book.owner owner kept book.made book.fragments r (seat_at state r) book.history book.history refl other.told.list;
-        counts = other.told.counts;
-        began = other.told.began;
-        gathers = gathers_same heap book.owner owner r (drop (book.begun r) book.history) (seat_at state r).cursor (seat_at state r).tried (seat_at state r).given frees other.told.gathers;
-      };
+    (λ r under apart other. seat_left heap state.words words book (record book { owner = owner; colour = colour }) r (seat_at state r) record {
+      calls = refl;
+      party = same_party (graph_of heap book.history) (graph_of heap book.history) r refl;
+      told = told_nothing r book.history;
+      kept = kept_owners (graph_of heap book.history) book.made book.owner owner book.fragments kept;
+      hand = hand_born book.owner r q part apart held;
+      stored = stored_control heap state.words r (seat_at state r) g word below other.own.stored;
+      gathers = gathers_same heap book.owner owner r (drop (book.begun r) book.history) (seat_at state r).cursor (seat_at state r).tried (seat_at state r).given frees other.told.gathers;
       cycle = cycle_control heap state.words book.owner owner book.colour colour (phase book.history) (answered r book.history) (has_left r book.history) r (seat_at state r) g word below
           (omega (arith, under, rule.machine.limits.seats_fit)) marks (born_others book.owner book.colour part q black r apart) other.cycle;
-    })
+    } other)

@@ -6,6 +6,7 @@ use Rattle.std.proofs.Math.Nat.{mod-lt}
 use Rattle.heap_model.specs.declared.entry.Entry.{Entry}
 use Rattle.heap_model.specs.declared.heap.Heap.{Heap}
 use Rattle.heap_model.specs.Cycles.{graph_of}
+use Rattle.heap_model.specs.Objects.{party}
 use Rattle.heap_model.specs.PhaseCounts.{phase, answered, has_left}
 use Rattle.heap_model.specs.State.{State as Graph}
 use Rattle.core_machine.specs.declared.table.address.Address.TheVariants.{Control}
@@ -25,7 +26,6 @@ use Rattle.core_rule.specs.ControlWords.{Bits}
 use Rattle.core_rule.specs.Counts.{AreUsed}
 use Rattle.core_rule.specs.Gathers.{GathersRight}
 use Rattle.core_rule.specs.Holding.{whole_hand}
-use Rattle.core_rule.specs.Objects.{cells_at}
 use Rattle.core_rule.specs.Owners.{Owner, Free, Holds, Bears, Keeps as KeepsPart, free_bit, born_bit, handed}
 use Rattle.core_rule.specs.Together.{AreTogether}
 use Rattle.core_rule.proofs.steps.Assemble.{fit_after, present_at, seat_steps, StepKeeps}
@@ -38,16 +38,16 @@ use Rattle.core_rule.proofs.words.ControlLemmas.{found_taken}
 use Rattle.core_rule.proofs.words.ControlSteps.{claim_bits, clear_is_free}
 use Rattle.core_rule.proofs.counts.CountMoves.{claim_frees}
 use Rattle.core_rule.proofs.hand.GoesOn.{holding_goes_on, length_goes_on, gathers_goes_on, same_goes_on}
-use Rattle.core_rule.proofs.hand.HandMoves.{holding_claims, holding_claimed}
+use Rattle.core_rule.proofs.hand.HandMoves.{holding_claims, hand_claimed}
 use Rattle.core_rule.proofs.entries.InFlight.{awaits_none, is_busy}
 use Rattle.core_rule.proofs.cycle.MakingCycle.{answer_after_control, cycle_control, cycle_goes_on, heap_hands, borne_before}
 use Rattle.core_rule.proofs.hand.MakingSeats.{none_shaded}
-use Rattle.core_rule.proofs.objects.ObjectFrames.{handed_kept, holds_keeps_none, objects_control, objects_owners, registers_owners}
+use Rattle.core_rule.proofs.objects.ObjectFrames.{handed_kept, holds_keeps_none, objects_control, objects_owners}
 use Rattle.core_rule.proofs.owners.OwnerFrames.{owners_handed}
 use Rattle.core_rule.proofs.owners.OwnerLemmas.{free_by_bit}
-use Rattle.core_rule.proofs.entries.SeatLists.{making_list, list_of_making, list_owners}
+use Rattle.core_rule.proofs.entries.SeatLists.{making_list, list_of_making}
+use Rattle.core_rule.proofs.frames.SeatFrames.{same_party, kept_owners, seat_left, registers_owners}
 use Rattle.core_rule.proofs.hand.StoredFrames.{stored_control}
-use Rattle.core_rule.proofs.ways.WayFrames.{way_owners}
 
 next_within : (heap : Heap) (seat : Seat) → seat.cursor < heap.groups → next_group heap seat < heap.groups
 next_within heap seat within = mod-lt (seat.cursor + seat.tried) (omega (arith, within))
@@ -155,24 +155,15 @@ claim_keeps heap state book q rule here place machine =
           (answer_after_control heap state.words word g q (omega (arith, here, rule.machine.limits.seats_fit)))
           (λ f. borne_before (Holds q) book.owner fs q f holds_bears_none) stands.cycle);
     }
-    (λ r under apart other. record {
-      fits = other.fits;
-      own = record {
-        holding = holding_claimed book.owner r (seat_at state r).reserve (seat_at state r).hand (seat_at state r).body other.own.holding fs once free q apart;
-        stored = stored_control heap state.words r (seat_at state r) g word below other.own.stored;
-        together = other.own.together;
-      };
-      names = record {
-        registers = rw tells.graph (registers_owners book.owner owner kept book.made book.fragments g_of r (seat_at state r).registers (seat_at state r).place (target_of (seat_at state r).command) other.names.registers);
-        way = rw tells.graph (way_owners (cells_at g_of book.made) book.owner owner kept book.made book.fragments (seat_at state r) other.names.way);
-      };
-      told = record {
-        list = rw tells.graph (list_owners g_of book.owner owner kept book.made book.fragments r (seat_at state r) book.history history (tells.others_own r apart) other.told.list);
-        counts = rw tells.graph (tells.other_counts r under apart);
-        began = tells.other_began r under apart;
-        gathers = tells.other_gathers r under apart;
-      };
+    (λ r under apart other. seat_left heap state.words words book (record book { history = history; owner = owner }) r (seat_at state r) record {
+      calls = refl;
+      party = same_party g_of (graph_of heap history) r (ap (λ (x : Graph). party x r) tells.graph);
+      told = tells.others r apart;
+      kept = rw tells.graph (kept_owners g_of book.made book.owner owner book.fragments kept);
+      hand = hand_claimed book.owner r q fs apart free;
+      stored = stored_control heap state.words r (seat_at state r) g word below other.own.stored;
+      gathers = tells.other_gathers r under apart;
       cycle = tells.cycles words owner book.colour r (seat_at state r)
           (cycle_control heap state.words book.owner owner book.colour book.colour (phase book.history) (answered r book.history) (has_left r book.history) r (seat_at state r) g word below
           (omega (arith, under, rule.machine.limits.seats_fit)) (λ f marked. marked) (λ f borne. (borne_before (Holds q) book.owner fs r f holds_bears_none borne, refl)) other.cycle);
-    })
+    } other)

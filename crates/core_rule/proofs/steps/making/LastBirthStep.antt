@@ -23,7 +23,7 @@ use Rattle.core_machine.specs.seat.Seat.{Seat}
 use Rattle.core_rule.specs.Book.{Book}
 use Rattle.core_rule.specs.Colours.{birth_colour}
 use Rattle.core_rule.specs.Gathers.{GathersRight}
-use Rattle.core_rule.specs.Objects.{AreMade, cells_at}
+use Rattle.core_rule.specs.Objects.{AreMade}
 use Rattle.core_rule.specs.Rule.{Rule}
 use Rattle.core_rule.proofs.steps.Assemble.{fit_after, present_at, seat_steps, MoveKeeps}
 use Rattle.core_rule.proofs.colours.BirthColours.{painted}
@@ -33,13 +33,13 @@ use Rattle.core_rule.proofs.counts.CountMoves.{used_same}
 use Rattle.core_rule.proofs.cycle.CycleHistory.{heap_cycle_more, cycle_own, cycle_other}
 use Rattle.core_rule.proofs.hand.EmptyHand.{nothing_together}
 use Rattle.core_rule.proofs.gather.GatherMoves.{nothing_tried, gathers_same}
-use Rattle.core_rule.proofs.graph.GraphGrowth.{register_other, party_other}
+use Rattle.core_rule.proofs.graph.GraphGrowth.{party_other}
 use Rattle.core_rule.proofs.graph.GraphRegisters.{registers_length}
 use Rattle.core_rule.proofs.graph.IdsGrowth.{OneMore, ids_grown, number_new}
 use Rattle.core_rule.proofs.entries.InFlight.{awaits_none, began_idle}
 use Rattle.core_rule.proofs.owners.Keeping.{kept_by, with_object}
 use Rattle.core_rule.proofs.owners.KeptOwners.{kept_free, kept_taken, kept_holding, kept_others, kept_bits}
-use Rattle.core_rule.proofs.objects.LastBirth.{one_more, all_stored, registers_own, registers_others}
+use Rattle.core_rule.proofs.objects.LastBirth.{one_more, all_stored, registers_own}
 use Rattle.core_rule.proofs.colours.LastColours.{kept_bears, kept_own, kept_borne, kept_first}
 use Rattle.core_rule.proofs.entries.MadeEntry.{graph_grown, used_made, counts_made, made_legal}
 use Rattle.core_rule.proofs.cycle.MakingCycle.{answer_after_control, cycle_control}
@@ -47,17 +47,16 @@ use Rattle.core_rule.proofs.hand.MakingSeats.{none_shaded}
 use Rattle.core_rule.proofs.objects.NamesGrowth.{names_grown, object_grows, old_apart}
 use Rattle.core_rule.proofs.objects.ObjectFrames.{objects_control}
 use Rattle.core_rule.proofs.objects.ObjectsGrowth.{NewBody, objects_grown}
-use Rattle.core_rule.proofs.entries.Others.{own-other, began_stays, gathers_stay, of_other}
+use Rattle.core_rule.proofs.entries.Others.{gathers_stay, of_other}
 use Rattle.core_rule.proofs.entries.OwnEntries.{own_grows}
 use Rattle.core_rule.proofs.owners.OwnerFrames.{owners_kept}
 use Rattle.core_rule.proofs.owners.OwnerLemmas.{own_keeps_none}
 use Rattle.core_rule.proofs.entries.PhaseEntries.{no_leave_told}
 use Rattle.core_rule.proofs.entries.RecordCommands.{need_made, ranges_made}
-use Rattle.core_rule.proofs.frames.SeatFrames.{counts_stay, same_party}
-use Rattle.core_rule.proofs.entries.SeatLists.{making_list, whole_list, list_stays}
+use Rattle.core_rule.proofs.frames.SeatFrames.{same_party, told_other, seat_left}
+use Rattle.core_rule.proofs.entries.SeatLists.{making_list, whole_list}
 use Rattle.core_rule.proofs.hand.StoredFrames.{stored_control}
 use Rattle.core_rule.proofs.cycle.Unwatched.{cycle_apart}
-use Rattle.core_rule.proofs.ways.WayFrames.{ways_stay}
 
 -- the book after it: the object keeps its fragments, and has a number
 abbrev book_born : Book → ℕ → Seat → Book
@@ -156,32 +155,21 @@ last_birth_keeps heap state book q rule here place last machine =
           (kept_own book.owner book.colour q seat.reserve seat.hand body stands.own.holding some group (length book.made) last black stands.cycle.births) stands.cycle)
           refl (no_leave_told q q seat.command _ (λ leaves. subst IsRecord leaves has.makes.a_record));
     }
-    (λ r less apart other. record {
-      fits = other.fits;
-      own = record {
-        holding = kept_others book.owner q seat.reserve seat.hand body stands.own.holding some (length book.made) r
-            (seat_at state r).reserve (seat_at state r).hand (seat_at state r).body apart other.own.holding;
-        stored = stored_control heap state.words r (seat_at state r) group word below other.own.stored;
-        together = other.own.together;
+    (λ r less apart other. seat_left heap state.words words book now r (seat_at state r) record {
+      calls = refl;
+      party = rw graph (same_party g grown r (party_other g q d (fresh false fields) present r apart));
+      told = told_other r book.history entry (of_other q r apart);
+      kept = rw graph record {
+        names = names_grown book.made id book.owner book.fragments body unkept;
+        objects = object_grows g grown book.made id book.owner book.fragments (fresh false fields) body unkept ids more;
       };
-      names = record {
-        registers = rw graph (registers_others g q d (fresh false fields) present book.made id book.owner book.fragments body unkept r (seat_at state r).registers
-            (seat_at state r).place (target_of (seat_at state r).command) apart other.names.registers);
-        way = rw graph (ways_stay (cells_at g book.made) (cells_at grown now.made) book.made now.made book.owner now.owner book.fragments now.fragments
-            (object_grows g grown book.made id book.owner book.fragments (fresh false fields) body unkept ids more) (seat_at state r) (seat_at state r).place other.names.way);
-      };
-      told = record {
-        list = rw graph (list_stays g grown book.made now.made book.owner now.owner book.fragments now.fragments r (seat_at state r)
-            (names_grown book.made id book.owner book.fragments body unkept) (λ i. register_other g q d (fresh false fields) present r i apart) book.history now.history
-            (own-other r book.history entry (of_other q r apart)) other.told.list);
-        counts = rw graph (counts_stay g grown r (same_party g grown r (party_other g q d (fresh false fields) present r apart)) book.history entry (seat_at state r) (of_other q r apart) other.told.counts);
-        began = began_stays book.history entry r (book.begun r) (seat_at state r).place (of_other q r apart) other.told.began;
-        gathers = gathers_stay heap now.owner r book.history (book.begun r) entry (seat_at state r).cursor (seat_at state r).tried (seat_at state r).given other.told.began.earlier
-            (gathers_same heap book.owner now.owner r (drop (book.begun r) book.history) (seat_at state r).cursor (seat_at state r).tried (seat_at state r).given
-            (kept_free book.owner q seat.reserve seat.hand body stands.own.holding some (length book.made)) other.told.gathers);
-      };
+      hand = kept_others book.owner q seat.reserve seat.hand body stands.own.holding some (length book.made) r apart;
+      stored = stored_control heap state.words r (seat_at state r) group word below other.own.stored;
+      gathers = gathers_stay heap now.owner r book.history (book.begun r) entry (seat_at state r).cursor (seat_at state r).tried (seat_at state r).given other.told.began.earlier
+          (gathers_same heap book.owner now.owner r (drop (book.begun r) book.history) (seat_at state r).cursor (seat_at state r).tried (seat_at state r).given
+          (kept_free book.owner q seat.reserve seat.hand body stands.own.holding some (length book.made)) other.told.gathers);
       cycle = cycle_other heap words now.owner now.colour book.history entry refl r (seat_at state r)
           (cycle_control heap state.words book.owner now.owner book.colour now.colour (phase book.history) (answered r book.history) (has_left r book.history) r (seat_at state r) group word below
           (omega (arith, less, rule.machine.limits.seats_fit)) marks
           (kept_borne book.owner book.colour q seat.reserve seat.hand body stands.own.holding some group (length book.made) last black stands.cycle.births r) other.cycle) (of_other q r apart);
-    })
+    } other)
