@@ -3,7 +3,7 @@ use Rattle.std.specs.Prelude.{ℕ, ◌+◌, if◌then◌else◌, List, [], ◌�
 use Rattle.heap_model.specs.declared.entry.Entry.{Entry}
 use Rattle.heap_model.specs.declared.id.Id.{Id}
 use Rattle.heap_model.specs.declared.id.Id.TheVariants.{Board}
-use Rattle.core_machine.specs.Registers.{is_same_id}
+use Rattle.core_machine.specs.seat.Registers.{is_same_id}
 use Rattle.core_rule.specs.Owners.{Owner}
 
 -- a fragment is white while nothing has marked it; grey once it is marked; black once all that it leads to is

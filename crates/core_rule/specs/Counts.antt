@@ -14,10 +14,10 @@ use Rattle.heap_model.specs.Effects.{is_of}
 use Rattle.core_machine.specs.declared.place.Place.{Place}
 use Rattle.core_machine.specs.declared.place.Place.TheVariants as places
 use Rattle.core_machine.specs.declared.place.Reaching.TheVariants.{Naming}
-use Rattle.core_machine.specs.Commands.{target_of}
-use Rattle.core_machine.specs.Loaded.{head_in, stamp_in}
-use Rattle.core_machine.specs.Seat.{Seat}
-use Rattle.core_machine.specs.Sums.{sum_upto}
+use Rattle.core_machine.specs.seat.Commands.{target_of}
+use Rattle.core_machine.specs.table.Loaded.{head_in, stamp_in}
+use Rattle.core_machine.specs.seat.Seat.{Seat}
+use Rattle.core_machine.specs.machine.Sums.{sum_upto}
 use Rattle.core_rule.specs.Book.{head_of}
 use Rattle.core_rule.specs.Objects.{NamesKept}
 use Rattle.core_rule.specs.Owners.{Owner, taken_bit}

@@ -9,11 +9,11 @@ use Rattle.core_machine.specs.declared.place.Polling.{Polling}
 use Rattle.core_machine.specs.declared.place.Polling.TheVariants.{Asking, Shading, Answering}
 use Rattle.core_machine.specs.declared.place.Reaching.{Reaching}
 use Rattle.core_machine.specs.declared.place.Reaching.TheVariants.{ShadingOld, ShadingNew, Swapping}
-use Rattle.core_machine.specs.declared.register.Register.{Register}
-use Rattle.core_machine.specs.Loaded.{head_in}
-use Rattle.core_machine.specs.ReachingMoves.{field_part, new_register}
-use Rattle.core_machine.specs.Registers.{register_in, head_of}
-use Rattle.core_machine.specs.Seat.{Seat}
+use Rattle.core_machine.specs.declared.seat.register.Register.{Register}
+use Rattle.core_machine.specs.table.Loaded.{head_in}
+use Rattle.core_machine.specs.seat.ReachingMoves.{field_part, new_register}
+use Rattle.core_machine.specs.seat.Registers.{register_in, head_of}
+use Rattle.core_machine.specs.seat.Seat.{Seat}
 use Rattle.core_rule.specs.Book.{Colour}
 use Rattle.core_rule.specs.Colours.{IsMarked, Leads, IsBetween}
 

@@ -9,7 +9,7 @@ use Rattle.heap_model.specs.Windows.{is_reply_to}
 use Rattle.core_machine.specs.declared.place.Place.{Place}
 use Rattle.core_machine.specs.declared.place.Place.TheVariants as places
 use Rattle.core_machine.specs.declared.place.Reaching.TheVariants.{Naming}
-use Rattle.core_machine.specs.Sums.{sum_upto}
+use Rattle.core_machine.specs.machine.Sums.{sum_upto}
 use Rattle.core_rule.specs.Owners.{Owner, free_bit}
 
 -- the free fragments of a group

@@ -1,11 +1,11 @@
 -- What a seat has in its reserve and its hand, and what it has stored into it.
 use Rattle.std.specs.Prelude.{◌≡◌, ℕ, ◌+◌, ◌/◌, ◌%◌, ◌<◌, List, [], ◌∷◌}
 use Rattle.heap_model.specs.declared.heap.Heap.{Heap}
-use Rattle.core_machine.specs.declared.address.Address.TheVariants.{Word}
-use Rattle.core_machine.specs.Fragments.{tally}
-use Rattle.core_machine.specs.Layout.{at}
-use Rattle.core_machine.specs.Making.{newborn_word}
-use Rattle.core_machine.specs.Seat.{Seat}
+use Rattle.core_machine.specs.declared.table.address.Address.TheVariants.{Word}
+use Rattle.core_machine.specs.table.Fragments.{tally}
+use Rattle.core_machine.specs.table.Layout.{at}
+use Rattle.core_machine.specs.seat.Making.{newborn_word}
+use Rattle.core_machine.specs.seat.Seat.{Seat}
 use Rattle.core_rule.specs.Owners.{Owner, holds_bit, bears_bit}
 use Rattle.core_rule.specs.Book.{fragment_at}
 

@@ -8,10 +8,10 @@ use Rattle.heap_model.specs.Phases.{IsBehind}
 use Rattle.heap_model.specs.Space.{gained, lost}
 use Rattle.heap_model.specs.declared.collector_calls.Turn.TheVariants.{Waits}
 use Rattle.core_machine.specs.declared.place.Place.TheVariants.{Idle}
-use Rattle.core_machine.specs.Calls.{free_fragments}
-use Rattle.core_machine.specs.Collector.{next_turn, turn_answer}
-use Rattle.core_machine.specs.Machine.{State, seat_at, found_by, Event, Begins, Steps, Turns, Can, after, entries, Run, after_all, history}
-use Rattle.core_machine.specs.Opening.{IsOpening}
+use Rattle.core_machine.specs.machine.Calls.{free_fragments}
+use Rattle.core_machine.specs.collector.Collector.{next_turn, turn_answer}
+use Rattle.core_machine.specs.machine.Machine.{State, seat_at, found_by, Event, Begins, Steps, Turns, Can, after, entries, Run, after_all, history}
+use Rattle.core_machine.specs.machine.Opening.{IsOpening}
 use Rattle.core_rule.specs.Book.{Book}
 use Rattle.core_rule.specs.Rule.{Rule}
 

@@ -13,9 +13,9 @@ use Rattle.heap_model.specs.Objects.{node}
 use Rattle.heap_model.specs.State.{State, Node}
 use Rattle.heap_model.specs.Reach.{IsMade}
 use Rattle.heap_model.specs.Needs.{record_fragments}
-use Rattle.core_machine.specs.declared.address.Address.TheVariants.{Word}
-use Rattle.core_machine.specs.Layout.{at}
-use Rattle.core_machine.specs.Newborn.{record_word}
+use Rattle.core_machine.specs.declared.table.address.Address.TheVariants.{Word}
+use Rattle.core_machine.specs.table.Layout.{at}
+use Rattle.core_machine.specs.table.Newborn.{record_word}
 use Rattle.core_rule.specs.Owners.{Owner, Keeps}
 use Rattle.core_rule.specs.Book.{fragment_at, id_at, number_of, head_of}
 

@@ -1,6 +1,6 @@
 -- Whose each fragment is.
 use Rattle.std.specs.Prelude.{◌≡◌, ℕ, ◌<◌, ◌==◌, if◌then◌else◌, nat_lt, List}
-use Rattle.core_machine.specs.Fragments.{tally}
+use Rattle.core_machine.specs.table.Fragments.{tally}
 
 -- one where the two are the same
 abbrev pub one_at : ℕ → ℕ → ℕ

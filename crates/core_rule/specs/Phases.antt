@@ -5,14 +5,14 @@ use Rattle.heap_model.specs.declared.heap.Heap.{Heap}
 use Rattle.heap_model.specs.declared.entry.Entry.{Entry}
 use Rattle.heap_model.specs.PhaseCounts.{phase, answered, has_left, AllAnswered}
 use Rattle.heap_model.specs.PhasePlan.{marking}
-use Rattle.core_machine.specs.declared.address.Address.TheVariants.{Answer}
+use Rattle.core_machine.specs.declared.table.address.Address.TheVariants.{Answer}
 use Rattle.core_machine.specs.declared.place.Place.{Place}
 use Rattle.core_machine.specs.declared.place.Place.TheVariants as places
 use Rattle.core_machine.specs.declared.place.Polling.{Polling}
 use Rattle.core_machine.specs.declared.place.Polling.TheVariants.{Asking, Shading, Answering}
-use Rattle.core_machine.specs.declared.stage.Stage.TheVariants.{Advancing}
-use Rattle.core_machine.specs.Collector.{Collector}
-use Rattle.core_machine.specs.Layout.{at}
+use Rattle.core_machine.specs.declared.collector.stage.Stage.TheVariants.{Advancing}
+use Rattle.core_machine.specs.collector.Collector.{Collector}
+use Rattle.core_machine.specs.table.Layout.{at}
 use Rattle.core_rule.specs.Counts.{is_collectors}
 
 -- the last answer of a seat is to the phase, or to the one before it

@@ -4,12 +4,12 @@ use Rattle.heap_model.specs.declared.heap.Heap.{Heap}
 use Rattle.heap_model.specs.Heap.{IsHeap}
 use Rattle.heap_model.specs.Account.{IsLegal}
 use Rattle.heap_model.specs.Cycles.{graph_of}
-use Rattle.core_machine.specs.Commands.{target_of}
-use Rattle.core_machine.specs.Fits.{Fits}
-use Rattle.core_machine.specs.Layout.{table_length}
-use Rattle.core_machine.specs.Machine.{State, seat_at}
-use Rattle.core_machine.specs.Seat.{Seat}
-use Rattle.core_machine.specs.Value.{IsMachine}
+use Rattle.core_machine.specs.seat.Commands.{target_of}
+use Rattle.core_machine.specs.seat.Fits.{Fits}
+use Rattle.core_machine.specs.table.Layout.{table_length}
+use Rattle.core_machine.specs.machine.Machine.{State, seat_at}
+use Rattle.core_machine.specs.seat.Seat.{Seat}
+use Rattle.core_machine.specs.machine.Value.{IsMachine}
 use Rattle.core_rule.specs.Book.{Book}
 use Rattle.core_rule.specs.ControlWords.{Bits}
 use Rattle.core_rule.specs.Objects.{AreMade, Objects, cells_at}

@@ -6,12 +6,12 @@ use Rattle.core_machine.specs.declared.place.Place.{Place}
 use Rattle.core_machine.specs.declared.place.Place.TheVariants as places
 use Rattle.core_machine.specs.declared.place.Reaching.{Reaching}
 use Rattle.core_machine.specs.declared.place.Reaching.TheVariants.{Opening, Walking, Getting, Naming, LoadingOld, ShadingOld, ShadingNew, Swapping}
-use Rattle.core_machine.specs.declared.register.Register.TheVariants.{Object}
-use Rattle.core_machine.specs.Commands.{object_of, field_of}
-use Rattle.core_machine.specs.Loaded.{head_in}
-use Rattle.core_machine.specs.Reaching.{row_of}
-use Rattle.core_machine.specs.Registers.{register_in}
-use Rattle.core_machine.specs.Seat.{Seat}
+use Rattle.core_machine.specs.declared.seat.register.Register.TheVariants.{Object}
+use Rattle.core_machine.specs.seat.Commands.{object_of, field_of}
+use Rattle.core_machine.specs.table.Loaded.{head_in}
+use Rattle.core_machine.specs.seat.Reaching.{row_of}
+use Rattle.core_machine.specs.seat.Registers.{register_in}
+use Rattle.core_machine.specs.seat.Seat.{Seat}
 use Rattle.core_rule.specs.Owners.{Owner}
 use Rattle.core_rule.specs.Book.{fragment_at, id_at}
 use Rattle.core_rule.specs.Objects.{IsKept}

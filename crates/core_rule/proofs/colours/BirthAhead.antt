@@ -2,14 +2,14 @@
 use Rattle.std.proofs.Common.{◌≡◌, ◌≢◌, ◌⊎◌, ℕ, ◌+◌, ◌*◌, ◌^◌, ◌<◌, ◌≤◌, inl, inr, true, List, length, get_or, sym, ap, ◌∙◌, subst, arith}
 use Rattle.heap_model.specs.declared.heap.Heap.{Heap}
 use Rattle.heap_model.specs.Heap.{IsHeap}
-use Rattle.core_machine.specs.declared.address.Address.TheVariants.{Word}
-use Rattle.core_machine.specs.Commands.{fields_of}
-use Rattle.core_machine.specs.Fits.{AreFragments}
-use Rattle.core_machine.specs.Fragments.{part_in, part_out, tally}
-use Rattle.core_machine.specs.Layout.{at}
-use Rattle.core_machine.specs.Loaded.{lead_of}
-use Rattle.core_machine.specs.Making.{newborn_word, next_name}
-use Rattle.core_machine.specs.Seat.{Seat}
+use Rattle.core_machine.specs.declared.table.address.Address.TheVariants.{Word}
+use Rattle.core_machine.specs.seat.Commands.{fields_of}
+use Rattle.core_machine.specs.seat.Fits.{AreFragments}
+use Rattle.core_machine.specs.table.Fragments.{part_in, part_out, tally}
+use Rattle.core_machine.specs.table.Layout.{at}
+use Rattle.core_machine.specs.table.Loaded.{lead_of}
+use Rattle.core_machine.specs.seat.Making.{newborn_word, next_name}
+use Rattle.core_machine.specs.seat.Seat.{Seat}
 use Rattle.core_rule.specs.Book.{Colour, White, Black, fragment_at}
 use Rattle.core_rule.specs.Colours.{Leads, IsMarked}
 use Rattle.core_rule.specs.Holding.{Holding}

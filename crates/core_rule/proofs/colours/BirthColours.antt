@@ -3,12 +3,12 @@ use Rattle.std.specs.Int.{bit_at}
 use Rattle.std.proofs.Common.{◌≡◌, ◌≢◌, ◌⊎◌, ℕ, suc, ◌+◌, ◌*◌, ◌/◌, ◌%◌, ◌<◌, ◌≤◌, if◌then◌else◌, nat_lt, inl, inr, max, cond, Bool, true, false, List, length, bit_or, refl, sym, ap, ◌∙◌, subst, arith}
 use Rattle.std.proofs.lemmas.Bool.Decides.{nat_tests, leb_tells}
 use Rattle.heap_model.specs.declared.heap.Heap.{Heap}
-use Rattle.core_machine.specs.declared.address.Address.TheVariants.{Control}
-use Rattle.core_machine.specs.Fragments.{part_in, mask, tally}
-use Rattle.core_machine.specs.Layout.{at, put, table_length}
-use Rattle.core_machine.specs.MakingMoves.{bears_black}
-use Rattle.core_machine.specs.Operation.{all_taken, untaken, birth_bits}
-use Rattle.core_machine.specs.Seat.{Seat}
+use Rattle.core_machine.specs.declared.table.address.Address.TheVariants.{Control}
+use Rattle.core_machine.specs.table.Fragments.{part_in, mask, tally}
+use Rattle.core_machine.specs.table.Layout.{at, put, table_length}
+use Rattle.core_machine.specs.seat.MakingMoves.{bears_black}
+use Rattle.core_machine.specs.table.Operation.{all_taken, untaken, birth_bits}
+use Rattle.core_machine.specs.seat.Seat.{Seat}
 use Rattle.core_rule.specs.Book.{Colour, White, Grey, Black, fragment_at}
 use Rattle.core_rule.specs.Colours.{Marks, Leads, IsMarked, IsBetween, Coloured, marked_bit, scanned_bit}
 use Rattle.core_rule.specs.Owners.{Owner, Keeps, born_bit}

@@ -2,7 +2,7 @@
 use Rattle.std.specs.List.{list_all}
 use Rattle.std.proofs.Common.{◌≡◌, ◌≢◌, ℕ, ◌+◌, ◌≤◌, inl, inr, Bool, true, List, length, refl, sym, ap, ◌∙◌, subst, arith}
 use Rattle.heap_model.specs.declared.heap.Heap.{Heap}
-use Rattle.core_machine.specs.Fragments.{in_group, part_in, tally}
+use Rattle.core_machine.specs.table.Fragments.{in_group, part_in, tally}
 use Rattle.core_rule.specs.Book.{Colour, fragment_at}
 use Rattle.core_rule.specs.Colours.{IsMarked, IsBetween, Coloured}
 use Rattle.core_rule.specs.Holding.{Holding}

@@ -2,10 +2,10 @@
 use Rattle.std.proofs.Common.{◌≡◌, ◌≢◌, ◌⊎◌, ℕ, ◌*◌, ◌<◌, List, length, inl, inr, ap, ◌∙◌, sym, subst, Some}
 use Rattle.std.proofs.lemmas.Bool.{cases_eq}
 use Rattle.heap_model.specs.declared.heap.Heap.{Heap}
-use Rattle.core_machine.specs.declared.address.Address.{Address}
-use Rattle.core_machine.specs.declared.address.Address.TheVariants.{Control, Word}
-use Rattle.core_machine.specs.Layout.{at, put, index_of, table_length}
-use Rattle.core_machine.specs.Loaded.{lead_of}
+use Rattle.core_machine.specs.declared.table.address.Address.{Address}
+use Rattle.core_machine.specs.declared.table.address.Address.TheVariants.{Control, Word}
+use Rattle.core_machine.specs.table.Layout.{at, put, index_of, table_length}
+use Rattle.core_machine.specs.table.Loaded.{lead_of}
 use Rattle.core_rule.specs.Colours.{Leads}
 use Rattle.core_rule.proofs.words.Addresses.{at-put_apart, word_after_control, word_same, fragment_other, part_other}
 

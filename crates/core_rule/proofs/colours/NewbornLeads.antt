@@ -7,9 +7,9 @@ use Rattle.heap_words.specs.declared.cell.Cell.{Cell}
 use Rattle.heap_words.specs.declared.kind.Kind.TheVariants as kinds
 use Rattle.heap_words.specs.declared.name.Name.{Name}
 use Rattle.heap_words.specs.Name.{name_word}
-use Rattle.core_machine.specs.Loaded.{lead_of, head_in, first_lead, referred}
-use Rattle.core_machine.specs.Newborn.{record_meta, link_after, record_word}
-use Rattle.core_machine.proofs.CellWords.{cell_of-cell_word}
+use Rattle.core_machine.specs.table.Loaded.{lead_of, head_in, first_lead, referred}
+use Rattle.core_machine.specs.table.Newborn.{record_meta, link_after, record_word}
+use Rattle.core_machine.proofs.table_lemmas.CellWords.{cell_of-cell_word}
 
 -- a word of 0 leads nowhere
 zero_leads : (part : ℕ) → lead_of part 0 ≡ None

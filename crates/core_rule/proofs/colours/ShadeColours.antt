@@ -6,9 +6,9 @@ use Rattle.std.proofs.lemmas.Bool.{eq-eqb}
 use Rattle.std.proofs.lemmas.Bool.Decides.{eqb_tells}
 use Rattle.std.proofs.lemmas.Nat.Bits.{bit_at_or, bit_at-pow_same, bit_at-pow_other, bit_at-lt}
 use Rattle.heap_model.specs.declared.heap.Heap.{Heap}
-use Rattle.core_machine.specs.declared.address.Address.TheVariants.{Control}
-use Rattle.core_machine.specs.Layout.{at, put, table_length}
-use Rattle.core_machine.specs.Operation.{shade_bit}
+use Rattle.core_machine.specs.declared.table.address.Address.TheVariants.{Control}
+use Rattle.core_machine.specs.table.Layout.{at, put, table_length}
+use Rattle.core_machine.specs.table.Operation.{shade_bit}
 use Rattle.core_rule.specs.Book.{Colour, White, Grey, Black, fragment_at}
 use Rattle.core_rule.specs.Colours.{Marks, IsMarked, Coloured, marked_bit, scanned_bit}
 use Rattle.core_rule.specs.ControlWords.{Bits}

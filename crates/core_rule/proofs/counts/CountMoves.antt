@@ -5,8 +5,8 @@ use Rattle.heap_model.specs.declared.entry.Entry.TheVariants as entries
 use Rattle.heap_model.specs.declared.heap.Heap.{Heap}
 use Rattle.heap_model.specs.Space.{gained, lost}
 use Rattle.heap_model.proofs.Histories.{total-more}
-use Rattle.core_machine.specs.Fragments.{tally}
-use Rattle.core_machine.specs.Sums.{sum_upto}
+use Rattle.core_machine.specs.table.Fragments.{tally}
+use Rattle.core_machine.specs.machine.Sums.{sum_upto}
 use Rattle.core_rule.specs.Counts.{AreUsed}
 use Rattle.core_rule.specs.Gathers.{free_in_all}
 use Rattle.core_rule.specs.Owners.{Owner, Free, Holds, Bears, taken_bit, free_bit, handed}

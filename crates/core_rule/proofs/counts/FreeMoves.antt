@@ -1,8 +1,8 @@
 -- What is free once fragments went to another owner.
 use Rattle.std.proofs.Common.{◌≡◌, ℕ, suc, ◌+◌, ◌*◌, ◌/◌, ◌%◌, ◌<◌, ◌≤◌, ◌-◌, List, length, ◌∙◌, subst, arith}
 use Rattle.heap_model.specs.declared.heap.Heap.{Heap}
-use Rattle.core_machine.specs.Fragments.{tally}
-use Rattle.core_machine.specs.Sums.{sum_upto}
+use Rattle.core_machine.specs.table.Fragments.{tally}
+use Rattle.core_machine.specs.machine.Sums.{sum_upto}
 use Rattle.core_rule.specs.Gathers.{free_in, free_in_all, free_in_passed}
 use Rattle.core_rule.specs.Owners.{Owner, free_bit}
 use Rattle.core_rule.proofs.lists.SumLemmas.{sum-suc, sum_same, sum_le, sum_plus, sum_parts, sum_nothing, sum_blocks, sum_wrapped}

@@ -1,9 +1,9 @@
 -- What stays when a seat's own word is written: the fragments' words, the phase, the colours, and the other seats' part in a cycle.
 use Rattle.std.proofs.Common.{◌≢◌, ℕ, ◌<◌, List, inl, refl, ◌∙◌, arith}
 use Rattle.heap_model.specs.declared.heap.Heap.{Heap}
-use Rattle.core_machine.specs.declared.address.Address.TheVariants.{Answer, Phase, Control, Word}
-use Rattle.core_machine.specs.Layout.{put}
-use Rattle.core_machine.specs.Seat.{Seat}
+use Rattle.core_machine.specs.declared.table.address.Address.TheVariants.{Answer, Phase, Control, Word}
+use Rattle.core_machine.specs.table.Layout.{put}
+use Rattle.core_machine.specs.seat.Seat.{Seat}
 use Rattle.core_rule.specs.Book.{Colour}
 use Rattle.core_rule.specs.Cycle.{HeapInCycle}
 use Rattle.core_rule.specs.Owners.{Owner}

@@ -3,11 +3,11 @@
 use Rattle.std.proofs.Common.{◌≡◌, ℕ, ◌%◌, ◌<◌, true, false, inl, inr, refl, arith, ◌==◌, ◌≢◌, nat_lt, if◌then◌else◌}
 use Rattle.std.proofs.lemmas.Bool.Decides.{nat_tests}
 use Rattle.heap_model.specs.PhasePlan.{barriers, black_births, sweep}
-use Rattle.core_machine.specs.Loaded.{head_in, lead_of}
-use Rattle.core_machine.specs.MakingMoves.{bears_black}
-use Rattle.core_machine.specs.Reaching.{has_barrier}
-use Rattle.core_machine.specs.ReachingMoves.{field_part}
-use Rattle.core_machine.specs.Seat.{Seat}
+use Rattle.core_machine.specs.table.Loaded.{head_in, lead_of}
+use Rattle.core_machine.specs.seat.MakingMoves.{bears_black}
+use Rattle.core_machine.specs.seat.Reaching.{has_barrier}
+use Rattle.core_machine.specs.seat.ReachingMoves.{field_part}
+use Rattle.core_machine.specs.seat.Seat.{Seat}
 use Rattle.core_rule.specs.Colours.{IsBetween}
 use Rattle.core_rule.specs.Phases.{IsNear}
 

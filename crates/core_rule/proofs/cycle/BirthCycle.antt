@@ -2,17 +2,17 @@
 use Rattle.std.proofs.Common.{◌≡◌, ℕ, ◌*◌, ◌<◌, ◌≤◌, Bool, List, length, bit_or, ap, ◌∙◌, subst, arith, ◌+◌}
 use Rattle.heap_model.specs.declared.heap.Heap.{Heap}
 use Rattle.heap_model.specs.PhaseCounts.{phase}
-use Rattle.core_machine.specs.declared.address.Address.TheVariants.{Control}
+use Rattle.core_machine.specs.declared.table.address.Address.TheVariants.{Control}
 use Rattle.core_machine.specs.declared.place.Making.TheVariants.{Bearing}
 use Rattle.core_machine.specs.declared.place.Place.TheVariants as places
-use Rattle.core_machine.specs.Fits.{HasBody}
-use Rattle.core_machine.specs.Fragments.{mask, tally}
-use Rattle.core_machine.specs.Layout.{at, put}
-use Rattle.core_machine.specs.Machine.{State, seat_at}
-use Rattle.core_machine.specs.Making.{last_group, newborn_word}
+use Rattle.core_machine.specs.seat.Fits.{HasBody}
+use Rattle.core_machine.specs.table.Fragments.{mask, tally}
+use Rattle.core_machine.specs.table.Layout.{at, put}
+use Rattle.core_machine.specs.machine.Machine.{State, seat_at}
+use Rattle.core_machine.specs.seat.Making.{last_group, newborn_word}
 use Rattle.core_machine.specs.Moves.{bears_black, last_part}
-use Rattle.core_machine.specs.Operation.{birth_bits}
-use Rattle.core_machine.specs.Seat.{Seat}
+use Rattle.core_machine.specs.table.Operation.{birth_bits}
+use Rattle.core_machine.specs.seat.Seat.{Seat}
 use Rattle.core_rule.specs.Book.{Book, Colour, fragment_at}
 use Rattle.core_rule.specs.Colours.{IsMarked, IsBetween}
 use Rattle.core_rule.specs.Cycle.{HeapInCycle}

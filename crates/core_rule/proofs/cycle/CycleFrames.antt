@@ -1,16 +1,16 @@
 -- What stays of a seat's part in a cycle, and of the colours.
 use Rattle.std.proofs.Common.{◌⊎◌, ◌≡◌, ℕ, List, Bool, Option, inl, inr, refl, ◌∙◌}
 use Rattle.heap_model.specs.declared.heap.Heap.{Heap}
-use Rattle.core_machine.specs.declared.address.Address.TheVariants.{Answer}
+use Rattle.core_machine.specs.declared.table.address.Address.TheVariants.{Answer}
 use Rattle.core_machine.specs.declared.place.Place.{Place}
 use Rattle.core_machine.specs.declared.place.Place.TheVariants as places
 use Rattle.core_machine.specs.declared.place.Polling.{Polling}
 use Rattle.core_machine.specs.declared.place.Polling.TheVariants.{Asking, Shading, Answering}
 use Rattle.core_machine.specs.declared.place.Reaching.{Reaching}
 use Rattle.core_machine.specs.declared.place.Reaching.TheVariants.{ShadingOld, ShadingNew, Swapping}
-use Rattle.core_machine.specs.Layout.{at}
-use Rattle.core_machine.specs.ReachingMoves.{field_part}
-use Rattle.core_machine.specs.Seat.{Seat}
+use Rattle.core_machine.specs.table.Layout.{at}
+use Rattle.core_machine.specs.seat.ReachingMoves.{field_part}
+use Rattle.core_machine.specs.seat.Seat.{Seat}
 use Rattle.core_rule.specs.Book.{Colour, Black}
 use Rattle.core_rule.specs.Colours.{IsMarked, Leads, IsBetween, Coloured, BornColours}
 use Rattle.core_rule.specs.Cycle.{SeatInCycle}

@@ -5,16 +5,16 @@ use Rattle.heap_model.specs.declared.heap.Heap.{Heap}
 use Rattle.heap_model.specs.declared.id.Id.{Id}
 use Rattle.heap_model.specs.Heap.{IsHeap}
 use Rattle.heap_model.specs.State.{State}
-use Rattle.core_machine.specs.declared.address.Address.TheVariants.{Phase, Answer, Word}
+use Rattle.core_machine.specs.declared.table.address.Address.TheVariants.{Phase, Answer, Word}
 use Rattle.core_machine.specs.declared.place.Place.{Place}
 use Rattle.core_machine.specs.declared.place.Place.TheVariants as places
 use Rattle.core_machine.specs.declared.place.Reaching.{Reaching}
 use Rattle.core_machine.specs.declared.place.Reaching.TheVariants.{ShadingOld, ShadingNew, Swapping}
-use Rattle.core_machine.specs.Commands.{field_of}
-use Rattle.core_machine.specs.Layout.{put}
-use Rattle.core_machine.specs.Reaching.{row_of}
-use Rattle.core_machine.specs.ReachingMoves.{field_part}
-use Rattle.core_machine.specs.Seat.{Seat}
+use Rattle.core_machine.specs.seat.Commands.{field_of}
+use Rattle.core_machine.specs.table.Layout.{put}
+use Rattle.core_machine.specs.seat.Reaching.{row_of}
+use Rattle.core_machine.specs.seat.ReachingMoves.{field_part}
+use Rattle.core_machine.specs.seat.Seat.{Seat}
 use Rattle.core_rule.specs.Book.{Colour, White, Black}
 use Rattle.core_rule.specs.Colours.{Leads}
 use Rattle.core_rule.specs.ControlWords.{Bits}

@@ -1,10 +1,10 @@
 -- What a step of making leaves of the heap's and of each seat's part in a cycle.
 use Rattle.std.proofs.Common.{◌≡◌, ◌≢◌, ℕ, ◌<◌, ◌≤◌, inl, inr, Bool, List, refl, sym, ◌∙◌, subst, arith}
 use Rattle.heap_model.specs.declared.heap.Heap.{Heap}
-use Rattle.core_machine.specs.declared.address.Address.TheVariants.{Phase, Answer, Control}
-use Rattle.core_machine.specs.Fragments.{tally}
-use Rattle.core_machine.specs.Layout.{at, put}
-use Rattle.core_machine.specs.Seat.{Seat}
+use Rattle.core_machine.specs.declared.table.address.Address.TheVariants.{Phase, Answer, Control}
+use Rattle.core_machine.specs.table.Fragments.{tally}
+use Rattle.core_machine.specs.table.Layout.{at, put}
+use Rattle.core_machine.specs.seat.Seat.{Seat}
 use Rattle.core_rule.specs.Book.{Colour}
 use Rattle.core_rule.specs.Colours.{Marks, IsMarked, BornColours}
 use Rattle.core_rule.specs.Cycle.{HeapInCycle, SeatInCycle}

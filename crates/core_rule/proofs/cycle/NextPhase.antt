@@ -2,14 +2,14 @@
 use Rattle.std.proofs.Common.{◌≡◌, ◌⊎◌, ℕ, ◌+◌, ◌<◌, Bool, true, false, List, inl, inr, refl, sym, ◌∙◌, subst, arith}
 use Rattle.std.proofs.lemmas.Bool.Decides.{eqb_tells}
 use Rattle.heap_model.specs.declared.heap.Heap.{Heap}
-use Rattle.core_machine.specs.declared.address.Address.TheVariants.{Answer}
+use Rattle.core_machine.specs.declared.table.address.Address.TheVariants.{Answer}
 use Rattle.core_machine.specs.declared.place.Place.{Place}
 use Rattle.core_machine.specs.declared.place.Place.TheVariants as places
 use Rattle.core_machine.specs.declared.place.Polling.TheVariants.{Asking, Shading, Answering}
 use Rattle.core_machine.specs.declared.place.Reaching.TheVariants.{ShadingNew, Swapping}
-use Rattle.core_machine.specs.Fits.{Fits, FitsWay}
-use Rattle.core_machine.specs.Layout.{at}
-use Rattle.core_machine.specs.Seat.{Seat}
+use Rattle.core_machine.specs.seat.Fits.{Fits, FitsWay}
+use Rattle.core_machine.specs.table.Layout.{at}
+use Rattle.core_machine.specs.seat.Seat.{Seat}
 use Rattle.core_rule.specs.Book.{Colour}
 use Rattle.core_rule.specs.Colours.{Leads, IsBetween, Coloured}
 use Rattle.core_rule.specs.Cycle.{SeatInCycle}

@@ -4,15 +4,15 @@ use Rattle.heap_model.specs.declared.heap.Heap.{Heap}
 use Rattle.heap_model.specs.declared.id.Value.{Value}
 use Rattle.heap_model.specs.Cycles.{graph_of}
 use Rattle.heap_model.specs.PhaseCounts.{phase}
-use Rattle.core_machine.specs.declared.address.Address.TheVariants.{Answer, Phase, Word}
+use Rattle.core_machine.specs.declared.table.address.Address.TheVariants.{Answer, Phase, Word}
 use Rattle.core_machine.specs.declared.place.Place.TheVariants as places
 use Rattle.core_machine.specs.declared.place.Reaching.TheVariants.{Swapping}
-use Rattle.core_machine.specs.Layout.{at, put}
-use Rattle.core_machine.specs.Loaded.{head_in, lead_of}
-use Rattle.core_machine.specs.Machine.{State, seat_at}
-use Rattle.core_machine.specs.ReachingMoves.{field_part, new_register}
-use Rattle.core_machine.specs.Registers.{head_of as head_of_register}
-use Rattle.core_machine.specs.Seat.{Seat}
+use Rattle.core_machine.specs.table.Layout.{at, put}
+use Rattle.core_machine.specs.table.Loaded.{head_in, lead_of}
+use Rattle.core_machine.specs.machine.Machine.{State, seat_at}
+use Rattle.core_machine.specs.seat.ReachingMoves.{field_part, new_register}
+use Rattle.core_machine.specs.seat.Registers.{head_of as head_of_register}
+use Rattle.core_machine.specs.seat.Seat.{Seat}
 use Rattle.core_rule.specs.Book.{Book, head_of}
 use Rattle.core_rule.specs.Colours.{IsMarked, IsBetween, Leads}
 use Rattle.core_rule.specs.Cycle.{HeapInCycle}

@@ -2,15 +2,15 @@
 use Rattle.std.proofs.Common.{◌≡◌, ℕ, List, Bool, true, false, arith}
 use Rattle.heap_model.specs.declared.heap.Heap.{Heap}
 use Rattle.heap_model.specs.PhasePlan.{black_births, sweep}
-use Rattle.core_machine.specs.declared.address.Address.TheVariants.{Answer}
+use Rattle.core_machine.specs.declared.table.address.Address.TheVariants.{Answer}
 use Rattle.core_machine.specs.declared.place.Place.{Place}
 use Rattle.core_machine.specs.declared.place.Place.TheVariants as places
 use Rattle.core_machine.specs.declared.place.Polling.{Polling}
 use Rattle.core_machine.specs.declared.place.Reaching.{Reaching}
 use Rattle.core_machine.specs.declared.place.Reaching.TheVariants.{ShadingOld, ShadingNew, Swapping}
-use Rattle.core_machine.specs.Layout.{at}
-use Rattle.core_machine.specs.Reaching.{has_barrier}
-use Rattle.core_machine.specs.Seat.{Seat}
+use Rattle.core_machine.specs.table.Layout.{at}
+use Rattle.core_machine.specs.seat.Reaching.{has_barrier}
+use Rattle.core_machine.specs.seat.Seat.{Seat}
 use Rattle.core_rule.specs.Book.{Colour}
 use Rattle.core_rule.specs.Colours.{BornColours, IsBetween}
 use Rattle.core_rule.specs.Cycle.{SeatInCycle}

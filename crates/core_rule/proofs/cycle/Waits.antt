@@ -6,14 +6,14 @@ use Rattle.heap_model.specs.declared.collector_calls.Turn.TheVariants.{Stepped, 
 use Rattle.heap_model.specs.declared.entry.Entry.{Entry}
 use Rattle.heap_model.specs.declared.heap.Heap.{Heap}
 use Rattle.heap_model.specs.Phases.{IsBehind}
-use Rattle.core_machine.specs.declared.address.Address.TheVariants.{Answer}
-use Rattle.core_machine.specs.declared.stage.Stage.{Stage}
-use Rattle.core_machine.specs.declared.stage.Stage.TheVariants.{Looking, Advancing}
-use Rattle.core_machine.specs.Collector.{Collector, has_answered, turn_at, turn_answer}
-use Rattle.core_machine.specs.Fits.{FitsStage}
-use Rattle.core_machine.specs.Layout.{at}
-use Rattle.core_machine.specs.Machine.{State, found_by, seat_at}
-use Rattle.core_machine.specs.Seat.{Seat}
+use Rattle.core_machine.specs.declared.table.address.Address.TheVariants.{Answer}
+use Rattle.core_machine.specs.declared.collector.stage.Stage.{Stage}
+use Rattle.core_machine.specs.declared.collector.stage.Stage.TheVariants.{Looking, Advancing}
+use Rattle.core_machine.specs.collector.Collector.{Collector, has_answered, turn_at, turn_answer}
+use Rattle.core_machine.specs.seat.Fits.{FitsStage}
+use Rattle.core_machine.specs.table.Layout.{at}
+use Rattle.core_machine.specs.machine.Machine.{State, found_by, seat_at}
+use Rattle.core_machine.specs.seat.Seat.{Seat}
 use Rattle.core_rule.specs.Book.{Book}
 use Rattle.core_rule.specs.Laws.{EachWaitIsBehind}
 use Rattle.core_rule.specs.Phases.{answer_word}

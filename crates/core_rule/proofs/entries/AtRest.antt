@@ -4,9 +4,9 @@ use Rattle.heap_model.specs.declared.heap.Heap.{Heap}
 use Rattle.heap_model.specs.Space.{taken_of, spent_of}
 use Rattle.core_machine.specs.declared.place.Place.{Place}
 use Rattle.core_machine.specs.declared.place.Place.TheVariants as places
-use Rattle.core_machine.specs.Fits.{Fits, IsAtRest}
-use Rattle.core_machine.specs.Machine.{State, seat_at}
-use Rattle.core_machine.specs.Seat.{Seat}
+use Rattle.core_machine.specs.seat.Fits.{Fits, IsAtRest}
+use Rattle.core_machine.specs.machine.Machine.{State, seat_at}
+use Rattle.core_machine.specs.seat.Seat.{Seat}
 use Rattle.core_rule.specs.Book.{Book}
 use Rattle.core_rule.specs.Registers.{IsAwaited}
 use Rattle.core_rule.specs.Rule.{Rule}

@@ -13,10 +13,10 @@ use Rattle.heap_model.specs.Objects.{party}
 use Rattle.heap_model.specs.Space.{taken_of, spent_of}
 use Rattle.heap_model.specs.State.{State, Node, fresh, opening}
 use Rattle.heap_model.proofs.Histories.{graph_after-more, total-more}
-use Rattle.core_machine.specs.Commands.{IsRecord, target_of, fields_of}
-use Rattle.core_machine.specs.Making.{next_id}
+use Rattle.core_machine.specs.seat.Commands.{IsRecord, target_of, fields_of}
+use Rattle.core_machine.specs.seat.Making.{next_id}
 use Rattle.core_machine.specs.Moves.{made_entry, last_birth_move, seat_after}
-use Rattle.core_machine.specs.Seat.{Seat, need}
+use Rattle.core_machine.specs.seat.Seat.{Seat, need}
 use Rattle.core_rule.specs.Counts.{OwnCounts, AreUsed}
 use Rattle.core_rule.specs.Owners.{Owner}
 use Rattle.core_rule.proofs.hand.Bodies.{whole_body}

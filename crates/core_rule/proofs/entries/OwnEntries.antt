@@ -8,7 +8,7 @@ use Rattle.heap_model.specs.Objects.{party}
 use Rattle.heap_model.specs.Space.{total_of}
 use Rattle.heap_model.specs.State.{State}
 use Rattle.heap_model.proofs.Histories.{total_of-more}
-use Rattle.core_machine.specs.Seat.{Seat}
+use Rattle.core_machine.specs.seat.Seat.{Seat}
 use Rattle.core_rule.specs.Counts.{OwnCounts}
 use Rattle.core_rule.specs.Holding.{whole_hand}
 

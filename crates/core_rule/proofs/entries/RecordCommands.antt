@@ -18,7 +18,7 @@ use Rattle.heap_model.specs.Objects.{party}
 use Rattle.heap_model.specs.Refusals.{FindsSpace}
 use Rattle.heap_model.specs.Space.{taken_of, spent_of}
 use Rattle.heap_model.specs.State.{State, fresh}
-use Rattle.core_machine.specs.Commands.{IsRecord, target_of, fields_of}
+use Rattle.core_machine.specs.seat.Commands.{IsRecord, target_of, fields_of}
 use Rattle.core_rule.proofs.entries.Legality.{keeps_made, keeps_full}
 
 -- a command that makes a record is a `new`

@@ -11,13 +11,13 @@ use Rattle.core_machine.specs.declared.place.Place.{Place}
 use Rattle.core_machine.specs.declared.place.Place.TheVariants as places
 use Rattle.core_machine.specs.declared.place.Polling.TheVariants.{Asking}
 use Rattle.core_machine.specs.declared.place.Reaching.TheVariants.{Opening}
-use Rattle.core_machine.specs.declared.register.Register.{Register}
-use Rattle.core_machine.specs.declared.register.Register.TheVariants as registers
-use Rattle.core_machine.specs.Commands.{IsRecord, IsServed, object_of, field_of}
-use Rattle.core_machine.specs.Machine.{starts}
-use Rattle.core_machine.specs.Reaching.{opened, row_of}
-use Rattle.core_machine.specs.Registers.{register_in}
-use Rattle.core_machine.specs.Seat.{Seat}
+use Rattle.core_machine.specs.declared.seat.register.Register.{Register}
+use Rattle.core_machine.specs.declared.seat.register.Register.TheVariants as registers
+use Rattle.core_machine.specs.seat.Commands.{IsRecord, IsServed, object_of, field_of}
+use Rattle.core_machine.specs.machine.Machine.{starts}
+use Rattle.core_machine.specs.seat.Reaching.{opened, row_of}
+use Rattle.core_machine.specs.seat.Registers.{register_in}
+use Rattle.core_machine.specs.seat.Seat.{Seat}
 use Rattle.core_rule.specs.Book.{fragment_at, number_of}
 use Rattle.core_rule.specs.Counts.{Awaits}
 use Rattle.core_rule.specs.Owners.{Owner}

@@ -12,10 +12,10 @@ use Rattle.heap_model.specs.Effects.{is_of}
 use Rattle.heap_model.specs.Objects.{party}
 use Rattle.heap_model.specs.PhaseCounts.{phase, answered, has_left}
 use Rattle.core_machine.specs.declared.place.Place.{Place}
-use Rattle.core_machine.specs.Fragments.{tally}
-use Rattle.core_machine.specs.Machine.{State, seat_at}
+use Rattle.core_machine.specs.table.Fragments.{tally}
+use Rattle.core_machine.specs.machine.Machine.{State, seat_at}
 use Rattle.core_machine.specs.Moves.{takes_some}
-use Rattle.core_machine.specs.Seat.{Seat}
+use Rattle.core_machine.specs.seat.Seat.{Seat}
 use Rattle.core_rule.specs.Book.{Book, Colour}
 use Rattle.core_rule.specs.Counts.{OwnCounts, AreUsed, is_collectors}
 use Rattle.core_rule.specs.Cycle.{HeapInCycle, SeatInCycle}

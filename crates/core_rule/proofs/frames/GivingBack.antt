@@ -8,14 +8,14 @@ use Rattle.heap_model.specs.Objects.{party}
 use Rattle.heap_model.specs.PhaseCounts.{phase, answered, has_left}
 use Rattle.heap_model.specs.Space.{taken_of, spent_of}
 use Rattle.heap_model.specs.State.{State as Graph}
-use Rattle.core_machine.specs.declared.address.Address.TheVariants.{Control}
-use Rattle.core_machine.specs.Commands.{target_of}
-use Rattle.core_machine.specs.Fragments.{mask, tally}
-use Rattle.core_machine.specs.Layout.{at, put}
-use Rattle.core_machine.specs.Machine.{State, seat_at}
-use Rattle.core_machine.specs.Operation.{untaken}
-use Rattle.core_machine.specs.Seat.{Seat}
-use Rattle.core_machine.proofs.Addresses.{length-put}
+use Rattle.core_machine.specs.declared.table.address.Address.TheVariants.{Control}
+use Rattle.core_machine.specs.seat.Commands.{target_of}
+use Rattle.core_machine.specs.table.Fragments.{mask, tally}
+use Rattle.core_machine.specs.table.Layout.{at, put}
+use Rattle.core_machine.specs.machine.Machine.{State, seat_at}
+use Rattle.core_machine.specs.table.Operation.{untaken}
+use Rattle.core_machine.specs.seat.Seat.{Seat}
+use Rattle.core_machine.proofs.table_lemmas.Addresses.{length-put}
 use Rattle.core_rule.specs.Book.{Book}
 use Rattle.core_rule.specs.ControlWords.{Bits}
 use Rattle.core_rule.specs.Cycle.{SeatInCycle}

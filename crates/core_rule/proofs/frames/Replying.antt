@@ -10,7 +10,7 @@ use Rattle.heap_model.specs.Effects.{effect_of, no_effect, is_of}
 use Rattle.heap_model.specs.Legal.{Accepts}
 use Rattle.heap_model.specs.Objects.{party}
 use Rattle.core_machine.specs.declared.place.Place.{Place}
-use Rattle.core_machine.specs.Seat.{Seat}
+use Rattle.core_machine.specs.seat.Seat.{Seat}
 use Rattle.core_rule.specs.Book.{Book}
 use Rattle.core_rule.specs.Gathers.{Began, IsAnswered}
 use Rattle.core_rule.specs.Rule.{HeapStands, SeatStands}

@@ -19,11 +19,11 @@ use Rattle.heap_model.specs.Phases.{ShowsPhases}
 use Rattle.heap_model.specs.Refusals.{ShowsSpace, ShowsSpine}
 use Rattle.heap_model.specs.Replies.{Says, Gets, Sets, Compares, length_reply}
 use Rattle.heap_model.specs.State.{State, Node}
-use Rattle.core_machine.specs.declared.register.Register.{Register}
-use Rattle.core_machine.specs.declared.register.Register.TheVariants as registers
-use Rattle.core_machine.specs.Fits.{IsLocal}
-use Rattle.core_machine.specs.Registers.{register_in, value_of, is_same_value, head_of}
-use Rattle.core_machine.specs.Telling.{answer_of, local_reply, local_registers}
+use Rattle.core_machine.specs.declared.seat.register.Register.{Register}
+use Rattle.core_machine.specs.declared.seat.register.Register.TheVariants as registers
+use Rattle.core_machine.specs.seat.Fits.{IsLocal}
+use Rattle.core_machine.specs.seat.Registers.{register_in, value_of, is_same_value, head_of}
+use Rattle.core_machine.specs.seat.Telling.{answer_of, local_reply, local_registers}
 use Rattle.core_rule.specs.Owners.{Owner}
 use Rattle.core_rule.specs.Registers.{Holds}
 use Rattle.core_rule.proofs.graph.PutRegister.{OnlyRegisters, put_only, only_none, registers_filled}

@@ -3,7 +3,7 @@ use Rattle.std.proofs.Common.{◌≡◌, ◌≢◌, ℕ, zero, suc, ◌+◌, ◌
 use Rattle.std.proofs.lemmas.Bool.Decides.{eqb_tells}
 use Rattle.heap_model.specs.declared.id.Id.{Id}
 use Rattle.heap_model.specs.declared.id.Id.TheVariants.{Board, Made}
-use Rattle.core_machine.specs.Registers.{is_same_id}
+use Rattle.core_machine.specs.seat.Registers.{is_same_id}
 use Rattle.core_rule.specs.Book.{number_of, id_at}
 
 -- the test tells whether two ids are the same

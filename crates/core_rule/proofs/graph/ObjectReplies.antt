@@ -25,8 +25,8 @@ use Rattle.heap_model.specs.Refusals.{ShowsSpace, ShowsSpine}
 use Rattle.heap_model.specs.Replies.{length_reply}
 use Rattle.heap_model.specs.Space.{taken_of, spent_of}
 use Rattle.heap_model.specs.State.{State, Node}
-use Rattle.core_machine.specs.Commands.{target_of, object_of, field_of}
-use Rattle.core_machine.specs.FitsReaching.{NamesField, IsGet}
+use Rattle.core_machine.specs.seat.Commands.{target_of, object_of, field_of}
+use Rattle.core_machine.specs.seat.FitsReaching.{NamesField, IsGet}
 use Rattle.core_rule.specs.Objects.{cells_in}
 use Rattle.core_rule.proofs.entries.Legality.{keeps_said}
 

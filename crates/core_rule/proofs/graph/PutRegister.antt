@@ -8,8 +8,8 @@ use Rattle.heap_model.specs.declared.id.Value.TheVariants as values
 use Rattle.heap_model.specs.Changes.{put}
 use Rattle.heap_model.specs.Objects.{party, register}
 use Rattle.heap_model.specs.State.{State, Party}
-use Rattle.core_machine.specs.declared.register.Register.{Register}
-use Rattle.core_machine.specs.declared.register.Register.TheVariants as registers
+use Rattle.core_machine.specs.declared.seat.register.Register.{Register}
+use Rattle.core_machine.specs.declared.seat.register.Register.TheVariants as registers
 use Rattle.core_rule.specs.Owners.{Owner}
 use Rattle.core_rule.specs.Registers.{Holds}
 use Rattle.core_rule.proofs.graph.GraphSeats.{SeatChanges, no_change, party_is, one_changes}

@@ -7,10 +7,10 @@ use Rattle.heap_model.specs.declared.id.Value.TheVariants as values
 use Rattle.heap_model.specs.Objects.{target}
 use Rattle.heap_model.specs.Replies.{Compares}
 use Rattle.heap_model.specs.State.{State}
-use Rattle.core_machine.specs.declared.register.Register.{Register}
-use Rattle.core_machine.specs.declared.register.Register.TheVariants as registers
-use Rattle.core_machine.specs.Registers.{value_of, head_of, is_same_value}
-use Rattle.core_machine.specs.Telling.{answer_of}
+use Rattle.core_machine.specs.declared.seat.register.Register.{Register}
+use Rattle.core_machine.specs.declared.seat.register.Register.TheVariants as registers
+use Rattle.core_machine.specs.seat.Registers.{value_of, head_of, is_same_value}
+use Rattle.core_machine.specs.seat.Telling.{answer_of}
 use Rattle.core_rule.specs.Owners.{Owner}
 use Rattle.core_rule.specs.Registers.{Holds}
 use Rattle.core_rule.proofs.graph.Numbering.{id_tells}

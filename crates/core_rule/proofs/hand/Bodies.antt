@@ -1,6 +1,6 @@
 -- The fragments of the object that a seat makes.
 use Rattle.std.proofs.Common.{◌≡◌, ℕ, ◌+◌, ◌<◌, ◌≤◌, List, [], ◌∷◌, length, refl, sym, ap, ◌∙◌, arith}
-use Rattle.core_machine.specs.Fragments.{tally}
+use Rattle.core_machine.specs.table.Fragments.{tally}
 use Rattle.core_rule.specs.Book.{fragment_at}
 use Rattle.core_rule.specs.Holding.{Holding, whole_hand}
 use Rattle.core_rule.specs.Owners.{Owner, bears_bit}

@@ -6,10 +6,10 @@ use Rattle.std.proofs.lemmas.List.Elements.{All-append, All-filter, All-weaker}
 use Rattle.std.proofs.lemmas.List.Kept.{AllPairs-filter}
 use Rattle.std.proofs.Math.Nat.{mod-eq_of_lt, add-mod_right}
 use Rattle.heap_model.specs.declared.heap.Heap.{Heap}
-use Rattle.core_machine.specs.Fits.{AreFragments}
-use Rattle.core_machine.specs.Fragments.{out_of_group, part_in, part_out}
-use Rattle.core_machine.specs.Making.{last_group, gathered, last_claimed, goes_on}
-use Rattle.core_machine.specs.Seat.{Seat, need}
+use Rattle.core_machine.specs.seat.Fits.{AreFragments}
+use Rattle.core_machine.specs.table.Fragments.{out_of_group, part_in, part_out}
+use Rattle.core_machine.specs.seat.Making.{last_group, gathered, last_claimed, goes_on}
+use Rattle.core_machine.specs.seat.Seat.{Seat, need}
 use Rattle.core_rule.specs.Together.{claim_of, InClaims, IsInOrder, AreTogether}
 use Rattle.core_rule.proofs.hand.EmptyHand.{nothing_together}
 use Rattle.core_rule.proofs.hand.GoesOn.{goes_on_cases}

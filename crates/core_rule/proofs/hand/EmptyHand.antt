@@ -3,7 +3,7 @@ use Rattle.std.proofs.Common.{◌≡◌, ℕ, ◌<◌, List, [], refl, arith, �
 use Rattle.std.proofs.lemmas.List.Elements.{All-nil}
 use Rattle.heap_model.specs.declared.entry.Entry.{Entry}
 use Rattle.heap_model.specs.declared.heap.Heap.{Heap}
-use Rattle.core_machine.specs.Seat.{Seat}
+use Rattle.core_machine.specs.seat.Seat.{Seat}
 use Rattle.core_rule.specs.Gathers.{GathersRight}
 use Rattle.core_rule.specs.Holding.{Holding, IsStored, whole_hand}
 use Rattle.core_rule.specs.Owners.{Owner}

@@ -8,9 +8,9 @@ use Rattle.heap_model.specs.declared.heap.Heap.{Heap}
 use Rattle.core_machine.specs.declared.place.Making.{Making}
 use Rattle.core_machine.specs.declared.place.Making.TheVariants.{Gathering, Storing}
 use Rattle.core_machine.specs.declared.place.Place.TheVariants as places
-use Rattle.core_machine.specs.Fragments.{tally}
-use Rattle.core_machine.specs.Making.{gathered, settled, refused, goes_on, last_claimed, returning}
-use Rattle.core_machine.specs.Seat.{Seat, need}
+use Rattle.core_machine.specs.table.Fragments.{tally}
+use Rattle.core_machine.specs.seat.Making.{gathered, settled, refused, goes_on, last_claimed, returning}
+use Rattle.core_machine.specs.seat.Seat.{Seat, need}
 use Rattle.core_rule.specs.Gathers.{GathersRight}
 use Rattle.core_rule.specs.Holding.{Holding, whole_hand}
 use Rattle.core_rule.specs.Owners.{Owner, bears_bit}

@@ -2,7 +2,7 @@
 use Rattle.std.proofs.Common.{◌≡◌, ◌≢◌, ℕ, ◌+◌, ◌*◌, ◌<◌, ◌≤◌, inl, inr, List, [], ◌++◌, length, refl, sym, ap, ◌∙◌, arith}
 use Rattle.std.proofs.lemmas.Bool.Decides.{leb_tells}
 use Rattle.heap_model.specs.declared.heap.Heap.{Heap}
-use Rattle.core_machine.specs.Fragments.{tally, part_in, part_out}
+use Rattle.core_machine.specs.table.Fragments.{tally, part_in, part_out}
 use Rattle.core_rule.specs.ControlWords.{Bits}
 use Rattle.core_rule.specs.Holding.{Holding, whole_hand}
 use Rattle.core_rule.specs.Owners.{Owner, Free, Holds, Bears, holds_bit, bears_bit, handed}

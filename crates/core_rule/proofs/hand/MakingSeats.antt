@@ -4,13 +4,13 @@ use Rattle.heap_model.specs.declared.heap.Heap.{Heap}
 use Rattle.heap_model.specs.PhaseCounts.{phase}
 use Rattle.core_machine.specs.declared.place.Making.{Making}
 use Rattle.core_machine.specs.declared.place.Place.TheVariants as places
-use Rattle.core_machine.specs.Commands.{fields_of}
-use Rattle.core_machine.specs.Fits.{Fits, HasBody}
-use Rattle.core_machine.specs.Machine.{State, seat_at}
-use Rattle.core_machine.specs.Making.{last_group, first_group}
+use Rattle.core_machine.specs.seat.Commands.{fields_of}
+use Rattle.core_machine.specs.seat.Fits.{Fits, HasBody}
+use Rattle.core_machine.specs.machine.Machine.{State, seat_at}
+use Rattle.core_machine.specs.seat.Making.{last_group, first_group}
 use Rattle.core_machine.specs.Moves.{bears_black}
-use Rattle.core_machine.specs.Seat.{Seat}
-use Rattle.core_machine.proofs.Owned.{group_within}
+use Rattle.core_machine.specs.seat.Seat.{Seat}
+use Rattle.core_machine.proofs.table_lemmas.Owned.{group_within}
 use Rattle.core_rule.specs.Book.{Book}
 use Rattle.core_rule.specs.Rule.{Rule}
 use Rattle.core_rule.proofs.entries.AtRest.{in_flight}

@@ -1,9 +1,9 @@
 -- The words that a seat has stored into its new object stand as before.
 use Rattle.std.proofs.Common.{ℕ, ◌*◌, ◌/◌, ◌%◌, ◌<◌, ◌≤◌, List, length, ◌∙◌, subst, arith, ◌≡◌, ◌≢◌}
 use Rattle.heap_model.specs.declared.heap.Heap.{Heap}
-use Rattle.core_machine.specs.declared.address.Address.TheVariants.{Word, Control}
-use Rattle.core_machine.specs.Layout.{put, at}
-use Rattle.core_machine.specs.Seat.{Seat}
+use Rattle.core_machine.specs.declared.table.address.Address.TheVariants.{Word, Control}
+use Rattle.core_machine.specs.table.Layout.{put, at}
+use Rattle.core_machine.specs.seat.Seat.{Seat}
 use Rattle.core_rule.specs.Book.{fragment_at}
 use Rattle.core_rule.specs.Holding.{Holding, IsStored}
 use Rattle.core_rule.specs.Owners.{Owner, Keeps}

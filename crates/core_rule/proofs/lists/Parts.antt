@@ -4,10 +4,10 @@ use Rattle.std.proofs.Common.{◌≡◌, ◌≢◌, ℕ, zero, suc, ◌+◌, ◌
 use Rattle.std.proofs.lemmas.Bool.{false≢true, true≢false, eq-eqb}
 use Rattle.std.proofs.lemmas.Bool.Decides.{eqb_tells}
 use Rattle.std.proofs.lemmas.List.Filters.{length-filter_both}
-use Rattle.core_machine.specs.Fragments.{in_group, out_of_group, part_in, part_out, tally}
-use Rattle.core_machine.specs.Making.{first_group}
-use Rattle.core_machine.specs.Sums.{sum_upto}
-use Rattle.core_machine.proofs.Bits.{bool_tells}
+use Rattle.core_machine.specs.table.Fragments.{in_group, out_of_group, part_in, part_out, tally}
+use Rattle.core_machine.specs.seat.Making.{first_group}
+use Rattle.core_machine.specs.machine.Sums.{sum_upto}
+use Rattle.core_machine.proofs.table_lemmas.Bits.{bool_tells}
 use Rattle.core_rule.specs.Owners.{one_at}
 use Rattle.core_rule.proofs.lists.SumLemmas.{sum_parts, sum_nothing}
 use Rattle.core_rule.proofs.lists.Tallies.{one_at_same, one_at_other, sum_tally}

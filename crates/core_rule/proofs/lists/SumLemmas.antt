@@ -1,6 +1,6 @@
 -- Sums over all numbers below one.
 use Rattle.std.proofs.Common.{◌≡◌, ℕ, zero, suc, ◌+◌, ◌*◌, ◌<◌, ◌≤◌, ◌-◌, ◌%◌, refl, ap, subst, arith}
-use Rattle.core_machine.specs.Sums.{sum_upto}
+use Rattle.core_machine.specs.machine.Sums.{sum_upto}
 
 -- a sum of none, and one of one more
 pub sum-zero : (f : ℕ → ℕ) → sum_upto 0 f ≡ 0

@@ -13,12 +13,12 @@ use Rattle.heap_model.specs.declared.cell.Cell.{Cell}
 use Rattle.heap_model.specs.declared.id.Id.{Id}
 use Rattle.heap_model.specs.declared.id.Value.{Value}
 use Rattle.heap_model.specs.declared.id.Value.TheVariants as values
-use Rattle.core_machine.specs.declared.register.Register.{Register}
-use Rattle.core_machine.specs.declared.register.Register.TheVariants as registers
-use Rattle.core_machine.specs.Loaded.{stamp_in}
-use Rattle.core_machine.specs.Newborn.{record_word}
-use Rattle.core_machine.specs.Reaching.{row_of, part_of}
-use Rattle.core_machine.specs.Registers.{register_word}
+use Rattle.core_machine.specs.declared.seat.register.Register.{Register}
+use Rattle.core_machine.specs.declared.seat.register.Register.TheVariants as registers
+use Rattle.core_machine.specs.table.Loaded.{stamp_in}
+use Rattle.core_machine.specs.table.Newborn.{record_word}
+use Rattle.core_machine.specs.seat.Reaching.{row_of, part_of}
+use Rattle.core_machine.specs.seat.Registers.{register_word}
 use Rattle.core_rule.specs.Book.{head_of}
 use Rattle.core_rule.specs.Objects.{NamesKept, value_word, field_word, is_cell, object_word}
 use Rattle.core_rule.specs.Owners.{Owner}

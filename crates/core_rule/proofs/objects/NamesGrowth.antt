@@ -6,10 +6,10 @@ use Rattle.heap_model.specs.declared.id.Id.{Id}
 use Rattle.heap_model.specs.declared.id.Value.{Value}
 use Rattle.heap_model.specs.declared.id.Value.TheVariants as values
 use Rattle.heap_model.specs.State.{State, Node}
-use Rattle.core_machine.specs.declared.register.Register.{Register}
-use Rattle.core_machine.specs.declared.register.Register.TheVariants as registers
-use Rattle.core_machine.specs.Fragments.{tally}
-use Rattle.core_machine.specs.Newborn.{record_word}
+use Rattle.core_machine.specs.declared.seat.register.Register.{Register}
+use Rattle.core_machine.specs.declared.seat.register.Register.TheVariants as registers
+use Rattle.core_machine.specs.table.Fragments.{tally}
+use Rattle.core_machine.specs.table.Newborn.{record_word}
 use Rattle.core_rule.specs.Book.{fragment_at, number_of, head_of}
 use Rattle.core_rule.specs.Objects.{IsKept, NamesKept, value_word, field_word, is_cell, object_word, AreMade, cells_at, cells_in}
 use Rattle.core_rule.specs.Owners.{Owner, Keeps}

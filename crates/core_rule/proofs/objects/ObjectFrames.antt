@@ -5,12 +5,12 @@ use Rattle.heap_model.specs.declared.id.Id.{Id}
 use Rattle.heap_model.specs.declared.id.Value.{Value}
 use Rattle.heap_model.specs.declared.id.Value.TheVariants as values
 use Rattle.heap_model.specs.State.{State}
-use Rattle.core_machine.specs.declared.address.Address.TheVariants.{Word, Control}
+use Rattle.core_machine.specs.declared.table.address.Address.TheVariants.{Word, Control}
 use Rattle.core_machine.specs.declared.place.Place.{Place}
-use Rattle.core_machine.specs.declared.register.Register.{Register}
-use Rattle.core_machine.specs.declared.register.Register.TheVariants as registers
-use Rattle.core_machine.specs.Fragments.{tally}
-use Rattle.core_machine.specs.Layout.{at, put}
+use Rattle.core_machine.specs.declared.seat.register.Register.{Register}
+use Rattle.core_machine.specs.declared.seat.register.Register.TheVariants as registers
+use Rattle.core_machine.specs.table.Fragments.{tally}
+use Rattle.core_machine.specs.table.Layout.{at, put}
 use Rattle.core_rule.specs.Objects.{NamesKept, Objects}
 use Rattle.core_rule.specs.Owners.{Owner, Free, Holds, Bears, Keeps, handed}
 use Rattle.core_rule.specs.Registers.{Registers}

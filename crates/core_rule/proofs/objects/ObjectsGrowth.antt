@@ -7,10 +7,10 @@ use Rattle.heap_model.specs.declared.id.Id.{Id}
 use Rattle.heap_model.specs.Needs.{record_fragments}
 use Rattle.heap_model.specs.Objects.{node}
 use Rattle.heap_model.specs.State.{State, fresh, unset}
-use Rattle.core_machine.specs.declared.address.Address.TheVariants.{Word}
-use Rattle.core_machine.specs.Fragments.{tally}
-use Rattle.core_machine.specs.Layout.{at}
-use Rattle.core_machine.specs.Newborn.{record_word}
+use Rattle.core_machine.specs.declared.table.address.Address.TheVariants.{Word}
+use Rattle.core_machine.specs.table.Fragments.{tally}
+use Rattle.core_machine.specs.table.Layout.{at}
+use Rattle.core_machine.specs.table.Newborn.{record_word}
 use Rattle.core_rule.specs.Book.{fragment_at, id_at, head_of}
 use Rattle.core_rule.specs.Objects.{AreMade, IsKept, NamesKept, KeptObject, Objects, cells_in, cells_at, name_of}
 use Rattle.core_rule.specs.Owners.{Owner, Keeps}

@@ -8,9 +8,9 @@ use Rattle.heap_model.specs.declared.id.Id.{Id}
 use Rattle.heap_model.specs.Needs.{record_fragments}
 use Rattle.heap_model.specs.Objects.{node}
 use Rattle.heap_model.specs.State.{State as Graph, Node}
-use Rattle.core_machine.specs.declared.address.Address.TheVariants.{Word}
-use Rattle.core_machine.specs.Layout.{at, put, table_length}
-use Rattle.core_machine.specs.Reaching.{row_of, part_of}
+use Rattle.core_machine.specs.declared.table.address.Address.TheVariants.{Word}
+use Rattle.core_machine.specs.table.Layout.{at, put, table_length}
+use Rattle.core_machine.specs.seat.Reaching.{row_of, part_of}
 use Rattle.core_rule.specs.Book.{fragment_at, id_at, head_of, number_of}
 use Rattle.core_rule.specs.Objects.{AreMade, IsKept, NamesKept, KeptObject, Objects, cells_in, cells_at, name_of, value_word, object_word}
 use Rattle.core_rule.specs.Owners.{Owner, Keeps}

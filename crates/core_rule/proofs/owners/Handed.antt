@@ -1,8 +1,8 @@
 -- Fragments that go to another owner.
 use Rattle.std.proofs.Common.{◌≡◌, ℕ, ◌+◌, ◌<◌, ◌≤◌, ◌⊎◌, inl, inr, List, length, refl, arith}
 use Rattle.std.proofs.lemmas.Bool.Decides.{nat_tests}
-use Rattle.core_machine.specs.Fragments.{tally}
-use Rattle.core_machine.specs.Sums.{sum_upto}
+use Rattle.core_machine.specs.table.Fragments.{tally}
+use Rattle.core_machine.specs.machine.Sums.{sum_upto}
 use Rattle.core_rule.specs.Owners.{Owner, handed}
 use Rattle.core_rule.proofs.lists.SumLemmas.{sum_plus}
 use Rattle.core_rule.proofs.lists.Tallies.{sum_tally}

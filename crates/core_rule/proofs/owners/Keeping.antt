@@ -1,7 +1,7 @@
 -- A new object gets its fragments, which its maker had.
 use Rattle.std.proofs.Common.{◌≡◌, ◌≢◌, ℕ, ◌<◌, ◌≤◌, ◌==◌, if◌then◌else◌, nat_lt, ◌⊎◌, inl, inr, List, length, sym, ap, ◌∙◌, subst, arith}
 use Rattle.std.proofs.lemmas.Bool.Decides.{nat_tests}
-use Rattle.core_machine.specs.Fragments.{tally}
+use Rattle.core_machine.specs.table.Fragments.{tally}
 use Rattle.core_rule.specs.Book.{fragment_at}
 use Rattle.core_rule.specs.Owners.{Owner, Keeps}
 use Rattle.core_rule.proofs.owners.Handed.{none_or_some}

@@ -2,10 +2,10 @@
 use Rattle.std.specs.List.{list_all}
 use Rattle.std.proofs.Common.{◌≡◌, ◌≢◌, ℕ, ◌+◌, ◌≤◌, List, [], length, refl, sym, ap, arith, ◌<◌, Bool, true, bit_or, ◌∙◌}
 use Rattle.heap_model.specs.declared.heap.Heap.{Heap}
-use Rattle.core_machine.specs.declared.address.Address.TheVariants.{Control}
-use Rattle.core_machine.specs.Fragments.{tally, in_group, part_in, mask}
-use Rattle.core_machine.specs.Layout.{at, put, table_length}
-use Rattle.core_machine.specs.Operation.{birth_bits}
+use Rattle.core_machine.specs.declared.table.address.Address.TheVariants.{Control}
+use Rattle.core_machine.specs.table.Fragments.{tally, in_group, part_in, mask}
+use Rattle.core_machine.specs.table.Layout.{at, put, table_length}
+use Rattle.core_machine.specs.table.Operation.{birth_bits}
 use Rattle.core_rule.specs.ControlWords.{Bits}
 use Rattle.core_rule.specs.Holding.{Holding, whole_hand}
 use Rattle.core_rule.specs.Owners.{Owner, Free, taken_bit, free_bit, born_bit, holds_bit, bears_bit}

@@ -1,6 +1,6 @@
 -- Owners stand as they have to when fragments go to another one.
 use Rattle.std.proofs.Common.{◌≢◌, ℕ, ◌≤◌, List}
-use Rattle.core_machine.specs.Fragments.{tally}
+use Rattle.core_machine.specs.table.Fragments.{tally}
 use Rattle.core_rule.specs.Owners.{Owner, Keeps, IsSeated, OwnersStand, handed}
 use Rattle.core_rule.proofs.objects.ObjectFrames.{SameKept}
 use Rattle.core_rule.proofs.owners.Handed.{handed_cases}

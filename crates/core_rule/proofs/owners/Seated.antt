@@ -1,8 +1,8 @@
 -- What a seat has by its owner stands in the lists of a seat that there is.
 use Rattle.std.proofs.Common.{◌≡◌, ℕ, ◌+◌, ◌<◌, ◌≤◌, List, [], ◌∷◌, refl, ap, ◌∙◌, subst, arith}
 use Rattle.heap_model.specs.declared.heap.Heap.{Heap}
-use Rattle.core_machine.specs.Fragments.{tally}
-use Rattle.core_machine.specs.Machine.{State, seat_at}
+use Rattle.core_machine.specs.table.Fragments.{tally}
+use Rattle.core_machine.specs.machine.Machine.{State, seat_at}
 use Rattle.core_rule.specs.Book.{Book}
 use Rattle.core_rule.specs.Holding.{Holding}
 use Rattle.core_rule.specs.Owners.{Owner, Holds, Bears, IsSeated, holds_bit, bears_bit}

@@ -12,10 +12,10 @@ use Rattle.heap_model.specs.declared.id.Id.TheVariants.{Board, Made}
 use Rattle.heap_model.specs.Objects.{nobody, party}
 use Rattle.heap_model.specs.Reach.{IsMade}
 use Rattle.heap_model.specs.State.{Party, opening, opening_party, unset}
-use Rattle.core_machine.specs.declared.address.Address.{Address}
-use Rattle.core_machine.specs.declared.address.Address.TheVariants.{Control, Word}
-use Rattle.core_machine.specs.Layout.{at, InTable}
-use Rattle.core_machine.specs.Opening.{board, board_name, opening_word}
+use Rattle.core_machine.specs.declared.table.address.Address.{Address}
+use Rattle.core_machine.specs.declared.table.address.Address.TheVariants.{Control, Word}
+use Rattle.core_machine.specs.table.Layout.{at, InTable}
+use Rattle.core_machine.specs.machine.Opening.{board, board_name, opening_word}
 use Rattle.core_rule.specs.Book.{White, fragment_at, id_at, number_of, head_of}
 use Rattle.core_rule.specs.Colours.{Marks}
 use Rattle.core_rule.specs.ControlWords.{Bits}

@@ -8,18 +8,18 @@ use Rattle.heap_model.specs.declared.id.Value.{Value}
 use Rattle.heap_model.specs.declared.id.Value.TheVariants as values
 use Rattle.heap_model.specs.Heap.{IsHeap}
 use Rattle.heap_model.specs.State.{Party, opening}
-use Rattle.core_machine.specs.declared.address.Address.TheVariants.{Answer, Phase}
+use Rattle.core_machine.specs.declared.table.address.Address.TheVariants.{Answer, Phase}
 use Rattle.core_machine.specs.declared.place.Place.TheVariants as places
-use Rattle.core_machine.specs.declared.register.Register.{Register}
-use Rattle.core_machine.specs.declared.register.Register.TheVariants as registers
-use Rattle.core_machine.specs.Collector.{Collector}
-use Rattle.core_machine.specs.Fits.{Fits}
-use Rattle.core_machine.specs.Layout.{at}
-use Rattle.core_machine.specs.Machine.{State, seat_at}
-use Rattle.core_machine.specs.Opening.{IsOpening, opening_seat, opening_word}
-use Rattle.core_machine.specs.Seat.{Seat, nobody}
-use Rattle.core_machine.specs.Value.{IsMachine}
-use Rattle.core_machine.proofs.OpeningMachine.{opening_machine}
+use Rattle.core_machine.specs.declared.seat.register.Register.{Register}
+use Rattle.core_machine.specs.declared.seat.register.Register.TheVariants as registers
+use Rattle.core_machine.specs.collector.Collector.{Collector}
+use Rattle.core_machine.specs.seat.Fits.{Fits}
+use Rattle.core_machine.specs.table.Layout.{at}
+use Rattle.core_machine.specs.machine.Machine.{State, seat_at}
+use Rattle.core_machine.specs.machine.Opening.{IsOpening, opening_seat, opening_word}
+use Rattle.core_machine.specs.seat.Seat.{Seat, nobody}
+use Rattle.core_machine.specs.machine.Value.{IsMachine}
+use Rattle.core_machine.proofs.machine_lemmas.OpeningMachine.{opening_machine}
 use Rattle.core_rule.specs.Book.{Book, White}
 use Rattle.core_rule.specs.Laws.{StandsFor}
 use Rattle.core_rule.specs.Owners.{holds_bit, bears_bit}

@@ -15,26 +15,26 @@ use Rattle.heap_model.specs.Account.{KeepsSpace}
 use Rattle.heap_model.specs.Effects.{is_of}
 use Rattle.heap_model.specs.Refusals.{FindsSpace}
 use Rattle.heap_model.specs.Space.{taken_of, spent_of}
-use Rattle.core_machine.specs.declared.address.Address.TheVariants.{Word, Phase}
+use Rattle.core_machine.specs.declared.table.address.Address.TheVariants.{Word, Phase}
 use Rattle.core_machine.specs.declared.place.Leaving.TheVariants.{Emptying, Parting}
 use Rattle.core_machine.specs.declared.place.Making.TheVariants.{Gathering, Returning, Refusing, Storing, Bearing}
 use Rattle.core_machine.specs.declared.place.Place.{Place}
 use Rattle.core_machine.specs.declared.place.Place.TheVariants as places
 use Rattle.core_machine.specs.declared.place.Polling.TheVariants.{Asking, Answering}
 use Rattle.core_machine.specs.declared.place.Reaching.TheVariants.{Opening, Walking, Getting, Swapping}
-use Rattle.core_machine.specs.declared.register.Register.{Register}
-use Rattle.core_machine.specs.Fits.{Refuses}
-use Rattle.core_machine.specs.Fragments.{in_group}
-use Rattle.core_machine.specs.Layout.{at}
-use Rattle.core_machine.specs.Loaded.{head_in}
-use Rattle.core_machine.specs.Machine.{State, seat_at, shown, found_by}
-use Rattle.core_machine.specs.Making.{last_group, next_id}
+use Rattle.core_machine.specs.declared.seat.register.Register.{Register}
+use Rattle.core_machine.specs.seat.Fits.{Refuses}
+use Rattle.core_machine.specs.table.Fragments.{in_group}
+use Rattle.core_machine.specs.table.Layout.{at}
+use Rattle.core_machine.specs.table.Loaded.{head_in}
+use Rattle.core_machine.specs.machine.Machine.{State, seat_at, shown, found_by}
+use Rattle.core_machine.specs.seat.Making.{last_group, next_id}
 use Rattle.core_machine.specs.Moves.{move_at, takes_some, full_entry, last_birth_move, birth_move}
-use Rattle.core_machine.specs.Reaching.{meta_reply}
-use Rattle.core_machine.specs.ReachingMoves.{said_some, got_shows, field_part}
-use Rattle.core_machine.specs.Registers.{register_in, value_of, is_same_value}
-use Rattle.core_machine.specs.Seat.{Seat, need}
-use Rattle.core_machine.specs.Telling.{answer_of, local_reply}
+use Rattle.core_machine.specs.seat.Reaching.{meta_reply}
+use Rattle.core_machine.specs.seat.ReachingMoves.{said_some, got_shows, field_part}
+use Rattle.core_machine.specs.seat.Registers.{register_in, value_of, is_same_value}
+use Rattle.core_machine.specs.seat.Seat.{Seat, need}
+use Rattle.core_machine.specs.seat.Telling.{answer_of, local_reply}
 use Rattle.core_rule.specs.Book.{Book}
 use Rattle.core_rule.specs.Gathers.{GathersRight}
 use Rattle.core_rule.specs.Rule.{Rule}

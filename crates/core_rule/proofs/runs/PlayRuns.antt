@@ -14,12 +14,12 @@ use Rattle.heap_model.specs.Account.{IsLegal}
 use Rattle.heap_model.specs.Effects.{is_of}
 use Rattle.heap_model.specs.State.{opening}
 use Rattle.core_machine.specs.declared.place.Place.TheVariants as places
-use Rattle.core_machine.specs.declared.stage.Stage.{Stage}
-use Rattle.core_machine.specs.declared.stage.Stage.TheVariants.{Looking, Advancing}
-use Rattle.core_machine.specs.Collector.{Collector, turn_at}
-use Rattle.core_machine.specs.Machine.{State, seat_at, moved, Event, Begins, Steps, Turns, Can, after, entries, Run, history}
+use Rattle.core_machine.specs.declared.collector.stage.Stage.{Stage}
+use Rattle.core_machine.specs.declared.collector.stage.Stage.TheVariants.{Looking, Advancing}
+use Rattle.core_machine.specs.collector.Collector.{Collector, turn_at}
+use Rattle.core_machine.specs.machine.Machine.{State, seat_at, moved, Event, Begins, Steps, Turns, Can, after, entries, Run, history}
 use Rattle.core_machine.specs.Moves.{Move, move_at, next_move}
-use Rattle.core_machine.specs.Seat.{Seat, nobody}
+use Rattle.core_machine.specs.seat.Seat.{Seat, nobody}
 use Rattle.core_rule.specs.Book.{Book}
 use Rattle.core_rule.specs.Laws.{IsAlone, AllIdle, OneCallAtATime, WholeCallsPlay, HappensAlone}
 use Rattle.core_rule.specs.Rule.{Rule}

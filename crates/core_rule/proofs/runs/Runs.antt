@@ -7,11 +7,11 @@ use Rattle.std.proofs.Math.ListN.{get_or-eq_default}
 use Rattle.heap_model.specs.declared.command.Command.{Command}
 use Rattle.heap_model.specs.declared.heap.Heap.{Heap}
 use Rattle.heap_model.specs.Heap.{IsHeap}
-use Rattle.core_machine.specs.Machine.{State, seat_at, Event, Begins, Steps, Turns, Can, after, entries, Run, after_all, history}
+use Rattle.core_machine.specs.machine.Machine.{State, seat_at, Event, Begins, Steps, Turns, Can, after, entries, Run, after_all, history}
 use Rattle.core_machine.specs.Moves.{Move, next_move}
-use Rattle.core_machine.specs.Opening.{IsOpening}
-use Rattle.core_machine.specs.Seat.{Seat, nobody}
-use Rattle.core_machine.specs.Value.{IsMachine}
+use Rattle.core_machine.specs.machine.Opening.{IsOpening}
+use Rattle.core_machine.specs.seat.Seat.{Seat, nobody}
+use Rattle.core_machine.specs.machine.Value.{IsMachine}
 use Rattle.core_rule.specs.Book.{Book}
 use Rattle.core_rule.specs.Laws.{StandsFor, EachEventKeeps, EveryRunKeeps}
 use Rattle.core_rule.specs.Rule.{Rule}

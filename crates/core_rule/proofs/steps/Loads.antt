@@ -15,16 +15,16 @@ use Rattle.heap_model.specs.Legal.{Accepts}
 use Rattle.heap_model.specs.PhaseCounts.{phase, answered, has_left, is_leave_of}
 use Rattle.heap_model.specs.State.{State as Graph, opening}
 use Rattle.heap_model.proofs.Histories.{graph_after-more}
-use Rattle.core_machine.specs.declared.address.Address.{Address}
+use Rattle.core_machine.specs.declared.table.address.Address.{Address}
 use Rattle.core_machine.specs.declared.place.Place.{Place}
-use Rattle.core_machine.specs.declared.register.Register.{Register}
-use Rattle.core_machine.specs.Commands.{target_of}
-use Rattle.core_machine.specs.Layout.{at, put}
-use Rattle.core_machine.specs.Machine.{State, seat_at}
-use Rattle.core_machine.specs.Reaching.{has_barrier}
-use Rattle.core_machine.specs.Seat.{Seat}
-use Rattle.core_machine.specs.Value.{IsMachine}
-use Rattle.core_machine.proofs.Addresses.{put-at}
+use Rattle.core_machine.specs.declared.seat.register.Register.{Register}
+use Rattle.core_machine.specs.seat.Commands.{target_of}
+use Rattle.core_machine.specs.table.Layout.{at, put}
+use Rattle.core_machine.specs.machine.Machine.{State, seat_at}
+use Rattle.core_machine.specs.seat.Reaching.{has_barrier}
+use Rattle.core_machine.specs.seat.Seat.{Seat}
+use Rattle.core_machine.specs.machine.Value.{IsMachine}
+use Rattle.core_machine.proofs.table_lemmas.Addresses.{put-at}
 use Rattle.core_rule.specs.Book.{Book}
 use Rattle.core_rule.specs.Counts.{OwnList}
 use Rattle.core_rule.specs.Cycle.{SeatInCycle}

@@ -17,11 +17,11 @@ use Rattle.heap_model.specs.Space.{taken_of, spent_of}
 use Rattle.heap_model.specs.State.{State as Graph, opening}
 use Rattle.heap_model.proofs.Histories.{graph_after-more}
 use Rattle.core_machine.specs.declared.place.Place.TheVariants as places
-use Rattle.core_machine.specs.Fits.{Fits, IsAtRest}
-use Rattle.core_machine.specs.Machine.{State, seat_at}
-use Rattle.core_machine.specs.Registers.{register_in}
-use Rattle.core_machine.specs.Seat.{Seat}
-use Rattle.core_machine.specs.Value.{IsMachine}
+use Rattle.core_machine.specs.seat.Fits.{Fits, IsAtRest}
+use Rattle.core_machine.specs.machine.Machine.{State, seat_at}
+use Rattle.core_machine.specs.seat.Registers.{register_in}
+use Rattle.core_machine.specs.seat.Seat.{Seat}
+use Rattle.core_machine.specs.machine.Value.{IsMachine}
 use Rattle.core_rule.specs.Book.{Book}
 use Rattle.core_rule.specs.Cycle.{HeapInCycle, SeatInCycle}
 use Rattle.core_rule.specs.Objects.{AreMade, Objects, cells_at}

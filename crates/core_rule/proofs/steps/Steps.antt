@@ -11,12 +11,12 @@ use Rattle.core_machine.specs.declared.place.Place.{Place}
 use Rattle.core_machine.specs.declared.place.Place.TheVariants as places
 use Rattle.core_machine.specs.declared.place.Polling.TheVariants.{Asking, Shading, Answering}
 use Rattle.core_machine.specs.declared.place.Reaching.TheVariants.{Opening, Walking, Getting, Naming, LoadingOld, ShadingOld, ShadingNew, Swapping}
-use Rattle.core_machine.specs.declared.stage.Stage.{Stage}
-use Rattle.core_machine.specs.declared.stage.Stage.TheVariants.{Looking, Advancing}
-use Rattle.core_machine.specs.Collector.{turn_at, next_turn, MayTurn}
-use Rattle.core_machine.specs.Machine.{State, seat_at, moved, shown, stepped, found_by, after, Begins, Can, turned}
+use Rattle.core_machine.specs.declared.collector.stage.Stage.{Stage}
+use Rattle.core_machine.specs.declared.collector.stage.Stage.TheVariants.{Looking, Advancing}
+use Rattle.core_machine.specs.collector.Collector.{turn_at, next_turn, MayTurn}
+use Rattle.core_machine.specs.machine.Machine.{State, seat_at, moved, shown, stepped, found_by, after, Begins, Can, turned}
 use Rattle.core_machine.specs.Moves.{move_at, is_last_birth, last_birth_move, birth_move}
-use Rattle.core_machine.specs.Value.{IsMachine}
+use Rattle.core_machine.specs.machine.Value.{IsMachine}
 use Rattle.core_rule.specs.Book.{Book}
 use Rattle.core_rule.specs.Rule.{Rule}
 use Rattle.core_rule.proofs.steps.collector.AdvanceStep.{advance_keeps}

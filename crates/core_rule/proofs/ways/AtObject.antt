@@ -11,12 +11,12 @@ use Rattle.heap_model.specs.PhaseCounts.{phase}
 use Rattle.heap_model.specs.Space.{taken_of, spent_of}
 use Rattle.core_machine.specs.declared.place.Place.TheVariants as places
 use Rattle.core_machine.specs.declared.place.Reaching.{Reaching}
-use Rattle.core_machine.specs.declared.register.Register.{Register}
-use Rattle.core_machine.specs.declared.register.Register.TheVariants as registers
-use Rattle.core_machine.specs.Commands.{target_of, object_of}
-use Rattle.core_machine.specs.Fits.{IsAtRest}
-use Rattle.core_machine.specs.Machine.{State, seat_at}
-use Rattle.core_machine.specs.Seat.{Seat}
+use Rattle.core_machine.specs.declared.seat.register.Register.{Register}
+use Rattle.core_machine.specs.declared.seat.register.Register.TheVariants as registers
+use Rattle.core_machine.specs.seat.Commands.{target_of, object_of}
+use Rattle.core_machine.specs.seat.Fits.{IsAtRest}
+use Rattle.core_machine.specs.machine.Machine.{State, seat_at}
+use Rattle.core_machine.specs.seat.Seat.{Seat}
 use Rattle.core_rule.specs.Book.{Book, id_at}
 use Rattle.core_rule.specs.Owners.{Owner}
 use Rattle.core_rule.specs.Phases.{IsNear}

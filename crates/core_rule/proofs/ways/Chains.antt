@@ -5,9 +5,9 @@ use Rattle.heap_model.specs.declared.heap.Heap.{Heap}
 use Rattle.heap_model.specs.declared.id.Id.{Id}
 use Rattle.heap_model.specs.Heap.{IsHeap}
 use Rattle.heap_model.specs.State.{State}
-use Rattle.core_machine.specs.declared.address.Address.TheVariants.{Word}
-use Rattle.core_machine.specs.Layout.{at}
-use Rattle.core_machine.specs.Loaded.{lead_of}
+use Rattle.core_machine.specs.declared.table.address.Address.TheVariants.{Word}
+use Rattle.core_machine.specs.table.Layout.{at}
+use Rattle.core_machine.specs.table.Loaded.{lead_of}
 use Rattle.core_rule.specs.Book.{fragment_at}
 use Rattle.core_rule.specs.Colours.{Leads}
 use Rattle.core_rule.specs.ControlWords.{Bits}

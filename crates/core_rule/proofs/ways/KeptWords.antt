@@ -12,11 +12,11 @@ use Rattle.heap_model.specs.declared.id.Value.{Value}
 use Rattle.heap_model.specs.declared.id.Value.TheVariants as values
 use Rattle.heap_model.specs.Heap.{IsHeap}
 use Rattle.heap_model.specs.State.{State}
-use Rattle.core_machine.specs.declared.address.Address.TheVariants.{Word}
-use Rattle.core_machine.specs.Layout.{at}
-use Rattle.core_machine.specs.Loaded.{link_in, length_in, id_in}
-use Rattle.core_machine.specs.Newborn.{record_meta, link_after}
-use Rattle.core_machine.specs.Reaching.{row_of, part_of}
+use Rattle.core_machine.specs.declared.table.address.Address.TheVariants.{Word}
+use Rattle.core_machine.specs.table.Layout.{at}
+use Rattle.core_machine.specs.table.Loaded.{link_in, length_in, id_in}
+use Rattle.core_machine.specs.table.Newborn.{record_meta, link_after}
+use Rattle.core_machine.specs.seat.Reaching.{row_of, part_of}
 use Rattle.core_rule.specs.Book.{fragment_at, id_at, head_of}
 use Rattle.core_rule.specs.ControlWords.{Bits}
 use Rattle.core_rule.specs.Objects.{AreMade, Objects, KeptObject, NamesKept, IsKept, cells_at, value_word, object_word}

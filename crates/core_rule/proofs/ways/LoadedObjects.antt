@@ -9,16 +9,16 @@ use Rattle.heap_model.specs.declared.id.Value.{Value}
 use Rattle.heap_model.specs.declared.id.Value.TheVariants as values
 use Rattle.heap_model.specs.Heap.{IsHeap}
 use Rattle.heap_model.specs.State.{State as Graph, unset}
-use Rattle.core_machine.specs.declared.address.Address.TheVariants.{Word}
-use Rattle.core_machine.specs.declared.register.Register.{Register}
-use Rattle.core_machine.specs.declared.register.Register.TheVariants as registers
-use Rattle.core_machine.specs.Commands.{field_of}
-use Rattle.core_machine.specs.Layout.{at}
-use Rattle.core_machine.specs.Loaded.{head_in}
-use Rattle.core_machine.specs.Reaching.{row_of, part_of}
-use Rattle.core_machine.specs.ReachingMoves.{field_part}
-use Rattle.core_machine.specs.Registers.{head_of as head_of_register, heads}
-use Rattle.core_machine.specs.Seat.{Seat}
+use Rattle.core_machine.specs.declared.table.address.Address.TheVariants.{Word}
+use Rattle.core_machine.specs.declared.seat.register.Register.{Register}
+use Rattle.core_machine.specs.declared.seat.register.Register.TheVariants as registers
+use Rattle.core_machine.specs.seat.Commands.{field_of}
+use Rattle.core_machine.specs.table.Layout.{at}
+use Rattle.core_machine.specs.table.Loaded.{head_in}
+use Rattle.core_machine.specs.seat.Reaching.{row_of, part_of}
+use Rattle.core_machine.specs.seat.ReachingMoves.{field_part}
+use Rattle.core_machine.specs.seat.Registers.{head_of as head_of_register, heads}
+use Rattle.core_machine.specs.seat.Seat.{Seat}
 use Rattle.core_rule.specs.Book.{fragment_at, number_of, head_of}
 use Rattle.core_rule.specs.ControlWords.{Bits}
 use Rattle.core_rule.specs.Objects.{AreMade, Objects, NamesKept, IsKept, value_word, cells_at}

@@ -10,11 +10,11 @@ use Rattle.heap_model.specs.declared.id.Id.{Id}
 use Rattle.heap_model.specs.declared.id.Id.TheVariants.{Board, Made}
 use Rattle.heap_model.specs.declared.id.Value.{Value}
 use Rattle.heap_model.specs.declared.id.Value.TheVariants as values
-use Rattle.core_machine.specs.declared.register.Register.{Register}
-use Rattle.core_machine.specs.declared.register.Register.TheVariants as registers
-use Rattle.core_machine.specs.Loaded.{head_in, link_in, length_in, id_in, id_of_owner, stamp_in, plain_in, first_lead, referred, plain_register}
-use Rattle.core_machine.specs.Newborn.{record_meta, link_after}
-use Rattle.core_machine.proofs.CellWords.{cell_of-cell_word}
+use Rattle.core_machine.specs.declared.seat.register.Register.{Register}
+use Rattle.core_machine.specs.declared.seat.register.Register.TheVariants as registers
+use Rattle.core_machine.specs.table.Loaded.{head_in, link_in, length_in, id_in, id_of_owner, stamp_in, plain_in, first_lead, referred, plain_register}
+use Rattle.core_machine.specs.table.Newborn.{record_meta, link_after}
+use Rattle.core_machine.proofs.table_lemmas.CellWords.{cell_of-cell_word}
 use Rattle.core_rule.specs.Objects.{FitsName, name_of, value_word}
 
 -- the length in a record's meta

@@ -5,7 +5,7 @@ use Rattle.heap_model.specs.declared.id.Id.{Id}
 use Rattle.core_machine.specs.declared.place.Place.{Place}
 use Rattle.core_machine.specs.declared.place.Place.TheVariants as places
 use Rattle.core_machine.specs.declared.place.Reaching.TheVariants.{Opening, Walking, Getting, LoadingOld, ShadingOld, ShadingNew, Swapping}
-use Rattle.core_machine.specs.Seat.{Seat}
+use Rattle.core_machine.specs.seat.Seat.{Seat}
 use Rattle.core_rule.specs.Book.{id_at}
 use Rattle.core_rule.specs.Objects.{IsKept}
 use Rattle.core_rule.specs.Owners.{Owner}

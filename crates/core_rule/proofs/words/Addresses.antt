@@ -2,10 +2,10 @@
 use Rattle.std.proofs.Common.{◌≡◌, ◌≢◌, ℕ, ◌*◌, ◌<◌, List, length, arith}
 use Rattle.std.proofs.lemmas.List.{get_or-set_other}
 use Rattle.heap_model.specs.declared.heap.Heap.{Heap}
-use Rattle.core_machine.specs.declared.address.Address.{Address}
-use Rattle.core_machine.specs.declared.address.Address.TheVariants.{Control, Word}
-use Rattle.core_machine.specs.Layout.{table_length, index_of, at, put}
-use Rattle.core_machine.proofs.Addresses.{at-put_same}
+use Rattle.core_machine.specs.declared.table.address.Address.{Address}
+use Rattle.core_machine.specs.declared.table.address.Address.TheVariants.{Control, Word}
+use Rattle.core_machine.specs.table.Layout.{table_length, index_of, at, put}
+use Rattle.core_machine.proofs.table_lemmas.Addresses.{at-put_same}
 
 -- a word with another index is as before
 pub at-put_apart : (heap : Heap) (words : List ℕ) (a b : Address) (n : ℕ) → index_of heap b ≢ index_of heap a → at heap (put heap words a n) b ≡ at heap words b

@@ -5,8 +5,8 @@ use Rattle.std.proofs.Common.{◌≡◌, ◌≢◌, ℕ, ◌+◌, ◌-◌, ◌*�
 use Rattle.std.proofs.lemmas.Bool.{cases_Bool}
 use Rattle.std.proofs.lemmas.Bool.Decides.{eqb_tells, leb_tells}
 use Rattle.std.proofs.lemmas.Nat.Bits.{bit_at-lt}
-use Rattle.core_machine.specs.Fragments.{tally, is_clear, clear_in, clear_among}
-use Rattle.core_machine.specs.Sums.{sum_upto}
+use Rattle.core_machine.specs.table.Fragments.{tally, is_clear, clear_in, clear_among}
+use Rattle.core_machine.specs.machine.Sums.{sum_upto}
 use Rattle.core_rule.specs.Gathers.{free_in}
 use Rattle.core_rule.specs.Owners.{Owner, taken_bit, free_bit}
 use Rattle.core_rule.proofs.owners.OwnerLemmas.{free_by_bit}

@@ -3,10 +3,10 @@ use Rattle.std.specs.Int.{bit_at}
 use Rattle.std.proofs.Common.{◌≡◌, ◌≢◌, ℕ, ◌+◌, ◌-◌, ◌*◌, ◌/◌, ◌%◌, ◌<◌, ◌≤◌, max, Bool, List, length, bit_or, refl, sym, ap, ◌∙◌, subst, arith}
 use Rattle.std.proofs.lemmas.Nat.Bits.{bit_at-lt}
 use Rattle.heap_model.specs.declared.heap.Heap.{Heap}
-use Rattle.core_machine.specs.declared.address.Address.TheVariants.{Control}
-use Rattle.core_machine.specs.Fragments.{part_in, mask, clear_in, tally}
-use Rattle.core_machine.specs.Layout.{at, put, table_length}
-use Rattle.core_machine.specs.Operation.{all_taken, untaken, birth_bits}
+use Rattle.core_machine.specs.declared.table.address.Address.TheVariants.{Control}
+use Rattle.core_machine.specs.table.Fragments.{part_in, mask, clear_in, tally}
+use Rattle.core_machine.specs.table.Layout.{at, put, table_length}
+use Rattle.core_machine.specs.table.Operation.{all_taken, untaken, birth_bits}
 use Rattle.core_rule.specs.ControlWords.{Bits}
 use Rattle.core_rule.specs.Owners.{Owner, Free, Holds, Bears, taken_bit, born_bit, handed}
 use Rattle.core_rule.proofs.words.ClearLemmas.{clear_here, clear_away, clear_once, clear_group}

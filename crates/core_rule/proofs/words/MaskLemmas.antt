@@ -4,7 +4,7 @@ use Rattle.std.proofs.Common.{◌≡◌, ◌≢◌, ℕ, ◌+◌, ◌*◌, ◌/�
 use Rattle.std.proofs.lemmas.Bool.Decides.{eqb_tells}
 use Rattle.std.proofs.lemmas.Nat.{or_lt, pow_below}
 use Rattle.std.proofs.lemmas.Nat.Bits.{bit_at_or, bit_at-pow_same, bit_at-pow_other, bit_at-zero, bit_at-lt}
-use Rattle.core_machine.specs.Fragments.{part_in, mask, tally}
+use Rattle.core_machine.specs.table.Fragments.{part_in, mask, tally}
 use Rattle.core_rule.specs.Owners.{one_at}
 use Rattle.core_rule.proofs.lists.Tallies.{one_at_same, one_at_other}
 

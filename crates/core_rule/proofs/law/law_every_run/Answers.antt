@@ -1,4 +1,4 @@
-use Rattle.core_machine.proofs.Runs.{machine_after}
+use Rattle.core_machine.proofs.machine_lemmas.Runs.{machine_after}
 use Rattle.core_rule.proofs.counts.FreeSums.{free_is_unused}
 use Rattle.core_rule.proofs.cycle.Waits.{each_wait_is_behind}
 use Rattle.core_rule.proofs.runs.OpeningStands.{opening_stands}

@@ -8,12 +8,12 @@ use Rattle.heap_model.specs.Objects.{register}
 use Rattle.heap_model.specs.PhaseCounts.{phase, answered, has_left}
 use Rattle.heap_model.specs.State.{State as Graph}
 use Rattle.core_machine.specs.declared.place.Place.TheVariants as places
-use Rattle.core_machine.specs.Commands.{IsRecord, target_of}
-use Rattle.core_machine.specs.Fits.{IsAtRest}
-use Rattle.core_machine.specs.Machine.{State, seat_at, starts, MayBegin, Begins, after}
-use Rattle.core_machine.specs.Registers.{register_in}
-use Rattle.core_machine.specs.Seat.{Seat}
-use Rattle.core_machine.specs.Value.{IsMachine}
+use Rattle.core_machine.specs.seat.Commands.{IsRecord, target_of}
+use Rattle.core_machine.specs.seat.Fits.{IsAtRest}
+use Rattle.core_machine.specs.machine.Machine.{State, seat_at, starts, MayBegin, Begins, after}
+use Rattle.core_machine.specs.seat.Registers.{register_in}
+use Rattle.core_machine.specs.seat.Seat.{Seat}
+use Rattle.core_machine.specs.machine.Value.{IsMachine}
 use Rattle.core_rule.specs.Book.{Book}
 use Rattle.core_rule.specs.Objects.{cells_at}
 use Rattle.core_rule.specs.Registers.{Holds}

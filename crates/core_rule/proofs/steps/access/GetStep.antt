@@ -17,21 +17,21 @@ use Rattle.heap_model.specs.Cycles.{graph_of}
 use Rattle.heap_model.specs.Legal.{Accepts}
 use Rattle.heap_model.specs.Objects.{register, party}
 use Rattle.heap_model.specs.State.{State as Graph, unset}
-use Rattle.core_machine.specs.declared.address.Address.TheVariants.{Word}
+use Rattle.core_machine.specs.declared.table.address.Address.TheVariants.{Word}
 use Rattle.core_machine.specs.declared.place.Place.TheVariants as places
 use Rattle.core_machine.specs.declared.place.Reaching.TheVariants.{Getting, Naming}
-use Rattle.core_machine.specs.declared.register.Register.{Register}
-use Rattle.core_machine.specs.declared.register.Register.TheVariants as registers
-use Rattle.core_machine.specs.Commands.{target_of, field_of}
-use Rattle.core_machine.specs.FitsReaching.{Gets, IsGet}
-use Rattle.core_machine.specs.Layout.{at}
-use Rattle.core_machine.specs.Loaded.{head_in, id_in, stamp_in, plain_in}
-use Rattle.core_machine.specs.Machine.{State, seat_at, stepped, found_by}
-use Rattle.core_machine.specs.Reaching.{row_of, part_of, got}
-use Rattle.core_machine.specs.ReachingMoves.{get_move, field_part, got_adds, got_shows, said}
-use Rattle.core_machine.specs.Registers.{value_of}
-use Rattle.core_machine.specs.Seat.{Seat, with_entries}
-use Rattle.core_machine.specs.Value.{IsMachine}
+use Rattle.core_machine.specs.declared.seat.register.Register.{Register}
+use Rattle.core_machine.specs.declared.seat.register.Register.TheVariants as registers
+use Rattle.core_machine.specs.seat.Commands.{target_of, field_of}
+use Rattle.core_machine.specs.seat.FitsReaching.{Gets, IsGet}
+use Rattle.core_machine.specs.table.Layout.{at}
+use Rattle.core_machine.specs.table.Loaded.{head_in, id_in, stamp_in, plain_in}
+use Rattle.core_machine.specs.machine.Machine.{State, seat_at, stepped, found_by}
+use Rattle.core_machine.specs.seat.Reaching.{row_of, part_of, got}
+use Rattle.core_machine.specs.seat.ReachingMoves.{get_move, field_part, got_adds, got_shows, said}
+use Rattle.core_machine.specs.seat.Registers.{value_of}
+use Rattle.core_machine.specs.seat.Seat.{Seat, with_entries}
+use Rattle.core_machine.specs.machine.Value.{IsMachine}
 use Rattle.core_rule.specs.Book.{Book, fragment_at, id_at, number_of, head_of}
 use Rattle.core_rule.specs.Gathers.{IsAnswered}
 use Rattle.core_rule.specs.Objects.{NamesKept, cells_at, value_word}

@@ -3,19 +3,19 @@ use Rattle.std.proofs.Common.{◌≡◌, ℕ, ◌<◌, true, [], ◌++◌, Optio
 use Rattle.heap_model.specs.declared.heap.Heap.{Heap}
 use Rattle.heap_model.specs.Cycles.{graph_of}
 use Rattle.heap_model.specs.State.{State as Graph}
-use Rattle.core_machine.specs.declared.address.Address.TheVariants.{Word}
+use Rattle.core_machine.specs.declared.table.address.Address.TheVariants.{Word}
 use Rattle.core_machine.specs.declared.place.Place.TheVariants as places
 use Rattle.core_machine.specs.declared.place.Reaching.{Reaching}
 use Rattle.core_machine.specs.declared.place.Reaching.TheVariants.{LoadingOld, ShadingOld, ShadingNew, Swapping}
-use Rattle.core_machine.specs.FitsReaching.{Sets}
-use Rattle.core_machine.specs.Layout.{at}
-use Rattle.core_machine.specs.Loaded.{head_in}
-use Rattle.core_machine.specs.Machine.{State, seat_at, stepped, found_by}
-use Rattle.core_machine.specs.Reaching.{has_barrier, old_found}
-use Rattle.core_machine.specs.ReachingMoves.{old_move, new_register, field_part}
-use Rattle.core_machine.specs.Registers.{head_of}
-use Rattle.core_machine.specs.Seat.{Seat, with_entries}
-use Rattle.core_machine.specs.Value.{IsMachine}
+use Rattle.core_machine.specs.seat.FitsReaching.{Sets}
+use Rattle.core_machine.specs.table.Layout.{at}
+use Rattle.core_machine.specs.table.Loaded.{head_in}
+use Rattle.core_machine.specs.machine.Machine.{State, seat_at, stepped, found_by}
+use Rattle.core_machine.specs.seat.Reaching.{has_barrier, old_found}
+use Rattle.core_machine.specs.seat.ReachingMoves.{old_move, new_register, field_part}
+use Rattle.core_machine.specs.seat.Registers.{head_of}
+use Rattle.core_machine.specs.seat.Seat.{Seat, with_entries}
+use Rattle.core_machine.specs.machine.Value.{IsMachine}
 use Rattle.core_rule.specs.Book.{Book}
 use Rattle.core_rule.specs.Colours.{IsMarked, Leads}
 use Rattle.core_rule.specs.Objects.{cells_at}

@@ -16,18 +16,18 @@ use Rattle.heap_model.specs.Growth.{after_reply}
 use Rattle.heap_model.specs.Legal.{Accepts}
 use Rattle.heap_model.specs.PhaseCounts.{is_leave_of}
 use Rattle.heap_model.specs.State.{State as Graph}
-use Rattle.core_machine.specs.declared.address.Address.TheVariants.{Word}
+use Rattle.core_machine.specs.declared.table.address.Address.TheVariants.{Word}
 use Rattle.core_machine.specs.declared.place.Place.TheVariants as places
 use Rattle.core_machine.specs.declared.place.Reaching.TheVariants.{Opening}
-use Rattle.core_machine.specs.Commands.{target_of, field_of}
-use Rattle.core_machine.specs.FitsReaching.{NamesObject, NamesField, Opens}
-use Rattle.core_machine.specs.Layout.{at}
-use Rattle.core_machine.specs.Loaded.{length_in}
-use Rattle.core_machine.specs.Machine.{State, seat_at, stepped, found_by}
-use Rattle.core_machine.specs.Reaching.{row_of, meta_reply, met}
-use Rattle.core_machine.specs.ReachingMoves.{open_move, said, said_some}
-use Rattle.core_machine.specs.Seat.{Seat, with_entries}
-use Rattle.core_machine.specs.Value.{IsMachine}
+use Rattle.core_machine.specs.seat.Commands.{target_of, field_of}
+use Rattle.core_machine.specs.seat.FitsReaching.{NamesObject, NamesField, Opens}
+use Rattle.core_machine.specs.table.Layout.{at}
+use Rattle.core_machine.specs.table.Loaded.{length_in}
+use Rattle.core_machine.specs.machine.Machine.{State, seat_at, stepped, found_by}
+use Rattle.core_machine.specs.seat.Reaching.{row_of, meta_reply, met}
+use Rattle.core_machine.specs.seat.ReachingMoves.{open_move, said, said_some}
+use Rattle.core_machine.specs.seat.Seat.{Seat, with_entries}
+use Rattle.core_machine.specs.machine.Value.{IsMachine}
 use Rattle.core_rule.specs.Book.{Book, id_at, fragment_at}
 use Rattle.core_rule.specs.Gathers.{IsAnswered}
 use Rattle.core_rule.specs.Objects.{cells_at}

@@ -7,15 +7,15 @@ use Rattle.heap_model.specs.PhaseCounts.{phase}
 use Rattle.heap_model.specs.State.{State as Graph}
 use Rattle.core_machine.specs.declared.place.Place.TheVariants as places
 use Rattle.core_machine.specs.declared.place.Reaching.TheVariants.{ShadingNew, Swapping}
-use Rattle.core_machine.specs.Commands.{source_of}
-use Rattle.core_machine.specs.FitsReaching.{Sets}
-use Rattle.core_machine.specs.Loaded.{head_in}
-use Rattle.core_machine.specs.Machine.{State, seat_at, stepped, found_by}
-use Rattle.core_machine.specs.Reaching.{has_barrier}
-use Rattle.core_machine.specs.ReachingMoves.{shade_new_move, new_register}
-use Rattle.core_machine.specs.Registers.{head_of}
-use Rattle.core_machine.specs.Seat.{Seat}
-use Rattle.core_machine.specs.Value.{IsMachine}
+use Rattle.core_machine.specs.seat.Commands.{source_of}
+use Rattle.core_machine.specs.seat.FitsReaching.{Sets}
+use Rattle.core_machine.specs.table.Loaded.{head_in}
+use Rattle.core_machine.specs.machine.Machine.{State, seat_at, stepped, found_by}
+use Rattle.core_machine.specs.seat.Reaching.{has_barrier}
+use Rattle.core_machine.specs.seat.ReachingMoves.{shade_new_move, new_register}
+use Rattle.core_machine.specs.seat.Registers.{head_of}
+use Rattle.core_machine.specs.seat.Seat.{Seat}
+use Rattle.core_machine.specs.machine.Value.{IsMachine}
 use Rattle.core_rule.specs.Book.{Book, Colour}
 use Rattle.core_rule.specs.Colours.{IsMarked, IsBetween}
 use Rattle.core_rule.specs.Flight.{Watches, FieldStands, ShadedStands, WhileReaching}

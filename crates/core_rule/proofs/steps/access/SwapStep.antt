@@ -23,21 +23,21 @@ use Rattle.heap_model.specs.Phases.{ShowsPhases}
 use Rattle.heap_model.specs.Replies.{Says}
 use Rattle.heap_model.specs.Replies as says
 use Rattle.heap_model.specs.State.{State as Graph, Node, unset}
-use Rattle.core_machine.specs.declared.address.Address.TheVariants.{Word}
+use Rattle.core_machine.specs.declared.table.address.Address.TheVariants.{Word}
 use Rattle.core_machine.specs.declared.place.Place.TheVariants as places
 use Rattle.core_machine.specs.declared.place.Reaching.TheVariants.{Swapping}
-use Rattle.core_machine.specs.Commands.{object_of, source_of, field_of, target_of}
-use Rattle.core_machine.specs.Fits.{IsAtRest}
-use Rattle.core_machine.specs.FitsReaching.{IsSet, Sets as FitsSets}
-use Rattle.core_machine.specs.Layout.{at, put}
-use Rattle.core_machine.specs.Loaded.{stamp_in}
-use Rattle.core_machine.specs.Machine.{State, seat_at, stepped, found_by}
+use Rattle.core_machine.specs.seat.Commands.{object_of, source_of, field_of, target_of}
+use Rattle.core_machine.specs.seat.Fits.{IsAtRest}
+use Rattle.core_machine.specs.seat.FitsReaching.{IsSet, Sets as FitsSets}
+use Rattle.core_machine.specs.table.Layout.{at, put}
+use Rattle.core_machine.specs.table.Loaded.{stamp_in}
+use Rattle.core_machine.specs.machine.Machine.{State, seat_at, stepped, found_by}
 use Rattle.core_machine.specs.Move.{seat_after}
-use Rattle.core_machine.specs.Reaching.{has_barrier, row_of}
-use Rattle.core_machine.specs.ReachingMoves.{swap_move, field_part, new_word}
-use Rattle.core_machine.specs.Registers.{register_in}
-use Rattle.core_machine.specs.Seat.{Seat, HasNumber}
-use Rattle.core_machine.specs.Value.{IsMachine}
+use Rattle.core_machine.specs.seat.Reaching.{has_barrier, row_of}
+use Rattle.core_machine.specs.seat.ReachingMoves.{swap_move, field_part, new_word}
+use Rattle.core_machine.specs.seat.Registers.{register_in}
+use Rattle.core_machine.specs.seat.Seat.{Seat, HasNumber}
+use Rattle.core_machine.specs.machine.Value.{IsMachine}
 use Rattle.core_rule.specs.Book.{Book, fragment_at, id_at, head_of}
 use Rattle.core_rule.specs.Objects.{AreMade, NamesKept, Objects, cells_in, cells_at, value_word}
 use Rattle.core_rule.specs.Registers.{Holds}

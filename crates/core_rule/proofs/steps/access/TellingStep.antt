@@ -6,16 +6,16 @@ use Rattle.heap_model.specs.Cycles.{graph_of}
 use Rattle.heap_model.specs.Effects.{is_of}
 use Rattle.heap_model.specs.Objects.{party}
 use Rattle.heap_model.specs.State.{State as Graph}
-use Rattle.core_machine.specs.declared.address.Address.TheVariants.{Phase}
+use Rattle.core_machine.specs.declared.table.address.Address.TheVariants.{Phase}
 use Rattle.core_machine.specs.declared.place.Place.TheVariants as places
-use Rattle.core_machine.specs.Commands.{target_of}
-use Rattle.core_machine.specs.Fits.{IsAtRest, IsLocal}
-use Rattle.core_machine.specs.Layout.{at}
-use Rattle.core_machine.specs.Machine.{State, seat_at, stepped, found_by}
+use Rattle.core_machine.specs.seat.Commands.{target_of}
+use Rattle.core_machine.specs.seat.Fits.{IsAtRest, IsLocal}
+use Rattle.core_machine.specs.table.Layout.{at}
+use Rattle.core_machine.specs.machine.Machine.{State, seat_at, stepped, found_by}
 use Rattle.core_machine.specs.Moves.{telling_move, seat_after}
-use Rattle.core_machine.specs.Seat.{Seat}
-use Rattle.core_machine.specs.Telling.{local_reply}
-use Rattle.core_machine.specs.Value.{IsMachine}
+use Rattle.core_machine.specs.seat.Seat.{Seat}
+use Rattle.core_machine.specs.seat.Telling.{local_reply}
+use Rattle.core_machine.specs.machine.Value.{IsMachine}
 use Rattle.core_rule.specs.Book.{Book}
 use Rattle.core_rule.specs.Rule.{Rule}
 use Rattle.core_rule.proofs.steps.Assemble.{Keeps}

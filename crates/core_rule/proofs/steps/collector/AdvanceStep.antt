@@ -9,13 +9,13 @@ use Rattle.heap_model.specs.Objects.{party}
 use Rattle.heap_model.specs.PhaseCounts.{phase, answered, has_left, AllAnswered}
 use Rattle.heap_model.specs.State.{State as Graph, opening}
 use Rattle.heap_model.proofs.Histories.{graph_after-more}
-use Rattle.core_machine.specs.declared.address.Address.TheVariants.{Answer, Phase}
-use Rattle.core_machine.specs.declared.stage.Stage.TheVariants.{Advancing}
-use Rattle.core_machine.specs.Collector.{advance_turn}
-use Rattle.core_machine.specs.Layout.{put, table_length}
-use Rattle.core_machine.specs.Machine.{State, seat_at, turned}
-use Rattle.core_machine.specs.Value.{IsMachine}
-use Rattle.core_machine.proofs.Addresses.{at-put_same}
+use Rattle.core_machine.specs.declared.table.address.Address.TheVariants.{Answer, Phase}
+use Rattle.core_machine.specs.declared.collector.stage.Stage.TheVariants.{Advancing}
+use Rattle.core_machine.specs.collector.Collector.{advance_turn}
+use Rattle.core_machine.specs.table.Layout.{put, table_length}
+use Rattle.core_machine.specs.machine.Machine.{State, seat_at, turned}
+use Rattle.core_machine.specs.machine.Value.{IsMachine}
+use Rattle.core_machine.proofs.table_lemmas.Addresses.{at-put_same}
 use Rattle.core_rule.specs.Book.{Book}
 use Rattle.core_rule.specs.Colours.{Leads}
 use Rattle.core_rule.specs.Counts.{is_collectors}

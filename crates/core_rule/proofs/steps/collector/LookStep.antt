@@ -7,14 +7,14 @@ use Rattle.heap_words.specs.declared.phase.TheConstants.{LEFT}
 use Rattle.heap_model.specs.declared.entry.Entry.{Entry}
 use Rattle.heap_model.specs.declared.heap.Heap.{Heap}
 use Rattle.heap_model.specs.PhaseCounts.{phase, answered, has_left}
-use Rattle.core_machine.specs.declared.address.Address.TheVariants.{Answer}
-use Rattle.core_machine.specs.declared.stage.Stage.TheVariants.{Looking}
-use Rattle.core_machine.specs.Collector.{Collector, has_answered, looked_all, looked_on, looked_at, look_turn}
-use Rattle.core_machine.specs.Fits.{FitsStage}
-use Rattle.core_machine.specs.Layout.{at}
-use Rattle.core_machine.specs.Machine.{State, seat_at, turned}
-use Rattle.core_machine.specs.Value.{IsMachine}
-use Rattle.core_machine.proofs.Addresses.{put-at}
+use Rattle.core_machine.specs.declared.table.address.Address.TheVariants.{Answer}
+use Rattle.core_machine.specs.declared.collector.stage.Stage.TheVariants.{Looking}
+use Rattle.core_machine.specs.collector.Collector.{Collector, has_answered, looked_all, looked_on, looked_at, look_turn}
+use Rattle.core_machine.specs.seat.Fits.{FitsStage}
+use Rattle.core_machine.specs.table.Layout.{at}
+use Rattle.core_machine.specs.machine.Machine.{State, seat_at, turned}
+use Rattle.core_machine.specs.machine.Value.{IsMachine}
+use Rattle.core_machine.proofs.table_lemmas.Addresses.{put-at}
 use Rattle.core_rule.specs.Book.{Book}
 use Rattle.core_rule.specs.Phases.{CollectorStands}
 use Rattle.core_rule.specs.Rule.{Rule}

@@ -11,19 +11,19 @@ use Rattle.heap_model.specs.Effects.{is_of}
 use Rattle.heap_model.specs.Objects.{party}
 use Rattle.heap_model.specs.PhaseCounts.{phase, answered, has_left}
 use Rattle.heap_model.specs.State.{State as Graph}
-use Rattle.core_machine.specs.declared.address.Address.TheVariants.{Answer}
+use Rattle.core_machine.specs.declared.table.address.Address.TheVariants.{Answer}
 use Rattle.core_machine.specs.declared.place.Place.TheVariants as places
 use Rattle.core_machine.specs.declared.place.Polling.TheVariants.{Answering}
-use Rattle.core_machine.specs.AnsweringMoves.{answer_move}
-use Rattle.core_machine.specs.Commands.{target_of}
-use Rattle.core_machine.specs.Fits.{Fits, IsAtRest, Answers as IsAnswering}
-use Rattle.core_machine.specs.Layout.{at, put}
-use Rattle.core_machine.specs.Machine.{State, seat_at, stepped, found_by}
+use Rattle.core_machine.specs.seat.AnsweringMoves.{answer_move}
+use Rattle.core_machine.specs.seat.Commands.{target_of}
+use Rattle.core_machine.specs.seat.Fits.{Fits, IsAtRest, Answers as IsAnswering}
+use Rattle.core_machine.specs.table.Layout.{at, put}
+use Rattle.core_machine.specs.machine.Machine.{State, seat_at, stepped, found_by}
 use Rattle.core_machine.specs.Moves.{seat_after}
-use Rattle.core_machine.specs.Polling.{roots}
-use Rattle.core_machine.specs.Seat.{Seat}
-use Rattle.core_machine.specs.Value.{IsMachine}
-use Rattle.core_machine.proofs.Addresses.{at-put_same}
+use Rattle.core_machine.specs.seat.Polling.{roots}
+use Rattle.core_machine.specs.seat.Seat.{Seat}
+use Rattle.core_machine.specs.machine.Value.{IsMachine}
+use Rattle.core_machine.proofs.table_lemmas.Addresses.{at-put_same}
 use Rattle.core_rule.specs.Book.{Book}
 use Rattle.core_rule.specs.Counts.{OwnCounts}
 use Rattle.core_rule.specs.Cycle.{SeatInCycle}

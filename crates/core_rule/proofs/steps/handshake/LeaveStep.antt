@@ -19,18 +19,18 @@ use Rattle.heap_model.specs.PhaseCounts.{phase, is_leave_of}
 use Rattle.heap_model.specs.Phases.{ShowsPhases}
 use Rattle.heap_model.specs.Replies.{Says}
 use Rattle.heap_model.specs.State.{State as Graph, Party}
-use Rattle.core_machine.specs.declared.address.Address.TheVariants.{Answer}
+use Rattle.core_machine.specs.declared.table.address.Address.TheVariants.{Answer}
 use Rattle.core_machine.specs.declared.place.Leaving.TheVariants.{Parting}
 use Rattle.core_machine.specs.declared.place.Place.TheVariants as places
-use Rattle.core_machine.specs.declared.register.Register.TheVariants as registers
-use Rattle.core_machine.specs.AnsweringMoves.{leave_move}
-use Rattle.core_machine.specs.Fits.{IsAtRest}
-use Rattle.core_machine.specs.Layout.{at, put}
-use Rattle.core_machine.specs.Machine.{State, seat_at, stepped, found_by}
+use Rattle.core_machine.specs.declared.seat.register.Register.TheVariants as registers
+use Rattle.core_machine.specs.seat.AnsweringMoves.{leave_move}
+use Rattle.core_machine.specs.seat.Fits.{IsAtRest}
+use Rattle.core_machine.specs.table.Layout.{at, put}
+use Rattle.core_machine.specs.machine.Machine.{State, seat_at, stepped, found_by}
 use Rattle.core_machine.specs.Moves.{seat_after}
-use Rattle.core_machine.specs.Seat.{Seat}
-use Rattle.core_machine.specs.Value.{IsMachine}
-use Rattle.core_machine.proofs.Addresses.{at-put_same}
+use Rattle.core_machine.specs.seat.Seat.{Seat}
+use Rattle.core_machine.specs.machine.Value.{IsMachine}
+use Rattle.core_machine.proofs.table_lemmas.Addresses.{at-put_same}
 use Rattle.core_rule.specs.Book.{Book}
 use Rattle.core_rule.specs.Objects.{Objects}
 use Rattle.core_rule.specs.Registers as regs

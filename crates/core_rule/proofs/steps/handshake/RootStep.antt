@@ -10,14 +10,14 @@ use Rattle.heap_model.specs.PhaseCounts.{phase, answered, has_left}
 use Rattle.heap_model.specs.State.{State as Graph}
 use Rattle.core_machine.specs.declared.place.Place.TheVariants as places
 use Rattle.core_machine.specs.declared.place.Polling.TheVariants.{Shading, Answering}
-use Rattle.core_machine.specs.AnsweringMoves.{root_move}
-use Rattle.core_machine.specs.Commands.{target_of}
-use Rattle.core_machine.specs.Fits.{Answers as FitsAnswers}
-use Rattle.core_machine.specs.Machine.{State, seat_at, stepped, found_by}
-use Rattle.core_machine.specs.Polling.{roots, answer_place}
-use Rattle.core_machine.specs.Registers.{heads, register_in}
-use Rattle.core_machine.specs.Seat.{Seat}
-use Rattle.core_machine.specs.Value.{IsMachine}
+use Rattle.core_machine.specs.seat.AnsweringMoves.{root_move}
+use Rattle.core_machine.specs.seat.Commands.{target_of}
+use Rattle.core_machine.specs.seat.Fits.{Answers as FitsAnswers}
+use Rattle.core_machine.specs.machine.Machine.{State, seat_at, stepped, found_by}
+use Rattle.core_machine.specs.seat.Polling.{roots, answer_place}
+use Rattle.core_machine.specs.seat.Registers.{heads, register_in}
+use Rattle.core_machine.specs.seat.Seat.{Seat}
+use Rattle.core_machine.specs.machine.Value.{IsMachine}
 use Rattle.core_rule.specs.Book.{Book}
 use Rattle.core_rule.specs.Flight.{RootsStand, WhilePolling}
 use Rattle.core_rule.specs.Gathers.{IsAnswered}

@@ -4,19 +4,19 @@ use Rattle.std.proofs.lemmas.List.{append-nil}
 use Rattle.heap_model.specs.declared.heap.Heap.{Heap}
 use Rattle.heap_model.specs.Cycles.{graph_of}
 use Rattle.heap_model.specs.PhaseCounts.{phase, answered, has_left}
-use Rattle.core_machine.specs.declared.address.Address.TheVariants.{Control}
+use Rattle.core_machine.specs.declared.table.address.Address.TheVariants.{Control}
 use Rattle.core_machine.specs.declared.place.Making.TheVariants.{Bearing}
 use Rattle.core_machine.specs.declared.place.Place.TheVariants as places
-use Rattle.core_machine.specs.Commands.{target_of}
-use Rattle.core_machine.specs.Fragments.{part_in, part_out, mask}
-use Rattle.core_machine.specs.Layout.{at, put}
-use Rattle.core_machine.specs.Machine.{State, seat_at, stepped, found_by}
-use Rattle.core_machine.specs.Making.{last_group}
+use Rattle.core_machine.specs.seat.Commands.{target_of}
+use Rattle.core_machine.specs.table.Fragments.{part_in, part_out, mask}
+use Rattle.core_machine.specs.table.Layout.{at, put}
+use Rattle.core_machine.specs.machine.Machine.{State, seat_at, stepped, found_by}
+use Rattle.core_machine.specs.seat.Making.{last_group}
 use Rattle.core_machine.specs.Moves.{birth_move, bears_black, is_last_birth, seat_after}
-use Rattle.core_machine.specs.Operation.{birth_bits}
-use Rattle.core_machine.specs.Seat.{Seat}
-use Rattle.core_machine.specs.Value.{IsMachine}
-use Rattle.core_machine.proofs.Addresses.{length-put}
+use Rattle.core_machine.specs.table.Operation.{birth_bits}
+use Rattle.core_machine.specs.seat.Seat.{Seat}
+use Rattle.core_machine.specs.machine.Value.{IsMachine}
+use Rattle.core_machine.proofs.table_lemmas.Addresses.{length-put}
 use Rattle.core_rule.specs.Book.{Book, Colour, White, fragment_at}
 use Rattle.core_rule.specs.Colours.{IsMarked}
 use Rattle.core_rule.specs.Objects.{cells_at}

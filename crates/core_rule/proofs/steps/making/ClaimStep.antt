@@ -8,21 +8,21 @@ use Rattle.heap_model.specs.declared.heap.Heap.{Heap}
 use Rattle.heap_model.specs.Cycles.{graph_of}
 use Rattle.heap_model.specs.PhaseCounts.{phase, answered, has_left}
 use Rattle.heap_model.specs.State.{State as Graph}
-use Rattle.core_machine.specs.declared.address.Address.TheVariants.{Control}
+use Rattle.core_machine.specs.declared.table.address.Address.TheVariants.{Control}
 use Rattle.core_machine.specs.declared.place.Making.TheVariants.{Gathering}
 use Rattle.core_machine.specs.declared.place.Place.TheVariants as places
-use Rattle.core_machine.specs.Commands.{target_of}
-use Rattle.core_machine.specs.Fits.{Gathers}
-use Rattle.core_machine.specs.Fragments.{clear_in, tally}
-use Rattle.core_machine.specs.Layout.{at, put, table_length}
-use Rattle.core_machine.specs.Machine.{State, seat_at, stepped, found_by}
-use Rattle.core_machine.specs.Making.{next_group}
+use Rattle.core_machine.specs.seat.Commands.{target_of}
+use Rattle.core_machine.specs.seat.Fits.{Gathers}
+use Rattle.core_machine.specs.table.Fragments.{clear_in, tally}
+use Rattle.core_machine.specs.table.Layout.{at, put, table_length}
+use Rattle.core_machine.specs.machine.Machine.{State, seat_at, stepped, found_by}
+use Rattle.core_machine.specs.seat.Making.{next_group}
 use Rattle.core_machine.specs.Moves.{claim_move, takes_some, seat_after}
-use Rattle.core_machine.specs.Operation.{all_taken}
-use Rattle.core_machine.specs.Seat.{Seat}
-use Rattle.core_machine.specs.Value.{IsMachine}
-use Rattle.core_machine.proofs.Addresses.{length-put}
-use Rattle.core_machine.proofs.Owned.{clear_in-group}
+use Rattle.core_machine.specs.table.Operation.{all_taken}
+use Rattle.core_machine.specs.seat.Seat.{Seat}
+use Rattle.core_machine.specs.machine.Value.{IsMachine}
+use Rattle.core_machine.proofs.table_lemmas.Addresses.{length-put}
+use Rattle.core_machine.proofs.table_lemmas.Owned.{clear_in-group}
 use Rattle.core_rule.specs.Book.{Book}
 use Rattle.core_rule.specs.ControlWords.{Bits}
 use Rattle.core_rule.specs.Counts.{AreUsed}

@@ -7,18 +7,18 @@ use Rattle.heap_model.specs.declared.heap.Heap.{Heap}
 use Rattle.heap_model.specs.Cycles.{graph_of}
 use Rattle.heap_model.specs.Space.{taken_of, spent_of}
 use Rattle.heap_model.specs.State.{State as Graph}
-use Rattle.core_machine.specs.declared.address.Address.TheVariants.{Control}
+use Rattle.core_machine.specs.declared.table.address.Address.TheVariants.{Control}
 use Rattle.core_machine.specs.declared.place.Making.TheVariants.{Returning}
 use Rattle.core_machine.specs.declared.place.Place.TheVariants as places
-use Rattle.core_machine.specs.Commands.{target_of}
-use Rattle.core_machine.specs.Fits.{Refuses}
-use Rattle.core_machine.specs.Fragments.{part_in, part_out}
-use Rattle.core_machine.specs.Layout.{at}
-use Rattle.core_machine.specs.Machine.{State, seat_at, stepped, found_by}
-use Rattle.core_machine.specs.Making.{first_group, returning}
+use Rattle.core_machine.specs.seat.Commands.{target_of}
+use Rattle.core_machine.specs.seat.Fits.{Refuses}
+use Rattle.core_machine.specs.table.Fragments.{part_in, part_out}
+use Rattle.core_machine.specs.table.Layout.{at}
+use Rattle.core_machine.specs.machine.Machine.{State, seat_at, stepped, found_by}
+use Rattle.core_machine.specs.seat.Making.{first_group, returning}
 use Rattle.core_machine.specs.Moves.{give_back_move, seat_after}
-use Rattle.core_machine.specs.Seat.{Seat}
-use Rattle.core_machine.specs.Value.{IsMachine}
+use Rattle.core_machine.specs.seat.Seat.{Seat}
+use Rattle.core_machine.specs.machine.Value.{IsMachine}
 use Rattle.core_rule.specs.Book.{Book}
 use Rattle.core_rule.specs.Holding.{whole_hand}
 use Rattle.core_rule.specs.Rule.{Rule}

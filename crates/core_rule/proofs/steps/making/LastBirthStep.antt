@@ -8,20 +8,20 @@ use Rattle.heap_model.specs.Changes.{add}
 use Rattle.heap_model.specs.Cycles.{graph_of}
 use Rattle.heap_model.specs.PhaseCounts.{phase, answered, has_left}
 use Rattle.heap_model.specs.State.{State as Graph, fresh}
-use Rattle.core_machine.specs.declared.address.Address.TheVariants.{Control}
+use Rattle.core_machine.specs.declared.table.address.Address.TheVariants.{Control}
 use Rattle.core_machine.specs.declared.place.Making.TheVariants.{Bearing}
 use Rattle.core_machine.specs.declared.place.Place.TheVariants as places
-use Rattle.core_machine.specs.Commands.{target_of, fields_of, IsRecord}
-use Rattle.core_machine.specs.Fits.{HasBody}
-use Rattle.core_machine.specs.Fragments.{mask, tally}
-use Rattle.core_machine.specs.Layout.{at}
-use Rattle.core_machine.specs.Machine.{State, seat_at, stepped, found_by}
-use Rattle.core_machine.specs.Making.{last_group, next_id, newborn_word}
+use Rattle.core_machine.specs.seat.Commands.{target_of, fields_of, IsRecord}
+use Rattle.core_machine.specs.seat.Fits.{HasBody}
+use Rattle.core_machine.specs.table.Fragments.{mask, tally}
+use Rattle.core_machine.specs.table.Layout.{at}
+use Rattle.core_machine.specs.machine.Machine.{State, seat_at, stepped, found_by}
+use Rattle.core_machine.specs.seat.Making.{last_group, next_id, newborn_word}
 use Rattle.core_machine.specs.Moves.{bears_black, last_birth_move, last_part, made_entry, seat_after, is_last_birth}
-use Rattle.core_machine.specs.Operation.{birth_bits}
-use Rattle.core_machine.specs.Seat.{Seat}
-use Rattle.core_machine.specs.Value.{IsMachine}
-use Rattle.core_machine.proofs.Addresses.{length-put}
+use Rattle.core_machine.specs.table.Operation.{birth_bits}
+use Rattle.core_machine.specs.seat.Seat.{Seat}
+use Rattle.core_machine.specs.machine.Value.{IsMachine}
+use Rattle.core_machine.proofs.table_lemmas.Addresses.{length-put}
 use Rattle.core_rule.specs.Book.{Book}
 use Rattle.core_rule.specs.Gathers.{GathersRight}
 use Rattle.core_rule.specs.Objects.{AreMade, cells_at}

@@ -10,17 +10,17 @@ use Rattle.heap_model.specs.Refusals.{FindsSpace}
 use Rattle.heap_model.specs.Space.{taken_of, spent_of}
 use Rattle.heap_model.specs.State.{State as Graph, opening}
 use Rattle.heap_model.proofs.Histories.{graph_after-more}
-use Rattle.core_machine.specs.declared.address.Address.TheVariants.{Phase}
+use Rattle.core_machine.specs.declared.table.address.Address.TheVariants.{Phase}
 use Rattle.core_machine.specs.declared.place.Making.TheVariants.{Refusing}
 use Rattle.core_machine.specs.declared.place.Place.TheVariants as places
-use Rattle.core_machine.specs.Commands.{target_of, IsRecord}
-use Rattle.core_machine.specs.Fits.{Refuses}
-use Rattle.core_machine.specs.Layout.{at}
-use Rattle.core_machine.specs.Machine.{State, seat_at, stepped, found_by}
+use Rattle.core_machine.specs.seat.Commands.{target_of, IsRecord}
+use Rattle.core_machine.specs.seat.Fits.{Refuses}
+use Rattle.core_machine.specs.table.Layout.{at}
+use Rattle.core_machine.specs.machine.Machine.{State, seat_at, stepped, found_by}
 use Rattle.core_machine.specs.Moves.{refusal_move, full_entry, seat_after}
-use Rattle.core_machine.specs.Seat.{Seat, need}
-use Rattle.core_machine.specs.Value.{IsMachine}
-use Rattle.core_machine.proofs.Addresses.{put-at}
+use Rattle.core_machine.specs.seat.Seat.{Seat, need}
+use Rattle.core_machine.specs.machine.Value.{IsMachine}
+use Rattle.core_machine.proofs.table_lemmas.Addresses.{put-at}
 use Rattle.core_rule.specs.Book.{Book}
 use Rattle.core_rule.specs.Gathers.{GathersRight}
 use Rattle.core_rule.specs.Rule.{Rule}
