@@ -3,7 +3,7 @@
 use Rattle.std.specs.Prelude.{ℕ, List}
 use Rattle.heap_model.specs.declared.entry.Entry.{Entry}
 use Rattle.core_machine.specs.declared.step.Step.{Step}
-use Rattle.core_machine.specs.Seat.{Seat, with_entries}
+use Rattle.core_machine.specs.seat.Seat.{Seat, with_entries}
 
 pub record Move : Type 0 where
   -- the step that is due

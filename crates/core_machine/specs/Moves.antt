@@ -4,11 +4,11 @@ use Rattle.heap_model.specs.declared.heap.Heap.{Heap}
 use Rattle.core_machine.specs.declared.place.Place.{Place}
 use Rattle.core_machine.specs.declared.place.Place.TheVariants as places
 use Rattle.core_machine.specs.declared.step.Step.{Step}
-use Rattle.core_machine.specs.Seat.{Seat}
+use Rattle.core_machine.specs.seat.Seat.{Seat}
 pub use Rattle.core_machine.specs.Move.{Move, plain_move, seat_after}
-pub use Rattle.core_machine.specs.MakingMoves.{takes_some, claim_move, first_part, give_back_move, full_entry, refusal_move, word_store, due_store, store_move, bears_black, last_part, is_last_birth, birth_move, made_entry, last_birth_move, bearing_move, making_move}
-pub use Rattle.core_machine.specs.ReachingMoves.{reaching_move}
-pub use Rattle.core_machine.specs.AnsweringMoves.{telling_move, polling_move, leaving_move}
+pub use Rattle.core_machine.specs.seat.MakingMoves.{takes_some, claim_move, first_part, give_back_move, full_entry, refusal_move, word_store, due_store, store_move, bears_black, last_part, is_last_birth, birth_move, made_entry, last_birth_move, bearing_move, making_move}
+pub use Rattle.core_machine.specs.seat.ReachingMoves.{reaching_move}
+pub use Rattle.core_machine.specs.seat.AnsweringMoves.{telling_move, polling_move, leaving_move}
 
 abbrev pub move_at : Heap → ℕ → Seat → Place → Option Move
 move_at heap number seat places.Idle = None

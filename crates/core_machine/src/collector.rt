@@ -1,15 +1,17 @@
 ghost use Rattle.std.specs.Prelude.{◌≡◌, ◌+◌, ◌-◌, ◌<◌, ◌≤◌, ◌^◌, length, OnOk, OnErr};
 ghost use Rattle.core_machine.specs.declared.step.Step.TheVariants.{Turning as Turns};
-ghost use Rattle.core_machine.specs.Collector.{opening_collector, next_turn, collector_after, turn_answer, MayTurn, has_answered as has_answered_of, advance_turn, looked_on};
-ghost use Rattle.core_machine.specs.Fits.{CollectorFits};
+ghost use Rattle.core_machine.specs.collector.Collector.{opening_collector, next_turn, collector_after, turn_answer, MayTurn, has_answered as has_answered_of, advance_turn, looked_on};
+ghost use Rattle.core_machine.specs.seat.Fits.{CollectorFits};
 
-use crate::stage::Stage;
+use crate::collector::stage::Stage;
 use crate::step::TurningStep;
 use heap_model::phase_plan::{CYCLE_PHASES, MARKING};
 use heap_model::{Entry, Heap, Memory, Turn};
 use heap_words::LEFT;
 use std::alloc::Global;
 use std::marker::Model;
+
+pub(crate) mod stage;
 
 /// What is kept of the collector: the phase, how far its turns are in it, and its entries.
 #[derive(Drop)]
@@ -22,7 +24,7 @@ pub struct CollectorParty {
 
 impl Model for CollectorParty {
     ghost use Rattle.std.specs.Prelude.{◌-◌, vec_capacity, vec_len};
-    ghost use Rattle.core_machine.specs.Value.{CollectorWithRoom};
+    ghost use Rattle.core_machine.specs.machine.Value.{CollectorWithRoom};
 
     ghost Value = { CollectorWithRoom };
 

@@ -1,18 +1,22 @@
 ghost use Rattle.std.specs.Prelude.{◌≡◌, ◌≢◌, ℕ, ◌+◌, ◌-◌, ◌*◌, ◌<◌, ◌≤◌, ◌↔◌, IsTrue, [], ◌∷◌, ◌++◌, length, Some, OnOk, OnErr};
 ghost use Rattle.heap_model.specs.Space.{need_of};
-ghost use Rattle.core_machine.specs.Machine.{Begins, Steps, Turns, Can, after, seat_at, found_by};
-ghost use Rattle.core_machine.specs.declared.address.Address.TheVariants.{Phase};
-ghost use Rattle.core_machine.specs.Layout.{at, InTable};
-ghost use Rattle.core_machine.specs.Collector.{next_turn, turn_answer};
+ghost use Rattle.core_machine.specs.machine.Machine.{Begins, Steps, Turns, Can, after, seat_at, found_by};
+ghost use Rattle.core_machine.specs.declared.table.address.Address.TheVariants.{Phase};
+ghost use Rattle.core_machine.specs.table.Layout.{at, InTable};
+ghost use Rattle.core_machine.specs.collector.Collector.{next_turn, turn_answer};
 ghost use Rattle.core_machine.specs.Moves.{due_step};
-ghost use Rattle.core_machine.specs.Value.{spare_of, log_of, due_of, event_of, IsParty, SpendsRoom, IsMachine};
+ghost use Rattle.core_machine.specs.machine.Value.{spare_of, log_of, due_of, event_of, IsParty, SpendsRoom, IsMachine};
 
-use crate::address::Address;
 use crate::collector::CollectorParty;
-use crate::party::SeatParty;
+use crate::seat::SeatParty;
 use crate::step::Step;
+use crate::table::address::Address;
 use heap_model::{Command, Entry, Heap, Memory, Turn};
 use std::marker::Model;
+
+mod opening;
+mod play;
+mod space;
 
 /// A heap's table of words and its parties: the seats, numbered from 0, and after them the collector. Any party may
 /// make its due step at any time.
@@ -26,7 +30,7 @@ pub struct Machine {
 
 impl Model for Machine {
     ghost use Rattle.std.specs.Prelude.{◌++◌, ◌∷◌, [], map};
-    ghost use Rattle.core_machine.specs.Value.{MachineValue, IsMachine};
+    ghost use Rattle.core_machine.specs.machine.Value.{MachineValue, IsMachine};
 
     ghost Value = { MachineValue };
 
@@ -57,7 +61,7 @@ impl Machine {
     }
 
     /// The word at the address.
-    #[tactic(auto, unfolding(crate::specs::Layout::at))]
+    #[tactic(auto, unfolding(crate::specs::table::Layout::at))]
     pub fn word(&self, address: Address) -> u64
         requires { InTable self.now.heap address }
         ensures { result ≡ at self.now.heap self.now.state.words address }
@@ -67,7 +71,7 @@ impl Machine {
     }
 
     /// The phase word.
-    #[tactic(auto, unfolding(crate::specs::Layout::at))]
+    #[tactic(auto, unfolding(crate::specs::table::Layout::at))]
     pub fn phase(&self) -> u64
         ensures { result ≡ at self.now.heap self.now.state.words Phase }
     {

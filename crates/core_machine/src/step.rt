@@ -1,7 +1,7 @@
 ghost use Rattle.std.specs.Prelude.{◌≡◌};
-ghost use Rattle.core_machine.specs.Operation.{address_of, written, making_address, making_written, birth_bits as birth_bits_of, reaching_address, reaching_written, shade_bit as shade_bit_of, answering_address, answering_written, turning_address, turning_written};
+ghost use Rattle.core_machine.specs.table.Operation.{address_of, written, making_address, making_written, birth_bits as birth_bits_of, reaching_address, reaching_written, shade_bit as shade_bit_of, answering_address, answering_written, turning_address, turning_written};
 
-use crate::address::Address;
+use crate::table::address::Address;
 use heap_model::limits::GROUP_FRAGMENTS;
 use heap_words::LEFT;
 

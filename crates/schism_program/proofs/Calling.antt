@@ -11,10 +11,10 @@ use Rattle.heap_model.specs.declared.entry.Entry.TheVariants.{Said}
 use Rattle.script_text.specs.declared.script.Line.{Line}
 use Rattle.script_text.specs.declared.script.Line.TheVariants as lines
 use Rattle.core_machine.specs.declared.place.Place.TheVariants.{Idle}
-use Rattle.core_machine.specs.Calls.{call_events}
-use Rattle.core_machine.specs.Commands.{IsServed}
-use Rattle.core_machine.specs.Machine.{State, seat_at, Run, after_all, history}
-use Rattle.core_machine.specs.Seat.{Seat}
+use Rattle.core_machine.specs.machine.Calls.{call_events}
+use Rattle.core_machine.specs.seat.Commands.{IsServed}
+use Rattle.core_machine.specs.machine.Machine.{State, seat_at, Run, after_all, history}
+use Rattle.core_machine.specs.seat.Seat.{Seat}
 use Rattle.core_rule.specs.Laws.{IsAlone, OneCallAtATime}
 use Rattle.schism_program.specs.Calls.{NotesCall, WholeCalls, Played}
 use Rattle.schism_program.specs.Play.{replied}

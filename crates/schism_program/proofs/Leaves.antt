@@ -9,8 +9,8 @@ use Rattle.heap_model.specs.declared.command.Command.TheVariants.{Leave}
 use Rattle.heap_model.specs.declared.entry.Entry.{Entry}
 use Rattle.heap_model.specs.declared.entry.Entry.TheVariants.{Said}
 use Rattle.heap_model.specs.SeatCalls.{leave_entries}
-use Rattle.core_machine.specs.Machine.{State, seat_at}
-use Rattle.core_machine.specs.Seat.{Seat}
+use Rattle.core_machine.specs.machine.Machine.{State, seat_at}
+use Rattle.core_machine.specs.seat.Seat.{Seat}
 use Rattle.schism_program.specs.Calls.{NotesCall}
 use Rattle.schism_program.specs.Playing.{HaveLeft}
 use Rattle.schism_program.proofs.Calling.{others_same, played_more}

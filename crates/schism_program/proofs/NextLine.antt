@@ -11,7 +11,7 @@ use Rattle.script_text.specs.declared.script.Script.{Script}
 use Rattle.script_text.specs.Built.{IsBuilt, is_built_command, is_built_line}
 use Rattle.script_text.specs.Grammar.{IsLine}
 use Rattle.script_text.specs.Writing.{IsOfForm}
-use Rattle.core_machine.specs.Commands.{IsServed}
+use Rattle.core_machine.specs.seat.Commands.{IsServed}
 
 -- a command that is built is served, and no leave
 served_built : (command : Command) → is_built_command command ≡ true → IsServed command × (command ≢ Leave)

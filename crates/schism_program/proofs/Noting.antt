@@ -7,9 +7,9 @@ use Rattle.heap_model.specs.declared.command.Command.TheVariants.{Leave}
 use Rattle.heap_model.specs.declared.entry.Entry.{Entry}
 use Rattle.heap_model.specs.declared.entry.Entry.TheVariants.{Said}
 use Rattle.heap_model.specs.declared.reply.Reply.{Reply}
-use Rattle.core_machine.specs.Calls.{PlaysCall, CountsCall, TellsLeave}
-use Rattle.core_machine.specs.Machine.{seat_at}
-use Rattle.core_machine.specs.Value.{MachineValue, log_of}
+use Rattle.core_machine.specs.machine.Calls.{PlaysCall, CountsCall, TellsLeave}
+use Rattle.core_machine.specs.machine.Machine.{seat_at}
+use Rattle.core_machine.specs.machine.Value.{MachineValue, log_of}
 use Rattle.schism_program.specs.Calls.{NotesCall}
 use Rattle.schism_program.proofs.OneSeat.{after_call}
 

@@ -4,10 +4,10 @@ use Rattle.std.proofs.lemmas.List.{get_or-set_other, length-set}
 use Rattle.heap_model.specs.declared.heap.Heap.{Heap}
 use Rattle.heap_model.specs.declared.command.Command.{Command}
 use Rattle.heap_model.specs.declared.reply.Reply.{Reply}
-use Rattle.core_machine.specs.Calls.{call_events, PlaysCall}
-use Rattle.core_machine.specs.Machine.{State, seat_at, Begins, Steps, moved, after, after_all}
+use Rattle.core_machine.specs.machine.Calls.{call_events, PlaysCall}
+use Rattle.core_machine.specs.machine.Machine.{State, seat_at, Begins, Steps, moved, after, after_all}
 use Rattle.core_machine.specs.Moves.{Move, next_move}
-use Rattle.core_machine.specs.Seat.{nobody}
+use Rattle.core_machine.specs.seat.Seat.{nobody}
 use Rattle.core_rule.specs.Laws.{IsAlone, OneCallAtATime}
 
 -- a state with the same seats but for one

@@ -4,9 +4,9 @@ use Rattle.std.proofs.lemmas.List.FromFn.{length-map-range_with_len, get_or-map-
 use Rattle.heap_model.specs.declared.heap.Heap.{Heap}
 use Rattle.heap_model.specs.declared.entry.Entry.{Entry}
 use Rattle.core_machine.specs.declared.place.Place.TheVariants.{Idle}
-use Rattle.core_machine.specs.Machine.{State, seat_at}
-use Rattle.core_machine.specs.Opening.{IsOpening, opening_seat}
-use Rattle.core_machine.specs.Seat.{Seat, nobody}
+use Rattle.core_machine.specs.machine.Machine.{State, seat_at}
+use Rattle.core_machine.specs.machine.Opening.{IsOpening, opening_seat}
+use Rattle.core_machine.specs.seat.Seat.{Seat, nobody}
 use Rattle.schism_program.specs.Playing.{HasAnswered}
 
 -- each of its seats is as at the opening

@@ -2,7 +2,7 @@
 use Rattle.std.proofs.Common.{◌≡◌, List, [], ◌∷◌, ◌++◌, refl, sym, ap, ◌∙◌, append_assoc}
 use Rattle.heap_model.specs.declared.heap.Heap.{Heap}
 use Rattle.heap_model.specs.declared.entry.Entry.{Entry}
-use Rattle.core_machine.specs.Machine.{State, Event, after, entries, Run, after_all, history}
+use Rattle.core_machine.specs.machine.Machine.{State, Event, after, entries, Run, after_all, history}
 use Rattle.core_rule.specs.Laws.{OneCallAtATime}
 
 pub Run-append : (heap : Heap) (state : State) (events more : List Event) → Run heap state events → Run heap (after_all heap state events) more → Run heap state (events ++ more)

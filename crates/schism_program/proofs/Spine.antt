@@ -12,8 +12,8 @@ use Rattle.heap_model.specs.declared.reply.Reply.TheVariants.{Made}
 use Rattle.heap_model.specs.Effects.{effect_of}
 use Rattle.heap_model.specs.Needs.{words_by}
 use Rattle.heap_model.specs.Space.{total, granted, returned}
-use Rattle.core_machine.specs.Calls.{IsBeside}
-use Rattle.core_machine.specs.Commands.{IsServed}
+use Rattle.core_machine.specs.machine.Calls.{IsBeside}
+use Rattle.core_machine.specs.seat.Commands.{IsServed}
 use Rattle.schism_program.specs.Play.{replied}
 
 -- what is beside a reply answers no line

@@ -12,8 +12,8 @@ use Rattle.script_text.specs.declared.script.Script.{Script}
 use Rattle.reply_text.specs.declared.history.History.{History}
 use Rattle.reply_text.specs.declared.history.SpaceMark.{SpaceMark}
 use Rattle.log_merge.specs.Legal.{ShowsUse, ShowsCounts}
-use Rattle.core_machine.specs.Calls.{free_fragments}
-use Rattle.core_machine.specs.Machine.{State, seat_at, after_all}
+use Rattle.core_machine.specs.machine.Calls.{free_fragments}
+use Rattle.core_machine.specs.machine.Machine.{State, seat_at, after_all}
 use Rattle.core_rule.specs.Laws.{EveryRunKeeps, WholeCallsPlay, FreeIsUnused}
 use Rattle.schism_program.specs.Calls.{WholeCalls}
 use Rattle.schism_program.specs.Play.{replied, IsPlay}

@@ -8,9 +8,9 @@ use Rattle.heap_model.specs.declared.entry.Entry.TheVariants.{Said}
 use Rattle.heap_model.specs.declared.reply.Reply.{Reply}
 use Rattle.heap_model.specs.Space.{granted, returned}
 use Rattle.core_machine.specs.declared.place.Place.TheVariants.{Idle}
-use Rattle.core_machine.specs.Calls.{PlaysCall, CountsCall, TellsLeave}
-use Rattle.core_machine.specs.Machine.{State, seat_at, Event, Run, after_all, history}
-use Rattle.core_machine.specs.Opening.{IsOpening}
+use Rattle.core_machine.specs.machine.Calls.{PlaysCall, CountsCall, TellsLeave}
+use Rattle.core_machine.specs.machine.Machine.{State, seat_at, Event, Run, after_all, history}
+use Rattle.core_machine.specs.machine.Opening.{IsOpening}
 use Rattle.core_rule.specs.Laws.{OneCallAtATime}
 
 -- the machine made the call, and the call's entries are noted behind those from before

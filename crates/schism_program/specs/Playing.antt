@@ -6,8 +6,8 @@ use Rattle.heap_model.specs.declared.entry.Entry.{Entry}
 use Rattle.script_text.specs.declared.script.Line.{Line}
 use Rattle.heap_model.specs.Limits.{group_fragments}
 use Rattle.heap_model.specs.SeatCalls.{leave_entries}
-use Rattle.core_machine.specs.Calls.{free_fragments}
-use Rattle.core_machine.specs.Machine.{State, seat_at}
+use Rattle.core_machine.specs.machine.Calls.{free_fragments}
+use Rattle.core_machine.specs.machine.Machine.{State, seat_at}
 use Rattle.schism_program.specs.Calls.{Played, ArePresent, AreFew}
 use Rattle.schism_program.specs.Play.{replied, EndsInReply}
 

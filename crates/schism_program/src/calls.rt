@@ -1,5 +1,5 @@
 ghost use Rattle.std.specs.Prelude.{◌≡◌, OnOk};
-ghost use Rattle.core_machine.specs.Machine.{Begins, Can};
+ghost use Rattle.core_machine.specs.machine.Machine.{Begins, Can};
 ghost use Rattle.schism_program.specs.Calls.{NotesCall};
 
 use core_machine::Machine;

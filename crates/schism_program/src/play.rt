@@ -3,7 +3,7 @@ ghost use Rattle.script_text.specs.declared.script.Form.TheVariants.{Play};
 ghost use Rattle.heap_model.specs.Limits.{group_fragments};
 ghost use Rattle.script_text.specs.Built.{IsBuilt};
 ghost use Rattle.script_text.specs.Writing.{IsOfForm};
-ghost use Rattle.core_machine.specs.Opening.{IsOpening};
+ghost use Rattle.core_machine.specs.machine.Opening.{IsOpening};
 ghost use Rattle.schism_program.specs.Calls.{Played, ArePresent};
 ghost use Rattle.schism_program.specs.Play.{IsPlay};
 ghost use Rattle.schism_program.specs.Playing.{HasAnswered, HaveLeft, IsInUse};
@@ -33,7 +33,7 @@ fn answer_lines(
 {
     for line in script.lines.as_slice() {
         let Line::Seat { seat, command } = *line else {
-            continue;
+            unreachable!();
         };
         note_call(machine, history, seat, command)?;
     }

@@ -1,6 +1,6 @@
 use Rattle.std.proofs.Common.{◌≡◌, ◌<◌, ◌++◌, List, length, drop, ap, ◌∙◌}
 use Rattle.heap_model.specs.declared.entry.Entry.{Entry}
-use Rattle.core_machine.specs.Value.{MachineValue, log_of}
+use Rattle.core_machine.specs.machine.Value.{MachineValue, log_of}
 use Rattle.schism_program.proofs.Noting.{log_longer, notes_call}
 use Rattle.schism_program.proofs.calls.note_call.Goals as goal
 

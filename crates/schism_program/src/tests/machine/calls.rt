@@ -1,5 +1,5 @@
 ghost use Rattle.std.specs.Prelude.{◌↔◌, IsTrue};
-ghost use Rattle.core_machine.specs.Layout.{InTable};
+ghost use Rattle.core_machine.specs.table.Layout.{InTable};
 
 use core_machine::{Address, Machine, Step};
 use heap_model::{Command, Entry, Heap, Reply, Turn};

@@ -1,7 +1,7 @@
 use Rattle.std.proofs.Common.{arith, ◌<◌, length}
 use Rattle.std.proofs.lemmas.List.{length-map}
-use Rattle.core_machine.specs.Value.{SeatWithRoom}
-use Rattle.core_machine.proofs.Stepping.{begin_machine, begin_value}
+use Rattle.core_machine.specs.machine.Value.{SeatWithRoom}
+use Rattle.core_machine.proofs.machine_lemmas.Stepping.{begin_machine, begin_value}
 use Rattle.core_machine.proofs.machine.Machine.begin.Goals as goal
 
 pub invariant_of-self : goal.invariant_of-self

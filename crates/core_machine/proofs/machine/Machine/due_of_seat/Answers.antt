@@ -1,4 +1,4 @@
-use Rattle.core_machine.proofs.Parties.{fits_of}
+use Rattle.core_machine.proofs.machine_lemmas.Parties.{fits_of}
 use Rattle.core_machine.proofs.machine.Machine.due_of_seat.Goals as goal
 
 pub due-requires-clause-fits : goal.due-requires-clause-fits

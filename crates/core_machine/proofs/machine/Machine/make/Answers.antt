@@ -1,4 +1,4 @@
-use Rattle.core_machine.proofs.Opens.{machine_opens}
+use Rattle.core_machine.proofs.machine_lemmas.Opens.{machine_opens}
 use Rattle.core_machine.proofs.machine.Machine.make.Goals as goal
 
 pub invariant_of-result : goal.invariant_of-result

@@ -1,13 +1,13 @@
 use Rattle.std.proofs.Common.{◌≡◌, ◌<◌, sym, ◌∙◌, ap, subst, Some}
-use Rattle.core_machine.specs.Machine.{State, seat_at, after, Begins, Steps}
+use Rattle.core_machine.specs.machine.Machine.{State, seat_at, after, Begins, Steps}
 use Rattle.core_machine.specs.Moves.{due_step}
-use Rattle.core_machine.specs.Value.{MachineValue, IsMachine}
-use Rattle.core_machine.specs.Calls.{last_reply}
-use Rattle.core_machine.proofs.Addresses.{at-lt}
-use Rattle.core_machine.proofs.Calling.{Playing, playing_begun, playing_more}
-use Rattle.core_machine.proofs.CallRoom.{step_room, spends_on, spends_begun, room_for}
-use Rattle.core_machine.proofs.CallEnd.{none_left, some_due, call_over, call_replies}
-use Rattle.core_machine.proofs.Owing.{steps_left}
+use Rattle.core_machine.specs.machine.Value.{MachineValue, IsMachine}
+use Rattle.core_machine.specs.machine.Calls.{last_reply}
+use Rattle.core_machine.proofs.table_lemmas.Addresses.{at-lt}
+use Rattle.core_machine.proofs.call_lemmas.Calling.{Playing, playing_begun, playing_more}
+use Rattle.core_machine.proofs.call_lemmas.CallRoom.{step_room, spends_on, spends_begun, room_for}
+use Rattle.core_machine.proofs.call_lemmas.CallEnd.{none_left, some_due, call_over, call_replies}
+use Rattle.core_machine.proofs.call_lemmas.Owing.{steps_left}
 use Rattle.core_machine.proofs.machine.Machine.play_call.Goals as goal
 
 pub loop-step-init : goal.loop-step-init

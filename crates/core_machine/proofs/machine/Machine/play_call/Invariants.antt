@@ -1,10 +1,10 @@
 use Rattle.std.proofs.Common.{◌≡◌, ◌+◌, ◌^◌, ◌<◌, ◌≤◌}
-use Rattle.core_machine.specs.declared.address.Address.{Address}
-use Rattle.core_machine.specs.Layout.{at, InTable}
-use Rattle.core_machine.specs.Machine.{seat_at}
-use Rattle.core_machine.specs.Value.{spare_of, SpendsRoom}
-use Rattle.core_machine.proofs.Calling.{Playing}
-use Rattle.core_machine.proofs.Owing.{owes, steps_left}
+use Rattle.core_machine.specs.declared.table.address.Address.{Address}
+use Rattle.core_machine.specs.table.Layout.{at, InTable}
+use Rattle.core_machine.specs.machine.Machine.{seat_at}
+use Rattle.core_machine.specs.machine.Value.{spare_of, SpendsRoom}
+use Rattle.core_machine.proofs.call_lemmas.Calling.{Playing}
+use Rattle.core_machine.proofs.call_lemmas.Owing.{owes, steps_left}
 use Rattle.core_machine.proofs.machine.Machine.play_call.Given as goal
 
 abbrev pub invariant-loop-step : goal.invariant-loop-step

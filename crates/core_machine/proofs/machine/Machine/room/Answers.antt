@@ -1,5 +1,5 @@
 use Rattle.std.proofs.Common.{arith, ◌<◌, length, refl}
-use Rattle.core_machine.proofs.Stepping.{room_state, room_machine, spare_before, spare_here, spare_other}
+use Rattle.core_machine.proofs.machine_lemmas.Stepping.{room_state, room_machine, spare_before, spare_here, spare_other}
 use Rattle.core_machine.proofs.machine.Machine.room.Goals as goal
 
 pub invariant_of-self : goal.invariant_of-self

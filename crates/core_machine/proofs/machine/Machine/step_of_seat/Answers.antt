@@ -1,11 +1,11 @@
 use Rattle.std.proofs.Common.{arith, ◌≡◌, ◌∙◌, ap, sym, subst, set}
-use Rattle.core_machine.specs.Layout.{index_of, put, InTable}
-use Rattle.core_machine.specs.Operation.{address_of}
-use Rattle.core_machine.specs.Machine.{after, Steps}
-use Rattle.core_machine.specs.Value.{MachineValue}
-use Rattle.core_machine.proofs.Addresses.{at_read, put_write}
-use Rattle.core_machine.proofs.Parties.{state_of, fits_of}
-use Rattle.core_machine.proofs.Stepping.{due_at, due_within, step_in_table, step_found, step_machine, step_state_of, step_spends}
+use Rattle.core_machine.specs.table.Layout.{index_of, put, InTable}
+use Rattle.core_machine.specs.table.Operation.{address_of}
+use Rattle.core_machine.specs.machine.Machine.{after, Steps}
+use Rattle.core_machine.specs.machine.Value.{MachineValue}
+use Rattle.core_machine.proofs.table_lemmas.Addresses.{at_read, put_write}
+use Rattle.core_machine.proofs.machine_lemmas.Parties.{state_of, fits_of}
+use Rattle.core_machine.proofs.machine_lemmas.Stepping.{due_at, due_within, step_in_table, step_found, step_machine, step_state_of, step_spends}
 use Rattle.core_machine.proofs.machine.Machine.step_of_seat.Goals as goal
 
 pub learn-requires-clause-fits : goal.learn-requires-clause-fits

@@ -1,11 +1,11 @@
 use Rattle.std.proofs.Common.{arith, ◌≡◌, ◌∙◌, ap, subst, set}
-use Rattle.core_machine.specs.Layout.{index_of, put}
-use Rattle.core_machine.specs.Operation.{address_of}
-use Rattle.core_machine.specs.Machine.{after, Turns}
-use Rattle.core_machine.specs.Value.{MachineValue}
-use Rattle.core_machine.proofs.Addresses.{at_read, put_write}
-use Rattle.core_machine.proofs.Parties.{state_of}
-use Rattle.core_machine.proofs.Turning.{turn_at_value, turn_state, turn_machine}
+use Rattle.core_machine.specs.table.Layout.{index_of, put}
+use Rattle.core_machine.specs.table.Operation.{address_of}
+use Rattle.core_machine.specs.machine.Machine.{after, Turns}
+use Rattle.core_machine.specs.machine.Value.{MachineValue}
+use Rattle.core_machine.proofs.table_lemmas.Addresses.{at_read, put_write}
+use Rattle.core_machine.proofs.machine_lemmas.Parties.{state_of}
+use Rattle.core_machine.proofs.collector_lemmas.Turning.{turn_at_value, turn_state, turn_machine}
 use Rattle.core_machine.proofs.machine.Machine.turn.Goals as goal
 
 pub invariant_of-self : goal.invariant_of-self

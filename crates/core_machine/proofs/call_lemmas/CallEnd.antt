@@ -1,0 +1,171 @@
+-- What a call that is over comes to.
+use Rattle.std.proofs.Common.{◌≡◌, ◌≢◌, ℕ, ◌-◌, List, [], ◌∷◌, ◌++◌, length, Option, Some, None, refl, sym, ap, subst, ◌∙◌, length-append, append_assoc, append-nil, arith}
+use Rattle.std.specs.Prelude.{IsSome, option_and_then, option_map}
+use Rattle.core_machine.specs.declared.step.Step.{Step}
+use Rattle.std.specs.List.{AllByRecursion}
+use Rattle.std.proofs.lemmas.List.{append_cancel_right}
+use Rattle.std.proofs.lemmas.Option.{slice_get-get_or}
+use Rattle.std.proofs.Math.Seq.{get_or-append_seam}
+use Rattle.heap_model.specs.declared.heap.Heap.{Heap}
+use Rattle.heap_model.specs.declared.command.Command.{Command}
+use Rattle.heap_model.specs.declared.entry.Entry.{Entry}
+use Rattle.heap_model.specs.declared.entry.Entry.TheVariants.{Said}
+use Rattle.heap_model.specs.declared.reply.Reply.{Reply}
+use Rattle.heap_model.specs.declared.reply.Reply.TheVariants.{Done}
+use Rattle.heap_model.specs.SeatCalls.{last_gives}
+use Rattle.core_machine.specs.declared.place.Place.{Place}
+use Rattle.core_machine.specs.declared.place.Place.TheVariants as places
+use Rattle.core_machine.specs.seat.Seat.{Seat}
+use Rattle.core_machine.specs.Moves.{Move, move_at, next_move, due_step}
+use Rattle.core_machine.specs.machine.Machine.{State, seat_at}
+use Rattle.heap_model.specs.declared.command.Command.TheVariants.{Leave}
+use Rattle.core_machine.specs.machine.Calls.{IsBeside, PlaysCall, CountsCall, TellsLeave, AnswersNew, reply_of, last_reply, IsPlaceRefusal, LeavesAll}
+use Rattle.core_machine.specs.machine.Value.{MachineValue, log_of}
+use Rattle.core_machine.proofs.call_lemmas.Saying.{Says, IsOver}
+use Rattle.core_machine.proofs.call_lemmas.Stages.{ComesDue, Answered, Stage}
+use Rattle.core_machine.specs.seat.Awaiting.{awaited_at}
+use Rattle.core_machine.specs.seat.Commands.{IsRecord}
+use Rattle.core_machine.proofs.call_lemmas.Calling.{Playing}
+use Rattle.core_machine.proofs.call_lemmas.CallRoom.{log_of_seat}
+
+-- a call that has no step due is over
+idle_at : (heap : Heap) (number : ℕ) (seat : Seat) (place : Place) → option_map (λ m. m.step) (move_at heap number seat place) ≡ None → place ≡ places.Idle
+idle_at heap number seat places.Idle none = refl
+idle_at heap number seat (places.Making place) none = cc
+idle_at heap number seat places.Telling none = cc
+idle_at heap number seat (places.Reaching place) none = cc
+idle_at heap number seat (places.Polling place) none = cc
+idle_at heap number seat (places.Leaving place) none = cc
+
+pub idle_from : (heap : Heap) (number : ℕ) (seat : Seat) → due_step heap number seat ≡ None → seat.place ≡ places.Idle
+idle_from heap number seat none = idle_at heap number seat seat.place none
+
+-- the call was answered
+pub answered : (heap : Heap) (old now : State) (number : ℕ) (command : Command) (playing : Playing heap old now number command)
+    → due_step heap number (seat_at now number) ≡ None → Answered heap old now number command playing.told
+answered heap old now number command playing none =
+    subst (Stage heap old now number command playing.told (seat_at now number)) (idle_from heap number (seat_at now number) none) playing.stage
+
+-- and it told no more than that
+pub over : (heap : Heap) (old now : State) (number : ℕ) (command : Command) (playing : Playing heap old now number command)
+    → due_step heap number (seat_at now number) ≡ None → IsOver (seat_at old number) number command (seat_at now number) playing.told
+over heap old now number command playing none =
+    subst (Says (seat_at old number) number command (seat_at now number) playing.told) (idle_from heap number (seat_at now number) none) playing.says
+
+-- a reply that is told last is the last
+pub last_reply-said : (entries_ : List Entry) (number : ℕ) (command : Command) (reply : Reply) → last_reply (entries_ ++ Said number command reply ∷ []) ≡ Some reply
+last_reply-said entries_ number command reply =
+    let entry = Said number command reply in
+    let long = length-append entries_ (entry ∷ []) in
+    let last : length (entries_ ++ entry ∷ []) - 1 ≡ length entries_ = omega arith in
+    rw last (ap (option_and_then reply_of) (slice_get-get_or (entries_ ++ entry ∷ []) (length entries_) entry (omega arith)
+    ∙ ap Some (get_or-append_seam entries_ entry [] entry)))
+
+-- a list has one last reply, and one front before it
+one_last : (number : ℕ) (command : Command) (reply other : Reply) (told before front : List Entry) → told ≡ before ++ Said number command reply ∷ [] → told ≡ front ++ Said number command other ∷ [] → front ≡ before
+one_last number command reply other told before front is also =
+    let same : last_reply (front ++ Said number command other ∷ []) ≡ last_reply (before ++ Said number command reply ∷ []) = ap last_reply (sym also ∙ is) in
+    let e : other ≡ reply = some_reply (sym (last_reply-said front number command other) ∙ same ∙ last_reply-said before number command reply) in
+    append_cancel_right front before (Said number command reply ∷ []) (ap (λ (r : Reply). front ++ Said number command r ∷ []) (sym e) ∙ sym also ∙ is)
+  where
+    some_reply : {a b : Reply} → Some a ≡ Some b → a ≡ b
+    some_reply e = cc
+
+-- nothing is awaited once it is over
+all_mine : (heap : Heap) (old now : State) (number : ℕ) (command : Command) (playing : Playing heap old now number command)
+    → due_step heap number (seat_at now number) ≡ None → (seat_at now number).mine ≡ (seat_at old number).mine ++ playing.told
+all_mine heap old now number command playing none =
+    let idle = idle_from heap number (seat_at now number) none in
+    let mine = playing.mine in
+    sym (append-nil (seat_at now number).mine) ∙ ap (λ (l : List Entry). (seat_at now number).mine ++ l) (sym (ap (awaited_at heap now.words number (seat_at now number)) idle)) ∙ mine
+
+-- what comes before the reply to a command, be it a leave or not
+whole_comes : (heap : Heap) (old : State) (number : ℕ) (command : Command) (reply : Reply) (before : List Entry) → (command ≢ Leave → ComesDue heap old number command reply before)
+    → (command ≡ Leave → before ≡ last_gives number (length (seat_at old number).reserve)) → ComesDue heap old number command reply before
+whole_comes heap old number Leave reply before other leave near = leave refl
+whole_comes heap old number _ reply before other leave near = other (λ e. cc) near
+
+-- the whole call
+pub plays_call : (heap : Heap) (old now : State) (number : ℕ) (command : Command) (playing : Playing heap old now number command)
+    (none : due_step heap number (seat_at now number) ≡ None) → PlaysCall heap old now number command (answered heap old now number command playing none).reply
+plays_call heap old now number command playing none =
+    let answer = answered heap old now number command playing none in
+    let ended = over heap old now number command playing none in
+    let said = ended.replied in
+    record {
+      steps = playing.steps;
+      can = playing.can;
+      ends = playing.ends;
+      idle = idle_from heap number (seat_at now number) none;
+      before = answer.before;
+      shown = playing.shows ∙ answer.last;
+      mine = all_mine heap old now number command playing none ∙ ap (λ (l : List Entry). (seat_at old number).mine ++ l) answer.last;
+      comes = whole_comes heap old number command answer.reply answer.before answer.comes (λ a_leave.
+          sym (one_last number command answer.reply Done playing.told answer.before (last_gives number (length (seat_at old number).reserve)) answer.last
+          (ended.leave a_leave ∙ ap (λ (c : Command). last_gives number (length (seat_at old number).reserve) ++ Said number c Done ∷ []) (sym a_leave))));
+      beside = subst (AllByRecursion (IsBeside number)) (one_last number command answer.reply said.reply playing.told answer.before said.before answer.last said.last) said.beside;
+    }
+
+-- the reply that its last entry tells
+pub replied : (heap : Heap) (old now : State) (number : ℕ) (command : Command) (playing : Playing heap old now number command)
+    (none : due_step heap number (seat_at now number) ≡ None) → last_reply (seat_at now number).mine ≡ Some (answered heap old now number command playing none).reply
+replied heap old now number command playing none =
+    let over = answered heap old now number command playing none in
+    let whole : (seat_at now number).mine ≡ ((seat_at old number).mine ++ over.before) ++ Said number command over.reply ∷ [] =
+    all_mine heap old now number command playing none ∙ ap (λ (l : List Entry). (seat_at old number).mine ++ l) over.last ∙ sym (append_assoc (seat_at old number).mine over.before (Said number command over.reply ∷ [])) in
+    ap last_reply whole ∙ last_reply-said ((seat_at old number).mine ++ over.before) number command over.reply
+
+-- a step that is due is a move
+pub some_due : (heap : Heap) (number : ℕ) (seat : Seat) (step : Step) → due_step heap number seat ≡ Some step → IsSome (next_move heap number seat)
+some_due heap number seat step due = some_move (next_move heap number seat) step due
+  where
+    some_move : (move : Option Move) (step : Step) → option_map (λ m. m.step) move ≡ Some step → IsSome move
+    some_move None step e = cc
+    some_move (Some m) step e = refl
+
+-- what isn't some step is none
+pub none_due : (due : Option Step) → ((step : Step) → due ≡ Some step → ⊥) → due ≡ None
+none_due None not_ = refl
+none_due (Some step) not_ = absurd (not_ step refl)
+
+-- a loop that has no step left has none due
+pub none_left : {heap : Heap} (now : MachineValue) (number : ℕ) {due : Option Step} → now.heap ≡ heap → due ≡ due_step now.heap number (seat_at now.state number)
+    → ((step : Step) → due ≡ Some step → ⊥) → due_step heap number (seat_at now.state number) ≡ None
+none_left now number same is not_ =
+    ap (λ h. due_step h number (seat_at now.state number)) (sym same) ∙ sym is ∙ none_due _ not_
+
+-- a call that is over was made whole, and its last entry tells the answer
+pub record CallOver (heap : Heap) (old now : State) (number : ℕ) (command : Command) (reply : Reply) : Type 0 where
+  pub steps : PlaysCall heap old now number command reply
+  pub counts : CountsCall (seat_at old number) (seat_at now number) command
+  pub leave : command ≡ Leave → TellsLeave old now number
+  pub answer : IsRecord command → AnswersNew heap old now number command reply
+  pub refused : IsPlaceRefusal reply → LeavesAll old now number
+
+pub call_over : {heap : Heap} {old : State} (now : MachineValue) {number : ℕ} {command : Command} {reply : Reply} → Playing heap old now.state number command
+    → due_step heap number (seat_at now.state number) ≡ None → last_reply (log_of now number) ≡ Some reply → CallOver heap old now.state number command reply
+call_over {heap} {old} now {number} {command} {reply} playing none last =
+    let answer = answered heap old now.state number command playing none in
+    let ended = over heap old now.state number command playing none in
+    let told = ap last_reply (log_of_seat now number playing.within) ∙ replied heap old now.state number command playing none in
+    let same : answer.reply ≡ reply = some_same answer.reply reply (sym told ∙ last) in
+    record {
+      steps = subst (PlaysCall heap old now.state number command) same (plays_call heap old now.state number command playing none);
+      counts = ended.counts;
+      leave = λ a_leave. all_mine heap old now.state number command playing none ∙ ap (λ (l : List Entry). (seat_at old number).mine ++ l) (ended.leave a_leave);
+      answer = λ a_record. subst (AnswersNew heap old now.state number command) same (answer.answer a_record);
+      refused = λ refusal. answer.refused (subst IsPlaceRefusal (sym same) refusal);
+    }
+  where
+    some_same : (a b : Reply) → Some a ≡ Some b → a ≡ b
+    some_same a b e = cc
+
+-- and so it tells some reply
+pub call_replies : {heap : Heap} {old : State} (now : MachineValue) {number : ℕ} {command : Command} → Playing heap old now.state number command
+    → due_step heap number (seat_at now.state number) ≡ None → last_reply (log_of now number) ≡ None → ⊥
+call_replies {heap} {old} now {number} {command} playing none last =
+    no_reply (answered heap old now.state number command playing none).reply
+    (sym (ap last_reply (log_of_seat now number playing.within) ∙ replied heap old now.state number command playing none) ∙ last)
+  where
+    no_reply : (a : Reply) → Some a ≡ None → ⊥
+    no_reply a e = cc

@@ -1,0 +1,195 @@
+-- What a call that makes an object claims and gives back, group by group, and what it tells of that.
+use Rattle.std.proofs.Common.{◌≡◌, ◌≢◌, ℕ, ◌+◌, ◌/◌, ◌<◌, ◌≤◌, ◌⊎◌, List, [], ◌∷◌, ◌++◌, length, sum, refl, sym, ap, subst, ◌∙◌, inl, inr, append_assoc, append-nil, length-append, eq-eqb, arith}
+use Rattle.std.specs.List.{All}
+use Rattle.std.proofs.lemmas.Bool.{ne_eqb}
+use Rattle.std.proofs.lemmas.Bool.Decides.{eqb_tells}
+use Rattle.std.proofs.lemmas.List.{map-append, append_cancel_right, nil_from_length}
+use Rattle.std.proofs.lemmas.List.Elements.{filter-append, All-nil, All-cons, All-head, All-tail}
+use Rattle.std.proofs.lemmas.List.Filters.{length-filter_both}
+use Rattle.std.proofs.lemmas.List.Sums.{sum_by-cons}
+use Rattle.heap_model.specs.declared.command.Command.{Command}
+use Rattle.heap_model.specs.declared.command.Command.TheVariants.{New}
+use Rattle.heap_model.specs.declared.entry.Entry.{Entry}
+use Rattle.heap_model.specs.declared.entry.Entry.TheVariants.{Takes, GivesBack}
+use Rattle.heap_model.specs.declared.id.Id.{Id}
+use Rattle.heap_model.specs.declared.reply.Reply.{Reply}
+use Rattle.heap_model.specs.declared.reply.Reply.TheVariants as replies
+use Rattle.heap_model.specs.SeatCalls.{takes_of, gives_of, IsGroupCount, ClaimsBefore, ComesBefore}
+use Rattle.heap_model.specs.Space.{need_of}
+use Rattle.heap_model.proofs.Snoc.{same_last}
+use Rattle.core_machine.specs.seat.Commands.{IsRecord}
+use Rattle.core_machine.specs.table.Fragments.{in_group, out_of_group, part_in, part_out, clear_in}
+use Rattle.core_machine.specs.seat.Making.{first_group}
+use Rattle.core_machine.specs.seat.MakingMoves.{takes_some}
+use Rattle.core_machine.proofs.table_lemmas.Clear.{length-clear_among}
+use Rattle.core_machine.proofs.table_lemmas.Owned.{clear_in-group}
+use Rattle.core_machine.proofs.call_lemmas.Restoring.{part_all, part_none, part_in-out}
+
+-- so many of the hand's fragments are of its first fragment's group, and so on with the others
+abbrev pub AreGroupsOf : List ℕ → List ℕ → Type 0
+AreGroupsOf [] hand = hand ≡ []
+AreGroupsOf (count ∷ counts) hand = IsGroupCount count × (length (part_in (first_group hand) hand) ≡ count) × AreGroupsOf counts (part_out (first_group hand) hand)
+
+all_groups : (counts hand : List ℕ) → AreGroupsOf counts hand → All IsGroupCount counts
+all_groups [] hand is = All-nil IsGroupCount
+all_groups (count ∷ counts) hand is = All-cons IsGroupCount count counts is.0 (all_groups counts (part_out (first_group hand) hand) is.2)
+
+sum_groups : (counts hand : List ℕ) → AreGroupsOf counts hand → sum counts ≡ length hand
+sum_groups [] hand is = sym (ap length is)
+sum_groups (count ∷ counts) hand is =
+    let group = first_group hand in
+    let both = length-filter_both (in_group group) (out_of_group group) (λ f. refl) hand in
+    omega (arith, sum_by-cons (λ n. n) count counts, sum_groups counts (part_out group hand) is.2, is.1)
+
+-- all fragments of a group are outside of another, and none is outside of it
+out_all : (g k : ℕ) (fragments : List ℕ) → g ≢ k → All (λ f. f / 16 ≡ g) fragments → part_out k fragments ≡ fragments
+out_all g k [] other each = refl
+out_all g k (f ∷ more) other each =
+    rw (ne_eqb (f / 16) k (λ e. other (sym (All-head (λ f. f / 16 ≡ g) f more each) ∙ e))) (ap (λ (l : List ℕ). f ∷ l) (out_all g k more other (All-tail (λ f. f / 16 ≡ g) f more each)))
+
+out_none : (g : ℕ) (fragments : List ℕ) → All (λ f. f / 16 ≡ g) fragments → part_out g fragments ≡ []
+out_none g fragments each =
+    let both = length-filter_both (in_group g) (out_of_group g) (λ f. refl) fragments in
+    nil_from_length (part_out g fragments) (omega (arith, ap (length {A = ℕ}) (part_all g fragments each)))
+
+-- the first fragment isn't of a group that a list has nothing of
+first_of_none : (g f : ℕ) (more : List ℕ) → part_in g (f ∷ more) ≡ [] → f / 16 ≢ g
+first_of_none g f more none e = no_first (rw (eq-eqb (f / 16) g e) at none)
+  where
+    no_first : f ∷ part_in g more ≡ [] → ⊥
+    no_first h = cc
+
+-- the groups of a hand to which a group is added that it had nothing of
+groups_more : (counts hand got : List ℕ) (g : ℕ) → AreGroupsOf counts hand → part_in g hand ≡ [] → All (λ f. f / 16 ≡ g) got → IsGroupCount (length got)
+    → AreGroupsOf (counts ++ length got ∷ []) (hand ++ got)
+groups_more [] hand got g is apart of_group some =
+    let first : first_group got ≡ g = of_group 0 0 some.0 in
+    rw (is, first, part_all g got of_group, out_none g got of_group) (some, refl, refl)
+groups_more (count ∷ counts) [] got g is apart of_group some = absurd (omega (arith, is.0.0, is.1))
+groups_more (count ∷ counts) (f ∷ more) got g is apart of_group some =
+    let hand = f ∷ more in
+    let group = f / 16 in
+    let other : g ≢ group = λ e. first_of_none g f more apart (sym e) in
+    let ins : part_in group (hand ++ got) ≡ part_in group hand = filter-append (in_group group) hand got ∙ ap (λ (l : List ℕ). part_in group hand ++ l) (part_none g group got other of_group) ∙ append-nil (part_in group hand) in
+    let outs : part_out group (hand ++ got) ≡ part_out group hand ++ got = filter-append (out_of_group group) hand got ∙ ap (λ (l : List ℕ). part_out group hand ++ l) (out_all g group got other of_group) in
+    (is.0, ap (length {A = ℕ}) ins ∙ is.1, rw outs (groups_more counts (part_out group hand) got g is.2 (part_in-out group g hand other ∙ apart) of_group some))
+
+-- what was claimed so far: before the last claim it was too little
+pub record HasTaken (number unborn need : ℕ) (hand : List ℕ) (told : List Entry) : Type 0 where
+  pub counts : List ℕ
+  pub groups : AreGroupsOf counts hand
+  pub shown : told ≡ takes_of number counts
+  pub needed : (earlier : List ℕ) (last : ℕ) → counts ≡ earlier ++ last ∷ [] → unborn + sum earlier < need
+  pub little_left : unborn + length hand ≤ need + 15
+
+-- nothing was claimed yet
+pub taken_none : (number unborn need : ℕ) → unborn ≤ 15 → HasTaken number unborn need [] []
+taken_none number unborn need small = record {
+  counts = [];
+  groups = refl;
+  shown = refl;
+  needed = λ earlier last e. absurd (no_last earlier last e);
+  little_left = omega arith;
+}
+  where
+    no_last : (earlier : List ℕ) (last : ℕ) → [] ≡ earlier ++ last ∷ [] → ⊥
+    no_last [] last e = cc
+    no_last (count ∷ more) last e = cc
+
+same_front : (xs ys : List ℕ) (x y : ℕ) → xs ++ x ∷ [] ≡ ys ++ y ∷ [] → xs ≡ ys
+same_front xs ys x y e = append_cancel_right xs ys (x ∷ []) (e ∙ ap (λ (n : ℕ). ys ++ n ∷ []) (sym (same_last xs ys x y e)))
+
+-- a group's fragments were claimed, of which the hand had none unless there were none
+pub taken_more : (number unborn need : ℕ) (hand : List ℕ) (told : List Entry) (group word : ℕ) → HasTaken number unborn need hand told → unborn + length hand < need
+    → (part_in group hand ≡ []) ⊎ (clear_in group word ≡ [])
+    → HasTaken number unborn need (hand ++ clear_in group word) (told ++ takes_some number (length (clear_in group word)))
+taken_more number unborn need hand told group word taken few apart =
+    let got = clear_in group word in
+    elim (eqb_tells (length got) 0) as (λ _. HasTaken number unborn need (hand ++ got) (told ++ takes_some number (length got))) [
+      | inl none ↦ rw (nil_from_length got none.1) (simp append-nil taken)
+      | inr some ↦
+          let nothing : part_in group hand ≡ [] = elim apart [ inl empty ↦ empty | inr none ↦ absurd (some.1 (ap (length {A = ℕ}) none)) ] in
+          let few_got = length-clear_among group word 16 in
+          let counts = taken.counts in
+          rw some.0 (record {
+            counts = counts ++ length got ∷ [];
+            groups = groups_more counts hand got group taken.groups nothing (clear_in-group group word) (omega (arith, some.1), few_got);
+            shown = ap (λ (l : List Entry). l ++ Takes number (length got) ∷ []) taken.shown ∙ sym (map-append (Takes number) counts (length got ∷ []));
+            needed = λ earlier last e. subst (λ (l : List ℕ). unborn + sum l < need) (same_front counts earlier (length got) last e) (omega (arith, sum_groups counts hand taken.groups));
+            little_left = omega (arith, length-append hand got);
+          })
+    ]
+
+-- enough was claimed
+pub taken_enough : (number unborn need : ℕ) (hand : List ℕ) (told : List Entry) (id : Id) → HasTaken number unborn need hand told → need ≤ unborn + length hand
+    → ClaimsBefore number unborn need (replies.Made id) told
+taken_enough number unborn need hand told id taken enough =
+    let all = sum_groups taken.counts hand taken.groups in (
+      taken.counts,
+      record {
+        of_groups = all_groups taken.counts hand taken.groups;
+        needed = taken.needed;
+        enough = omega arith;
+        little_left = omega (arith, taken.little_left);
+      },
+      taken.shown,
+    )
+
+-- what was claimed is given back: with what is left every claim is
+pub record GivesBackAll (number given : ℕ) (hand : List ℕ) (told : List Entry) : Type 0 where
+  pub counts : List ℕ
+  pub of_groups : All IsGroupCount counts
+  pub all : sum counts ≡ length hand + given
+  pub left : List ℕ
+  pub groups : AreGroupsOf left hand
+  pub shown : told ++ gives_of number left ≡ takes_of number counts ++ gives_of number counts
+
+-- nothing was given back yet
+pub gives_none : (number unborn need : ℕ) (hand : List ℕ) (told : List Entry) → HasTaken number unborn need hand told → GivesBackAll number 0 hand told
+gives_none number unborn need hand told taken = record {
+  counts = taken.counts;
+  of_groups = all_groups taken.counts hand taken.groups;
+  all = omega (arith, sum_groups taken.counts hand taken.groups);
+  left = taken.counts;
+  groups = taken.groups;
+  shown = ap (λ (l : List Entry). l ++ gives_of number taken.counts) taken.shown;
+}
+
+-- the first group's fragments were given back
+pub gives_more : (number given : ℕ) (hand : List ℕ) (told : List Entry) → GivesBackAll number given hand told → 0 < length hand
+    → let part = part_in (first_group hand) hand in
+    GivesBackAll number (given + length part) (part_out (first_group hand) hand) (told ++ GivesBack number (length part) ∷ [])
+gives_more number given hand told gives some = by gives.left gives.groups gives.shown
+  where
+    by : (left : List ℕ) → AreGroupsOf left hand → told ++ gives_of number left ≡ takes_of number gives.counts ++ gives_of number gives.counts
+        → let part = part_in (first_group hand) hand in
+        GivesBackAll number (given + length part) (part_out (first_group hand) hand) (told ++ GivesBack number (length part) ∷ [])
+    by [] groups shown = absurd (omega (arith, ap (length {A = ℕ}) groups))
+    by (count ∷ left) groups shown =
+        let group = first_group hand in
+        let both = length-filter_both (in_group group) (out_of_group group) (λ f. refl) hand in
+        record {
+          counts = gives.counts;
+          of_groups = gives.of_groups;
+          all = omega (arith, gives.all);
+          left = left;
+          groups = groups.2;
+          shown = append_assoc told (GivesBack number (length (part_in group hand)) ∷ []) (gives_of number left) ∙ ap (λ (n : ℕ). told ++ GivesBack number n ∷ gives_of number left) groups.1 ∙ shown;
+        }
+
+-- everything was given back
+pub gives_over : (number unborn need given : ℕ) (told : List Entry) → GivesBackAll number given [] told → unborn + given < need
+    → ClaimsBefore number unborn need (replies.Full need (unborn + given)) told
+gives_over number unborn need given told gives few =
+    (gives.counts, refl, record { of_groups = gives.of_groups; all_found = omega (arith, gives.all); too_few = few }, whole gives.left gives.groups gives.shown)
+  where
+    whole : (left : List ℕ) → AreGroupsOf left [] → told ++ gives_of number left ≡ takes_of number gives.counts ++ gives_of number gives.counts
+        → told ≡ takes_of number gives.counts ++ gives_of number gives.counts
+    whole [] groups shown = sym (append-nil told) ∙ shown
+    whole (count ∷ left) groups shown = absurd (omega (arith, groups.0.0, groups.1))
+
+-- what comes before the reply to a command that makes a record
+pub comes_of_record : (number unborn last : ℕ) (command : Command) (reply : Reply) (before : List Entry) → IsRecord command
+    → ClaimsBefore number unborn (need_of command) reply before → ComesBefore number unborn last command reply before
+comes_of_record number unborn last (New d fields) reply before a_record claims = claims
+comes_of_record number unborn last _ reply before a_record claims = absurd a_record

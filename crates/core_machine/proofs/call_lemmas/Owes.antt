@@ -1,0 +1,79 @@
+-- How many steps and entries a call in flight has still to make, by its place.
+use Rattle.std.proofs.Common.{ℕ, ◌+◌, ◌-◌, ◌*◌, ◌<◌, ◌≤◌, length}
+use Rattle.heap_model.specs.declared.heap.Heap.{Heap}
+use Rattle.core_machine.specs.declared.place.Place.{Place}
+use Rattle.core_machine.specs.declared.place.Place.TheVariants as places
+use Rattle.core_machine.specs.declared.place.Making.{Making}
+use Rattle.core_machine.specs.declared.place.Reaching.{Reaching}
+use Rattle.core_machine.specs.declared.place.Reaching.TheVariants.{Opening, Walking, Getting, Naming, LoadingOld, ShadingOld, ShadingNew, Swapping}
+use Rattle.core_machine.specs.declared.place.Polling.{Polling}
+use Rattle.core_machine.specs.declared.place.Polling.TheVariants.{Asking, Shading, Answering}
+use Rattle.core_machine.specs.declared.place.Leaving.TheVariants.{Emptying, Parting}
+use Rattle.core_machine.specs.seat.Polling.{roots}
+use Rattle.core_machine.specs.declared.place.Making.TheVariants.{Gathering, Returning, Refusing, Storing, Bearing}
+use Rattle.core_machine.specs.seat.Seat.{Seat, need}
+use Rattle.core_machine.specs.seat.Making.{gathered}
+
+-- the most entries that the making of an object adds from its place on
+abbrev pub owes_making : Seat → Making → ℕ
+owes_making seat Gathering = 2 * need seat - length (gathered seat)
+owes_making seat Returning = length seat.hand + 1
+owes_making seat Refusing = 1
+owes_making seat Storing = 1
+owes_making seat Bearing = 1
+
+-- the most entries that a call adds from its place on
+abbrev pub owes_at : Seat → Place → ℕ
+owes_at seat places.Idle = 0
+owes_at seat (places.Making place) = owes_making seat place
+owes_at seat places.Telling = 1
+owes_at seat (places.Reaching place) = 1
+owes_at seat (places.Polling place) = 2
+owes_at seat (places.Leaving Emptying) = 2
+owes_at seat (places.Leaving Parting) = 1
+
+abbrev pub owes : Seat → ℕ
+owes seat = owes_at seat seat.place
+
+-- the most steps that the making of an object takes from its place on
+abbrev pub making_steps : Heap → Seat → Making → ℕ
+making_steps heap seat Gathering = (heap.groups - seat.tried) + 5 * need seat
+making_steps heap seat Returning = length seat.hand + 1
+making_steps heap seat Refusing = 1
+making_steps heap seat Storing = (4 * length seat.body - seat.stored) + length seat.hand
+making_steps heap seat Bearing = length seat.hand
+
+-- and the reading or writing of a field
+abbrev pub reaching_steps : ℕ → Reaching → ℕ
+reaching_steps links Opening = links + 5
+reaching_steps links Walking = links + 4
+reaching_steps links Getting = 2
+reaching_steps links Naming = 1
+reaching_steps links LoadingOld = 4
+reaching_steps links ShadingOld = 3
+reaching_steps links ShadingNew = 2
+reaching_steps links Swapping = 1
+
+-- and a poll
+abbrev pub polling_steps : Seat → Polling → ℕ
+polling_steps seat Asking = length seat.registers + 2
+polling_steps seat Shading = (length (roots seat) - seat.shaded) + 1
+polling_steps seat Answering = 1
+
+-- the most steps that a call makes from its place on
+abbrev pub steps_at : Heap → Seat → Place → ℕ
+steps_at heap seat places.Idle = 0
+steps_at heap seat (places.Making place) = making_steps heap seat place
+steps_at heap seat places.Telling = 1
+steps_at heap seat (places.Reaching place) = reaching_steps seat.links place
+steps_at heap seat (places.Polling place) = polling_steps seat place
+steps_at heap seat (places.Leaving Emptying) = 2
+steps_at heap seat (places.Leaving Parting) = 1
+
+abbrev pub steps_left : Heap → Seat → ℕ
+steps_left heap seat = steps_at heap seat seat.place
+
+-- fewer steps are left, and no more entries than the move leaves room for
+pub record Nears (heap : Heap) (seat : Seat) (owed steps : ℕ) (added : ℕ) : Type 0 where
+  pub fewer : steps_left heap seat < steps
+  pub paid : owes seat + added ≤ owed

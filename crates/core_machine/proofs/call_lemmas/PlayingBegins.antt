@@ -1,0 +1,47 @@
+-- A call that is made by itself, at its begin.
+use Rattle.std.proofs.Common.{◌≡◌, ℕ, [], refl, subst}
+use Rattle.heap_model.specs.declared.heap.Heap.{Heap}
+use Rattle.heap_model.specs.declared.command.Command.{Command}
+use Rattle.heap_model.specs.declared.command.Command.TheVariants as commands
+use Rattle.core_machine.specs.declared.place.Place.TheVariants as places
+use Rattle.core_machine.specs.declared.seat.register.Register.{Register}
+use Rattle.core_machine.specs.declared.seat.register.Register.TheVariants.{Nil, Number, Object}
+use Rattle.core_machine.specs.seat.Commands.{IsServed}
+use Rattle.core_machine.specs.seat.Registers.{register_in}
+use Rattle.core_machine.specs.seat.Reaching.{opened}
+use Rattle.core_machine.specs.seat.Seat.{Seat}
+use Rattle.core_machine.specs.machine.Machine.{State, seat_at, begun}
+use Rattle.core_machine.specs.seat.Fits.{FitsWay, Fits}
+use Rattle.core_machine.proofs.call_lemmas.Playing.{stage_begun_new}
+use Rattle.core_machine.proofs.call_lemmas.Stages.{Untouched, Stage}
+
+module _ (heap : Heap) (old : State) (number : ℕ) (now : State) (fits : Fits heap (seat_at old number)) (idle : (seat_at old number).place ≡ places.Idle) (same : now.words ≡ old.words) where
+  -- a seat that has begun a call and made no step
+  untouched : (seat : Seat) → seat ≡ record (seat_at old number) { command = seat.command; reached = seat.reached; links = seat.links; place = seat.place; mine = seat.mine }
+      → Untouched old now number [] seat
+  untouched seat is = record { idle = idle; nowhere = subst (FitsWay (seat_at old number)) idle fits.way_at_place; words_stay = same; seat_stays = is; none_told = refl }
+
+  opened_stage : (command : Command) (register : Register)
+      → Stage heap old now number command [] (opened (record (seat_at old number) { command = command }) register) (opened (record (seat_at old number) { command = command }) register).place
+  opened_stage command Nil = (refl, untouched (opened (record (seat_at old number) { command = command }) Nil) refl)
+  opened_stage command (Number n) = (refl, untouched (opened (record (seat_at old number) { command = command }) (Number n)) refl)
+  opened_stage command (Object head id) = (refl, untouched (opened (record (seat_at old number) { command = command }) (Object head id)) refl)
+
+  telling_stage : (command : Command) → Stage heap old now number command [] (record (seat_at old number) { command = command; place = places.Telling }) places.Telling
+  telling_stage command = (refl, untouched (record (seat_at old number) { command = command; place = places.Telling }) refl)
+
+  -- the command is begun
+  pub stage_begun : (command : Command) → IsServed command
+      → Stage heap old now number command [] (begun heap (seat_at old number) command) (begun heap (seat_at old number) command).place
+  stage_begun (commands.New d fields) served = stage_begun_new heap old number (commands.New d fields) now fits idle same
+  stage_begun (commands.Array d cells) served = absurd served
+  stage_begun (commands.Get d r i) served = opened_stage (commands.Get d r i) (register_in (seat_at old number).registers r)
+  stage_begun (commands.Set r i v) served = opened_stage (commands.Set r i v) (register_in (seat_at old number).registers r)
+  stage_begun (commands.Num d n) served = telling_stage (commands.Num d n)
+  stage_begun (commands.Nil d) served = telling_stage (commands.Nil d)
+  stage_begun (commands.Copy d r) served = telling_stage (commands.Copy d r)
+  stage_begun (commands.Same a b) served = telling_stage (commands.Same a b)
+  stage_begun (commands.Len r) served = opened_stage (commands.Len r) (register_in (seat_at old number).registers r)
+  stage_begun commands.Poll served = (refl, untouched (begun heap (seat_at old number) commands.Poll) refl)
+  stage_begun commands.Collect served = absurd served
+  stage_begun commands.Leave served = refl

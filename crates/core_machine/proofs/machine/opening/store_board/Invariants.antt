@@ -1,0 +1,11 @@
+use Rattle.std.proofs.Common.{◌≡◌, length}
+use Rattle.core_machine.specs.declared.table.address.Address.{Address}
+use Rattle.core_machine.specs.table.Layout.{table_length, InTable, at}
+use Rattle.core_machine.specs.machine.Opening.{with_board}
+use Rattle.core_machine.proofs.machine.opening.store_board.Given as goal
+
+abbrev pub invariant-loop-place : goal.invariant-loop-place
+invariant-loop-place l = record {
+  table : length l.words ≡ table_length l.heap;
+  board : (a : Address) → InTable l.heap a → at l.heap l.words a ≡ with_board l.place a (at l.heap l.fn.words a);
+}

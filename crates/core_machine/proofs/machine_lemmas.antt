@@ -1,0 +1,6 @@
+-- The state of a machine after a begin, a step, a turn, and at the opening.
+pub mod OpeningMachine
+pub mod Opens
+pub mod Parties
+pub mod Runs
+pub mod Stepping

@@ -1,0 +1,143 @@
+-- Runs with one event more, and what every run keeps.
+use Rattle.std.proofs.Common.{suc, ◌≡◌, ℕ, ◌+◌, ◌<◌, ◌^◌, List, [], ◌∷◌, ◌++◌, length, get_or, set, Option, Some, None, refl, sym, ap, subst, ◌∙◌, inl, inr, append_assoc, append-nil, arith}
+use Rattle.std.specs.Prelude.{IsSome, IfSome, option_map}
+use Rattle.std.specs.List.{All}
+use Rattle.std.proofs.lemmas.Bool.Decides.{eqb_tells, leb_tells}
+use Rattle.std.proofs.lemmas.List.{length-set, get_or-set_same, get_or-set_other, get_or_past}
+use Rattle.std.proofs.lemmas.Grind.{replicate_next}
+use Rattle.heap_model.specs.declared.heap.Heap.{Heap}
+use Rattle.heap_model.specs.declared.command.Command.{Command}
+use Rattle.heap_model.specs.declared.entry.Entry.{Entry}
+use Rattle.core_machine.specs.table.Layout.{put, InTable}
+use Rattle.core_machine.specs.table.Loaded.{LeadWithin, FoundWithin}
+use Rattle.core_machine.specs.collector.Collector.{next_turn, MayTurn}
+use Rattle.core_machine.specs.table.Operation.{address_of, written}
+use Rattle.core_machine.specs.seat.Seat.{Seat, nobody}
+use Rattle.core_machine.specs.declared.step.Step.{Step}
+use Rattle.core_machine.specs.Moves.{Move, next_move, due_step, seat_moved, seat_after}
+use Rattle.core_machine.specs.machine.Machine.{State, seat_at, found_by, Event, Begins, Steps, Turns, turned, Can, after, moved, entries, Run, after_all, history, begun}
+use Rattle.core_machine.specs.seat.Fits.{Fits}
+use Rattle.core_machine.specs.machine.Value.{IsMachine}
+use Rattle.core_machine.specs.machine.Calls.{call_events}
+use Rattle.core_machine.proofs.table_lemmas.Addresses.{length-put, All-put, at-lt}
+use Rattle.core_machine.proofs.table_lemmas.Wide.{written_wide}
+use Rattle.core_machine.proofs.seat_lemmas.FittingMoves.{fits_begun, fits_moved, move_in_table}
+use Rattle.core_machine.proofs.collector_lemmas.FittingTurns.{fits_turn, turn_in_table, turn_wide, turn_leads}
+use Rattle.core_machine.proofs.table_lemmas.Leading.{leads-put, written_leads, found-leads}
+
+pub Run-more : (heap : Heap) (state : State) (events : List Event) (event : Event) → Run heap state events → Can heap (after_all heap state events) event
+    → Run heap state (events ++ event ∷ [])
+Run-more heap state [] event run can = (can, tt)
+Run-more heap state (first ∷ events) event run can = (run.0, Run-more heap (after heap state first) events event run.1 can)
+
+pub after_all-more : (heap : Heap) (state : State) (events : List Event) (event : Event)
+    → after_all heap state (events ++ event ∷ []) ≡ after heap (after_all heap state events) event
+after_all-more heap state [] event = refl
+after_all-more heap state (first ∷ events) event = after_all-more heap (after heap state first) events event
+
+pub history-more : (heap : Heap) (state : State) (events : List Event) (event : Event)
+    → history heap state (events ++ event ∷ []) ≡ history heap state events ++ entries heap (after_all heap state events) event
+history-more heap state [] event = append-nil (entries heap state event)
+history-more heap state (first ∷ events) event =
+    ap (λ (l : List Entry). entries heap state first ++ l) (history-more heap (after heap state first) events event)
+    ∙ sym (append_assoc (entries heap state first) (history heap (after heap state first) events) (entries heap (after_all heap (after heap state first) events) event))
+
+pub call_events-more : (q : ℕ) (command : Command) (n : ℕ) → call_events q command (n + 1) ≡ call_events q command n ++ Steps q ∷ []
+call_events-more q command n = ap (λ (l : List Event). Begins q command ∷ l) (replicate_next n (Steps q))
+
+-- a seat that was put in its place, and one beside it
+pub seat_at-set : (seats : List Seat) (q : ℕ) (seat : Seat) → q < length seats → get_or (set seats q seat) q nobody ≡ seat
+seat_at-set seats q seat within = get_or-set_same seats q seat nobody within
+
+-- another seat in the place of one, and other words
+pub machine_with : (heap : Heap) (state : State) (words : List ℕ) (q : ℕ) (seat : Seat) → IsMachine heap state → q < length state.seats
+    → length words ≡ length state.words → All (λ word. word < 2 ^ 64) words → LeadWithin heap words → Fits heap seat
+    → IsMachine heap (record state { words = words; seats = set state.seats q seat })
+machine_with heap state words q seat machine within same wide leads fits =
+    let long = length-set state.seats q seat in
+    record {
+      limits = machine.limits;
+      table = same ∙ machine.table;
+      wide = wide;
+      leads = leads;
+      seated = long ∙ machine.seated;
+      fit = λ n below. elim (eqb_tells n q) as (λ _. Fits heap (get_or (set state.seats q seat) n nobody)) [
+        | inl here ↦ subst (Fits heap) (sym (ap (λ (i : ℕ). get_or (set state.seats q seat) i nobody) here.1 ∙ seat_at-set state.seats q seat within)) fits
+        | inr there ↦ subst (Fits heap) (sym (get_or-set_other state.seats q n seat nobody there.1)) (machine.fit n (omega arith))
+      ];
+      collector_fit = machine.collector_fit;
+    }
+
+machine_moved : (heap : Heap) (state : State) (q : ℕ) (move : Option Move) → IsMachine heap state → q < length state.seats
+    → ((found : ℕ) → found < 2 ^ 64 → IfSome move (λ m. FoundWithin heap (address_of m.step) found) → Fits heap (seat_moved (seat_at state q) move found))
+    → ((found : ℕ) → found < 2 ^ 64 → IfSome move (λ m. written m.step found < 2 ^ 64))
+    → ((found : ℕ) → IfSome move (λ m. FoundWithin heap (address_of m.step) found) → IfSome move (λ m. FoundWithin heap (address_of m.step) (written m.step found)))
+    → IfSome move (λ m. InTable heap (address_of m.step)) → IsMachine heap (moved heap state q move)
+machine_moved heap state q None machine within fits wide leads there = machine
+machine_moved heap state q (Some move) machine within fits wide leads there =
+    let found = found_by heap state move.step in
+    let small = at-lt heap state.words (address_of move.step) machine.wide in
+    let led = found-leads heap state.words (address_of move.step) there machine.leads in
+    machine_with heap state (put heap state.words (address_of move.step) (written move.step found)) q (seat_after move found) machine within
+    (length-put heap state.words (address_of move.step) (written move.step found))
+    (All-put heap state.words (address_of move.step) (written move.step found) (wide found small) machine.wide)
+    (leads-put heap state.words (address_of move.step) (written move.step found) machine.table there (leads found led) machine.leads)
+    (fits found small led)
+
+-- the collector's turn leaves a machine
+machine_turned : (heap : Heap) (state : State) → IsMachine heap state → MayTurn state.collector state.collector.stage → IsMachine heap (turned heap state (next_turn heap state.collector))
+machine_turned heap state machine may =
+    let step = (next_turn heap state.collector).step in
+    let found = found_by heap state step in
+    let there = turn_in_table heap state.collector machine.limits machine.collector_fit in
+    record {
+      limits = machine.limits;
+      table = length-put heap state.words (address_of step) (written step found) ∙ machine.table;
+      wide = All-put heap state.words (address_of step) (written step found) (turn_wide heap state.collector found machine.collector_fit (at-lt heap state.words (address_of step) machine.wide)) machine.wide;
+      leads = leads-put heap state.words (address_of step) (written step found) machine.table there (turn_leads heap state.collector (written step found)) machine.leads;
+      seated = machine.seated;
+      fit = machine.fit;
+      collector_fit = fits_turn heap state.collector found machine.limits machine.collector_fit may;
+    }
+
+-- who has a move is a seat
+pub mover_within : (heap : Heap) (state : State) (q : ℕ) → IsSome (next_move heap q (seat_at state q)) → q < length state.seats
+mover_within heap state q some =
+    elim (leb_tells (suc q) (length state.seats)) as (λ _. q < length state.seats) [
+      | inl within ↦ within.1
+      | inr past ↦ absurd (none (subst (λ (s : Seat). IsSome (next_move heap q s)) (get_or_past state.seats q nobody (omega (arith, past.1))) some))
+    ]
+  where
+    none : IsSome (next_move heap q nobody) → ⊥
+    none e = cc
+
+-- the due step touches a word of the table, and finds one there that leads within the heap
+due_at_move : (heap : Heap) (state : State) (move : Option Move) (step : Step) → IsMachine heap state → option_map (λ m. m.step) move ≡ Some step
+    → IfSome move (λ m. InTable heap (address_of m.step))
+    → InTable heap (address_of step) × IfSome move (λ m. FoundWithin heap (address_of m.step) (found_by heap state step))
+due_at_move heap state None step machine due there = cc
+due_at_move heap state (Some move) step machine due there =
+    let same : move.step ≡ step = cc in (
+      subst (λ (s : Step). InTable heap (address_of s)) same there,
+      subst (λ (s : Step). FoundWithin heap (address_of move.step) (found_by heap state s)) same (found-leads heap state.words (address_of move.step) there machine.leads),
+    )
+
+pub due_within_table : (heap : Heap) (state : State) (q : ℕ) (step : Step) → IsMachine heap state → q < length state.seats → due_step heap q (seat_at state q) ≡ Some step
+    → InTable heap (address_of step) × IfSome (next_move heap q (seat_at state q)) (λ m. FoundWithin heap (address_of m.step) (found_by heap state step))
+due_within_table heap state q step machine within due =
+    due_at_move heap state (next_move heap q (seat_at state q)) step machine due
+    (move_in_table heap q (seat_at state q) (omega (arith, within, machine.seated, machine.limits.seats_fit)) (machine.fit q within))
+
+-- every event leaves a machine
+pub machine_after : (heap : Heap) (state : State) (event : Event) → IsMachine heap state → Can heap state event → IsMachine heap (after heap state event)
+machine_after heap state (Begins q command) machine can =
+    machine_with heap state state.words q (begun heap (seat_at state q) command) machine can.0 refl machine.wide machine.leads (fits_begun heap (seat_at state q) command (machine.fit q can.0) can.1)
+machine_after heap state (Steps q) machine can =
+    let within = mover_within heap state q can in
+    let few : q < 16 = omega (arith, within, machine.seated, machine.limits.seats_fit) in
+    let fits = machine.fit q within in
+    machine_moved heap state q (next_move heap q (seat_at state q)) machine within (λ found small led. fits_moved heap q (seat_at state q) found fits small led)
+    (λ found small. written_wide heap q (seat_at state q) found machine.limits few fits small)
+    (λ found led. written_leads heap q (seat_at state q) found machine.limits few fits led)
+    (move_in_table heap q (seat_at state q) few fits)
+machine_after heap state Turns machine can = machine_turned heap state machine can

@@ -1,0 +1,9 @@
+-- A seat's own data fit together, whatever move it makes.
+pub mod Aside
+pub mod Fitting
+pub mod FittingAnswers
+pub mod FittingBegins
+pub mod FittingEntries
+pub mod FittingMaking
+pub mod FittingMoves
+pub mod FittingReaching

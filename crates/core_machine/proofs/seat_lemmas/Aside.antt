@@ -1,0 +1,87 @@
+-- What making an object leaves alone.
+use Rattle.std.proofs.Common.{◌≡◌, ℕ, ◌*◌, ◌^◌, ◌<◌, Bool, true, false, List, refl, subst, sym, ◌∙◌}
+use Rattle.std.specs.List.{All}
+use Rattle.heap_model.specs.declared.heap.Heap.{Heap}
+use Rattle.core_machine.specs.declared.place.Place.{Place}
+use Rattle.core_machine.specs.declared.place.Place.TheVariants as places
+use Rattle.core_machine.specs.declared.place.Making.{Making}
+use Rattle.core_machine.specs.declared.seat.register.Register.{Register}
+use Rattle.core_machine.specs.table.Loaded.{head_in, IsWithinHeap}
+use Rattle.core_machine.specs.seat.Seat.{Seat}
+use Rattle.core_machine.specs.seat.FitsReaching.{HasNoWay}
+use Rattle.core_machine.specs.seat.Fits.{FitsRegister, FitsWay, FitsAnswer, HasNoAnswer, Fits, FitsPlace, AreFragments}
+
+-- the registers fit, nothing is reached, loaded or about to be answered, and the seat hasn't left
+pub record StandsAside (heap : Heap) (registers : List Register) (reached links loaded asked shaded : ℕ) (left : Bool) : Type 0 where
+  pub registers_fit : All (FitsRegister heap) registers
+  pub reached_within : reached < 16 * heap.groups
+  pub loaded_within : IsWithinHeap heap (head_in loaded)
+  pub asked_small : asked < 2 ^ 64
+  pub nowhere : HasNoWay reached links loaded
+  pub silent : HasNoAnswer asked shaded
+  pub present : left ≡ false
+
+abbrev pub IsAside : Heap → Seat → Type 0
+IsAside heap seat = StandsAside heap seat.registers seat.reached seat.links seat.loaded seat.asked seat.shaded seat.left
+
+-- who hasn't left isn't gone
+pub gone_aside : {G : Type 0} {left : Bool} → left ≡ false → left ≡ true → G
+gone_aside present gone = let not : false ≡ true = sym present ∙ gone in absurd (differ not)
+  where
+    differ : false ≡ true → ⊥
+    differ e = cc
+
+-- a seat with a call in flight hasn't left
+pub present_busy : (heap : Heap) (seat : Seat) (place : Place) → Fits heap seat → seat.place ≡ place → (place ≡ places.Idle → ⊥) → seat.left ≡ false
+present_busy heap seat place fits here busy = by seat.left (λ gone. busy (sym here ∙ (fits.gone gone).idle)) where
+  by : (left : Bool) → (left ≡ true → ⊥) → left ≡ false
+  by false no_ = refl
+  by true no_ = absurd (no_ refl)
+
+-- while an object is made
+pub aside_making : (heap : Heap) (seat : Seat) (place : Making) → Fits heap seat → seat.place ≡ places.Making place → IsAside heap seat
+aside_making heap seat place fits here = record {
+  registers_fit = fits.registers_fit;
+  reached_within = fits.reached_within;
+  loaded_within = fits.loaded_within;
+  asked_small = fits.asked_small;
+  nowhere = subst (FitsWay seat) here fits.way_at_place;
+  silent = subst (FitsAnswer seat) here fits.answer_at_place;
+  present = present_busy heap seat (places.Making place) fits here (λ e. cc);
+}
+
+-- while no call is in flight
+pub aside_idle : (heap : Heap) (seat : Seat) → Fits heap seat → seat.place ≡ places.Idle → seat.left ≡ false → IsAside heap seat
+aside_idle heap seat fits here present = record {
+  registers_fit = fits.registers_fit;
+  reached_within = fits.reached_within;
+  loaded_within = fits.loaded_within;
+  asked_small = fits.asked_small;
+  nowhere = subst (FitsWay seat) here fits.way_at_place;
+  silent = subst (FitsAnswer seat) here fits.answer_at_place;
+  present = present;
+}
+
+-- the seat with another hand, elsewhere in its making or through with it
+abbrev pub with_hand : Seat → List ℕ → ℕ → ℕ → ℕ → Place → Seat
+with_hand seat hand stored tried given place = record seat { hand = hand; stored = stored; tried = tried; given = given; place = place }
+
+pub fits_hand : (heap : Heap) (seat : Seat) (hand : List ℕ) (stored tried given : ℕ) (place : Place) → Fits heap seat → IsAside heap seat → AreFragments heap hand
+    → FitsPlace heap (with_hand seat hand stored tried given place) place → FitsWay (with_hand seat hand stored tried given place) place
+    → FitsAnswer (with_hand seat hand stored tried given place) place → Fits heap (with_hand seat hand stored tried given place)
+fits_hand heap seat hand stored tried given place fits aside within at_place way answer = record {
+  registers_whole = fits.registers_whole;
+  registers_fit = aside.registers_fit;
+  cursor_within = fits.cursor_within;
+  small_reserve = fits.small_reserve;
+  reserve_of_cursor = fits.reserve_of_cursor;
+  hand_within = within;
+  body_within = fits.body_within;
+  reached_within = aside.reached_within;
+  loaded_within = aside.loaded_within;
+  asked_small = aside.asked_small;
+  at_place = at_place;
+  way_at_place = way;
+  answer_at_place = answer;
+  gone = gone_aside aside.present;
+}

@@ -1,0 +1,12 @@
+-- Words of the table, and bits of a control word.
+pub mod Addresses
+pub mod Bits
+pub mod CellWords
+pub mod Clear
+pub mod Filters
+pub mod Free
+pub mod Leading
+pub mod Masks
+pub mod Owned
+pub mod Wide
+pub mod WithinHeap

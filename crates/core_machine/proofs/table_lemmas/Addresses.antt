@@ -1,0 +1,143 @@
+-- Reading and writing the words of a table.
+use Rattle.std.proofs.Common.{◌≡◌, ◌≢◌, ℕ, ◌+◌, ◌*◌, ◌<◌, ◌^◌, inl, inr, List, length, get_or, set, zero, suc, ap, refl, sym, ◌∙◌, arith}
+use Rattle.std.proofs.lemmas.List.{get_or-set_same, get_or-set_other, set-get_or, length-set, get_or_default, get_or_past}
+use Rattle.std.specs.List.{All}
+use Rattle.std.proofs.lemmas.Bool.Decides.{leb_tells}
+use Rattle.std.proofs.lemmas.List.Elements.{All-set}
+use Rattle.heap_model.specs.declared.heap.Heap.{Heap}
+use Rattle.core_machine.specs.declared.table.address.Address.{Address}
+use Rattle.core_machine.specs.declared.table.address.Address.TheVariants.{Phase, Answer, Budget, Spot, Control, Word, Spine}
+use Rattle.core_machine.specs.table.Layout.{table_length, index_of, InTable, at, put}
+
+-- a word of either half stands in the table
+half_within : (groups spine half offset : ℕ) → half < 2 → offset < 2 * spine
+    → 19 + 65 * groups + 2 * spine * half + offset < 19 + 65 * groups + 4 * spine
+half_within groups spine zero offset below within = omega arith
+half_within groups spine (suc zero) offset below within = omega arith
+half_within groups spine (suc (suc n)) offset below within = absurd (omega arith)
+
+-- no two words of the halves stand in one place
+half_apart : (spine half half' offset offset' : ℕ) → half < 2 → half' < 2 → offset < 2 * spine → offset' < 2 * spine
+    → 2 * spine * half + offset ≡ 2 * spine * half' + offset' → (half ≡ half') × (offset ≡ offset')
+half_apart spine zero zero offset offset' b b' w w' same = (refl, omega arith)
+half_apart spine zero (suc zero) offset offset' b b' w w' same = absurd (omega arith)
+half_apart spine (suc zero) zero offset offset' b b' w w' same = absurd (omega arith)
+half_apart spine (suc zero) (suc zero) offset offset' b b' w w' same = (refl, omega arith)
+half_apart spine (suc (suc n)) half' offset offset' b b' w w' same = absurd (omega arith)
+half_apart spine half (suc (suc n)) offset offset' b b' w w' same = absurd (omega arith)
+
+-- a word of the table stands in it
+pub index_within : (heap : Heap) (a : Address) → InTable heap a → index_of heap a < table_length heap
+index_within heap Phase within = omega arith
+index_within heap (Answer seat) within = omega arith
+index_within heap Budget within = omega arith
+index_within heap Spot within = omega arith
+index_within heap (Control group) within = omega arith
+index_within heap (Word fragment part) within = omega arith
+index_within heap (Spine half offset) within = half_within heap.groups heap.spine half offset within.0 within.1
+
+pub length-put : (heap : Heap) (words : List ℕ) (a : Address) (word : ℕ) → length (put heap words a word) ≡ length words
+unfolding put
+length-put heap words a word = length-set words (index_of heap a) word
+
+-- what was written is read
+pub at-put_same : (heap : Heap) (words : List ℕ) (a : Address) (word : ℕ) → length words ≡ table_length heap → InTable heap a
+    → at heap (put heap words a word) a ≡ word
+unfolding at put
+at-put_same heap words a word whole within =
+    let here = index_within heap a within in
+    get_or-set_same words (index_of heap a) word 0 (omega arith)
+
+-- a word written back changes nothing
+pub put-at : (heap : Heap) (words : List ℕ) (a : Address) → put heap words a (at heap words a) ≡ words
+unfolding at put
+put-at heap words a = set-get_or words (index_of heap a) 0
+
+-- no two words of the table stand in one place
+pub index_apart : (heap : Heap) (a b : Address) → InTable heap a → InTable heap b → index_of heap a ≡ index_of heap b → a ≡ b
+index_apart heap Phase Phase here there same = refl
+index_apart heap Phase (Answer seat') here there same = absurd (omega arith)
+index_apart heap Phase Budget here there same = absurd (omega arith)
+index_apart heap Phase Spot here there same = absurd (omega arith)
+index_apart heap Phase (Control group') here there same = absurd (omega arith)
+index_apart heap Phase (Word fragment' part') here there same = absurd (omega arith)
+index_apart heap Phase (Spine half' offset') here there same = absurd (omega arith)
+index_apart heap (Answer seat) Phase here there same = absurd (omega arith)
+index_apart heap (Answer seat) (Answer seat') here there same = let e : seat ≡ seat' = omega arith in cc
+index_apart heap (Answer seat) Budget here there same = absurd (omega arith)
+index_apart heap (Answer seat) Spot here there same = absurd (omega arith)
+index_apart heap (Answer seat) (Control group') here there same = absurd (omega arith)
+index_apart heap (Answer seat) (Word fragment' part') here there same = absurd (omega arith)
+index_apart heap (Answer seat) (Spine half' offset') here there same = absurd (omega arith)
+index_apart heap Budget Phase here there same = absurd (omega arith)
+index_apart heap Budget (Answer seat') here there same = absurd (omega arith)
+index_apart heap Budget Budget here there same = refl
+index_apart heap Budget Spot here there same = absurd (omega arith)
+index_apart heap Budget (Control group') here there same = absurd (omega arith)
+index_apart heap Budget (Word fragment' part') here there same = absurd (omega arith)
+index_apart heap Budget (Spine half' offset') here there same = absurd (omega arith)
+index_apart heap Spot Phase here there same = absurd (omega arith)
+index_apart heap Spot (Answer seat') here there same = absurd (omega arith)
+index_apart heap Spot Budget here there same = absurd (omega arith)
+index_apart heap Spot Spot here there same = refl
+index_apart heap Spot (Control group') here there same = absurd (omega arith)
+index_apart heap Spot (Word fragment' part') here there same = absurd (omega arith)
+index_apart heap Spot (Spine half' offset') here there same = absurd (omega arith)
+index_apart heap (Control group) Phase here there same = absurd (omega arith)
+index_apart heap (Control group) (Answer seat') here there same = absurd (omega arith)
+index_apart heap (Control group) Budget here there same = absurd (omega arith)
+index_apart heap (Control group) Spot here there same = absurd (omega arith)
+index_apart heap (Control group) (Control group') here there same = let e : group ≡ group' = omega arith in cc
+index_apart heap (Control group) (Word fragment' part') here there same = absurd (omega arith)
+index_apart heap (Control group) (Spine half' offset') here there same = absurd (omega arith)
+index_apart heap (Word fragment part) Phase here there same = absurd (omega arith)
+index_apart heap (Word fragment part) (Answer seat') here there same = absurd (omega arith)
+index_apart heap (Word fragment part) Budget here there same = absurd (omega arith)
+index_apart heap (Word fragment part) Spot here there same = absurd (omega arith)
+index_apart heap (Word fragment part) (Control group') here there same = absurd (omega arith)
+index_apart heap (Word fragment part) (Word fragment' part') here there same =
+    let e : fragment ≡ fragment' = omega arith in
+    let f : part ≡ part' = omega arith in
+    cc
+index_apart heap (Word fragment part) (Spine half' offset') here there same = absurd (omega arith)
+index_apart heap (Spine half offset) Phase here there same = absurd (omega arith)
+index_apart heap (Spine half offset) (Answer seat') here there same = absurd (omega arith)
+index_apart heap (Spine half offset) Budget here there same = absurd (omega arith)
+index_apart heap (Spine half offset) Spot here there same = absurd (omega arith)
+index_apart heap (Spine half offset) (Control group') here there same = absurd (omega arith)
+index_apart heap (Spine half offset) (Word fragment' part') here there same = absurd (omega arith)
+index_apart heap (Spine half offset) (Spine half' offset') here there same =
+    let e = half_apart heap.spine half half' offset offset' here.0 there.0 here.1 there.1 (omega arith) in
+    cc
+
+-- other words stay
+pub at-put_other : (heap : Heap) (words : List ℕ) (a b : Address) (word : ℕ) → InTable heap a → InTable heap b → b ≢ a
+    → at heap (put heap words a word) b ≡ at heap words b
+unfolding at put
+at-put_other heap words a b word here there other =
+    get_or-set_other words (index_of heap a) (index_of heap b) word 0 (λ same. other (sym (index_apart heap a b here there (sym same))))
+
+-- a read of the list at the place of a word
+pub at_read : (heap : Heap) (words : List ℕ) (a : Address) (i word : ℕ) → i ≡ index_of heap a → i < length words → word ≡ get_or words i word
+    → word ≡ at heap words a
+unfolding at
+at_read heap words a i word place within is = is ∙ get_or_default words i word 0 within ∙ ap (λ (n : ℕ). get_or words n 0) place
+
+-- a write of the list at the place of a word
+pub put_write : (heap : Heap) (words : List ℕ) (a : Address) (i word : ℕ) → i ≡ index_of heap a → set words i word ≡ put heap words a word
+unfolding put
+put_write heap words a i word place = ap (λ (n : ℕ). set words n word) place
+
+-- what is true of all words stays true where one more is written
+pub All-put : (heap : Heap) (words : List ℕ) (a : Address) (word : ℕ) → word < 2 ^ 64 → All (λ w. w < 2 ^ 64) words → All (λ w. w < 2 ^ 64) (put heap words a word)
+unfolding put
+All-put heap words a word wide all = All-set (λ w. w < 2 ^ 64) words (index_of heap a) word wide all
+
+-- a word that is read has 64 bits, where all have
+pub at-lt : (heap : Heap) (words : List ℕ) (a : Address) → All (λ w. w < 2 ^ 64) words → at heap words a < 2 ^ 64
+unfolding at
+at-lt heap words a all =
+    elim (leb_tells (suc (index_of heap a)) (length words)) as (λ _. get_or words (index_of heap a) 0 < 2 ^ 64) [
+      | inl within ↦ all (index_of heap a) 0 within.1
+      | inr past ↦ rw (get_or_past words (index_of heap a) 0 (omega (arith, past.1))) (omega arith)
+    ]

@@ -1,0 +1,57 @@
+-- The clear fragments of a group, one by one.
+use Rattle.std.proofs.Common.{◌≡◌, ℕ, zero, suc, ◌+◌, ◌*◌, ◌%◌, ◌<◌, ◌≤◌, true, false, cond, List, [], ◌∷◌, ◌++◌, length, filter, refl, sym, ap, ◌∙◌, append-nil, add-zero, eq-eqb, ◌≢◌, ◌/◌, ◌^◌, bit_and, arith}
+use Rattle.std.specs.List.{range_with_len}
+use Rattle.std.proofs.lemmas.Bool.{ne_eqb}
+use Rattle.std.proofs.lemmas.List.Elements.{filter-append}
+use Rattle.std.proofs.lemmas.List.FromFn.{length-range_with_len}
+use Rattle.std.specs.Int.{bit_at}
+use Rattle.std.proofs.lemmas.Nat.Bits.{shr_and_one}
+use Rattle.core_machine.specs.table.Fragments.{is_clear, clear_among}
+use Rattle.core_machine.proofs.table_lemmas.Filters.{length-filter_le}
+
+range_suc : (a n : ℕ) → range_with_len a (suc n) ≡ range_with_len a n ++ (a + n) ∷ []
+range_suc a zero = rw add-zero refl
+range_suc a (suc n) =
+    let e : a + 1 + n ≡ a + suc n = omega arith in
+    ap (λ (l : List ℕ). a ∷ l) (range_suc (a + 1) n ∙ ap (λ (m : ℕ). range_with_len (a + 1) n ++ m ∷ []) e)
+
+-- a range with one number more
+range_more : (a n : ℕ) → range_with_len a (n + 1) ≡ range_with_len a n ++ (a + n) ∷ []
+range_more a n = let e : n + 1 ≡ suc n = omega arith in rw e (range_suc a n)
+
+-- one fragment more of a group
+pub clear_among-more : (group word count : ℕ)
+    → clear_among group word (count + 1)
+    ≡ clear_among group word count ++ cond (is_clear word (16 * group + count)) ((16 * group + count) ∷ []) []
+unfolding clear_among
+clear_among-more group word count =
+    let step = ap (filter (is_clear word)) (range_more (16 * group) count) in
+    step ∙ filter-append (is_clear word) (range_with_len (16 * group) count) ((16 * group + count) ∷ [])
+
+-- the fragment whose taken bit isn't set is among them
+pub clear_among-clear : (group word count : ℕ) → count < 16 → bit_and (word / 2 ^ count) 1 ≡ 0
+    → clear_among group word (count + 1) ≡ clear_among group word count ++ (16 * group + count) ∷ []
+clear_among-clear group word count within unset =
+    let place : (16 * group + count) % 16 ≡ count = omega arith in
+    let bit : bit_at word ((16 * group + count) % 16) ≡ 0 = rw place (sym (shr_and_one word count) ∙ unset) in
+    let passes : is_clear word (16 * group + count) ≡ true = eq-eqb _ 0 bit in
+    rw (clear_among-more group word count, passes) refl
+
+-- one whose taken bit is set isn't
+pub clear_among-taken : (group word count : ℕ) → count < 16 → bit_and (word / 2 ^ count) 1 ≢ 0
+    → clear_among group word (count + 1) ≡ clear_among group word count
+clear_among-taken group word count within set =
+    let place : (16 * group + count) % 16 ≡ count = omega arith in
+    let bit : bit_at word ((16 * group + count) % 16) ≢ 0 = λ e. set (shr_and_one word count ∙ rw place at e) in
+    let fails : is_clear word (16 * group + count) ≡ false = ne_eqb _ 0 bit in
+    rw (clear_among-more group word count, fails) (append-nil _)
+
+pub clear_among-zero : (group word : ℕ) → clear_among group word 0 ≡ []
+unfolding clear_among
+clear_among-zero group word = refl
+
+-- they are no more than the fragments that were looked at
+pub length-clear_among : (group word count : ℕ) → length (clear_among group word count) ≤ count
+unfolding clear_among
+length-clear_among group word count =
+    omega (arith, length-filter_le (is_clear word) (range_with_len (16 * group) count), length-range_with_len (16 * group) count)

@@ -1,0 +1,192 @@
+-- Every step leaves words that lead within the heap.
+use Rattle.std.proofs.Common.{suc, ◌≡◌, ◌≢◌, ℕ, ◌+◌, ◌*◌, ◌/◌, ◌%◌, ◌^◌, ◌<◌, ◌≤◌, true, false, cond, eqb, ltb, List, length, get_or, Some, None, inl, inr, subst, sym, ap, ◌∙◌, arith}
+use Rattle.std.specs.Prelude.{IfSome}
+use Rattle.std.proofs.lemmas.Bool.Decides.{eqb_tells, leb_tells}
+use Rattle.std.proofs.lemmas.List.{get_or_past}
+use Rattle.heap_words.specs.declared.cell.Cell.{Cell}
+use Rattle.heap_words.specs.declared.name.Name.{Name}
+use Rattle.heap_words.specs.declared.kind.Kind.{Kind}
+use Rattle.heap_words.specs.declared.kind.Kind.TheVariants as kinds
+use Rattle.heap_words.specs.Cell.{cell_word}
+use Rattle.heap_words.specs.Name.{name_word}
+use Rattle.heap_model.specs.declared.heap.Heap.{Heap}
+use Rattle.heap_model.specs.Heap.{IsHeap}
+use Rattle.heap_model.specs.Growth.{stamp_of}
+use Rattle.core_machine.specs.declared.table.address.Address.{Address}
+use Rattle.core_machine.specs.declared.table.address.Address.TheVariants.{Phase, Answer, Budget, Spot, Control, Word, Spine}
+use Rattle.core_machine.specs.declared.place.Place.{Place}
+use Rattle.core_machine.specs.declared.place.Place.TheVariants as places
+use Rattle.core_machine.specs.declared.place.Making.{Making}
+use Rattle.core_machine.specs.declared.place.Making.TheVariants.{Gathering, Returning, Refusing, Storing, Bearing}
+use Rattle.core_machine.specs.declared.place.Reaching.{Reaching}
+use Rattle.core_machine.specs.declared.place.Reaching.TheVariants.{Opening, Walking, Getting, Naming, LoadingOld, ShadingOld, ShadingNew, Swapping}
+use Rattle.core_machine.specs.declared.place.Polling.TheVariants.{Asking, Shading, Answering}
+use Rattle.core_machine.specs.declared.place.Leaving.TheVariants.{Emptying, Parting}
+use Rattle.core_machine.specs.declared.seat.register.Register.{Register}
+use Rattle.core_machine.specs.declared.seat.register.Register.TheVariants.{Nil, Number, Object}
+use Rattle.core_machine.specs.seat.Commands.{source_of, field_of, fields_of}
+use Rattle.core_machine.specs.table.Layout.{at, put, InTable, table_length}
+use Rattle.core_machine.specs.table.Loaded.{lead_of, first_lead, referred, IsWithinHeap, LeadWithin, FoundWithin}
+use Rattle.core_machine.specs.table.Newborn.{link_after, head_word, record_word}
+use Rattle.core_machine.specs.table.Operation.{address_of, written}
+use Rattle.core_machine.specs.seat.Making.{next_name}
+use Rattle.core_machine.specs.seat.Reaching.{part_of}
+use Rattle.core_machine.specs.seat.Registers.{register_in, register_word}
+use Rattle.core_machine.specs.seat.Seat.{Seat}
+use Rattle.core_machine.specs.Moves.{move_at, making_move, reaching_move, next_move, bearing_move, is_last_birth}
+use Rattle.core_machine.specs.seat.FitsReaching.{FitsReaching}
+use Rattle.core_machine.specs.seat.Fits.{AreFragments, FitsRegister, FitsPlace, FitsWay, FitsMaking, Fits}
+use Rattle.core_machine.proofs.table_lemmas.Addresses.{at-put_same, at-put_other}
+use Rattle.core_machine.proofs.table_lemmas.Bits.{bool_tells}
+use Rattle.core_machine.proofs.table_lemmas.CellWords.{cell_of-cell_word}
+use Rattle.core_machine.proofs.seat_lemmas.FittingAnswers.{register_fits}
+use Rattle.core_machine.proofs.table_lemmas.WithinHeap.{part_some}
+use Rattle.core_machine.proofs.table_lemmas.Wide.{fields_few, set_numbered}
+
+-- another word in the place of one
+pub leads-put : (heap : Heap) (words : List ℕ) (a : Address) (word : ℕ) → length words ≡ table_length heap → InTable heap a → FoundWithin heap a word
+    → LeadWithin heap words → LeadWithin heap (put heap words a word)
+leads-put heap words a word table in_table led leads f p within part = by a in_table led where
+  kept : (b : Address) → InTable heap b → Word f p ≢ b → IsWithinHeap heap (lead_of p (at heap (put heap words b word) (Word f p)))
+  kept b there apart = subst (λ (w : ℕ). IsWithinHeap heap (lead_of p w)) (sym (at-put_other heap words b (Word f p) word there (within, part) apart)) (leads f p within part)
+
+  by : (b : Address) → InTable heap b → FoundWithin heap b word → IsWithinHeap heap (lead_of p (at heap (put heap words b word) (Word f p)))
+  by Phase there ok = kept Phase there (λ e. cc)
+  by (Answer n) there ok = kept (Answer n) there (λ e. cc)
+  by Budget there ok = kept Budget there (λ e. cc)
+  by Spot there ok = kept Spot there (λ e. cc)
+  by (Control g) there ok = kept (Control g) there (λ e. cc)
+  by (Spine h o) there ok = kept (Spine h o) there (λ e. cc)
+  by (Word x y) there ok =
+      elim (eqb_tells f x) as (λ _. IsWithinHeap heap (lead_of p (at heap (put heap words (Word x y) word) (Word f p)))) [
+        | inl one ↦ elim (eqb_tells p y) as (λ _. IsWithinHeap heap (lead_of p (at heap (put heap words (Word x y) word) (Word f p)))) [
+          | inl two ↦ let here : Word f p ≡ Word x y = ap (λ (n : ℕ). Word n p) one.1 ∙ ap (λ (n : ℕ). Word x n) two.1 in
+              let now : at heap (put heap words (Word x y) word) (Word f p) ≡ word = ap (at heap (put heap words (Word x y) word)) here ∙ at-put_same heap words (Word x y) word table there in
+              subst (λ (w : ℕ). IsWithinHeap heap (lead_of p w)) (sym now) (subst (λ (n : ℕ). IsWithinHeap heap (lead_of n word)) (sym two.1) ok)
+          | inr other ↦ kept (Word x y) there (λ e. other.1 (parts e))
+        ]
+        | inr other ↦ kept (Word x y) there (λ e. other.1 (fragments e))
+      ]
+    where
+      parts : Word f p ≡ Word x y → p ≡ y
+      parts e = cc
+
+      fragments : Word f p ≡ Word x y → f ≡ x
+      fragments e = cc
+
+-- where the word of a cell leads
+pub cell_lead : (part : ℕ) (kind : Kind) (value stamp : ℕ) → value < 2 ^ 30 → stamp < 2 ^ 32
+    → lead_of part (cell_word (record { kind = kind; value = value; stamp = stamp }))
+    ≡ cond (eqb part 0) (first_lead kind (record { kind = kind; value = value; stamp = stamp })) (referred kind value)
+cell_lead part kind value stamp small short =
+    ap (λ (c : Cell). cond (eqb part 0) (first_lead c.kind c) (referred c.kind c.value)) (cell_of-cell_word kind value stamp small short)
+
+-- a register's word leads to its object
+register_leads : (heap : Heap) (register : Register) (stamp part : ℕ) → eqb part 0 ≡ false → 16 * heap.groups ≤ 2 ^ 16 → FitsRegister heap register → stamp < 2 ^ 32
+    → IsWithinHeap heap (lead_of part (register_word register stamp))
+register_leads heap Nil stamp part some few fit small = subst (IsWithinHeap heap) (sym (cell_lead part kinds.Nil 0 stamp (omega arith) small)) (rw some tt)
+register_leads heap (Number n) stamp part some few fit small = subst (IsWithinHeap heap) (sym (cell_lead part kinds.Number n stamp fit small)) (rw some tt)
+register_leads heap (Object head id) stamp part some few fit small = subst (IsWithinHeap heap) (sym (cell_lead part kinds.Reference head stamp (omega (arith, fit)) small)) (rw some fit)
+
+-- one of the fragments, or 0 past their end
+fragment_within : (heap : Heap) (fragments : List ℕ) (i : ℕ) → 0 < heap.groups → AreFragments heap fragments → get_or fragments i 0 < 16 * heap.groups
+fragment_within heap fragments i some each =
+    elim (leb_tells (suc i) (length fragments)) as (λ _. get_or fragments i 0 < 16 * heap.groups) [
+      | inl within ↦ each i 0 within.1
+      | inr past ↦ let none = get_or_past fragments i 0 (omega (arith, past.1)) in omega arith
+    ]
+
+-- the word 0 leads nowhere
+pub zero_leads : (heap : Heap) (part : ℕ) → IsWithinHeap heap (lead_of part 0)
+zero_leads heap part = elim (eqb_tells part 0) as (λ _. IsWithinHeap heap (lead_of part 0)) [ inl e ↦ rw e.0 tt | inr e ↦ rw e.0 tt ]
+
+meta_leads : (heap : Heap) (fields next : ℕ) → fields < 2 ^ 13 → next < 16 * heap.groups → 16 * heap.groups ≤ 2 ^ 16
+    → IsWithinHeap heap (lead_of 0 (cell_word (record { kind = kinds.Fixed; value = fields; stamp = next })))
+meta_leads heap fields next few within small =
+    let short : ltb fields (2 ^ 29) ≡ true = grind arith in
+    subst (IsWithinHeap heap) (sym (cell_lead 0 kinds.Fixed fields next (omega arith) (omega arith)))
+    (rw short (elim (eqb_tells next 0) as (λ _. IsWithinHeap heap (cond (eqb next 0) None (Some next))) [ inl e ↦ rw e.0 tt | inr e ↦ rw e.0 within ]))
+
+name_leads : (heap : Heap) (name : Name) → name.owner < 2 ^ 30 → name.count < 2 ^ 32 → IsWithinHeap heap (lead_of 1 (name_word name))
+name_leads heap name owner count = subst (IsWithinHeap heap) (sym (cell_lead 1 kinds.Fixed name.owner name.count owner count)) tt
+
+link_leads : (heap : Heap) (fragments : List ℕ) (k : ℕ) → 0 < heap.groups → 16 * heap.groups ≤ 2 ^ 16 → AreFragments heap fragments
+    → IsWithinHeap heap (lead_of 0 (link_after fragments k))
+link_leads heap fragments k some few each =
+    let next = fragment_within heap fragments (k + 1) some each in
+    elim (leb_tells (suc (k + 1)) (length fragments)) as (λ _. IsWithinHeap heap (lead_of 0 (link_after fragments k))) [
+      | inl more ↦ rw more.0 (subst (IsWithinHeap heap) (sym (cell_lead 0 kinds.Reference (get_or fragments (k + 1) 0) 0 (omega arith) (omega arith))) next)
+      | inr last ↦ rw last.0 tt
+    ]
+
+-- a newborn's words lead to its own fragments
+pub record_leads : (heap : Heap) (name : Name) (fields : ℕ) (fragments : List ℕ) (k part : ℕ) → name.owner < 2 ^ 30 → name.count < 2 ^ 32 → fields < 2 ^ 13
+    → 0 < heap.groups → 16 * heap.groups ≤ 2 ^ 16 → AreFragments heap fragments → IsWithinHeap heap (lead_of part (record_word name fields fragments k part))
+record_leads heap name fields fragments k part owner count few some small each =
+    elim (eqb_tells k 0) as (λ _. IsWithinHeap heap (lead_of part (record_word name fields fragments k part))) [
+      | inl head ↦ rw head.0 (elim (eqb_tells part 0) as (λ _. IsWithinHeap heap (lead_of part (head_word name fields fragments part))) [
+        | inl meta ↦ subst (λ (p : ℕ). IsWithinHeap heap (lead_of p (head_word name fields fragments p))) (sym meta.1) (meta_leads heap fields (get_or fragments 1 0) few (fragment_within heap fragments 1 some each) small)
+        | inr other ↦ elim (eqb_tells part 1) as (λ _. IsWithinHeap heap (lead_of part (head_word name fields fragments part))) [
+          | inl named ↦ subst (λ (p : ℕ). IsWithinHeap heap (lead_of p (head_word name fields fragments p))) (sym named.1) (name_leads heap name owner count)
+          | inr cell ↦ rw (other.0, cell.0) tt
+        ]
+      ])
+      | inr chain ↦ rw chain.0 (elim (eqb_tells part 0) as (λ _. IsWithinHeap heap (lead_of part (cond (eqb part 0) (link_after fragments k) 0))) [
+        | inl link ↦ subst (λ (p : ℕ). IsWithinHeap heap (lead_of p (cond (eqb p 0) (link_after fragments k) 0))) (sym link.1) (link_leads heap fragments k some small each)
+        | inr cell ↦ rw cell.0 tt
+      ])
+    ]
+
+making_leads : (heap : Heap) (number : ℕ) (seat : Seat) (found : ℕ) (place : Making) → IsHeap heap → number < 16 → Fits heap seat → FitsMaking heap seat place
+    → FoundWithin heap (address_of (making_move heap number seat place).step) (written (making_move heap number seat place).step found)
+making_leads heap number seat found Gathering limits few fits is = tt
+making_leads heap number seat found Returning limits few fits is = tt
+making_leads heap number seat found Refusing limits few fits is = tt
+making_leads heap number seat found Storing limits few fits is =
+    record_leads heap (next_name number seat) (fields_of seat.command) seat.body (seat.stored / 4) (seat.stored % 4) (omega arith) (omega (arith, is.0.makes.numbered))
+    (omega (arith, fields_few seat.command is.0.makes.a_record is.0.makes.in_range)) (omega (arith, fits.cursor_within)) (omega (arith, limits.groups_fit)) fits.body_within
+making_leads heap number seat found Bearing limits few fits is =
+    elim (bool_tells (is_last_birth seat)) as (λ _. FoundWithin heap (address_of (bearing_move number seat).step) (written (bearing_move number seat).step found)) [ inl last ↦ rw last tt | inr more ↦ rw more tt ]
+
+reaching_leads : (heap : Heap) (number : ℕ) (seat : Seat) (found : ℕ) (place : Reaching) → IsHeap heap → number < 16 → Fits heap seat → FitsReaching seat place
+    → FoundWithin heap (address_of (reaching_move heap number seat place).step) found
+    → FoundWithin heap (address_of (reaching_move heap number seat place).step) (written (reaching_move heap number seat place).step found)
+reaching_leads heap number seat found Opening limits few fits is led = led
+reaching_leads heap number seat found Walking limits few fits is led = led
+reaching_leads heap number seat found Getting limits few fits is led = led
+reaching_leads heap number seat found Naming limits few fits is led = led
+reaching_leads heap number seat found LoadingOld limits few fits is led = led
+reaching_leads heap number seat found ShadingOld limits few fits is led = tt
+reaching_leads heap number seat found ShadingNew limits few fits is led = tt
+reaching_leads heap number seat found Swapping limits few fits is led =
+    register_leads heap (register_in seat.registers (source_of seat.command)) (stamp_of number (seat.sets + 1)) (part_of (field_of seat.command)) (part_some (field_of seat.command))
+    (omega (arith, limits.groups_fit)) (register_fits heap seat.registers (source_of seat.command) fits.registers_fit) (omega (arith, few, set_numbered seat.command seat.made seat.sets is.0.1 is.0.0.numbered))
+
+leads_at : (heap : Heap) (number : ℕ) (seat : Seat) (found : ℕ) (place : Place) → IsHeap heap → number < 16 → Fits heap seat → FitsPlace heap seat place → FitsWay seat place
+    → IfSome (move_at heap number seat place) (λ move. FoundWithin heap (address_of move.step) found)
+    → IfSome (move_at heap number seat place) (λ move. FoundWithin heap (address_of move.step) (written move.step found))
+leads_at heap number seat found places.Idle limits few fits is way led = tt
+leads_at heap number seat found (places.Making place) limits few fits is way led = making_leads heap number seat found place limits few fits is
+leads_at heap number seat found places.Telling limits few fits is way led = tt
+leads_at heap number seat found (places.Reaching place) limits few fits is way led = reaching_leads heap number seat found place limits few fits way led
+leads_at heap number seat found (places.Polling Asking) limits few fits is way led = tt
+leads_at heap number seat found (places.Polling Shading) limits few fits is way led = tt
+leads_at heap number seat found (places.Polling Answering) limits few fits is way led = tt
+leads_at heap number seat found (places.Leaving Emptying) limits few fits is way led = tt
+leads_at heap number seat found (places.Leaving Parting) limits few fits is way led = tt
+
+-- the word that the due step writes leads within the heap where the one found does
+pub written_leads : (heap : Heap) (number : ℕ) (seat : Seat) (found : ℕ) → IsHeap heap → number < 16 → Fits heap seat
+    → IfSome (next_move heap number seat) (λ move. FoundWithin heap (address_of move.step) found)
+    → IfSome (next_move heap number seat) (λ move. FoundWithin heap (address_of move.step) (written move.step found))
+written_leads heap number seat found limits few fits led = leads_at heap number seat found seat.place limits few fits fits.at_place fits.way_at_place led
+
+-- a word of the table that leads within the heap
+pub found-leads : (heap : Heap) (words : List ℕ) (a : Address) → InTable heap a → LeadWithin heap words → FoundWithin heap a (at heap words a)
+found-leads heap words Phase there leads = tt
+found-leads heap words (Answer n) there leads = tt
+found-leads heap words Budget there leads = tt
+found-leads heap words Spot there leads = tt
+found-leads heap words (Control g) there leads = tt
+found-leads heap words (Word f p) there leads = leads f p there.0 there.1
+found-leads heap words (Spine h o) there leads = tt

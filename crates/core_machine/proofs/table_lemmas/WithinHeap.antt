@@ -1,0 +1,61 @@
+-- What leads within the heap, where something leads on.
+use Rattle.std.proofs.Common.{zero, suc, ◌≡◌, ℕ, ◌*◌, ◌%◌, ◌<◌, ◌≤◌, false, eqb, List, [], ◌∷◌, length, get_or, Option, Some, None, inl, inr, arith}
+use Rattle.std.specs.Prelude.{IsSome, unwrap_or}
+use Rattle.std.specs.List.{All}
+use Rattle.std.proofs.lemmas.Bool.Decides.{eqb_tells}
+use Rattle.heap_model.specs.declared.heap.Heap.{Heap}
+use Rattle.core_machine.specs.declared.seat.register.Register.{Register}
+use Rattle.core_machine.specs.declared.seat.register.Register.TheVariants.{Nil, Number, Object}
+use Rattle.core_machine.specs.table.Loaded.{head_in, lead_of, IsWithinHeap}
+use Rattle.core_machine.specs.seat.Reaching.{part_of}
+use Rattle.core_machine.specs.seat.Registers.{head_of, heads}
+use Rattle.core_machine.specs.seat.Polling.{roots}
+use Rattle.core_machine.specs.seat.Seat.{Seat}
+use Rattle.core_machine.specs.seat.Fits.{FitsRegister, Fits}
+
+-- a field doesn't stand in a fragment's first word
+pub part_some : (i : ℕ) → eqb (part_of i) 0 ≡ false
+part_some i = grind arith
+
+-- a field leads where it refers to
+pub head_leads : (heap : Heap) (i found : ℕ) → IsWithinHeap heap (lead_of (part_of i) found) → IsWithinHeap heap (head_in found)
+head_leads heap i found led = rw (part_some i) at led
+
+-- what is there is within
+pub some_within : (heap : Heap) (fragment : Option ℕ) → IsSome fragment → IsWithinHeap heap fragment → unwrap_or fragment 0 < 16 * heap.groups
+some_within heap None some led = cc
+some_within heap (Some f) some led = led
+
+-- so is a register's object
+pub head_within : (heap : Heap) (register : Register) → IsSome (head_of register) → FitsRegister heap register → unwrap_or (head_of register) 0 < 16 * heap.groups
+head_within heap Nil some fit = cc
+head_within heap (Number n) some fit = cc
+head_within heap (Object head id) some fit = fit
+
+-- and each object of the registers
+heads_within : (heap : Heap) (registers : List Register) (i : ℕ) → All (FitsRegister heap) registers → i < length (heads registers)
+    → get_or (heads registers) i 0 < 16 * heap.groups
+heads_within heap [] i fit within = absurd (omega arith)
+heads_within heap (Nil ∷ more) i fit within = heads_within heap more i (λ j d l. fit (suc j) d (omega arith)) within
+heads_within heap (Number n ∷ more) i fit within = heads_within heap more i (λ j d l. fit (suc j) d (omega arith)) within
+heads_within heap (Object head id ∷ more) zero fit within = fit 0 Nil (omega arith)
+heads_within heap (Object head id ∷ more) (suc i) fit within = heads_within heap more i (λ j d l. fit (suc j) d (omega arith)) (omega arith)
+
+pub roots_within : (heap : Heap) (seat : Seat) (i : ℕ) → Fits heap seat → i < length (roots seat) → get_or (roots seat) i 0 < 16 * heap.groups
+roots_within heap seat i fits within =
+    elim (eqb_tells (seat.asked % 7) 3) as (λ _. i < length (roots seat) → get_or (roots seat) i 0 < 16 * heap.groups) [
+      | inl third ↦ rw third.0 (λ l. heads_within heap seat.registers i fits.registers_fit l)
+      | inr other ↦ rw other.0 (λ l. absurd (omega arith))
+    ] within
+
+-- there are at most as many as registers
+pub few_heads : (registers : List Register) → length (heads registers) ≤ length registers
+few_heads [] = omega arith
+few_heads (Nil ∷ more) = let rest = few_heads more in omega arith
+few_heads (Number n ∷ more) = let rest = few_heads more in omega arith
+few_heads (Object head id ∷ more) = let rest = few_heads more in omega arith
+
+pub few_roots : (seat : Seat) → length (roots seat) ≤ length seat.registers
+few_roots seat =
+    let few = few_heads seat.registers in
+    elim (eqb_tells (seat.asked % 7) 3) as (λ _. length (roots seat) ≤ length seat.registers) [ inl third ↦ rw third.0 few | inr other ↦ rw other.0 (omega arith) ]

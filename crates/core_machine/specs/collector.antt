@@ -1,0 +1,3 @@
+-- The collector's turns.
+pub mod Collector
+pub mod FitsTurns

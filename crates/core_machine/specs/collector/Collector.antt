@@ -1,0 +1,91 @@
+-- The collector, and how it goes on from turn to turn.
+use Rattle.std.specs.Prelude.{ℕ, ◌+◌, ◌-◌, ◌%◌, ◌<◌, ◌^◌, ◌==◌, nat_lt, Bool, true, if◌then◌else◌, List, [], ◌∷◌, ◌++◌}
+use Rattle.heap_words.specs.declared.phase.TheConstants.{LEFT}
+use Rattle.heap_model.specs.declared.heap.Heap.{Heap}
+use Rattle.heap_model.specs.declared.collector_calls.Turn.{Turn as TurnAnswer}
+use Rattle.heap_model.specs.declared.collector_calls.Turn.TheVariants.{Stepped, Waits}
+use Rattle.heap_model.specs.declared.entry.Entry.{Entry}
+use Rattle.heap_model.specs.declared.entry.Entry.TheVariants.{Advance}
+use Rattle.heap_model.specs.PhasePlan.{cycle_phases, marking}
+use Rattle.core_machine.specs.declared.collector.stage.Stage.{Stage}
+use Rattle.core_machine.specs.declared.collector.stage.Stage.TheVariants.{Looking, Advancing}
+use Rattle.core_machine.specs.declared.step.Step.{Step}
+use Rattle.core_machine.specs.declared.step.Step.TheVariants.{Turning}
+use Rattle.core_machine.specs.declared.step.TurningStep.TheVariants.{LookLoad, AdvanceStore}
+
+pub record Collector : Type 0 where
+  -- the phase
+  pub phase : ℕ
+  -- where it stands in the phase
+  pub stage : Stage
+  -- how many seats it has seen to have answered the phase, or to have left
+  pub looked : ℕ
+  -- its entries, in their order
+  pub log : List Entry
+
+-- the collector at the opening
+abbrev pub opening_collector : Collector
+opening_collector = record { phase = 0; stage = Looking; looked = 0; log = [] }
+
+-- the seat with this word has answered the phase, or has left
+abbrev pub has_answered : ℕ → ℕ → Bool
+has_answered phase word = if word == phase then true else word == LEFT
+
+-- every seat has answered. Where marking begins the work is still to come: the collector looks from seat 0 again
+abbrev pub looked_all : Heap → Collector → Collector
+looked_all heap collector =
+    if collector.phase % cycle_phases == marking then record collector { looked = 0 } else record collector { looked = heap.seats; stage = Advancing }
+
+-- one more seat has answered
+abbrev pub looked_on : Heap → Collector → Collector
+looked_on heap collector =
+    if nat_lt (collector.looked + 1) heap.seats then record collector { looked = collector.looked + 1 } else looked_all heap collector
+
+-- a seat's word was found: a seat that hasn't answered is looked at again
+abbrev pub looked_at : Heap → Collector → ℕ → Collector
+looked_at heap collector found = if has_answered collector.phase found then looked_on heap collector else collector
+
+-- the next phase has begun
+abbrev pub advanced : Collector → Collector
+advanced collector = record collector { phase = collector.phase + 1; stage = Looking; looked = 0 }
+
+pub record Turn : Type 0 where
+  -- the step that is due
+  pub step : Step
+  -- the collector after it, by the word found; its entries are left as they are
+  pub told : ℕ → Collector
+  -- what it adds to the collector's entries and to the history
+  pub adds : List Entry
+
+abbrev pub look_turn : Heap → Collector → Turn
+look_turn heap collector = record { step = Turning (LookLoad collector.looked); told = looked_at heap collector; adds = [] }
+
+abbrev pub advance_turn : Collector → Turn
+advance_turn collector = record {
+  step = Turning (AdvanceStore (collector.phase + 1));
+  told = λ found. advanced collector;
+  adds = Advance (collector.phase + 1) ∷ [];
+}
+
+abbrev pub turn_at : Heap → Collector → Stage → Turn
+turn_at heap collector Looking = look_turn heap collector
+turn_at heap collector Advancing = advance_turn collector
+
+-- the collector's next turn
+abbrev pub next_turn : Heap → Collector → Turn
+next_turn heap collector = turn_at heap collector collector.stage
+
+-- the collector after a turn that found this word
+abbrev pub collector_after : Turn → ℕ → Collector
+collector_after turn found = record (turn.told found) { log = (turn.told found).log ++ turn.adds }
+
+-- what a turn answers that found this word: it waits where the seat hasn't answered. No turn ends a cycle yet
+abbrev pub turn_answer : Collector → Stage → ℕ → TurnAnswer
+turn_answer collector Looking found =
+    if has_answered collector.phase found then Stepped else Waits collector.looked found collector.phase
+turn_answer collector Advancing found = Stepped
+
+-- a turn may be made: below the last two numbers of a word there is one left for the next phase
+abbrev pub MayTurn : Collector → Stage → Type 0
+MayTurn collector Looking = Unit {0}
+MayTurn collector Advancing = collector.phase < 2 ^ 64 - 2

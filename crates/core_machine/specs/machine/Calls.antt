@@ -1,0 +1,108 @@
+-- A call that a seat makes from its begin to its reply, with no step of others between.
+use Rattle.std.specs.Prelude.{◌≡◌, ◌≢◌, ℕ, ◌+◌, ◌≤◌, ◌<◌, ◌-◌, ◌⊎◌, List, [], ◌∷◌, ◌++◌, length, replicate, slice_get, Option, Some, None, option_and_then}
+use Rattle.std.specs.List.{AllByRecursion}
+use Rattle.heap_model.specs.declared.heap.Heap.{Heap}
+use Rattle.heap_model.specs.declared.command.Command.{Command}
+use Rattle.heap_model.specs.declared.command.Command.TheVariants.{Poll, Leave}
+use Rattle.heap_model.specs.declared.entry.Entry.{Entry}
+use Rattle.heap_model.specs.declared.entry.Entry.TheVariants.{Said, Takes, GivesBack, Answers}
+use Rattle.heap_model.specs.declared.reply.Reply.{Reply}
+use Rattle.heap_model.specs.declared.reply.Reply.TheVariants.{Made, Full, NoObject, NoField}
+use Rattle.heap_model.specs.SeatCalls.{ComesBefore, leave_entries}
+use Rattle.heap_model.specs.Space.{need_of}
+use Rattle.core_machine.specs.declared.table.address.Address.TheVariants.{Phase, Control}
+use Rattle.core_machine.specs.declared.place.Place.TheVariants.{Idle}
+use Rattle.core_machine.specs.table.Fragments.{clear_in}
+use Rattle.core_machine.specs.table.Layout.{at, SameTable}
+use Rattle.core_machine.specs.machine.Machine.{State, seat_at, Event, Begins, Steps, Run, after_all, history}
+use Rattle.core_machine.specs.seat.Making.{next_id}
+use Rattle.core_machine.specs.seat.Seat.{Seat}
+use Rattle.core_machine.specs.machine.Sums.{sum_upto}
+
+-- a command is begun, and the seat makes this many steps
+abbrev pub call_events : ℕ → Command → ℕ → List Event
+call_events number command steps = Begins number command ∷ replicate steps (Steps number)
+
+-- an entry of the seat that tells no reply: it takes or gives back fragments, or answers a phase
+abbrev pub IsBeside : ℕ → Entry → Type 0
+IsBeside number (Takes q count) = q ≡ number
+IsBeside number (GivesBack q count) = q ≡ number
+IsBeside number (Answers q phase) = q ≡ number
+IsBeside number _ = ⊥
+
+-- the phase word is the phase that the seat answered last, or the next
+abbrev pub IsNear : Heap → State → ℕ → Type 0
+IsNear heap state number =
+    (at heap state.words Phase ≡ (seat_at state number).answered) ⊎ (at heap state.words Phase ≡ (seat_at state number).answered + 1)
+
+-- the second state is the first after the call's steps; its entries, the reply last and no other, are the seat's and the history's, and
+-- before the reply come those that are due by the seat's reserve and its last answer
+pub record PlaysCall (heap : Heap) (old new : State) (number : ℕ) (command : Command) (reply : Reply) : Type 0 where
+  pub steps : ℕ
+  pub can : Run heap old (call_events number command steps)
+  pub ends : new ≡ after_all heap old (call_events number command steps)
+  pub idle : (seat_at new number).place ≡ Idle
+  pub before : List Entry
+  pub shown : history heap old (call_events number command steps) ≡ before ++ Said number command reply ∷ []
+  pub mine : (seat_at new number).mine ≡ (seat_at old number).mine ++ (before ++ Said number command reply ∷ [])
+  pub beside : AllByRecursion (IsBeside number) before
+  pub comes : (command ≡ Poll → IsNear heap old number)
+      → ComesBefore number (length (seat_at old number).reserve) (seat_at old number).answered command reply before
+
+-- a call makes one object at most and does one set at most, and by no call but a leave the seat has left
+pub record CountsCall (old new : Seat) (command : Command) : Type 0 where
+  pub made_more : new.made ≤ old.made + 1
+  pub sets_more : new.sets ≤ old.sets + 1
+  pub present_stays : command ≢ Leave → new.left ≡ old.left
+
+-- the seat told its leave, with its reserve as what it had of its own
+abbrev pub TellsLeave : State → State → ℕ → Type 0
+TellsLeave old new number =
+    (seat_at new number).mine ≡ (seat_at old number).mine ++ leave_entries number (length (seat_at old number).reserve)
+
+-- the fragments whose taken bit isn't set
+abbrev pub free_fragments : Heap → List ℕ → ℕ
+free_fragments heap words = sum_upto heap.groups (λ group. length (clear_in group (at heap words (Control group))))
+
+-- what a seat can have: its reserve, and the fragments that are free
+abbrev pub within_reach : Heap → State → ℕ → ℕ
+within_reach heap state number = length (seat_at state number).reserve + free_fragments heap state.words
+
+-- registers, reserve and cursor are as before
+pub record KeepsOwn (old new : Seat) : Type 0 where
+  pub registers_stay : new.registers ≡ old.registers
+  pub reserve_stays : new.reserve ≡ old.reserve
+  pub cursor_stays : new.cursor ≡ old.cursor
+  pub made_stays : new.made ≡ old.made
+
+-- the call was refused: the refusal shows what is needed and what is within reach, and nothing was changed
+pub record IsRefused (heap : Heap) (old new : State) (number : ℕ) (command : Command) (reply : Reply) : Type 0 where
+  pub shows : reply ≡ Full (need_of command) (within_reach heap old number)
+  pub own_stays : KeepsOwn (seat_at old number) (seat_at new number)
+  pub table_stays : SameTable heap old.words new.words
+
+-- a record is made exactly where enough is within reach, and else the call is refused
+pub record AnswersNew (heap : Heap) (old new : State) (number : ℕ) (command : Command) (reply : Reply) : Type 0 where
+  pub made : need_of command ≤ within_reach heap old number → reply ≡ Made (next_id number (seat_at old number))
+  pub refused : within_reach heap old number < need_of command → IsRefused heap old new number command reply
+
+-- the reply refuses a get, a set or a len
+abbrev pub IsPlaceRefusal : Reply → Type 0
+IsPlaceRefusal NoObject = Unit {0}
+IsPlaceRefusal NoField = Unit {0}
+IsPlaceRefusal _ = ⊥
+
+-- nothing was changed, but that the seat has the call's entry
+pub record LeavesAll (old new : State) (number : ℕ) : Type 0 where
+  pub words_stay : new.words ≡ old.words
+  pub seat_stays : seat_at new number
+      ≡ record (seat_at old number) { command = (seat_at new number).command; mine = (seat_at new number).mine }
+
+-- the reply that an entry tells
+abbrev pub reply_of : Entry → Option Reply
+reply_of (Said number command reply) = Some reply
+reply_of _ = None
+
+-- the reply that the last of the entries tells
+abbrev pub last_reply : List Entry → Option Reply
+last_reply entries = option_and_then reply_of (slice_get entries (length entries - 1))

@@ -1,0 +1,63 @@
+-- What is true of a seat's own data, whatever the words are.
+use Rattle.std.specs.Prelude.{◌≡◌, ◌*◌, ◌/◌, ◌<◌, ◌≤◌, ◌^◌, true, [], length, All}
+use Rattle.heap_model.specs.declared.heap.Heap.{Heap}
+use Rattle.heap_model.specs.declared.command.Command.TheVariants as commands
+use Rattle.heap_model.specs.Command.{IsCommand}
+use Rattle.heap_model.specs.Limits.{group_fragments, register_count, number_limit, most_reserve}
+use Rattle.core_machine.specs.declared.place.Place.{Place}
+use Rattle.core_machine.specs.declared.place.Place.TheVariants as places
+use Rattle.core_machine.specs.declared.seat.register.Register.{Register}
+use Rattle.core_machine.specs.declared.seat.register.Register.TheVariants.{Nil, Number, Object}
+use Rattle.core_machine.specs.seat.FitsReaching.{FitsReaching, IsNowhere}
+use Rattle.core_machine.specs.table.Loaded.{head_in, IsWithinHeap}
+use Rattle.core_machine.specs.seat.Seat.{Seat}
+pub use Rattle.core_machine.specs.seat.FitsMaking.{AreFragments, HasNoHand, IsAtRest, MakesRecord, Gathers, Refuses, HasBody, FitsMaking}
+pub use Rattle.core_machine.specs.seat.FitsAnswering.{IsLocal, FitsLeaving, HasNoAnswer, IsSilent, Answers, FitsPolling}
+pub use Rattle.core_machine.specs.collector.FitsTurns.{FitsStage, CollectorFits}
+
+-- what is in the hand at a place
+abbrev pub FitsPlace : Heap → Seat → Place → Type 0
+FitsPlace heap seat places.Idle = IsAtRest seat
+FitsPlace heap seat (places.Making place) = FitsMaking heap seat place
+FitsPlace heap seat places.Telling = IsAtRest seat × IsCommand seat.command × IsLocal seat.registers seat.command
+FitsPlace heap seat (places.Reaching place) = IsAtRest seat
+FitsPlace heap seat (places.Polling place) = IsAtRest seat
+FitsPlace heap seat (places.Leaving place) = IsAtRest seat × (seat.command ≡ commands.Leave) × FitsLeaving seat place
+
+-- what was reached and loaded there
+abbrev pub FitsWay : Seat → Place → Type 0
+FitsWay seat (places.Reaching place) = FitsReaching seat place
+FitsWay seat _ = IsNowhere seat
+
+-- which phase is about to be answered there
+abbrev pub FitsAnswer : Seat → Place → Type 0
+FitsAnswer seat (places.Polling place) = FitsPolling seat place
+FitsAnswer seat _ = IsSilent seat
+
+-- a register's number is within the limit, and its object's first fragment is one of the heap's
+abbrev pub FitsRegister : Heap → Register → Type 0
+FitsRegister heap Nil = Unit {0}
+FitsRegister heap (Number n) = n < number_limit
+FitsRegister heap (Object head id) = head < group_fragments * heap.groups
+
+-- a seat that has left has no call in flight and no reserve
+pub record IsGone (seat : Seat) : Type 0 where
+  pub idle : seat.place ≡ places.Idle
+  pub no_reserve : seat.reserve ≡ []
+
+-- the seat's own data fit together
+pub record Fits (heap : Heap) (seat : Seat) : Type 0 where
+  pub registers_whole : length seat.registers ≡ register_count
+  pub registers_fit : All (FitsRegister heap) seat.registers
+  pub cursor_within : seat.cursor < heap.groups
+  pub small_reserve : length seat.reserve ≤ most_reserve
+  pub reserve_of_cursor : All (λ fragment. fragment / group_fragments ≡ seat.cursor) seat.reserve
+  pub hand_within : AreFragments heap seat.hand
+  pub body_within : AreFragments heap seat.body
+  pub reached_within : seat.reached < group_fragments * heap.groups
+  pub loaded_within : IsWithinHeap heap (head_in seat.loaded)
+  pub asked_small : seat.asked < 2 ^ 64
+  pub at_place : FitsPlace heap seat seat.place
+  pub way_at_place : FitsWay seat seat.place
+  pub answer_at_place : FitsAnswer seat seat.place
+  pub gone : seat.left ≡ true → IsGone seat

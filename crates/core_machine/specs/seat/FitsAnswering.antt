@@ -1,0 +1,46 @@
+-- What is true of a seat's own data while it answers the phase, leaves, or looks at no word.
+use Rattle.std.specs.Prelude.{◌≡◌, ◌≢◌, ℕ, ◌<◌, List, [], length, None}
+use Rattle.heap_model.specs.declared.command.Command.{Command}
+use Rattle.heap_model.specs.declared.command.Command.TheVariants as commands
+use Rattle.core_machine.specs.declared.place.Polling.{Polling}
+use Rattle.core_machine.specs.declared.place.Polling.TheVariants.{Asking, Shading, Answering}
+use Rattle.core_machine.specs.declared.place.Leaving.{Leaving}
+use Rattle.core_machine.specs.declared.place.Leaving.TheVariants.{Emptying, Parting}
+use Rattle.core_machine.specs.declared.seat.register.Register.{Register}
+use Rattle.core_machine.specs.seat.Polling.{roots}
+use Rattle.core_machine.specs.seat.Registers.{register_in, head_of}
+use Rattle.core_machine.specs.seat.Seat.{Seat}
+
+-- a command that looks at no word: one on an object does so where its register holds none
+abbrev pub IsLocal : List Register → Command → Type 0
+IsLocal registers (commands.Num d n) = Unit {0}
+IsLocal registers (commands.Nil d) = Unit {0}
+IsLocal registers (commands.Copy d r) = Unit {0}
+IsLocal registers (commands.Same a b) = Unit {0}
+IsLocal registers (commands.Get d r i) = head_of (register_in registers r) ≡ None
+IsLocal registers (commands.Set r i v) = head_of (register_in registers r) ≡ None
+IsLocal registers (commands.Len r) = head_of (register_in registers r) ≡ None
+IsLocal registers _ = ⊥
+
+-- the reserve is given back before the seat leaves
+abbrev pub FitsLeaving : Seat → Leaving → Type 0
+FitsLeaving seat Emptying = 0 < length seat.reserve
+FitsLeaving seat Parting = seat.reserve ≡ []
+
+-- no phase is about to be answered
+pub record HasNoAnswer (asked shaded : ℕ) : Type 0 where
+  pub none_asked : asked ≡ 0
+  pub none_shaded : shaded ≡ 0
+
+abbrev pub IsSilent : Seat → Type 0
+IsSilent seat = HasNoAnswer seat.asked seat.shaded
+
+-- a phase is about to be answered that the seat hasn't answered yet
+pub record Answers (seat : Seat) : Type 0 where
+  pub polls : seat.command ≡ commands.Poll
+  pub anew : seat.asked ≢ seat.answered
+
+abbrev pub FitsPolling : Seat → Polling → Type 0
+FitsPolling seat Asking = IsSilent seat × (seat.command ≡ commands.Poll)
+FitsPolling seat Shading = Answers seat × (seat.shaded < length (roots seat))
+FitsPolling seat Answering = Answers seat × (seat.shaded ≡ length (roots seat))

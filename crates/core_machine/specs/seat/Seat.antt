@@ -1,0 +1,91 @@
+-- What the machine keeps of a seat. The seat's number is its place among the seats, and stands nowhere in it.
+use Rattle.std.specs.Prelude.{ℕ, ◌+◌, ◌<◌, Bool, true, List, [], ◌++◌}
+use Rattle.heap_model.specs.declared.entry.Entry.{Entry}
+use Rattle.heap_model.specs.declared.command.Command.{Command}
+use Rattle.heap_model.specs.declared.command.Command.TheVariants as commands
+use Rattle.heap_model.specs.Limits.{name_limit, stamp_limit}
+use Rattle.heap_model.specs.Space.{need_of}
+use Rattle.core_machine.specs.declared.place.Place.{Place}
+use Rattle.core_machine.specs.declared.place.Place.TheVariants.{Idle}
+use Rattle.core_machine.specs.declared.seat.register.Register.{Register}
+
+pub record Seat : Type 0 where
+  -- the sixteen registers
+  pub registers : List Register
+  -- own fragments that no call uses, all of the cursor's group
+  pub reserve : List ℕ
+  -- the group at which the next gather begins
+  pub cursor : ℕ
+  -- the fragments of the call in flight that aren't born
+  pub hand : List ℕ
+  -- the fragments of the object that is being made, born ones among them
+  pub body : List ℕ
+  -- how many words of these have been stored
+  pub stored : ℕ
+  -- how many groups the call in flight has claimed
+  pub tried : ℕ
+  -- how many fragments it has given back
+  pub given : ℕ
+  -- the call in flight, or the last one
+  pub command : Command
+  -- where the seat stands in it
+  pub place : Place
+  -- the phase that it answered last
+  pub answered : ℕ
+  -- how many objects it made
+  pub made : ℕ
+  -- the fragment that its call has reached on the way to a field
+  pub reached : ℕ
+  -- how many links lead on from there to the field
+  pub links : ℕ
+  -- the field that the call has loaded: for a get, while the name of what it refers to is awaited, and for a set with the barrier on
+  pub loaded : ℕ
+  -- the phase that it is about to answer
+  pub asked : ℕ
+  -- how many objects of its registers it has shaded for that
+  pub shaded : ℕ
+  -- how many sets it did
+  pub sets : ℕ
+  -- whether it has left
+  pub left : Bool
+  -- its entries, in their order
+  pub mine : List Entry
+
+-- what stands for a seat that isn't there: one that has left, without anything
+abbrev pub nobody : Seat
+nobody = record {
+  registers = [];
+  reserve = [];
+  cursor = 0;
+  hand = [];
+  body = [];
+  stored = 0;
+  tried = 0;
+  given = 0;
+  command = commands.Poll;
+  place = Idle;
+  answered = 0;
+  made = 0;
+  reached = 0;
+  links = 0;
+  loaded = 0;
+  asked = 0;
+  shaded = 0;
+  sets = 0;
+  left = true;
+  mine = [];
+}
+
+-- the fragments that its call needs
+abbrev pub need : Seat → ℕ
+need seat = need_of seat.command
+
+-- where so many objects were made and sets done, a name is left for the object that the command makes, or a stamp for its set
+abbrev pub HasNumber : ℕ → ℕ → Command → Type 0
+HasNumber made sets (commands.New d fields) = made + 1 < name_limit
+HasNumber made sets (commands.Set r i v) = sets + 1 < stamp_limit
+HasNumber made sets _ = Unit {0}
+
+-- the seat with more entries
+abbrev pub with_entries : Seat → List Entry → Seat
+with_entries seat entries = record seat { mine = seat.mine ++ entries }

@@ -1,0 +1,34 @@
+-- The calls that look at no word: one load of the phase, at which their reply stands.
+use Rattle.std.specs.Prelude.{Bool, if◌then◌else◌, List, slice_set}
+use Rattle.heap_model.specs.declared.command.Command.{Command}
+use Rattle.heap_model.specs.declared.command.Command.TheVariants.{Num, Nil, Copy, Same}
+use Rattle.heap_model.specs.declared.reply.Reply.{Reply}
+use Rattle.heap_model.specs.declared.reply.Reply.TheVariants.{Done, Yes, No, NoObject}
+use Rattle.core_machine.specs.declared.place.Place.TheVariants.{Idle}
+use Rattle.core_machine.specs.declared.seat.register.Register.{Register}
+use Rattle.core_machine.specs.declared.seat.register.Register.TheVariants as held
+use Rattle.core_machine.specs.seat.Registers.{register_in, value_of, is_same_value}
+use Rattle.core_machine.specs.seat.Seat.{Seat}
+
+-- yes or no
+abbrev pub answer_of : Bool → Reply
+answer_of same = if same then Yes else No
+
+-- the reply of a command that looks at no word: get, set and len do so where their register holds no object
+abbrev pub local_reply : List Register → Command → Reply
+local_reply registers (Num d n) = Done
+local_reply registers (Nil d) = Done
+local_reply registers (Copy d r) = Done
+local_reply registers (Same a b) = answer_of (is_same_value (value_of (register_in registers a)) (value_of (register_in registers b)))
+local_reply registers _ = NoObject
+
+-- the registers after it
+abbrev pub local_registers : List Register → Command → List Register
+local_registers registers (Num d n) = slice_set registers d (held.Number n)
+local_registers registers (Nil d) = slice_set registers d held.Nil
+local_registers registers (Copy d r) = slice_set registers d (register_in registers r)
+local_registers registers _ = registers
+
+-- the reply was told
+abbrev pub told : Seat → Seat
+told seat = record seat { registers = local_registers seat.registers seat.command; place = Idle }

@@ -1,0 +1,42 @@
+-- The words of a heap's table, and where each of them stands.
+use Rattle.std.specs.Prelude.{◌≡◌, ℕ, ◌+◌, ◌*◌, ◌<◌, List, slice_index, slice_set}
+use Rattle.heap_model.specs.declared.heap.Heap.{Heap}
+use Rattle.heap_model.specs.Limits.{group_fragments, most_seats}
+use Rattle.core_machine.specs.declared.table.address.Address.{Address}
+use Rattle.core_machine.specs.declared.table.address.Address.TheVariants.{Phase, Answer, Budget, Spot, Control, Word, Spine}
+
+-- how many words the table has
+abbrev pub table_length : Heap → ℕ
+table_length heap = 19 + 65 * heap.groups + 4 * heap.spine
+
+-- where a word stands: the phase, sixteen answers, the budget, the spot, the control words, the fragments, the two halves
+abbrev pub index_of : Heap → Address → ℕ
+index_of heap Phase = 0
+index_of heap (Answer seat) = 1 + seat
+index_of heap Budget = 17
+index_of heap Spot = 18
+index_of heap (Control group) = 19 + group
+index_of heap (Word fragment part) = 19 + heap.groups + 4 * fragment + part
+index_of heap (Spine half offset) = 19 + 65 * heap.groups + 2 * heap.spine * half + offset
+
+-- the heap has such a word
+abbrev pub InTable : Heap → Address → Type 0
+InTable heap Phase = Unit {0}
+InTable heap (Answer seat) = seat < most_seats
+InTable heap Budget = Unit {0}
+InTable heap Spot = Unit {0}
+InTable heap (Control group) = group < heap.groups
+InTable heap (Word fragment part) = (fragment < group_fragments * heap.groups) × (part < 4)
+InTable heap (Spine half offset) = (half < 2) × (offset < 2 * heap.spine)
+
+-- the word at an address
+unfoldable pub at : Heap → List ℕ → Address → ℕ
+at heap words address = slice_index words (index_of heap address)
+
+-- the words with another one at an address
+unfoldable pub put : Heap → List ℕ → Address → ℕ → List ℕ
+put heap words address word = slice_set words (index_of heap address) word
+
+-- every word of the table is the same
+abbrev pub SameTable : Heap → List ℕ → List ℕ → Type 0
+SameTable heap old new = (address : Address) → InTable heap address → at heap new address ≡ at heap old address

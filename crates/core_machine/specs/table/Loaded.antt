@@ -1,0 +1,79 @@
+-- What a word that was loaded tells.
+use Rattle.std.specs.Prelude.{ℕ, ◌-◌, ◌*◌, ◌<◌, ◌%◌, ◌^◌, ◌==◌, nat_lt, if◌then◌else◌, List, Option, Some, None, IfSome, unwrap_or}
+use Rattle.heap_words.specs.declared.cell.Cell.{Cell}
+use Rattle.heap_words.specs.declared.kind.Kind.{Kind}
+use Rattle.heap_words.specs.declared.kind.Kind.TheVariants as kinds
+use Rattle.heap_words.specs.Cell.{cell_of}
+use Rattle.heap_model.specs.declared.heap.Heap.{Heap}
+use Rattle.heap_model.specs.declared.id.Id.{Id}
+use Rattle.heap_model.specs.declared.id.Id.TheVariants.{Board, Made}
+use Rattle.heap_model.specs.Limits.{group_fragments}
+use Rattle.core_machine.specs.declared.table.address.Address.{Address}
+use Rattle.core_machine.specs.declared.table.address.Address.TheVariants.{Word}
+use Rattle.core_machine.specs.declared.seat.register.Register.{Register}
+use Rattle.core_machine.specs.declared.seat.register.Register.TheVariants.{Nil, Number}
+use Rattle.core_machine.specs.table.Layout.{at}
+
+-- what a cell of this kind and value refers to
+abbrev pub referred : Kind → ℕ → Option ℕ
+referred kinds.Reference value = Some value
+referred _ value = None
+
+-- the first fragment of the object that a field refers to
+abbrev pub head_in : ℕ → Option ℕ
+head_in word = referred (cell_of word).kind (cell_of word).value
+
+-- where a record's meta leads: to its second fragment, where it has one; an array's leads nowhere
+abbrev pub meta_lead : Cell → Option ℕ
+meta_lead cell = if nat_lt cell.value (2 ^ 29) then (if cell.stamp == 0 then None else Some cell.stamp) else None
+
+-- where a fragment's first word of this kind leads
+abbrev pub first_lead : Kind → Cell → Option ℕ
+first_lead kinds.Reference cell = Some cell.value
+first_lead kinds.Fixed cell = meta_lead cell
+first_lead _ cell = None
+
+-- where word `part` of a fragment leads: the first one by a link or a record's meta, each by a reference
+abbrev pub lead_of : ℕ → ℕ → Option ℕ
+lead_of part word = if part == 0 then first_lead (cell_of word).kind (cell_of word) else head_in word
+
+-- the fragment after the one whose first word this is; 0 where it leads nowhere
+abbrev pub link_in : ℕ → ℕ
+link_in word = unwrap_or (lead_of 0 word) 0
+
+-- the length in a meta
+abbrev pub length_in : ℕ → ℕ
+length_in word = (cell_of word).value % 2 ^ 13
+
+-- the id in a name: an owner has at most eight bits
+abbrev pub id_of_owner : ℕ → ℕ → Id
+id_of_owner owner count = if owner == 0 then Board else Made (owner - 1) count
+
+abbrev pub id_in : ℕ → Id
+id_in word = id_of_owner ((cell_of word).value % 2 ^ 8) (cell_of word).stamp
+
+-- the stamp of a field
+abbrev pub stamp_in : ℕ → ℕ
+stamp_in word = (cell_of word).stamp
+
+-- what a register holds after it got a field of this kind and value that is no reference
+abbrev pub plain_register : Kind → ℕ → Register
+plain_register kinds.Number value = Number value
+plain_register _ value = Nil
+
+abbrev pub plain_in : ℕ → Register
+plain_in word = plain_register (cell_of word).kind (cell_of word).value
+
+-- the fragment is one of the heap's, where there is one
+abbrev pub IsWithinHeap : Heap → Option ℕ → Type 0
+IsWithinHeap heap fragment = IfSome fragment (λ f. f < group_fragments * heap.groups)
+
+-- every word of a fragment leads to a fragment of the heap, or nowhere
+abbrev pub LeadWithin : Heap → List ℕ → Type 0
+LeadWithin heap words = (fragment part : ℕ) → fragment < group_fragments * heap.groups → part < 4
+    → IsWithinHeap heap (lead_of part (at heap words (Word fragment part)))
+
+-- the word that was found at the address leads within the heap, where it stands in a fragment
+abbrev pub FoundWithin : Heap → Address → ℕ → Type 0
+FoundWithin heap (Word fragment part) found = IsWithinHeap heap (lead_of part found)
+FoundWithin heap _ found = Unit {0}

@@ -1,0 +1,128 @@
+ghost use Rattle.std.specs.Prelude.{◌≡◌, ℕ, ◌+◌, ◌*◌, ◌<◌, ◌≤◌, ◌^◌, length, map, replicate, All, IfOk};
+ghost use Rattle.std.specs.List.{range_with_len};
+ghost use Rattle.heap_model.specs.Limits.{board_fragments, most_seats};
+ghost use Rattle.core_machine.specs.declared.table.address.Address.{Address};
+ghost use Rattle.heap_model.specs.Heap.{IsHeap};
+ghost use Rattle.core_machine.specs.table.Layout.{at, put, InTable, table_length};
+ghost use Rattle.core_machine.specs.machine.Opening.{IsOpening, opening_word, opening_seat, with_left, with_board};
+
+use crate::collector::CollectorParty;
+use crate::machine::Machine;
+use crate::seat::SeatParty;
+use crate::table::address::Address;
+use crate::table::newborn::Newborn;
+use heap_model::limits::{BOARD_FIELDS, BOARD_FRAGMENTS, MOST_SEATS};
+use heap_model::{Heap, Memory};
+use heap_words::{Group, LEFT, Name, Spot};
+use std::alloc::Global;
+
+/// The board's fragments.
+const BOARD: [u16; 11] = [0, 1, 2, 3, 4, 5, 6, 7, 8, 9, 10];
+
+impl Machine {
+    /// The machine of a heap that opens.
+    pub fn make(alloc: Global, heap: Heap) -> Result<Machine, Memory>
+        requires { IsHeap heap }
+        ensures heap { IfOk result (λ machine. machine.heap ≡ heap) }
+        ensures opening { IfOk result (λ machine. IsOpening heap machine.state) }
+    {
+        let words = opening_words(alloc, &heap)?;
+        let seats = opening_seats(alloc, &heap)?;
+        Ok(Machine {
+            heap,
+            words,
+            seats,
+            collector: CollectorParty::opening(alloc),
+        })
+    }
+}
+
+/// The heap's seats at the opening.
+fn opening_seats(alloc: Global, heap: &Heap) -> Result<Vec<SeatParty>, Memory>
+    requires { IsHeap heap.now }
+    ensures { IfOk result (λ seats. map (λ s. s.seat) seats.items ≡ map (opening_seat heap.now) (range_with_len 0 heap.now.seats)) }
+{
+    let mut seats = Vec::new(alloc);
+    for number in 0..heap.seats {
+        seats.push(SeatParty::opening(alloc, heap, number))?;
+    }
+    Ok(seats)
+}
+
+/// The words of the heap's table at the opening.
+fn opening_words(alloc: Global, heap: &Heap) -> Result<Vec<u64>, Memory>
+    requires { IsHeap heap.now }
+    ensures length { IfOk result (λ words. length words.items ≡ table_length heap.now) }
+    ensures wide { IfOk result (λ words. All (λ word. word < 2 ^ 64) words.items) }
+    ensures open { IfOk result (λ words. (a : Address) → InTable heap.now a → at heap.now words.items a ≡ opening_word heap.now a) }
+{
+    let length = 19 + 65 * heap.groups as usize + 4 * heap.spine as usize;
+    let mut words = vec![in alloc; 0; length]?;
+    write_opening(words.as_mut_slice(), heap);
+    Ok(words)
+}
+
+/// Writes what a table of zeros lacks.
+fn write_opening(words: &mut [u64], heap: &Heap)
+    requires limits { IsHeap heap.now }
+    requires zeros { words.old ≡ replicate (table_length heap.now) 0 }
+    ensures length { length words.new ≡ table_length heap.now }
+    ensures wide { All (λ word. word < 2 ^ 64) words.new }
+    ensures open { (a : Address) → InTable heap.now a → at heap.now words.new a ≡ opening_word heap.now a }
+{
+    leave_without_seats(words, heap);
+    let spot = Spot { half: 0, offset: 0 };
+    store(words, heap, Address::Spot, spot.pack());
+    let board = Group {
+        taken: 2047,
+        born: 2047,
+        marked: 0,
+        scanned: 0,
+    };
+    store(words, heap, Address::Control(0), board.pack());
+    store_board(words, heap);
+}
+
+/// Each number that no seat has, has left.
+fn leave_without_seats(words: &mut [u64], heap: &Heap)
+    requires limits { IsHeap heap.now }
+    requires table { length words.old ≡ table_length heap.now }
+    ensures table { length words.new ≡ table_length heap.now }
+    ensures left { (a : Address) → InTable heap.now a → at heap.now words.new a ≡ with_left heap.now most_seats a (at heap.now words.old a) }
+{
+    for number in heap.seats..MOST_SEATS {
+        store(words, heap, Address::Answer(number), LEFT);
+    }
+}
+
+/// Writes the words of the board.
+fn store_board(words: &mut [u64], heap: &Heap)
+    requires limits { IsHeap heap.now }
+    requires table { length words.old ≡ table_length heap.now }
+    ensures table { length words.new ≡ table_length heap.now }
+    ensures board { (a : Address) → InTable heap.now a → at heap.now words.new a ≡ with_board (4 * board_fragments) a (at heap.now words.old a) }
+{
+    let board = Newborn {
+        name: Name { owner: 0, count: 0 },
+        fields: BOARD_FIELDS,
+        fragments: &BOARD,
+    };
+    for place in 0..4 * BOARD_FRAGMENTS {
+        let fragment = place / 4;
+        let part = (place % 4) as u8;
+        let word = board.word(fragment as usize, part);
+        store(words, heap, Address::Word { fragment, part }, word);
+    }
+}
+
+/// Writes a word of the table.
+fn store(words: &mut [u64], heap: &Heap, address: Address, word: u64)
+    requires limits { IsHeap heap.now }
+    requires table { length words.old ≡ table_length heap.now }
+    requires within { InTable heap.now address }
+    ensures put { words.new ≡ put heap.now words.old address word }
+    ensures table { length words.new ≡ table_length heap.now }
+{
+    let index = address.index(heap);
+    words[index] = word;
+}

@@ -1,0 +1,46 @@
+ghost use Rattle.std.specs.Prelude.{◌≡◌, ◌+◌, ◌*◌, ◌<◌, ◌≤◌, Some};
+ghost use Rattle.heap_model.specs.declared.command.Command.TheVariants.{Leave};
+ghost use Rattle.heap_model.specs.Space.{need_of};
+ghost use Rattle.core_machine.specs.machine.Machine.{Begins, Can, seat_at};
+ghost use Rattle.core_machine.specs.seat.Commands.{IsRecord};
+ghost use Rattle.core_machine.specs.machine.Calls.{PlaysCall, CountsCall, TellsLeave, AnswersNew, IsPlaceRefusal, LeavesAll, last_reply as last_reply_of};
+ghost use Rattle.core_machine.specs.machine.Value.{spare_of, SpendsRoom};
+
+use crate::machine::Machine;
+use heap_model::{Command, Entry, Reply};
+
+impl Machine {
+    /// Makes a whole call of the seat, with no step of others between, and answers its reply.
+    pub fn play_call(&mut self, seat: u8, command: &Command) -> Reply
+        requires can { Can self.old.heap self.old.state (Begins seat command.now) }
+        requires room { 2 * need_of command.now + 4 ≤ spare_of self.old seat }
+        ensures heap { self.new.heap ≡ self.old.heap }
+        ensures steps { PlaysCall self.old.heap self.old.state self.new.state seat command.now result }
+        ensures counts { CountsCall (seat_at self.old.state seat) (seat_at self.new.state seat) command.now }
+        ensures leave { command.now ≡ Leave → TellsLeave self.old.state self.new.state seat }
+        ensures answer { IsRecord command.now → AnswersNew self.old.heap self.old.state self.new.state seat command.now result }
+        ensures refused { IsPlaceRefusal result → LeavesAll self.old.state self.new.state seat }
+        ensures spent { SpendsRoom self.old self.new seat }
+    {
+        // What is true of every machine is known from here on.
+        let _ = &self.words;
+        self.begin(seat, *command);
+        while let Some(step) = self.due_of_seat(seat) {
+            self.step_of_seat(seat, &step);
+        }
+        match last_reply(self.log(seat)) {
+            Some(reply) => reply,
+            None => unreachable!(),
+        }
+    }
+}
+
+/// The reply that the last of the entries tells.
+fn last_reply(entries: &[Entry]) -> Option<Reply>
+    ensures { result ≡ last_reply_of entries.now }
+{
+    match entries.last()? {
+        Entry::Said { reply, .. } => Some(*reply),
+        _ => None,
+    }
+}

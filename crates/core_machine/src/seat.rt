@@ -1,0 +1,168 @@
+ghost use Rattle.std.specs.Prelude.{◌≡◌, ◌+◌, ◌-◌, ◌<◌, ◌≤◌, ◌∷◌, [], OnOk, OnErr};
+ghost use Rattle.heap_model.specs.Heap.{IsHeap};
+ghost use Rattle.core_machine.specs.seat.Seat.{with_entries};
+ghost use Rattle.core_machine.specs.seat.ReachingMoves.{said};
+ghost use Rattle.core_machine.specs.machine.Opening.{opening_seat};
+
+use crate::place::Place;
+use crate::seat::register::Register;
+use crate::table::fragments::{Hand, Reserve};
+use heap_model::limits::REGISTER_COUNT;
+use heap_model::{Command, Entry, Heap, Id, Memory, Reply};
+use std::alloc::Global;
+use std::marker::Model;
+
+mod answer;
+mod bear;
+mod begins;
+pub(crate) mod commands;
+mod due;
+mod gather;
+mod moves;
+mod reach;
+pub(crate) mod register;
+mod tell;
+mod way;
+
+/// What is kept of a seat: its registers, its fragments, its call in flight, what it answered, and its entries.
+#[derive(Drop)]
+pub struct SeatParty {
+    pub(crate) registers: [Register; REGISTER_COUNT],
+    pub(crate) reserve: Reserve,
+    pub(crate) cursor: u16,
+    pub(crate) hand: Hand,
+    pub(crate) body: Hand,
+    pub(crate) stored: u16,
+    pub(crate) tried: u16,
+    pub(crate) given: u16,
+    pub(crate) command: Command,
+    pub(crate) place: Place,
+    pub(crate) answered: u64,
+    pub(crate) made: u32,
+    pub(crate) reached: u16,
+    pub(crate) links: u16,
+    pub(crate) loaded: u64,
+    pub(crate) asked: u64,
+    pub(crate) shaded: u8,
+    pub(crate) sets: u32,
+    pub(crate) left: bool,
+    pub(crate) mine: Vec<Entry>,
+}
+
+impl Model for SeatParty {
+    ghost use Rattle.std.specs.Prelude.{◌-◌, vec_capacity, vec_len};
+    ghost use Rattle.core_machine.specs.machine.Value.{SeatWithRoom};
+
+    ghost Value = { SeatWithRoom };
+
+    ghost view = { λ party. record {
+      seat = record {
+        registers = party.registers;
+        reserve = party.reserve.items;
+        cursor = party.cursor;
+        hand = party.hand.items;
+        body = party.body.items;
+        stored = party.stored;
+        tried = party.tried;
+        given = party.given;
+        command = party.command;
+        place = party.place;
+        answered = party.answered;
+        made = party.made;
+        reached = party.reached;
+        links = party.links;
+        loaded = party.loaded;
+        asked = party.asked;
+        shaded = party.shaded;
+        sets = party.sets;
+        left = party.left;
+        mine = party.mine.items;
+      };
+      spare = vec_capacity party.mine - vec_len party.mine;
+    } };
+}
+
+impl SeatParty {
+    /// The seat of this number at the opening.
+    pub fn opening(alloc: Global, heap: &Heap, number: u8) -> SeatParty
+        requires { IsHeap heap.now }
+        ensures { result.seat ≡ opening_seat heap.now number }
+    {
+        let mut registers = [Register::Nil; REGISTER_COUNT];
+        registers[0] = Register::Object {
+            head: 0,
+            id: Id::Board,
+        };
+        SeatParty {
+            registers,
+            reserve: Reserve::new(),
+            cursor: u16::from(number) % heap.groups,
+            hand: Hand::new(),
+            body: Hand::new(),
+            stored: 0,
+            tried: 0,
+            given: 0,
+            command: Command::Poll,
+            place: Place::Idle,
+            answered: 0,
+            made: 0,
+            reached: 0,
+            links: 0,
+            loaded: 0,
+            asked: 0,
+            shaded: 0,
+            sets: 0,
+            left: false,
+            mine: Vec::new(alloc),
+        }
+    }
+
+    /// The seat's entries, in their order.
+    pub fn log(&self) -> &[Entry]
+        ensures { result.now ≡ self.now.seat.mine }
+    {
+        self.mine.as_slice()
+    }
+
+    /// For how many more entries there is room.
+    pub fn spare(&self) -> usize
+        ensures { result ≡ self.now.spare }
+    {
+        self.mine.capacity() - self.mine.len()
+    }
+
+    /// Makes room for at least `n` more entries.
+    pub fn room(&mut self, n: usize) -> Result<(), Memory>
+        ensures same { self.new.seat ≡ self.old.seat }
+        ensures more { self.old.spare ≤ self.new.spare }
+        ensures room { OnOk result (n ≤ self.new.spare) }
+        ensures memory { OnErr result (self.new ≡ self.old) }
+    {
+        self.mine.reserve(n).map_err(|_| Memory)
+    }
+
+    /// Adds an entry, for which there is room.
+    pub(crate) fn note(&mut self, entry: Entry)
+        requires { 0 < self.old.spare }
+        ensures seat { self.new.seat ≡ with_entries self.old.seat (entry ∷ []) }
+        ensures spare { self.old.spare ≤ self.new.spare + 1 }
+    {
+        match self.mine.push(entry) {
+            Ok(()) => (),
+            Err(_) => unreachable!(),
+        }
+    }
+
+    /// Adds the reply to the call, for which there is room.
+    pub(crate) fn say(&mut self, number: u8, reply: Reply)
+        requires { 0 < self.old.spare }
+        ensures seat { self.new.seat ≡ with_entries self.old.seat (said number self.old.seat reply) }
+        ensures spare { self.old.spare ≤ self.new.spare + 1 }
+    {
+        self.note(Entry::Said {
+            seat: number,
+            command: self.command,
+            reply,
+        });
+    }
+}

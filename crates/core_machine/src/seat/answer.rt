@@ -1,0 +1,176 @@
+ghost use Rattle.std.specs.Prelude.{◌≡◌, ◌+◌, ◌<◌, ◌≤◌, length, slice_index_or};
+ghost use Rattle.heap_model.specs.Limits.{register_count, most_reserve};
+ghost use Rattle.core_machine.specs.declared.step.Step.TheVariants.{Making as Makes};
+ghost use Rattle.core_machine.specs.declared.place.Place.TheVariants.{Leaving as Leaves};
+ghost use Rattle.core_machine.specs.seat.Registers.{heads as heads_of};
+ghost use Rattle.core_machine.specs.seat.Polling.{roots, shades_on as shades_on_of, shaded_more, leaving as leaving_of};
+ghost use Rattle.core_machine.specs.seat.AnsweringMoves.{poll_move, answer_move, empty_move, leave_move};
+ghost use Rattle.core_machine.specs.Moves.{seat_after};
+
+use crate::place::{Leaving, Place, Polling};
+use crate::seat::SeatParty;
+use crate::seat::register::Register;
+use crate::step::MakingStep;
+use crate::table::fragments::{Reserve, mask};
+use heap_model::limits::REGISTER_COUNT;
+use heap_model::phase_plan::{CYCLE_PHASES, MARKING};
+use heap_model::{Entry, Reply};
+
+/// How many of the registers hold an object.
+fn head_count(registers: &[Register]) -> usize
+    ensures count { result ≡ length (heads_of registers.now) }
+    ensures few { result ≤ length registers.now }
+{
+    registers
+        .iter()
+        .filter_map(|register| register.head())
+        .count()
+}
+
+/// The first fragment of object `n` of those in the registers.
+fn head_at(registers: &[Register], n: usize) -> u16
+    requires { n < length (heads_of registers.now) }
+    ensures { result ≡ slice_index_or (heads_of registers.now) n 0 }
+{
+    registers
+        .iter()
+        .filter_map(|register| register.head())
+        .nth(n)
+        .unwrap_or(0)
+}
+
+/// The reserve is given back before the seat leaves.
+fn leaving(reserve: &[u16]) -> Leaving
+    ensures { result ≡ leaving_of reserve.now }
+{
+    if reserve.is_empty() {
+        Leaving::Parting
+    } else {
+        Leaving::Emptying
+    }
+}
+
+impl SeatParty {
+    /// How many objects are shaded before the phase is answered.
+    fn root_count(&self) -> usize
+        ensures { result ≡ length (roots self.now.seat) }
+    {
+        if self.asked % CYCLE_PHASES == MARKING {
+            head_count(&self.registers)
+        } else {
+            0
+        }
+    }
+
+    /// The object that is shaded next.
+    pub(crate) fn next_root(&self) -> u16
+        requires { self.now.seat.shaded < length (roots self.now.seat) }
+        ensures { result ≡ slice_index_or (roots self.now.seat) self.now.seat.shaded 0 }
+    {
+        head_at(&self.registers, self.shaded as usize)
+    }
+
+    /// The next root is shaded, or the answer is stored.
+    fn shade_on(&mut self)
+        ensures seat { self.new.seat ≡ shades_on_of self.old.seat }
+        ensures spare { self.new.spare ≡ self.old.spare }
+    {
+        let more = (self.shaded as usize) < self.root_count();
+        self.place = Place::Polling(if more {
+            Polling::Shading
+        } else {
+            Polling::Answering
+        });
+    }
+
+    /// Learns the phase.
+    pub(crate) fn learn_phase(&mut self, number: u8, found: u64)
+        requires { 0 < self.old.spare }
+        ensures seat { self.new.seat ≡ seat_after (poll_move number self.old.seat) found }
+        ensures spare { self.old.spare + length self.old.seat.mine ≤ self.new.spare + length self.new.seat.mine }
+    {
+        if found != self.answered {
+            self.asked = found;
+            self.shade_on();
+            return;
+        }
+        self.place = Place::Idle;
+        self.say(number, Reply::Phase(found));
+    }
+
+    /// Shaded an object of the registers.
+    #[tactic(auto, using(crate::proofs::table_lemmas::WithinHeap::few_roots))]
+    pub(crate) fn learn_root(&mut self)
+        requires registers { length self.old.seat.registers ≡ register_count }
+        requires more { self.old.seat.shaded < length (roots self.old.seat) }
+        ensures seat { self.new.seat ≡ shaded_more self.old.seat }
+        ensures spare { self.new.spare ≡ self.old.spare }
+    {
+        self.shaded += 1;
+        self.shade_on();
+    }
+
+    /// Stored the answer.
+    pub(crate) fn learn_answer(&mut self, number: u8)
+        requires { 1 < self.old.spare }
+        ensures seat { self.new.seat ≡ seat_after (answer_move number self.old.seat) 0 }
+        ensures spare { self.old.spare + length self.old.seat.mine ≤ self.new.spare + length self.new.seat.mine }
+    {
+        let phase = self.asked;
+        self.answered = phase;
+        self.asked = 0;
+        self.shaded = 0;
+        self.place = Place::Idle;
+        self.note(Entry::Answers {
+            seat: number,
+            phase,
+        });
+        self.say(number, Reply::Phase(phase));
+    }
+
+    /// Begins to leave.
+    pub(crate) fn go(&mut self)
+        ensures seat { self.new.seat ≡ record self.old.seat { place = Leaves (leaving_of self.old.seat.reserve) } }
+        ensures spare { self.new.spare ≡ self.old.spare }
+    {
+        self.place = Place::Leaving(leaving(self.reserve.as_slice()));
+    }
+
+    /// The give back of the reserve.
+    pub(crate) fn last_give_back(&self) -> MakingStep
+        ensures { Makes result ≡ (empty_move 0 self.now.seat).step }
+    {
+        MakingStep::GiveBack {
+            group: self.cursor,
+            bits: mask(self.reserve.as_slice()),
+        }
+    }
+
+    /// Gave the reserve back.
+    pub(crate) fn learn_empty(&mut self, number: u8)
+        requires few { length self.old.seat.reserve ≤ most_reserve }
+        requires spare { 0 < self.old.spare }
+        ensures seat { self.new.seat ≡ seat_after (empty_move number self.old.seat) 0 }
+        ensures spare { self.old.spare + length self.old.seat.mine ≤ self.new.spare + length self.new.seat.mine }
+    {
+        let count = self.reserve.len() as u32;
+        self.reserve = Reserve::new();
+        self.place = Place::Leaving(Leaving::Parting);
+        self.note(Entry::GivesBack {
+            seat: number,
+            count,
+        });
+    }
+
+    /// Left.
+    pub(crate) fn learn_leave(&mut self, number: u8)
+        requires { 0 < self.old.spare }
+        ensures seat { self.new.seat ≡ seat_after (leave_move number self.old.seat) 0 }
+        ensures spare { self.old.spare + length self.old.seat.mine ≤ self.new.spare + length self.new.seat.mine }
+    {
+        self.registers = [Register::Nil; REGISTER_COUNT];
+        self.left = true;
+        self.place = Place::Idle;
+        self.say(number, Reply::Done);
+    }
+}

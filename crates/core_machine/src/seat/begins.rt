@@ -1,0 +1,62 @@
+ghost use Rattle.std.specs.Prelude.{◌≡◌, ◌<◌, ◌↔◌, IsTrue};
+ghost use Rattle.core_machine.specs.seat.Commands.{IsServed};
+ghost use Rattle.core_machine.specs.seat.Seat.{HasNumber};
+ghost use Rattle.heap_model.specs.Heap.{IsHeap};
+ghost use Rattle.core_machine.specs.seat.Fits.{Fits};
+ghost use Rattle.core_machine.specs.machine.Machine.{MayBegin, begun};
+
+use crate::place::{Place, Polling};
+use crate::seat::SeatParty;
+use heap_model::limits::STAMP_LIMIT;
+use heap_model::{Command, Heap};
+
+/// The most sets that a seat does.
+const MOST_SETS: u32 = STAMP_LIMIT - 1;
+
+/// Whether the machine serves the command.
+fn is_served(command: &Command) -> bool
+    ensures { IsTrue result ↔ IsServed command.now }
+{
+    !matches!(command, Command::Array { .. } | Command::Collect)
+}
+
+impl SeatParty {
+    /// Whether the command may be begun now.
+    pub fn may_begin(&self, command: &Command) -> bool
+        ensures { IsTrue result ↔ MayBegin self.now.seat command.now }
+    {
+        let Place::Idle = self.place else {
+            return false;
+        };
+        !self.left && is_served(command) && command.is_in_range() && self.has_number(command)
+    }
+
+    /// Whether a name is left for the object that the command makes, or a stamp for its set.
+    fn has_number(&self, command: &Command) -> bool
+        ensures { IsTrue result ↔ HasNumber self.now.seat.made self.now.seat.sets command.now }
+    {
+        match command {
+            Command::New { .. } => self.made < u32::MAX,
+            Command::Set { .. } => self.sets < MOST_SETS,
+            _ => true,
+        }
+    }
+
+    /// Puts the command in flight.
+    pub fn begin(&mut self, heap: &Heap, command: Command)
+        requires limits { IsHeap heap.now }
+        requires fits { Fits heap.now self.old.seat }
+        requires may { MayBegin self.old.seat command }
+        ensures seat { self.new.seat ≡ begun heap.now self.old.seat command }
+        ensures spare { self.new.spare ≡ self.old.spare }
+    {
+        self.command = command;
+        match command {
+            Command::New { .. } => self.go_on(heap),
+            Command::Get { r, .. } | Command::Set { r, .. } | Command::Len { r } => self.open(r),
+            Command::Poll => self.place = Place::Polling(Polling::Asking),
+            Command::Leave => self.go(),
+            _ => self.place = Place::Telling,
+        }
+    }
+}

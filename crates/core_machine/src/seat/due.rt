@@ -1,0 +1,112 @@
+ghost use Rattle.std.specs.Prelude.{◌≡◌, ◌<◌};
+ghost use Rattle.heap_model.specs.Heap.{IsHeap};
+ghost use Rattle.core_machine.specs.declared.step.Step.TheVariants.{Reaching as Reaches};
+ghost use Rattle.core_machine.specs.seat.Fits.{Fits, FitsMaking, FitsPolling};
+ghost use Rattle.core_machine.specs.seat.FitsReaching.{FitsReaching};
+ghost use Rattle.core_machine.specs.Moves.{due_step, making_move, reaching_move, polling_move, leaving_move};
+
+use crate::place::{Leaving, Making, Place, Polling, Reaching};
+use crate::seat::SeatParty;
+use crate::step::{AnsweringStep, MakingStep, ReachingStep, Step};
+use heap_model::Heap;
+
+impl SeatParty {
+    /// The step of making that is due.
+    fn due_making(&self, heap: &Heap, number: u8, place: Making) -> Step
+        requires limits { IsHeap heap.now }
+        requires number { number < heap.now.seats }
+        requires fits { Fits heap.now self.now.seat }
+        requires at_place { FitsMaking heap.now self.now.seat place }
+        ensures { result ≡ (making_move heap.now number self.now.seat place).step }
+    {
+        match place {
+            Making::Gathering => Step::Making(MakingStep::Claim {
+                group: self.next_group(heap),
+            }),
+            Making::Returning => Step::Making(self.give_back()),
+            Making::Refusing => Step::PollLoad,
+            Making::Storing => Step::Making(self.store(number)),
+            Making::Bearing => Step::Making(self.birth()),
+        }
+    }
+
+    /// The step of reaching that is due.
+    fn due_reaching(&self, heap: &Heap, number: u8, place: Reaching) -> ReachingStep
+        requires limits { IsHeap heap.now }
+        requires number { number < heap.now.seats }
+        requires fits { Fits heap.now self.now.seat }
+        requires at_place { FitsReaching self.now.seat place }
+        ensures { Reaches result ≡ (reaching_move heap.now number self.now.seat place).step }
+    {
+        let fragment = self.reached;
+        match place {
+            Reaching::Opening | Reaching::Walking => ReachingStep::WalkLoad { fragment },
+            Reaching::Getting => ReachingStep::GetLoad {
+                fragment,
+                part: self.field_part(),
+            },
+            Reaching::Naming => ReachingStep::NameLoad {
+                head: self.loaded_head(),
+            },
+            Reaching::LoadingOld => ReachingStep::OldLoad {
+                fragment,
+                part: self.field_part(),
+            },
+            Reaching::ShadingOld => ReachingStep::Shade {
+                fragment: self.loaded_head(),
+            },
+            Reaching::ShadingNew => ReachingStep::Shade {
+                fragment: self.new_register().head().unwrap_or(0),
+            },
+            Reaching::Swapping => ReachingStep::Swap {
+                fragment,
+                part: self.field_part(),
+                word: self.new_word(number),
+            },
+        }
+    }
+
+    /// The step of answering the phase that is due.
+    fn due_polling(&self, number: u8, place: Polling) -> Step
+        requires at_place { FitsPolling self.now.seat place }
+        ensures { result ≡ (polling_move number self.now.seat place).step }
+    {
+        match place {
+            Polling::Asking => Step::PollLoad,
+            Polling::Shading => Step::Reaching(ReachingStep::Shade {
+                fragment: self.next_root(),
+            }),
+            Polling::Answering => Step::Answering(AnsweringStep::AnswerStore {
+                seat: number,
+                phase: self.asked,
+            }),
+        }
+    }
+
+    /// The step of leaving that is due.
+    fn due_leaving(&self, number: u8, place: Leaving) -> Step
+        ensures { result ≡ (leaving_move number self.now.seat place).step }
+    {
+        match place {
+            Leaving::Emptying => Step::Making(self.last_give_back()),
+            Leaving::Parting => Step::Answering(AnsweringStep::LeaveStore { seat: number }),
+        }
+    }
+
+    /// The one step that the seat makes next; none where no call is in flight.
+    pub fn due(&self, heap: &Heap, number: u8) -> Option<Step>
+        requires limits { IsHeap heap.now }
+        requires number { number < heap.now.seats }
+        requires fits { Fits heap.now self.now.seat }
+        ensures { result ≡ due_step heap.now number self.now.seat }
+    {
+        match self.place {
+            Place::Idle => None,
+            Place::Making(place) => Some(self.due_making(heap, number, place)),
+            Place::Telling => Some(Step::PollLoad),
+            Place::Reaching(place) => Some(Step::Reaching(self.due_reaching(heap, number, place))),
+            Place::Polling(place) => Some(self.due_polling(number, place)),
+            Place::Leaving(place) => Some(self.due_leaving(number, place)),
+        }
+    }
+}

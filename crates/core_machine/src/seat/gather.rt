@@ -1,0 +1,151 @@
+ghost use Rattle.std.specs.Prelude.{◌≡◌, ℕ, ◌+◌, ◌<◌, ◌≤◌, length};
+ghost use Rattle.heap_model.specs.Heap.{IsHeap};
+ghost use Rattle.heap_model.specs.Limits.{most_reserve};
+ghost use Rattle.core_machine.specs.declared.step.Step.TheVariants.{Making as Makes};
+ghost use Rattle.core_machine.specs.seat.Fits.{Gathers, Refuses};
+ghost use Rattle.core_machine.specs.seat.Seat.{need};
+ghost use Rattle.core_machine.specs.seat.Making.{next_group as next_group_of, last_claimed, goes_on, settled, returning as returning_of};
+ghost use Rattle.core_machine.specs.Moves.{claim_move, give_back_move, refusal_move, seat_after, first_part};
+
+use crate::place::{Making, Place};
+use crate::seat::SeatParty;
+use crate::step::MakingStep;
+use crate::table::fragments::{add_clear, copied, count_in, first_group, joined, mask_in, rest_of};
+use heap_model::{Entry, Heap, Reply};
+
+/// Where a refusal stands while these fragments are to be given back.
+fn returning(hand: &[u16]) -> Making
+    ensures { result ≡ returning_of hand.now }
+{
+    if hand.is_empty() {
+        Making::Refusing
+    } else {
+        Making::Returning
+    }
+}
+
+impl SeatParty {
+    /// The group that is claimed next.
+    pub(crate) fn next_group(&self, heap: &Heap) -> u16
+        requires groups { 0 < heap.now.groups }
+        requires small { self.now.seat.cursor + self.now.seat.tried < 65536 }
+        ensures { result ≡ next_group_of heap.now self.now.seat }
+    {
+        (self.cursor + self.tried) % heap.groups
+    }
+
+    /// The first fragments are the new object's, and the rest is the reserve, of the group that was claimed last.
+    fn settle(&mut self, heap: &Heap)
+        requires groups { 0 < heap.now.groups }
+        requires small { self.old.seat.cursor + self.old.seat.tried < 65536 }
+        requires enough { need self.old.seat ≤ length self.old.seat.reserve + length self.old.seat.hand }
+        requires few { length self.old.seat.reserve + length self.old.seat.hand ≤ need self.old.seat + most_reserve }
+        requires record { need self.old.seat ≤ 16 }
+        ensures seat { self.new.seat ≡ settled heap.now self.old.seat }
+        ensures spare { self.new.spare ≡ self.old.spare }
+    {
+        let all = joined(self.reserve.as_slice(), self.hand.as_slice());
+        let (used, rest) = all.as_slice().split_at(self.command.need() as usize);
+        self.reserve = copied(rest);
+        self.hand = copied(used);
+        self.body = copied(used);
+        if self.tried > 0 {
+            self.cursor = (self.cursor + self.tried - 1) % heap.groups;
+        }
+        self.tried = 0;
+        self.place = Place::Making(Making::Storing);
+    }
+
+    /// Enough is gathered, or the next group is claimed, or, after all groups, the call is refused.
+    pub(crate) fn go_on(&mut self, heap: &Heap)
+        requires groups { 0 < heap.now.groups }
+        requires small { self.old.seat.cursor + self.old.seat.tried < 65536 }
+        requires few { length self.old.seat.reserve + length self.old.seat.hand ≤ need self.old.seat + most_reserve }
+        requires record { need self.old.seat ≤ 16 }
+        ensures seat { self.new.seat ≡ goes_on heap.now self.old.seat }
+        ensures spare { self.new.spare ≡ self.old.spare }
+    {
+        if self.reserve.len() + self.hand.len() >= self.command.need() as usize {
+            self.settle(heap);
+        } else if self.tried < heap.groups {
+            self.place = Place::Making(Making::Gathering);
+        } else {
+            self.place = Place::Making(returning(self.hand.as_slice()));
+        }
+    }
+
+    /// Learns the control word of the group that was claimed.
+    pub(crate) fn learn_claim(&mut self, heap: &Heap, number: u8, found: u64)
+        requires limits { IsHeap heap.now }
+        requires cursor { self.old.seat.cursor < heap.now.groups }
+        requires gathers { Gathers heap.now self.old.seat }
+        requires spare { 0 < self.old.spare }
+        ensures seat { self.new.seat ≡ seat_after (claim_move heap.now number self.old.seat) found }
+        ensures spare { self.old.spare + length self.old.seat.mine ≤ self.new.spare + length self.new.seat.mine }
+    {
+        let group = self.next_group(heap);
+        let before = self.hand.len();
+        add_clear(&mut self.hand, group, found);
+        let count = self.hand.len() - before;
+        self.tried += 1;
+        self.go_on(heap);
+        if count > 0 {
+            self.note(Entry::Takes {
+                seat: number,
+                count: count as u32,
+            });
+        }
+    }
+
+    /// The give back that is due.
+    pub(crate) fn give_back(&self) -> MakingStep
+        requires { 0 < length self.now.seat.hand }
+        ensures { Makes result ≡ (give_back_move 0 self.now.seat).step }
+    {
+        let group = first_group(self.hand.as_slice());
+        MakingStep::GiveBack {
+            group,
+            bits: mask_in(self.hand.as_slice(), group),
+        }
+    }
+
+    /// Gave back the fragments of the hand's first group.
+    pub(crate) fn learn_give_back(&mut self, heap: &Heap, number: u8)
+        requires refuses { Refuses heap.now self.old.seat }
+        requires some { 0 < length self.old.seat.hand }
+        requires spare { 0 < self.old.spare }
+        ensures seat { self.new.seat ≡ seat_after (give_back_move number self.old.seat) 0 }
+        ensures spare { self.old.spare + length self.old.seat.mine ≤ self.new.spare + length self.new.seat.mine }
+    {
+        let group = first_group(self.hand.as_slice());
+        let count = count_in(self.hand.as_slice(), group);
+        self.hand = rest_of(self.hand.as_slice(), group);
+        self.given += count as u16;
+        self.place = Place::Making(returning(self.hand.as_slice()));
+        self.note(Entry::GivesBack {
+            seat: number,
+            count: count as u32,
+        });
+    }
+
+    /// Told the refusal.
+    pub(crate) fn learn_refusal(&mut self, number: u8)
+        requires { 0 < self.old.spare }
+        ensures seat { self.new.seat ≡ seat_after (refusal_move number self.old.seat) 0 }
+        ensures spare { self.old.spare + length self.old.seat.mine ≤ self.new.spare + length self.new.seat.mine }
+    {
+        let found = self.reserve.len() as u32 + u32::from(self.given);
+        let reply = Reply::Full {
+            need: self.command.need(),
+            found,
+        };
+        self.tried = 0;
+        self.given = 0;
+        self.place = Place::Idle;
+        self.note(Entry::Said {
+            seat: number,
+            command: self.command,
+            reply,
+        });
+    }
+}

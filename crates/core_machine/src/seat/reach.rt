@@ -1,0 +1,150 @@
+ghost use Rattle.std.specs.Prelude.{◌≡◌, ◌+◌, ◌<◌, ◌≤◌, ◌^◌, length, IfSome};
+ghost use Rattle.heap_model.specs.Limits.{register_count, most_seats, stamp_limit};
+ghost use Rattle.core_machine.specs.seat.Seat.{with_entries};
+ghost use Rattle.core_machine.specs.seat.Commands.{target_of, source_of};
+ghost use Rattle.core_machine.specs.table.Loaded.{head_in as head_in_of};
+ghost use Rattle.core_machine.specs.seat.Reaching.{filled, got, old_done, new_place as new_place_of};
+ghost use Rattle.core_machine.specs.seat.ReachingMoves.{got_adds, name_move, old_move, swap_move, loaded_head as loaded_head_of, new_register as new_register_of, new_word as new_word_of};
+ghost use Rattle.core_machine.specs.seat.Registers.{head_of, IsSmall};
+ghost use Rattle.core_machine.specs.Moves.{seat_after};
+
+use crate::place::{Place, Reaching};
+use crate::seat::SeatParty;
+use crate::seat::commands::{field, source, target};
+use crate::seat::register::Register;
+use crate::table::loaded::{head_in, id_in, plain_in, stamp_in};
+use heap_model::limits::STAMP_LIMIT;
+use heap_model::{Reply, Value};
+
+/// The new value is shaded where it is an object; then comes the swap.
+fn new_place(register: &Register) -> Reaching
+    ensures { result ≡ new_place_of (head_of register.now) }
+{
+    match register {
+        Register::Object { .. } => Reaching::ShadingNew,
+        _ => Reaching::Swapping,
+    }
+}
+
+impl SeatParty {
+    /// The first fragment of the object that the loaded field refers to.
+    pub(crate) fn loaded_head(&self) -> u16
+        requires { IfSome (head_in_of self.now.seat.loaded) (λ head. head < 2 ^ 16) }
+        ensures { result ≡ loaded_head_of self.now.seat }
+    {
+        match head_in(self.loaded) {
+            Some(head) => head as u16,
+            None => 0,
+        }
+    }
+
+    /// What a set puts into the field.
+    pub(crate) fn new_register(&self) -> Register
+        requires { source_of self.now.seat.command < register_count }
+        ensures { result ≡ new_register_of self.now.seat }
+    {
+        self.registers[source(&self.command) as usize]
+    }
+
+    /// The new word of the field.
+    pub(crate) fn new_word(&self, number: u8) -> u64
+        requires source { source_of self.now.seat.command < register_count }
+        requires small { IsSmall (new_register_of self.now.seat) }
+        requires number { number < most_seats }
+        requires stamp { self.now.seat.sets + 1 < stamp_limit }
+        ensures { result ≡ new_word_of number self.now.seat }
+    {
+        let stamp = (u32::from(number) + 1) * STAMP_LIMIT + self.sets + 1;
+        self.new_register().word(stamp)
+    }
+
+    /// The register has another value, and the call is over.
+    fn fill(&mut self, register: Register)
+        requires { target_of self.old.seat.command < register_count }
+        ensures seat { self.new.seat ≡ filled self.old.seat register }
+        ensures spare { self.new.spare ≡ self.old.spare }
+    {
+        self.registers[target(&self.command) as usize] = register;
+        self.close();
+    }
+
+    /// Learns the field of a get.
+    pub(crate) fn learn_get(&mut self, number: u8, found: u64)
+        requires target { target_of self.old.seat.command < register_count }
+        requires spare { 0 < self.old.spare }
+        ensures seat { self.new.seat ≡ with_entries (got self.old.seat found (head_in_of found)) (got_adds number self.old.seat found (head_in_of found)) }
+        ensures spare { self.old.spare + length self.old.seat.mine ≤ self.new.spare + length self.new.seat.mine }
+    {
+        if head_in(found).is_some() {
+            self.loaded = found;
+            self.place = Place::Reaching(Reaching::Naming);
+            return;
+        }
+        let register = plain_in(found);
+        self.fill(register);
+        self.say(
+            number,
+            Reply::Got {
+                value: register.value(),
+                stamp: stamp_in(found),
+            },
+        );
+    }
+
+    /// Learns the name of the object that the field of a get refers to.
+    pub(crate) fn learn_name(&mut self, number: u8, found: u64)
+        requires target { target_of self.old.seat.command < register_count }
+        requires head { IfSome (head_in_of self.old.seat.loaded) (λ head. head < 2 ^ 16) }
+        requires spare { 0 < self.old.spare }
+        ensures seat { self.new.seat ≡ seat_after (name_move number self.old.seat) found }
+        ensures spare { self.old.spare + length self.old.seat.mine ≤ self.new.spare + length self.new.seat.mine }
+    {
+        let head = self.loaded_head();
+        let stamp = stamp_in(self.loaded);
+        let id = id_in(found);
+        self.fill(Register::Object { head, id });
+        self.say(
+            number,
+            Reply::Got {
+                value: Value::Object(id),
+                stamp,
+            },
+        );
+    }
+
+    /// Learns the old value of a set's field.
+    pub(crate) fn learn_old(&mut self, found: u64)
+        requires { source_of self.old.seat.command < register_count }
+        ensures seat { self.new.seat ≡ seat_after (old_move self.old.seat) found }
+        ensures spare { self.new.spare ≡ self.old.spare }
+    {
+        self.loaded = found;
+        if head_in(found).is_some() {
+            self.place = Place::Reaching(Reaching::ShadingOld);
+        } else {
+            self.finish_old();
+        }
+    }
+
+    /// The old value is dealt with.
+    pub(crate) fn finish_old(&mut self)
+        requires { source_of self.old.seat.command < register_count }
+        ensures seat { self.new.seat ≡ old_done self.old.seat }
+        ensures spare { self.new.spare ≡ self.old.spare }
+    {
+        let register = self.new_register();
+        self.place = Place::Reaching(new_place(&register));
+    }
+
+    /// Learns what the swap took out of the field.
+    pub(crate) fn learn_swap(&mut self, number: u8, found: u64)
+        requires sets { self.old.seat.sets < stamp_limit }
+        requires spare { 0 < self.old.spare }
+        ensures seat { self.new.seat ≡ seat_after (swap_move number self.old.seat) found }
+        ensures spare { self.old.spare + length self.old.seat.mine ≤ self.new.spare + length self.new.seat.mine }
+    {
+        self.close();
+        self.sets += 1;
+        self.say(number, Reply::Was(stamp_in(found)));
+    }
+}

@@ -1,0 +1,62 @@
+ghost use Rattle.std.specs.Prelude.{◌≡◌, ◌+◌, ◌<◌, ◌≤◌, length};
+ghost use Rattle.heap_model.specs.Command.{IsCommand};
+ghost use Rattle.core_machine.specs.seat.Telling.{local_reply as local_reply_of, local_registers, answer_of};
+ghost use Rattle.core_machine.specs.seat.AnsweringMoves.{telling_move};
+ghost use Rattle.core_machine.specs.Moves.{seat_after};
+
+use crate::place::Place;
+use crate::seat::SeatParty;
+use crate::seat::register::Register;
+use heap_model::{Command, Reply};
+
+/// Yes or no.
+fn answer(same: bool) -> Reply
+    ensures { result ≡ answer_of same }
+{
+    if same { Reply::Yes } else { Reply::No }
+}
+
+impl SeatParty {
+    /// The reply of a command that looks at no word.
+    fn local_reply(&self) -> Reply
+        requires { IsCommand self.now.seat.command }
+        ensures { result ≡ local_reply_of self.now.seat.registers self.now.seat.command }
+    {
+        match self.command {
+            Command::Num { .. } | Command::Nil { .. } | Command::Copy { .. } => Reply::Done,
+            Command::Same { a, b } => {
+                let a = self.registers[a as usize].value();
+                let b = self.registers[b as usize].value();
+                answer(a == b)
+            },
+            _ => Reply::NoObject,
+        }
+    }
+
+    /// Changes the register that the command names.
+    fn change_register(&mut self)
+        requires { IsCommand self.old.seat.command }
+        ensures seat { self.new.seat ≡ record self.old.seat { registers = local_registers self.old.seat.registers self.old.seat.command } }
+        ensures spare { self.new.spare ≡ self.old.spare }
+    {
+        match self.command {
+            Command::Num { d, n } => self.registers[d as usize] = Register::Number(n),
+            Command::Nil { d } => self.registers[d as usize] = Register::Nil,
+            Command::Copy { d, r } => self.registers[d as usize] = self.registers[r as usize],
+            _ => (),
+        }
+    }
+
+    /// Tells the reply.
+    pub(crate) fn learn_told(&mut self, number: u8)
+        requires command { IsCommand self.old.seat.command }
+        requires spare { 0 < self.old.spare }
+        ensures seat { self.new.seat ≡ seat_after (telling_move number self.old.seat) 0 }
+        ensures spare { self.old.spare + length self.old.seat.mine ≤ self.new.spare + length self.new.seat.mine }
+    {
+        let reply = self.local_reply();
+        self.change_register();
+        self.place = Place::Idle;
+        self.say(number, reply);
+    }
+}

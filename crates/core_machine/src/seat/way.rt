@@ -1,0 +1,139 @@
+ghost use Rattle.std.specs.Prelude.{◌≡◌, ◌+◌, ◌*◌, ◌<◌, ◌≤◌, ◌^◌, length, IfSome};
+ghost use Rattle.heap_model.specs.Limits.{last_index, register_count};
+ghost use Rattle.core_machine.specs.seat.Commands.{field_of};
+ghost use Rattle.core_machine.specs.table.Loaded.{lead_of};
+ghost use Rattle.core_machine.specs.seat.Reaching.{row_of, part_of, has_barrier as has_barrier_of, field_place as field_place_of, way_place as way_place_of, opened, onward, closed, meta_reply as meta_reply_of};
+ghost use Rattle.core_machine.specs.seat.ReachingMoves.{open_move, field_part as field_part_of};
+ghost use Rattle.core_machine.specs.seat.Registers.{register_in};
+ghost use Rattle.core_machine.specs.Moves.{seat_after};
+
+use crate::place::{Place, Reaching};
+use crate::seat::SeatParty;
+use crate::seat::commands::field;
+use crate::seat::register::Register;
+use crate::table::loaded::{length_in, link_in};
+use heap_model::phase_plan::{BARRIERS, CLEARING, CYCLE_PHASES};
+use heap_model::{Command, Reply};
+
+/// The row in which a field stands: 0 is the object's first fragment, 1 its second.
+fn row(field: u32) -> u16
+    requires { field ≤ last_index }
+    ensures { result ≡ row_of field }
+{
+    ((field + 1) / 3) as u16
+}
+
+/// The word of its fragment in which a field stands.
+fn part(field: u32) -> u8
+    requires { field ≤ last_index }
+    ensures { result ≡ part_of field }
+{
+    ((field + 1) % 3 + 1) as u8
+}
+
+/// The reply at an object's meta, where the call ends there.
+fn meta_reply(command: &Command, found: u64) -> Option<Reply>
+    ensures { result ≡ meta_reply_of command.now found }
+{
+    let length = length_in(found);
+    match *command {
+        Command::Len { .. } => Some(Reply::Length(length)),
+        _ if field(command) < u32::from(length) => None,
+        _ => Some(Reply::NoField),
+    }
+}
+
+impl SeatParty {
+    /// The way begins at the object that the register holds; without an object the reply is told at once.
+    pub(crate) fn open(&mut self, r: u8)
+        requires register { r < register_count }
+        requires field { field_of self.old.seat.command ≤ last_index }
+        ensures seat { self.new.seat ≡ opened self.old.seat (register_in self.old.seat.registers r) }
+        ensures spare { self.new.spare ≡ self.old.spare }
+    {
+        let Register::Object { head, .. } = self.registers[r as usize] else {
+            self.place = Place::Telling;
+            return;
+        };
+        self.reached = head;
+        self.links = row(field(&self.command));
+        self.place = Place::Reaching(Reaching::Opening);
+    }
+
+    /// The word of its fragment in which the call's field stands.
+    pub(crate) fn field_part(&self) -> u8
+        requires { field_of self.now.seat.command ≤ last_index }
+        ensures { result ≡ field_part_of self.now.seat }
+    {
+        part(field(&self.command))
+    }
+
+    /// Whether a set has to shade what it takes out and what it puts in.
+    fn has_barrier(&self) -> bool
+        ensures { result ≡ has_barrier_of self.now.seat }
+    {
+        let k = self.answered % CYCLE_PHASES;
+        BARRIERS <= k && k < CLEARING
+    }
+
+    /// What is done with the field.
+    fn field_place(&self) -> Reaching
+        ensures { result ≡ field_place_of self.now.seat self.now.seat.command }
+    {
+        match self.command {
+            Command::Get { .. } => Reaching::Getting,
+            _ if self.has_barrier() => Reaching::LoadingOld,
+            _ => Reaching::Swapping,
+        }
+    }
+
+    /// Where the way stands at a fragment.
+    fn way_place(&self) -> Reaching
+        ensures { result ≡ way_place_of self.now.seat }
+    {
+        if self.links == 0 {
+            self.field_place()
+        } else {
+            Reaching::Walking
+        }
+    }
+
+    /// Learns the first word of the fragment that was reached.
+    pub(crate) fn learn_link(&mut self, found: u64)
+        requires { IfSome (lead_of 0 found) (λ fragment. fragment < 2 ^ 16) }
+        ensures seat { self.new.seat ≡ onward self.old.seat found }
+        ensures spare { self.new.spare ≡ self.old.spare }
+    {
+        if self.links > 0 {
+            self.reached = link_in(found);
+            self.links -= 1;
+        }
+        self.place = Place::Reaching(self.way_place());
+    }
+
+    /// The call is over.
+    pub(crate) fn close(&mut self)
+        ensures seat { self.new.seat ≡ closed self.old.seat }
+        ensures spare { self.new.spare ≡ self.old.spare }
+    {
+        self.reached = 0;
+        self.links = 0;
+        self.loaded = 0;
+        self.place = Place::Idle;
+    }
+
+    /// Learns the object's meta.
+    pub(crate) fn learn_meta(&mut self, number: u8, found: u64)
+        requires leads { IfSome (lead_of 0 found) (λ fragment. fragment < 2 ^ 16) }
+        requires spare { 0 < self.old.spare }
+        ensures seat { self.new.seat ≡ seat_after (open_move number self.old.seat) found }
+        ensures spare { self.old.spare + length self.old.seat.mine ≤ self.new.spare + length self.new.seat.mine }
+    {
+        let Some(reply) = meta_reply(&self.command, found) else {
+            self.learn_link(found);
+            return;
+        };
+        self.close();
+        self.say(number, reply);
+    }
+}

@@ -1,0 +1,4 @@
+pub(crate) mod address;
+pub(crate) mod fragments;
+pub(crate) mod loaded;
+pub(crate) mod newborn;

@@ -1,0 +1,49 @@
+ghost use Rattle.std.specs.Prelude.{◌≡◌, ◌<◌};
+ghost use Rattle.core_machine.specs.table.Layout.{index_of, InTable, table_length};
+ghost use Rattle.heap_model.specs.Heap.{IsHeap};
+
+use heap_model::Heap;
+
+/// One word of a heap's table.
+#[derive(Clone, Copy)]
+pub enum Address {
+    /// The phase.
+    Phase,
+    /// The phase that a seat answered, or that it left.
+    Answer(u8),
+    /// The spine words that are granted.
+    Budget,
+    /// The place of the next spine word.
+    Spot,
+    /// The control word of a group.
+    Control(u16),
+    /// One of the four words of a fragment.
+    Word { fragment: u16, part: u8 },
+    /// A word of one half of the spine space.
+    Spine { half: u8, offset: u32 },
+}
+
+impl Address {
+    /// Where the word stands in the table.
+    pub fn index(&self, heap: &Heap) -> usize
+        requires limits { IsHeap heap.now }
+        requires in_table { InTable heap.now self.now }
+        ensures index { result ≡ index_of heap.now self.now }
+        ensures within { result < table_length heap.now }
+    {
+        let groups = heap.groups as usize;
+        match *self {
+            Address::Phase => 0,
+            Address::Answer(seat) => 1 + seat as usize,
+            Address::Budget => 17,
+            Address::Spot => 18,
+            Address::Control(group) => 19 + group as usize,
+            Address::Word { fragment, part } => 19 + groups + 4 * fragment as usize + part as usize,
+            Address::Spine { half, offset } => {
+                let space = 2 * heap.spine as usize;
+                let half = if half == 0 { 0 } else { space };
+                19 + 65 * groups + half + offset as usize
+            }
+        }
+    }
+}

@@ -1,0 +1,133 @@
+ghost use Rattle.std.specs.Prelude.{◌≡◌, ◌+◌, ◌*◌, ◌<◌, ◌≤◌, ◌++◌, ◌/◌, ◌-◌, length, slice_index_or};
+ghost use Rattle.std.specs.List.{list_all};
+ghost use Rattle.heap_model.specs.Limits.{group_fragments, most_groups};
+ghost use Rattle.core_machine.specs.seat.Making.{first_group as first_group_of, last_group as last_group_of};
+ghost use Rattle.core_machine.specs.table.Fragments.{in_group, part_in, part_out, mask as mask_of, clear_in};
+
+use arrayvec::ArrayVec;
+use heap_model::limits::{GROUP_FRAGMENTS, MOST_RESERVE};
+
+/// The most fragments that a seat keeps between two calls, and one more.
+pub const MOST_KEPT: usize = MOST_RESERVE as usize + 1;
+
+/// The most fragments that a hand holds: those of the largest record, less one, and a group.
+pub const MOST_HELD: usize = 31;
+
+/// The most fragments of a reserve and a hand together.
+const MOST_JOINED: usize = MOST_KEPT + MOST_HELD;
+
+/// Fragments that a seat keeps between two calls.
+pub type Reserve = ArrayVec<u16, MOST_KEPT>;
+
+/// Fragments that a call in flight uses.
+pub type Hand = ArrayVec<u16, MOST_HELD>;
+
+/// The bits of those fragments that are of this group.
+#[tactic(auto, using(crate::proofs::table_lemmas::Bits::one_shl_16), unfolding(crate::specs::table::Fragments::mask))]
+pub fn mask_in(fragments: &[u16], group: u16) -> u16
+    ensures { result ≡ mask_of (part_in group fragments.now) }
+{
+    fragments
+        .iter()
+        .filter(|fragment| **fragment / GROUP_FRAGMENTS == group)
+        .fold(0, |bits, fragment| bits | 1 << (*fragment % 16))
+}
+
+/// The bits of these fragments.
+#[tactic(auto, using(crate::proofs::table_lemmas::Bits::one_shl_16), unfolding(crate::specs::table::Fragments::mask))]
+pub fn mask(fragments: &[u16]) -> u16
+    ensures { result ≡ mask_of fragments.now }
+{
+    fragments
+        .iter()
+        .fold(0, |bits, fragment| bits | 1 << (*fragment % 16))
+}
+
+/// How many of the fragments are of this group.
+pub fn count_in(fragments: &[u16], group: u16) -> usize
+    ensures count { result ≡ length (part_in group fragments.now) }
+    ensures few { result ≤ length fragments.now }
+{
+    fragments
+        .iter()
+        .filter(|fragment| **fragment / GROUP_FRAGMENTS == group)
+        .count()
+}
+
+/// Whether all fragments are of this group.
+pub fn all_in(fragments: &[u16], group: u16) -> bool
+    ensures { result ≡ list_all (in_group group) fragments.now }
+{
+    fragments
+        .iter()
+        .all(|fragment| *fragment / GROUP_FRAGMENTS == group)
+}
+
+/// The fragments that aren't of this group.
+pub fn rest_of(fragments: &[u16], group: u16) -> Hand
+    requires { length fragments.now ≤ MOST_HELD }
+    ensures { result.items ≡ part_out group fragments.now }
+{
+    let mut rest = Hand::new();
+    for fragment in fragments {
+        if *fragment / GROUP_FRAGMENTS != group {
+            rest.push(*fragment);
+        }
+    }
+    rest
+}
+
+/// Adds the fragments of the group whose taken bit isn't set in its control word.
+pub fn add_clear(hand: &mut Hand, group: u16, word: u64)
+    requires room { length hand.old.items + group_fragments ≤ MOST_HELD }
+    requires group { group < most_groups }
+    ensures items { hand.new.items ≡ hand.old.items ++ clear_in group word }
+    ensures few { length hand.new.items ≤ length hand.old.items + group_fragments }
+{
+    for place in 0..GROUP_FRAGMENTS {
+        if word >> place & 1 == 0 {
+            hand.push(GROUP_FRAGMENTS * group + place);
+        }
+    }
+}
+
+/// The group of the first fragment.
+pub fn first_group(fragments: &[u16]) -> u16
+    requires { 0 < length fragments.now }
+    ensures { result ≡ first_group_of fragments.now }
+{
+    fragments[0] / GROUP_FRAGMENTS
+}
+
+/// The group of the last fragment.
+pub fn last_group(fragments: &[u16]) -> u16
+    requires { 0 < length fragments.now }
+    ensures { result ≡ last_group_of fragments.now }
+{
+    fragments[fragments.len() - 1] / GROUP_FRAGMENTS
+}
+
+/// The same fragments in a buffer of their own.
+pub fn copied<const N: usize>(fragments: &[u16]) -> ArrayVec<u16, N>
+    requires { length fragments.now ≤ N }
+    ensures { result.items ≡ fragments.now }
+{
+    let mut copy = ArrayVec::new();
+    match copy.try_extend_from_slice(fragments) {
+        Ok(()) => copy,
+        Err(_) => unreachable!(),
+    }
+}
+
+/// The reserve, and after it the hand.
+pub fn joined(reserve: &[u16], hand: &[u16]) -> ArrayVec<u16, MOST_JOINED>
+    requires reserve { length reserve.now ≤ MOST_KEPT }
+    requires hand { length hand.now ≤ MOST_HELD }
+    ensures { result.items ≡ reserve.now ++ hand.now }
+{
+    let mut all = copied(reserve);
+    match all.try_extend_from_slice(hand) {
+        Ok(()) => all,
+        Err(_) => unreachable!(),
+    }
+}

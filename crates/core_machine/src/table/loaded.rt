@@ -1,0 +1,87 @@
+ghost use Rattle.std.specs.Prelude.{◌≡◌, ◌<◌, ◌^◌, IfSome};
+ghost use Rattle.core_machine.specs.table.Loaded.{head_in as head_in_of, lead_of, link_in as link_in_of, length_in as length_in_of, id_in as id_in_of, stamp_in as stamp_in_of, plain_in as plain_in_of};
+
+use crate::seat::register::Register;
+use heap_model::Id;
+use heap_words::{Cell, Kind};
+
+/// The lengths that a meta can have are below this.
+const TOO_LONG: u32 = 1 << 13;
+
+/// What is added to the length in an array's meta.
+const ARRAY: u32 = 1 << 29;
+
+/// The first fragment of the object that a field refers to.
+pub fn head_in(word: u64) -> Option<u32>
+    ensures { result ≡ head_in_of word }
+{
+    let cell = Cell::read(word);
+    match cell.kind {
+        Kind::Reference => Some(cell.value),
+        _ => None,
+    }
+}
+
+/// Where the first word of a fragment leads: by a link, or by a record's meta.
+fn first_lead(word: u64) -> Option<u32>
+    ensures { result ≡ lead_of 0 word }
+{
+    let cell = Cell::read(word);
+    match cell.kind {
+        Kind::Reference => Some(cell.value),
+        Kind::Fixed if cell.value < ARRAY && cell.stamp != 0 => Some(cell.stamp),
+        _ => None,
+    }
+}
+
+/// The fragment after the one whose first word this is; 0 where it leads nowhere.
+pub fn link_in(word: u64) -> u16
+    requires { IfSome (lead_of 0 word) (λ fragment. fragment < 2 ^ 16) }
+    ensures { result ≡ link_in_of word }
+{
+    match first_lead(word) {
+        Some(fragment) => fragment as u16,
+        None => 0,
+    }
+}
+
+/// The length in a meta.
+pub fn length_in(word: u64) -> u16
+    ensures { result ≡ length_in_of word }
+{
+    (Cell::read(word).value % TOO_LONG) as u16
+}
+
+/// The id in a name.
+pub fn id_in(word: u64) -> Id
+    ensures { result ≡ id_in_of word }
+{
+    let cell = Cell::read(word);
+    let owner = (cell.value % 256) as u8;
+    if owner == 0 {
+        Id::Board
+    } else {
+        Id::Made {
+            seat: owner - 1,
+            count: cell.stamp,
+        }
+    }
+}
+
+/// The stamp of a field.
+pub fn stamp_in(word: u64) -> u32
+    ensures { result ≡ stamp_in_of word }
+{
+    Cell::read(word).stamp
+}
+
+/// What a register holds after it got a field that is no reference.
+pub fn plain_in(word: u64) -> Register
+    ensures { result ≡ plain_in_of word }
+{
+    let cell = Cell::read(word);
+    match cell.kind {
+        Kind::Number => Register::Number(cell.value),
+        _ => Register::Nil,
+    }
+}
