@@ -11,4 +11,5 @@ pub mod FieldFrames
 pub mod AnswerWords
 pub mod SwapCycle
 pub mod NextPhase
+pub mod MarkedAnswers
 pub mod Waits
