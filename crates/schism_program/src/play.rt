@@ -33,7 +33,7 @@ fn answer_lines(
 {
     for line in script.lines.as_slice() {
         let Line::Seat { seat, command } = *line else {
-            continue;
+            unreachable!();
         };
         note_call(machine, history, seat, command)?;
     }

@@ -11,7 +11,7 @@ use crate::play::play;
 use crate::verdict::verdict;
 use crate::work::Work;
 use reply_text::render_history;
-use script_text::{Cause, Form, Script, ScriptFault, first_unbuilt, read_script};
+use script_text::{Cause, Form, Script, first_unbuilt, read_script};
 use std::alloc::Global;
 
 fn served_script(alloc: Global, input: &[u8]) -> Result<Script, WorkFault>
@@ -22,11 +22,7 @@ fn served_script(alloc: Global, input: &[u8]) -> Result<Script, WorkFault>
         FailsToPlay input.now fault.line fault.cause }
     ensures legal { (line : ℕ) → result ≡ Err (WorkFault.NotLegal line) → ⊥ }
 {
-    let script = match read_script(alloc, input, Form::Play) {
-        Ok(script) => script,
-        Err(ScriptFault::Line(fault)) => return Err(WorkFault::Refused(fault)),
-        Err(ScriptFault::Memory) => return Err(WorkFault::Memory),
-    };
+    let script = read_script(alloc, input, Form::Play)?;
     if let Some(line) = first_unbuilt(&script) {
         return Err(WorkFault::Refused(Cause::Unbuilt.at(line)));
     }

@@ -6,9 +6,9 @@ ghost use Rattle.schism_program.specs.Verdict.{FindsIllegal, FindsLegal, verdict
 
 use crate::fault::WorkFault;
 use heap_model::Memory;
-use log_merge::{CheckFault, check};
+use log_merge::check;
 use reply_text::{History, read_history};
-use script_text::{ScriptFault, push_number};
+use script_text::push_number;
 use std::alloc::Global;
 
 /// The history that the input is.
@@ -18,11 +18,8 @@ fn history_of(alloc: Global, input: &[u8]) -> Result<History, WorkFault>
         first_history_fault input.now ≡ Some fault }
     ensures legal { (line : ℕ) → result ≡ Err (WorkFault.NotLegal line) → ⊥ }
 {
-    match read_history(alloc, input) {
-        Ok(history) => Ok(history),
-        Err(ScriptFault::Line(fault)) => Err(WorkFault::Refused(fault)),
-        Err(ScriptFault::Memory) => Err(WorkFault::Memory),
-    }
+    let history = read_history(alloc, input)?;
+    Ok(history)
 }
 
 /// The line that says of how many entries a legal history is.
@@ -45,11 +42,7 @@ pub fn verdict(alloc: Global, input: &[u8]) -> Result<Vec<u8>, WorkFault>
         FindsIllegal input.now line }
 {
     let history = history_of(alloc, input)?;
-    let count = match check(alloc, &history) {
-        Ok(count) => count,
-        Err(CheckFault::NotLegal { line }) => return Err(WorkFault::NotLegal { line }),
-        Err(CheckFault::Memory) => return Err(WorkFault::Memory),
-    };
+    let count = check(alloc, &history)?;
     let text = legal_text(alloc, count)?;
     Ok(text)
 }

@@ -9,7 +9,7 @@ use Rattle.heap_model.specs.PhaseCounts.{phase, answered, has_left}
 use Rattle.heap_model.specs.State.{State as Graph}
 use Rattle.core_machine.specs.declared.place.Place.TheVariants as places
 use Rattle.core_machine.specs.seat.Commands.{IsRecord, target_of}
-use Rattle.core_machine.specs.seat.Fits.{IsAtRest, IsSilent}
+use Rattle.core_machine.specs.seat.Fits.{IsAtRest}
 use Rattle.core_machine.specs.machine.Machine.{State, seat_at, starts, MayBegin, Begins, after}
 use Rattle.core_machine.specs.seat.Registers.{register_in}
 use Rattle.core_machine.specs.seat.Seat.{Seat}
@@ -37,7 +37,6 @@ begin_others_keep heap state book q command rule here may other machine =
     let g : Graph = graph_of heap book.history in
     let stands = rule.seats_stand q here in
     let rest : IsAtRest old = rw may.idle at stands.fits.at_place in
-    let silent : IsSilent old = rw may.idle at stands.fits.answer_at_place in
     let awaits = rw may.idle at stands.told.list.awaits in
     let holds : (r : ℕ) → Holds book.made book.owner book.fragments (register_in old.registers r) (register g q r)
     = λ r. stands.names.registers r (none_awaited old.place places.Idle (target_of old.command) r may.idle (λ none. none)) in
@@ -72,6 +71,6 @@ begin_others_keep heap state book q command rule here may other machine =
         gathers = gathers_none heap book.owner q (drop (begins q (length book.history) book.begun q) book.history) next.cursor next.tried next.given (own.tried ∙ rest.none_tried) (own.given ∙ rest.none_given);
       };
       cycle = cycle_fresh heap state.words book.owner book.colour (phase book.history) (answered q book.history) (has_left q book.history) q old next
-          record { answered = same.answered; left = same.left; asked = same.asked } start.fresh (same.shaded ∙ silent.none_shaded) stands.cycle;
+          record { answered = same.answered; left = same.left; asked = same.asked } start.fresh stands.cycle;
     }
     (λ r below apart other. other_begins heap state.words book q r (seat_at state r) apart other)

@@ -35,12 +35,14 @@ module _ (heap : Heap) (collector : Collector) (history : List Entry) (stands : 
       log = stands.log;
       phase_told = stands.phase_told;
       looked = λ q none below present. absurd (omega (arith, none));
+      advances = λ on. absurd (cc (on, looking));
       goes_on = λ on. absurd (cc (on, looking));
     })
     | inr other ↦ rw other.0 (record {
       log = stands.log;
       phase_told = stands.phase_told;
       looked = λ q less below present. all q below present;
+      advances = λ on. all;
       goes_on = λ on. omega (arith, other.1, early, stands.phase_told);
     })
   ]
@@ -59,6 +61,7 @@ module _ (heap : Heap) (collector : Collector) (history : List Entry) (stands : 
         log = stands.log;
         phase_told = stands.phase_told;
         looked = more_seen;
+        advances = λ on. absurd (cc (on, looking));
         goes_on = λ on. absurd (cc (on, looking));
       })
       | inr last ↦ rw last.0 (all_seen (λ q below present. more_seen q (omega (arith, last.1, below)) below present))

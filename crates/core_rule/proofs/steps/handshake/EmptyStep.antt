@@ -16,19 +16,19 @@ use Rattle.core_machine.specs.declared.place.Place.{Place}
 use Rattle.core_machine.specs.declared.place.Place.TheVariants as places
 use Rattle.core_machine.specs.seat.AnsweringMoves.{empty_move}
 use Rattle.core_machine.specs.seat.Commands.{target_of}
-use Rattle.core_machine.specs.seat.Fits.{IsAtRest, IsSilent}
+use Rattle.core_machine.specs.seat.Fits.{IsAtRest}
 use Rattle.core_machine.specs.table.Layout.{at}
 use Rattle.core_machine.specs.machine.Machine.{seat_at}
 use Rattle.core_machine.specs.Moves.{seat_after}
 use Rattle.core_machine.specs.seat.Seat.{Seat}
 use Rattle.core_rule.specs.Book.{Book}
 use Rattle.core_rule.specs.Gathers.{IsAnswered}
+use Rattle.core_rule.proofs.frames.SeatFrames.{registers_owners}
 use Rattle.core_rule.proofs.steps.Assemble.{seat_steps, fit_after, StepKeeps}
 use Rattle.core_rule.proofs.entries.AtRest.{in_flight, own_reserve, none_awaited}
 use Rattle.core_rule.proofs.hand.EmptyHand.{nothing_together, gathers_none}
 use Rattle.core_rule.proofs.frames.GivingBack.{words_given, book_given, graph_given, kept_given, heap_given, cycle_given, other_given}
 use Rattle.core_rule.proofs.entries.InFlight.{began_past}
-use Rattle.core_rule.proofs.frames.SeatFrames.{registers_owners}
 use Rattle.core_rule.proofs.objects.ObjectFrames.{}
 use Rattle.core_rule.proofs.entries.OwnEntries.{counts_own, own_grows}
 use Rattle.core_rule.proofs.hand.ReserveGiven.{reserve_held, reserve_once, holding_emptied, emptied_bits}
@@ -46,7 +46,6 @@ empty_keeps heap state book q rule here place machine =
     let g : Graph = graph_of heap book.history in
     let at_place : IsAtRest seat × (seat.command ≡ commands.Leave) × (0 < length seat.reserve) = rw place at stands.fits.at_place in
     let rest : IsAtRest seat = at_place.0 in
-    let silent : IsSilent seat = rw place at stands.fits.answer_at_place in
     let busy : seat.place ≢ places.Idle = λ idle. absurd (cc (place, idle)) in
     let present : (party g q).left ≡ false = stands.told.counts.leaves ∙ in_flight heap seat stands.fits busy in
     let awaits = rw place at stands.told.list.awaits in
@@ -81,7 +80,7 @@ empty_keeps heap state book q rule here place machine =
         began = began_past book.history entry q (book.begun q) seat.place (places.Leaving Parting) refl (λ still. unanswered seat.place place) stands.told.began;
         gathers = gathers_none heap later.owner q (drop (book.begun q) later.history) seat.cursor seat.tried seat.given rest.none_tried rest.none_given;
       };
-      cycle = cycle_given heap state book q rule here seat.cursor fs below held once now record { answered = refl; left = refl; asked = refl } tt silent.none_shaded;
+      cycle = cycle_given heap state book q rule here seat.cursor fs below held once now record { answered = refl; left = refl; asked = refl } tt;
     }
     (other_given heap state book q rule here seat.cursor fs below held once)
   where

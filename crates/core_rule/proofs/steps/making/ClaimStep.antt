@@ -28,6 +28,7 @@ use Rattle.core_rule.specs.Gathers.{GathersRight}
 use Rattle.core_rule.specs.Holding.{whole_hand}
 use Rattle.core_rule.specs.Owners.{Owner, Free, Holds, Bears, Keeps as KeepsPart, free_bit, born_bit, handed}
 use Rattle.core_rule.specs.Together.{AreTogether}
+use Rattle.core_rule.proofs.frames.SeatFrames.{same_party, kept_owners, seat_left, registers_owners}
 use Rattle.core_rule.proofs.steps.Assemble.{fit_after, present_at, seat_steps, StepKeeps}
 use Rattle.core_rule.proofs.colours.BirthColours.{marks_claim}
 use Rattle.core_rule.proofs.hand.Bodies.{whole_empty}
@@ -41,12 +42,10 @@ use Rattle.core_rule.proofs.hand.GoesOn.{holding_goes_on, length_goes_on, gather
 use Rattle.core_rule.proofs.hand.HandMoves.{holding_claims, hand_claimed}
 use Rattle.core_rule.proofs.entries.InFlight.{awaits_none, is_busy}
 use Rattle.core_rule.proofs.cycle.MakingCycle.{answer_after_control, cycle_control, cycle_goes_on, heap_hands, borne_before}
-use Rattle.core_rule.proofs.hand.MakingSeats.{none_shaded}
 use Rattle.core_rule.proofs.objects.ObjectFrames.{handed_kept, holds_keeps_none, objects_control, objects_owners}
 use Rattle.core_rule.proofs.owners.OwnerFrames.{owners_handed}
 use Rattle.core_rule.proofs.owners.OwnerLemmas.{free_by_bit}
 use Rattle.core_rule.proofs.entries.SeatLists.{making_list, list_of_making}
-use Rattle.core_rule.proofs.frames.SeatFrames.{same_party, kept_owners, seat_left, registers_owners}
 use Rattle.core_rule.proofs.hand.StoredFrames.{stored_control}
 
 next_within : (heap : Heap) (seat : Seat) → seat.cursor < heap.groups → next_group heap seat < heap.groups
@@ -151,7 +150,7 @@ claim_keeps heap state book q rule here place machine =
       };
       cycle = tells.cycles words owner book.colour q next
           (cycle_goes_on heap state.words words book.owner owner book.colour (phase book.history) (answered q book.history) (has_left q book.history) q seat next
-          record { answered = same.answered; left = same.left; asked = same.asked } (rw stays.placed tt) (same.shaded ∙ none_shaded heap seat Gathering stands.fits place)
+          record { answered = same.answered; left = same.left; asked = same.asked } (rw stays.placed tt)
           (answer_after_control heap state.words word g q (omega (arith, here, rule.machine.limits.seats_fit)))
           (λ f. borne_before (Holds q) book.owner fs q f holds_bears_none) stands.cycle);
     }

@@ -19,6 +19,7 @@ use Rattle.core_machine.specs.Moves.{give_back_move, seat_after}
 use Rattle.core_machine.specs.seat.Seat.{Seat}
 use Rattle.core_rule.specs.Book.{Book}
 use Rattle.core_rule.specs.Holding.{whole_hand}
+use Rattle.core_rule.proofs.frames.SeatFrames.{registers_owners}
 use Rattle.core_rule.proofs.steps.Assemble.{fit_after, present_at, seat_steps, StepKeeps}
 use Rattle.core_rule.proofs.hand.Bodies.{whole_empty}
 use Rattle.core_rule.proofs.hand.ClaimOrder.{together_gives}
@@ -27,8 +28,7 @@ use Rattle.core_rule.proofs.gather.GatherSteps.{own_gives}
 use Rattle.core_rule.proofs.frames.GivingBack.{words_given, book_given, graph_given, kept_given, heap_given, cycle_given, other_given}
 use Rattle.core_rule.proofs.hand.HandMoves.{hand_held, hand_once, part_held, part_once, held_within, holding_gives}
 use Rattle.core_rule.proofs.entries.InFlight.{awaits_none, tried_within, began_past, is_busy}
-use Rattle.core_rule.proofs.hand.MakingSeats.{none_shaded, first_within}
-use Rattle.core_rule.proofs.frames.SeatFrames.{registers_owners}
+use Rattle.core_rule.proofs.hand.MakingSeats.{first_within}
 use Rattle.core_rule.proofs.objects.ObjectFrames.{}
 use Rattle.core_rule.proofs.entries.OwnEntries.{own_grows, counts_own}
 use Rattle.core_rule.proofs.lists.Parts.{parts_length, first_some}
@@ -90,6 +90,6 @@ give_back_keeps heap state book q rule here place machine =
             (book.begun q) stands.told.began.earlier seat.cursor seat.tried seat.given held
             stands.fits.cursor_within (tried_within heap seat seat.place stands.fits.at_place) stands.told.gathers;
       };
-      cycle = cycle_given heap state book q rule here g part below held once now record { answered = refl; left = refl; asked = refl } tt (none_shaded heap seat Returning stands.fits place);
+      cycle = cycle_given heap state book q rule here g part below held once now record { answered = refl; left = refl; asked = refl } tt;
     }
     (other_given heap state book q rule here g part below held once)

@@ -1,0 +1,108 @@
+-- A seat that answers a phase in which marking begins has marked the object of each of its registers.
+use Rattle.std.proofs.Common.{◌≡◌, ℕ, ◌%◌, ◌==◌, Bool, true, false, if◌then◌else◌, List, [], ◌∷◌, All, Option, Some, None, refl, subst}
+use Rattle.std.proofs.lemmas.List.Elements.{All-nil, All-cons}
+use Rattle.heap_model.specs.declared.entry.Entry.{Entry}
+use Rattle.heap_model.specs.declared.entry.Entry.TheVariants.{Said, Takes, Answers}
+use Rattle.heap_model.specs.declared.heap.Heap.{Heap}
+use Rattle.heap_model.specs.declared.reply.Reply.{Reply}
+use Rattle.heap_model.specs.declared.reply.Reply.TheVariants.{Phase}
+use Rattle.heap_model.specs.PhasePlan.{cycle_phases, marking}
+use Rattle.core_machine.specs.declared.collector.stage.Stage.{Stage}
+use Rattle.core_machine.specs.declared.collector.stage.Stage.TheVariants.{Looking, Advancing}
+use Rattle.core_machine.specs.declared.place.Leaving.TheVariants.{Emptying, Parting}
+use Rattle.core_machine.specs.declared.place.Making.TheVariants.{Gathering, Returning, Refusing, Storing, Bearing}
+use Rattle.core_machine.specs.declared.place.Place.{Place}
+use Rattle.core_machine.specs.declared.place.Place.TheVariants as places
+use Rattle.core_machine.specs.declared.place.Polling.TheVariants.{Asking, Shading, Answering}
+use Rattle.core_machine.specs.declared.place.Reaching.TheVariants.{Opening, Walking, Getting, Naming, LoadingOld, ShadingOld, ShadingNew, Swapping}
+use Rattle.core_machine.specs.collector.Collector.{turn_at}
+use Rattle.core_machine.specs.machine.Machine.{State, seat_at, shown, Begins, Steps, Turns, entries}
+use Rattle.core_machine.specs.Moves.{move_at, is_last_birth, last_birth_move, birth_move, takes_some}
+use Rattle.core_machine.specs.seat.AnsweringMoves.{poll_adds}
+use Rattle.core_machine.specs.seat.ReachingMoves.{field_part, got_shows, said_some}
+use Rattle.core_machine.specs.table.Layout.{at}
+use Rattle.core_machine.specs.declared.table.address.Address.TheVariants.{Word}
+use Rattle.core_machine.specs.seat.Seat.{Seat}
+use Rattle.core_rule.specs.Book.{Colour}
+use Rattle.core_rule.specs.Flight.{IsRootMarked, RootsStand, WhilePolling}
+use Rattle.core_rule.specs.Laws.{HasMarkedRoots, EachAnswerIsMarked}
+use Rattle.core_rule.proofs.runs.Runs.{seat_of_step}
+
+module _ (heap : Heap) (state : State) (colour : ℕ → Colour) where
+  abbrev AreMarked : List Entry → Type 0
+  AreMarked entries = All (HasMarkedRoots state colour) entries
+
+  none_marked : AreMarked []
+  none_marked = All-nil (HasMarkedRoots state colour)
+
+  one_marked : (entry : Entry) → HasMarkedRoots state colour entry → AreMarked (entry ∷ [])
+  one_marked entry marked = All-cons (HasMarkedRoots state colour) entry [] marked none_marked
+
+  -- the reply to a poll that answers
+  abbrev reply : ℕ → Seat → Entry
+  reply q seat = Said q seat.command (Phase seat.asked)
+
+  -- the entries of a claim, of a poll's load, of a reply at the meta, and of a get are no answers
+  claim_marked : (q count : ℕ) → AreMarked (takes_some q count)
+  claim_marked q count = by (count == 0)
+    where
+      by : (b : Bool) → AreMarked (if b then [] else Takes q count ∷ [])
+      by true = none_marked
+      by false = one_marked (Takes q count) tt
+
+  poll_marked : (q : ℕ) (seat : Seat) (found : ℕ) → AreMarked (poll_adds q seat found)
+  poll_marked q seat found = by (found == seat.answered)
+    where
+      by : (b : Bool) → AreMarked (if b then Said q seat.command (Phase found) ∷ [] else [])
+      by true = one_marked (Said q seat.command (Phase found)) tt
+      by false = none_marked
+
+  meta_marked : (q : ℕ) (seat : Seat) (reply : Option Reply) → AreMarked (said_some q seat reply)
+  meta_marked q seat None = none_marked
+  meta_marked q seat (Some reply) = one_marked (Said q seat.command reply) tt
+
+  get_marked : (q : ℕ) (seat : Seat) (found : ℕ) (head : Option ℕ) → AreMarked (got_shows heap q seat state.words found head)
+  get_marked q seat found None = one_marked _ tt
+  get_marked q seat found (Some head) = one_marked _ tt
+
+  module _ (q : ℕ) (answers : (seat_at state q).place ≡ places.Polling Answering → (seat_at state q).asked % cycle_phases ≡ marking → (r : ℕ) → IsRootMarked colour (seat_at state q).registers r) where
+    -- what a step shows
+    shown_marked : (place : Place) → (seat_at state q).place ≡ place → AreMarked (shown heap state (move_at heap q (seat_at state q) place))
+    shown_marked places.Idle placed = none_marked
+    shown_marked (places.Making Gathering) placed = claim_marked q _
+    shown_marked (places.Making Returning) placed = one_marked _ tt
+    shown_marked (places.Making Refusing) placed = one_marked _ tt
+    shown_marked (places.Making Storing) placed = none_marked
+    shown_marked (places.Making Bearing) placed = by (is_last_birth (seat_at state q))
+      where
+        by : (last : Bool) → AreMarked (shown heap state (Some (if last then last_birth_move q (seat_at state q) else birth_move (seat_at state q))))
+        by true = one_marked _ tt
+        by false = none_marked
+    shown_marked places.Telling placed = one_marked _ tt
+    shown_marked (places.Reaching Opening) placed = meta_marked q (seat_at state q) _
+    shown_marked (places.Reaching Walking) placed = none_marked
+    shown_marked (places.Reaching Getting) placed = get_marked q (seat_at state q) (at heap state.words (Word (seat_at state q).reached (field_part (seat_at state q)))) _
+    shown_marked (places.Reaching Naming) placed = none_marked
+    shown_marked (places.Reaching LoadingOld) placed = none_marked
+    shown_marked (places.Reaching ShadingOld) placed = none_marked
+    shown_marked (places.Reaching ShadingNew) placed = none_marked
+    shown_marked (places.Reaching Swapping) placed = one_marked _ tt
+    shown_marked (places.Polling Asking) placed = poll_marked q (seat_at state q) _
+    shown_marked (places.Polling Shading) placed = none_marked
+    shown_marked (places.Polling Answering) placed = All-cons (HasMarkedRoots state colour) (Answers q (seat_at state q).asked) (reply q (seat_at state q) ∷ []) (answers placed) (one_marked (reply q (seat_at state q)) tt)
+    shown_marked (places.Leaving Emptying) placed = one_marked _ tt
+    shown_marked (places.Leaving Parting) placed = one_marked _ tt
+
+  -- a turn shows no answer
+  turn_marked : (stage : Stage) → AreMarked (turn_at heap state.collector stage).adds
+  turn_marked Looking = none_marked
+  turn_marked Advancing = one_marked _ tt
+
+pub each_answer_is_marked : EachAnswerIsMarked
+each_answer_is_marked heap state book (Begins q command) rule can = none_marked heap state book.colour
+each_answer_is_marked heap state book (Steps q) rule can =
+    let stands = rule.seats_stand q (seat_of_step heap state book q rule can) in
+    shown_marked heap state book.colour q
+    (λ placed. subst (λ place. (seat_at state q).asked % cycle_phases ≡ marking → WhilePolling (RootsStand book.colour (seat_at state q)) place) placed stands.cycle.flight.roots)
+    (seat_at state q).place refl
+each_answer_is_marked heap state book Turns rule can = turn_marked heap state book.colour state.collector.stage
