@@ -19,6 +19,7 @@ use Rattle.core_rule.specs.ControlWords.{Bits}
 use Rattle.core_rule.specs.Cycle.{SeatInCycle}
 use Rattle.core_rule.specs.Owners.{Owner, Free, Bears, Holds, born_bit, handed}
 use Rattle.core_rule.specs.Rule.{Rule, HeapStands, SeatStands}
+use Rattle.core_rule.proofs.cycle.FieldFrames.{watched_born}
 use Rattle.core_rule.proofs.colours.BirthColours.{marks_give}
 use Rattle.core_rule.proofs.counts.CountMoves.{give_used}
 use Rattle.core_rule.proofs.cycle.CycleFrames.{SameAnswer}
@@ -112,5 +113,5 @@ module _ (heap : Heap) (state : State) (book : Book) (q : ℕ) (rule : Rule heap
             other.fits.cursor_within (tried_within heap seat seat.place other.fits.at_place) r apart other.told.gathers;
         cycle = cycle_other heap words_given owner book.colour book.history entry refl r seat
             (cycle_control heap state.words book.owner owner book.colour book.colour (phase book.history) (answered r book.history) (has_left r book.history) r seat g word below
-            (omega (arith, under, rule.machine.limits.seats_fit)) (λ f marked. marked) (λ f borne. (borne_before Free book.owner fs r f free_bears_none borne, refl)) other.cycle) away;
+            (omega (arith, under, rule.machine.limits.seats_fit)) (λ f marked. marked) (λ f borne. (borne_before Free book.owner fs r f free_bears_none borne, refl)) (watched_born heap state book rule r under) other.cycle) away;
       } other

@@ -31,6 +31,7 @@ use Rattle.core_rule.proofs.steps.Assemble.{Keeps, seat_steps, fit_after}
 use Rattle.core_rule.proofs.hand.Bodies.{bare_hand}
 use Rattle.core_rule.proofs.words.ControlLemmas.{bits_same}
 use Rattle.core_rule.proofs.cycle.CycleFrames.{LeavesCycle, cycle_stays}
+use Rattle.core_rule.proofs.cycle.FieldFrames.{watched_born}
 use Rattle.core_rule.proofs.cycle.CycleHistory.{heap_cycle_more, cycle_other}
 use Rattle.core_rule.proofs.hand.EmptyHand.{nothing_together, none_stored, gathers_none, holding_as, bare_unborn}
 use Rattle.core_rule.proofs.graph.GraphSeats.{SeatChanges}
@@ -93,7 +94,7 @@ module _ (heap : Heap) (state : State) (book : Book) (q : ℕ) (words : List ℕ
       → SameUnkept heap book.owner state.words words → GraphReplies heap words book before after q → SeatReplies book after q seat now entry
       → HeapInCycle heap words (phase book.history) book.owner book.colour book.fragments
       → SeatInCycle heap words (phase later.history) (answered q later.history) (has_left q later.history) book.owner book.colour q now
-      → ((r : ℕ) → r < heap.seats → r ≢ q → LeavesCycle heap state.words words book.owner book.owner book.colour book.colour (phase book.history) r (seat_at state r))
+      → ((r : ℕ) → r < heap.seats → r ≢ q → LeavesCycle heap state.words words book.owner book.owner book.colour book.colour (phase book.history) r)
       → Keeps heap (record state { words = words; seats = slice_set state.seats q now }) book book.begun (entry ∷ [])
   reply_keeps none rest told legal same grows replies heap_cycle cycle leaves =
       let stands = rule.seats_stand q here in
@@ -145,5 +146,5 @@ module _ (heap : Heap) (state : State) (book : Book) (q : ℕ) (words : List ℕ
       (stored_stays heap book.owner state.words words r (seat_at state r) same other.own.holding (stored_within heap (seat_at state r) (seat_at state r).place other.fits.at_place) other.own.stored)
       (cycle_other heap words book.owner book.colour book.history entry refl r (seat_at state r)
       (cycle_stays heap state.words words book.owner book.owner book.colour book.colour (phase book.history) (answered r book.history) (has_left r book.history) r (seat_at state r)
-      (leaves r below apart) other.cycle) (of_other q r apart))
+      (leaves r below apart) (watched_born heap state book rule r below) other.cycle) (of_other q r apart))
       other)

@@ -25,6 +25,7 @@ use Rattle.core_rule.specs.Ways.{WayStands}
 use Rattle.core_rule.proofs.words.Addresses.{at-put_apart}
 use Rattle.core_rule.proofs.steps.Assemble.{Keeps, seat_steps, fit_after}
 use Rattle.core_rule.proofs.cycle.CycleFrames.{LeavesCycle, cycle_stays}
+use Rattle.core_rule.proofs.cycle.FieldFrames.{watched_born}
 use Rattle.core_rule.proofs.entries.InFlight.{began_on}
 use Rattle.core_rule.proofs.ways.KeptWords.{kept_within}
 use Rattle.core_rule.proofs.colours.LeadsFrames.{leads_control}
@@ -61,10 +62,10 @@ module _ (heap : Heap) (state : State) (book : Book) (q : ℕ) (rule : Rule heap
   borne_unshaded r x borne = mark_away book.colour f x (λ same. bears_keeps_none r number 0 (sym borne ∙ ap book.owner same ∙ owned))
 
   -- what is needed of the others stays
-  others_left : (r : ℕ) → r < heap.seats → (seat : Seat) → LeavesCycle heap state.words words_shaded book.owner book.owner book.colour (with_mark book.colour f) (phase book.history) r seat
-  others_left r less seat = record {
+  others_left : (r : ℕ) → r < heap.seats → LeavesCycle heap state.words words_shaded book.owner book.owner book.colour (with_mark book.colour f) (phase book.history) r
+  others_left r less = record {
     answer = answer_shaded r less;
-    leads = λ making g leads. inl (leads_control heap state.words (f / 16) _ group_below _ _ g leads);
+    leads = λ making x part g born leads. inl (leads_control heap state.words (f / 16) _ group_below x part g leads);
     marks = mark_keeps book.colour f;
     births = λ x borne. (borne, borne_unshaded r x borne);
   }
@@ -115,5 +116,5 @@ module _ (heap : Heap) (state : State) (book : Book) (q : ℕ) (rule : Rule heap
         names = other.names;
         told = other.told;
         cycle = cycle_stays heap state.words words_shaded book.owner book.owner book.colour (with_mark book.colour f) (phase book.history) (answered r book.history) (has_left r book.history)
-            r (seat_at state r) (others_left r less (seat_at state r)) other.cycle;
+            r (seat_at state r) (others_left r less) (watched_born heap state book rule r less) other.cycle;
       })

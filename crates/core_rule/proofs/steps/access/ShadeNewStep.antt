@@ -11,7 +11,7 @@ use Rattle.core_machine.specs.seat.FitsReaching.{Sets}
 use Rattle.core_machine.specs.table.Loaded.{head_in}
 use Rattle.core_machine.specs.machine.Machine.{seat_at}
 use Rattle.core_machine.specs.seat.Reaching.{has_barrier}
-use Rattle.core_machine.specs.seat.ReachingMoves.{shade_new_move, new_register}
+use Rattle.core_machine.specs.seat.ReachingMoves.{shade_new_move, field_part, new_register}
 use Rattle.core_machine.specs.seat.Registers.{head_of}
 use Rattle.core_machine.specs.seat.Seat.{Seat}
 use Rattle.core_rule.specs.Book.{Colour}
@@ -43,7 +43,7 @@ shade_new_keeps heap state book q rule here place machine =
     (holds_all heap state book q rule here ShadingNew place (λ answered. answered) (λ d r awaited. awaited) (source_of seat.command)) f some in
     let coloured : ℕ → Colour = with_mark book.colour f in
     let back = leads_back heap state book q rule here ShadingNew place (λ answered. answered) (λ d r awaited. awaited) f head fits.1 in
-    let watched : IsBetween 2 5 p → IsBetween 2 5 seat.answered → Watches heap state.words book.colour seat None
+    let watched : IsBetween 2 5 p → IsBetween 2 5 seat.answered → Watches heap state.words book.colour seat.reached (field_part seat) None
     = subst (λ x. IsBetween 2 5 p → IsBetween 2 5 seat.answered → WhileReaching (FieldStands heap state.words book.colour seat) x) place stands.cycle.flight.set in
     let was : IsBetween 1 5 p → IfSome (head_in seat.loaded) (IsMarked book.colour)
     = subst (λ x. IsBetween 1 5 p → WhileReaching (ShadedStands book.colour seat) x) place stands.cycle.flight.shaded in
@@ -51,8 +51,8 @@ shade_new_keeps heap state book q rule here place machine =
       finds_at (cells_at g book.made) book.made book.owner book.fragments seat seat.loaded Swapping (seat.mine ++ []) way.0,
       λ (some : IsSome (head_in seat.loaded)). loaded_at book.made book.owner book.fragments seat Swapping (seat.mine ++ []) (way.1 some),
     )
-    (λ making snapped. watches_stay heap state.words (words_shaded heap state book q rule here f head.number head.kept head.is) book.colour coloured seat (mark_keeps book.colour f)
-    (λ x lead. inl (back x lead)) None (watched making snapped))
+    (λ making snapped. watches_stay heap state.words (words_shaded heap state book q rule here f head.number head.kept head.is) book.colour coloured (mark_keeps book.colour f)
+    seat.reached (field_part seat) (λ x lead. inl (back x lead)) None (watched making snapped))
     (λ making is_on. (
       if_some (IsMarked book.colour) (IsMarked coloured) (mark_keeps book.colour f) (head_in seat.loaded) (was making),
       some_holds (IsMarked coloured) (head_of (new_register seat)) f some (mark_marks book.colour f),

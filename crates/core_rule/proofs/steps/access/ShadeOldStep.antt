@@ -46,7 +46,7 @@ shade_old_keeps heap state book q rule here place machine =
     let at_next = λ (next : Reaching). finds_at (cells_at g book.made) book.made book.owner book.fragments seat seat.loaded next (seat.mine ++ []) way.0 in
     let kept_at = λ (next : Reaching) (some : IsSome (head_in seat.loaded)). loaded_at book.made book.owner book.fragments seat next (seat.mine ++ []) way.1 in
     let marked : IfSome (head_in seat.loaded) (IsMarked coloured) = some_holds (IsMarked coloured) (head_in seat.loaded) f loads (mark_marks book.colour f) in
-    let watched : IsBetween 2 5 p → IsBetween 2 5 seat.answered → Watches heap state.words book.colour seat (head_in seat.loaded)
+    let watched : IsBetween 2 5 p → IsBetween 2 5 seat.answered → Watches heap state.words book.colour seat.reached (field_part seat) (head_in seat.loaded)
     = subst (λ x. IsBetween 2 5 p → IsBetween 2 5 seat.answered → WhileReaching (FieldStands heap state.words book.colour seat) x) place stands.cycle.flight.set in
     let field : IsBetween 2 5 p → IsBetween 2 5 seat.answered → (x : ℕ)
     → Leads heap (words_shaded heap state book q rule here f head.number head.kept head.is) seat.reached (field_part seat) x → (None ≡ Some x) ⊎ IsMarked coloured x

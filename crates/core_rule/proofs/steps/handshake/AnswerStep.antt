@@ -34,6 +34,7 @@ use Rattle.core_rule.proofs.cycle.AnswerWords.{fragments_answer, heap_cycle_answ
 use Rattle.core_rule.proofs.steps.Assemble.{Keeps, seat_steps, fit_after, StepKeeps}
 use Rattle.core_rule.proofs.entries.AtRest.{in_flight, none_awaited, spent_own, few_own}
 use Rattle.core_rule.proofs.cycle.CycleFrames.{cycle_stays}
+use Rattle.core_rule.proofs.cycle.FieldFrames.{watched_born}
 use Rattle.core_rule.proofs.cycle.CycleHistory.{heap_cycle_more, cycle_other}
 use Rattle.core_rule.proofs.hand.EmptyHand.{none_stored, gathers_none}
 use Rattle.core_rule.proofs.frames.EntryFrames.{SameFragments, heap_past, seat_past}
@@ -193,7 +194,7 @@ module _ (heap : Heap) (state : State) (book : Book) (q : ℕ) (rule : Rule heap
       (seat_past heap state.words words same book first nodes r (seat_at state r) away (ap (λ (x : Graph). party x r) graph)
       (cycle_other heap words book.owner book.colour book.history first refl r (seat_at state r)
       (cycle_stays heap state.words words book.owner book.owner book.colour book.colour (phase book.history) (answered r book.history) (has_left r book.history) r (seat_at state r)
-      (leaves_answer heap state.words q p small book.owner book.colour (phase book.history) r (seat_at state r) apart) other.cycle) away) other)
+      (leaves_answer heap state.words q p small book.owner book.colour (phase book.history) r apart) (watched_born heap state book rule r below) other.cycle) away) other)
 
   -- the answer keeps the rule
   answer_kept : Keeps heap (stepped heap state q (answer_move q seat)) book book.begun (first ∷ second ∷ [])

@@ -105,7 +105,7 @@ leave_keeps heap state book q rule here place machine =
       flight = record { set = λ marking snapped. tt; shaded = λ marking. tt; roots = λ begins. tt };
       births = stands.cycle.births;
     }
-    (λ r below apart. leaves_answer heap state.words q LEFT small book.owner book.colour (phase book.history) r (seat_at state r) apart)
+    (λ r below apart. leaves_answer heap state.words q LEFT small book.owner book.colour (phase book.history) r apart)
   where
     all_holds : (i : ℕ) {value : Value} → value ≡ values.Nil → regs.Holds book.made book.owner book.fragments (get_or (replicate 16 registers.Nil) i registers.Nil) value
     all_holds i {value} is = subst (λ h. regs.Holds book.made book.owner book.fragments h value) (sym (all_nil registers.Nil 16 i)) is

@@ -19,6 +19,7 @@ use Rattle.core_rule.specs.Book.{Book, Colour, White, fragment_at}
 use Rattle.core_rule.specs.Colours.{IsMarked}
 use Rattle.core_rule.specs.Owners.{Owner, Bears, born_bit, handed}
 use Rattle.core_rule.specs.Rule.{Rule}
+use Rattle.core_rule.proofs.cycle.FieldFrames.{watched_born}
 use Rattle.core_rule.proofs.frames.SeatFrames.{same_party, told_nothing, kept_owners, seat_left, registers_owners}
 use Rattle.core_rule.proofs.steps.Assemble.{fit_after, seat_steps, MoveKeeps}
 use Rattle.core_rule.proofs.colours.Births.{birth_colour, births_are, are_births}
@@ -111,5 +112,5 @@ birth_keeps heap state book q rule here place more machine =
       stored = stored_control heap state.words r (seat_at state r) g word below other.own.stored;
       gathers = gathers_same heap book.owner owner r (drop (book.begun r) book.history) (seat_at state r).cursor (seat_at state r).tried (seat_at state r).given frees other.told.gathers;
       cycle = cycle_control heap state.words book.owner owner book.colour colour (phase book.history) (answered r book.history) (has_left r book.history) r (seat_at state r) g word below
-          (omega (arith, under, rule.machine.limits.seats_fit)) marks (born_others book.owner book.colour part q black r apart) other.cycle;
+          (omega (arith, under, rule.machine.limits.seats_fit)) marks (born_others book.owner book.colour part q black r apart) (watched_born heap state book rule r under) other.cycle;
     } other)

@@ -28,6 +28,7 @@ use Rattle.core_rule.specs.Gathers.{GathersRight}
 use Rattle.core_rule.specs.Holding.{whole_hand}
 use Rattle.core_rule.specs.Owners.{Owner, Free, Holds, Bears, Keeps as KeepsPart, free_bit, born_bit, handed}
 use Rattle.core_rule.specs.Together.{AreTogether}
+use Rattle.core_rule.proofs.cycle.FieldFrames.{watched_born}
 use Rattle.core_rule.proofs.frames.SeatFrames.{same_party, kept_owners, seat_left, registers_owners}
 use Rattle.core_rule.proofs.steps.Assemble.{fit_after, present_at, seat_steps, StepKeeps}
 use Rattle.core_rule.proofs.colours.BirthColours.{marks_claim}
@@ -164,5 +165,5 @@ claim_keeps heap state book q rule here place machine =
       gathers = tells.other_gathers r under apart;
       cycle = tells.cycles words owner book.colour r (seat_at state r)
           (cycle_control heap state.words book.owner owner book.colour book.colour (phase book.history) (answered r book.history) (has_left r book.history) r (seat_at state r) g word below
-          (omega (arith, under, rule.machine.limits.seats_fit)) (λ f marked. marked) (λ f borne. (borne_before (Holds q) book.owner fs r f holds_bears_none borne, refl)) other.cycle);
+          (omega (arith, under, rule.machine.limits.seats_fit)) (λ f marked. marked) (λ f borne. (borne_before (Holds q) book.owner fs r f holds_bears_none borne, refl)) (watched_born heap state book rule r under) other.cycle);
     } other)

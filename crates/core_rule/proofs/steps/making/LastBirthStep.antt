@@ -24,6 +24,7 @@ use Rattle.core_rule.specs.Book.{Book}
 use Rattle.core_rule.specs.Gathers.{GathersRight}
 use Rattle.core_rule.specs.Objects.{AreMade}
 use Rattle.core_rule.specs.Rule.{Rule}
+use Rattle.core_rule.proofs.cycle.FieldFrames.{watched_born}
 use Rattle.core_rule.proofs.steps.Assemble.{fit_after, present_at, seat_steps, MoveKeeps}
 use Rattle.core_rule.proofs.colours.Births.{birth_colour, AreBorne, births_are, are_births}
 use Rattle.core_rule.proofs.colours.BirthColours.{painted}
@@ -171,5 +172,5 @@ last_birth_keeps heap state book q rule here place last machine =
       cycle = cycle_other heap words now.owner now.colour book.history entry refl r (seat_at state r)
           (cycle_control heap state.words book.owner now.owner book.colour now.colour (phase book.history) (answered r book.history) (has_left r book.history) r (seat_at state r) group word below
           (omega (arith, less, rule.machine.limits.seats_fit)) marks
-          (kept_borne book.owner book.colour q seat.reserve seat.hand body stands.own.holding some group (length book.made) last black births r) other.cycle) (of_other q r apart);
+          (kept_borne book.owner book.colour q seat.reserve seat.hand body stands.own.holding some group (length book.made) last black births r) (watched_born heap state book rule r less) other.cycle) (of_other q r apart);
     } other)

@@ -19,7 +19,8 @@ use Rattle.core_rule.specs.Owners.{born_bit}
 use Rattle.core_rule.proofs.words.Addresses.{at-put_apart}
 use Rattle.core_rule.proofs.steps.Assemble.{fit_after, seat_steps, StepKeeps}
 use Rattle.core_rule.proofs.hand.Bodies.{body_once, body_at-own}
-use Rattle.core_rule.proofs.cycle.FieldFrames.{cycle_store, heap_store, watched_kept}
+use Rattle.core_rule.proofs.cycle.CycleFrames.{cycle_stays}
+use Rattle.core_rule.proofs.cycle.FieldFrames.{leaves_store, watched_born, heap_store}
 use Rattle.core_rule.proofs.hand.HandMoves.{hand_held}
 use Rattle.core_rule.proofs.entries.InFlight.{awaits_none, stored_within, began_on, is_busy}
 use Rattle.core_rule.proofs.cycle.MakingCycle.{cycle_goes_on}
@@ -57,7 +58,7 @@ store_keeps heap state book q rule here place machine =
           (λ i k. own_keeps_none q i k (book.owner f) own) rule.heap_stands.objects;
       used = rule.heap_stands.used;
       legal = rule.heap_stands.legal;
-      cycle = heap_store heap state.words book.owner book.colour book.fragments (phase book.history) f part word fits_part unborn rule.heap_stands.cycle;
+      cycle = heap_store heap state.words book.owner book.colour (phase book.history) f part word fits_part unborn book.fragments rule.heap_stands.cycle;
     }
     record {
       fits = fit_after heap state book q rule here machine;
@@ -88,8 +89,7 @@ store_keeps heap state book q rule here place machine =
       };
       names = other.names;
       told = other.told;
-      cycle = cycle_store heap state.words book.owner book.colour (phase book.history) (answered r book.history) (has_left r book.history) r (seat_at state r) q f part word
-          (omega (arith, below, rule.machine.limits.seats_fit)) fits_part own
-          (λ reaching is watches. watched_kept heap state.words (graph_of heap book.history) book.made book.owner book.fragments rule.machine.limits rule.heap_stands.control_words rule.heap_stands.ids
-          rule.heap_stands.objects (seat_at state r) (seat_at state r).place reaching is watches other.names.way) other.cycle;
+      cycle = cycle_stays heap state.words words book.owner book.owner book.colour book.colour (phase book.history) (answered r book.history) (has_left r book.history) r (seat_at state r)
+          (leaves_store heap state.words book.owner book.colour (phase book.history) f part word fits_part unborn r (omega (arith, below, rule.machine.limits.seats_fit)))
+          (watched_born heap state book rule r below) other.cycle;
     })
