@@ -32,6 +32,7 @@ use Rattle.core_machine.specs.seat.ReachingMoves.{get_move, field_part, got_adds
 use Rattle.core_machine.specs.seat.Registers.{value_of}
 use Rattle.core_machine.specs.seat.Seat.{Seat, with_entries}
 use Rattle.core_machine.specs.machine.Value.{IsMachine}
+use Rattle.core_rule.proofs.entries.AtRest.{spent_own, few_own}
 use Rattle.core_rule.specs.Book.{Book, fragment_at, id_at, number_of, head_of}
 use Rattle.core_rule.specs.Gathers.{IsAnswered}
 use Rattle.core_rule.specs.Objects.{NamesKept, cells_at, value_word}
@@ -39,7 +40,7 @@ use Rattle.core_rule.specs.Registers.{Holds, IsAwaited}
 use Rattle.core_rule.specs.Rule.{Rule}
 use Rattle.core_rule.specs.Ways.{Finds}
 use Rattle.core_rule.proofs.steps.Assemble.{Keeps, StepKeeps}
-use Rattle.core_rule.proofs.ways.AtObject.{is_present, has_enough, has_little, way_object}
+use Rattle.core_rule.proofs.ways.AtObject.{is_present, way_object, at_rest}
 use Rattle.core_rule.proofs.graph.GraphRegisters.{registers_length}
 use Rattle.core_rule.proofs.ways.KeptWords.{has_room, field_found, name_found}
 use Rattle.core_rule.proofs.steps.Loads.{went_cycle, went, loaded_state, load_tells}
@@ -89,7 +90,7 @@ module _ (heap : Heap) (state : State) (book : Book) (q : ℕ) (rule : Rule heap
       load_tells heap state book q rule here (Word seat.reached (field_part seat)) (slice_set seat.registers (target_of seat.command) new) 0 0 0 places.Idle (entry ∷ []) machine
       seat.command reply refl (put g q (target_of seat.command) (value_of new)) (graph_got g q (value_of new) stamp seat.command a_get)
       (put_only g q (target_of seat.command) (value_of new) present) accepts
-      (keeps_got heap false book.history q (has_enough heap state book q rule here Getting place) (has_little heap state book q rule here Getting place) (value_of new) stamp seat.command a_get)
+      (keeps_got heap false book.history q (spent_own heap state book q rule here (at_rest heap state book q rule here Getting place)) (few_own heap state book q rule here (at_rest heap state book q rule here Getting place)) (value_of new) stamp seat.command a_get)
       (λ r unawaited. registers_filled book.made book.owner book.fragments g q (target_of seat.command) (value_of new) seat.registers new present in_seat in_graph holds (λ x apart. held x) r)
       (list_more g book.made book.owner book.fragments q seat book.history busy stands.told.list (put g q (target_of seat.command) (value_of new)) _ _ (entry ∷ []) [] (entry ∷ []) refl refl
       (own_entries q book.history entry (eq-eqb q q refl)) refl)
@@ -114,7 +115,7 @@ module _ (heap : Heap) (state : State) (book : Book) (q : ℕ) (rule : Rule heap
       let entry : Entry = Said q seat.command reply in
       load_tells heap state book q rule here (Word seat.reached (field_part seat)) seat.registers seat.reached seat.links found (places.Reaching Naming) [] machine
       seat.command reply refl (put g q d value) (graph_got g q value (stamp_in found) seat.command a_get) (put_only g q d value present) accepts
-      (keeps_got heap false book.history q (has_enough heap state book q rule here Getting place) (has_little heap state book q rule here Getting place) value (stamp_in found) seat.command a_get)
+      (keeps_got heap false book.history q (spent_own heap state book q rule here (at_rest heap state book q rule here Getting place)) (few_own heap state book q rule here (at_rest heap state book q rule here Getting place)) value (stamp_in found) seat.command a_get)
       (λ r unawaited. subst (λ x. Holds book.made book.owner book.fragments (slice_index_or seat.registers r registers.Nil) x) (sym (put_rest g q d value present r unawaited)) (held r))
       (list_more g book.made book.owner book.fragments q seat book.history busy stands.told.list (put g q d value) _ _ [] (entry ∷ []) (entry ∷ []) refl refl
       (own_entries q book.history entry (eq-eqb q q refl))

@@ -28,6 +28,7 @@ use Rattle.core_machine.specs.seat.Reaching.{row_of, meta_reply, met}
 use Rattle.core_machine.specs.seat.ReachingMoves.{open_move, said, said_some}
 use Rattle.core_machine.specs.seat.Seat.{Seat, with_entries}
 use Rattle.core_machine.specs.machine.Value.{IsMachine}
+use Rattle.core_rule.proofs.entries.AtRest.{spent_own, few_own}
 use Rattle.core_rule.specs.Book.{Book, id_at, fragment_at}
 use Rattle.core_rule.specs.Gathers.{IsAnswered}
 use Rattle.core_rule.specs.Objects.{cells_at}
@@ -35,7 +36,7 @@ use Rattle.core_rule.specs.Registers.{IsAwaited}
 use Rattle.core_rule.specs.Rule.{Rule}
 use Rattle.core_rule.specs.Ways.{SetsOut}
 use Rattle.core_rule.proofs.steps.Assemble.{Keeps, StepKeeps}
-use Rattle.core_rule.proofs.ways.AtObject.{is_present, has_enough, has_little, way_object}
+use Rattle.core_rule.proofs.ways.AtObject.{is_present, way_object, at_rest}
 use Rattle.core_rule.proofs.ways.KeptWords.{length_found}
 use Rattle.core_rule.proofs.steps.Loads.{went_cycle, went, loaded_state, load_tells}
 use Rattle.core_rule.proofs.graph.ObjectReplies.{IsLen, accepts_length, accepts_no_field, graph_length, graph_no_field, keeps_length, keeps_no_field}
@@ -107,8 +108,8 @@ open_keeps heap state book q rule here place machine =
     let present = is_present heap state book q rule here Opening place in
     let made = rule.heap_stands.ids.in_graph number way.below in
     let held = way_object heap state book q rule here Opening place (free heap state book q rule here place) number way in
-    let enough = has_enough heap state book q rule here Opening place in
-    let little = has_little heap state book q rule here Opening place in
+    let enough = spent_own heap state book q rule here (at_rest heap state book q rule here Opening place) in
+    let little = few_own heap state book q rule here (at_rest heap state book q rule here Opening place) in
     let leaves_none = λ (reply : Reply). no_leave_told q q seat.command reply (λ leaves. subst NamesObject leaves opens.names) in
     meta_cases (λ reply. IsMachine heap (loaded_state heap state q (Word seat.reached 0) (with_entries (met seat found reply) (said_some q seat reply)))
     → Keeps heap (loaded_state heap state q (Word seat.reached 0) (with_entries (met seat found reply) (said_some q seat reply))) book book.begun (said_some q seat reply))
