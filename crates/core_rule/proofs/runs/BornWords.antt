@@ -58,17 +58,18 @@ module _ (heap : Heap) (state : State) (book : Book) (rule : Rule heap state boo
   load_bears_none : (a : Address) → ¬ IsBorn heap (put heap words a (at heap words a)) f
   load_bears_none a born = unborn (subst (λ ws. IsBorn heap ws f) (put-at heap words a) born)
 
-  -- a control word is the fragment's group's, or leaves it as it is
+  -- the fragment's control word is the one written where its group's was
   written_there : (g word : ℕ) → f / 16 ≡ g → control_of heap (put heap words (Control g) word) f ≡ word
   written_there g word same = rw same (control_same heap words word g rule.heap_stands.table (omega (arith, same, within)))
 
+  -- so a control word that bears the fragment is its group's
   control_bears : {A : Type 0} (g word : ℕ) → (f / 16 ≡ g → bit_at word (16 + f % 16) ≡ 1 → A) → IsBorn heap (put heap words (Control g) word) f → A
   control_bears g word here born = elim (eqb_tells (f / 16) g) [
     | inl same ↦ here same.1 (subst (λ w. bit_at w (16 + f % 16) ≡ 1) (written_there g word same.1) born)
     | inr apart ↦ absurd (word_bears_none (put heap words (Control g) word) (control_other heap words word g (f / 16) apart.1) born)
   ]
 
-  -- the born bit stays
+  -- and has its born bit set anew
   bit_bears_none : (g word : ℕ) → bit_at word (16 + f % 16) ≡ bit_at (at heap words (Control g)) (16 + f % 16) → ¬ IsBorn heap (put heap words (Control g) word) f
   bit_bears_none g word same = control_bears g word (λ here set. unborn (subst (λ h. bit_at (at heap words (Control h)) (16 + f % 16) ≡ 1) (sym here) (sym same ∙ set)))
 
@@ -136,26 +137,26 @@ module _ (heap : Heap) (state : State) (book : Book) (rule : Rule heap state boo
     answer_bears_none word = word_bears_none _ (at-put_apart heap words (Answer q) (Control (f / 16)) word (λ e. omega (arith, e, here, rule.limits.seats_fit)))
 
     -- so does each step of a seat that bears the fragment
-    step_colours : (place : Place) → seat.place ≡ place → IsBorn heap (moved heap state q (move_at heap q seat place)).words f
+    step_colours : (place : Place) → IsBorn heap (moved heap state q (move_at heap q seat place)).words f
         → HasBirthColour heap (moved heap state q (move_at heap q seat place)).words f (answered q book.history)
-    step_colours places.Idle placed born = absurd (unborn born)
-    step_colours (places.Making Gathering) placed born = absurd (bit_bears_none _ _ (claim_born _ (f % 16) (omega arith)) born)
-    step_colours (places.Making Returning) placed born = absurd (bit_bears_none _ _ (untaken_born _ (f % 16) (omega arith) _ (mask-lt _)) born)
-    step_colours (places.Making Storing) placed born = absurd (word_bears_none _ (control_after_word heap words _ _ _ (f / 16) (omega (arith, within))) born)
-    step_colours (places.Making Bearing) placed born = by (is_last_birth seat) born
+    step_colours places.Idle born = absurd (unborn born)
+    step_colours (places.Making Gathering) born = absurd (bit_bears_none _ _ (claim_born _ (f % 16) (omega arith)) born)
+    step_colours (places.Making Returning) born = absurd (bit_bears_none _ _ (untaken_born _ (f % 16) (omega arith) _ (mask-lt _)) born)
+    step_colours (places.Making Storing) born = absurd (word_bears_none _ (control_after_word heap words _ _ _ (f / 16) (omega (arith, within))) born)
+    step_colours (places.Making Bearing) born = by (is_last_birth seat) born
       where
         by : (last : Bool) → IsBorn heap (moved heap state q (Some (if last then last_birth_move q seat else birth_move seat))).words f
             → HasBirthColour heap (moved heap state q (Some (if last then last_birth_move q seat else birth_move seat))).words f (answered q book.history)
         by true born = birth_colours born
         by false born = birth_colours born
-    step_colours (places.Reaching ShadingOld) placed born = absurd (bit_bears_none _ _ (shade_born _ _ f) born)
-    step_colours (places.Reaching ShadingNew) placed born = absurd (bit_bears_none _ _ (shade_born _ _ f) born)
-    step_colours (places.Reaching Swapping) placed born = absurd (word_bears_none _ (control_after_word heap words _ _ _ (f / 16) (omega (arith, within))) born)
-    step_colours (places.Polling Shading) placed born = absurd (bit_bears_none _ _ (shade_born _ _ f) born)
-    step_colours (places.Polling Answering) placed born = absurd (answer_bears_none _ born)
-    step_colours (places.Leaving Emptying) placed born = absurd (bit_bears_none _ _ (untaken_born _ (f % 16) (omega arith) _ (mask-lt _)) born)
-    step_colours (places.Leaving Parting) placed born = absurd (answer_bears_none _ born)
-    step_colours _ placed born = absurd (load_bears_none _ born)
+    step_colours (places.Reaching ShadingOld) born = absurd (bit_bears_none _ _ (shade_born _ _ f) born)
+    step_colours (places.Reaching ShadingNew) born = absurd (bit_bears_none _ _ (shade_born _ _ f) born)
+    step_colours (places.Reaching Swapping) born = absurd (word_bears_none _ (control_after_word heap words _ _ _ (f / 16) (omega (arith, within))) born)
+    step_colours (places.Polling Shading) born = absurd (bit_bears_none _ _ (shade_born _ _ f) born)
+    step_colours (places.Polling Answering) born = absurd (answer_bears_none _ born)
+    step_colours (places.Leaving Emptying) born = absurd (bit_bears_none _ _ (untaken_born _ (f % 16) (omega arith) _ (mask-lt _)) born)
+    step_colours (places.Leaving Parting) born = absurd (answer_bears_none _ born)
+    step_colours _ born = absurd (load_bears_none _ born)
 
   -- a turn bears nothing
   turn_bears_none : (stage : Stage) → ¬ IsBorn heap (turned heap state (turn_at heap state.collector stage)).words f
@@ -165,5 +166,5 @@ module _ (heap : Heap) (state : State) (book : Book) (rule : Rule heap state boo
 pub each_birth_has_its_colour : EachBirthHasItsColour
 each_birth_has_its_colour heap state book (Begins q command) f rule can within unborn born = absurd (unborn born)
 each_birth_has_its_colour heap state book (Steps q) f rule can within unborn born =
-    (q, refl, step_colours heap state book rule f within unborn q (seat_of_step heap state book q rule can) (seat_at state q).place refl born)
+    (q, refl, step_colours heap state book rule f within unborn q (seat_of_step heap state book q rule can) (seat_at state q).place born)
 each_birth_has_its_colour heap state book Turns f rule can within unborn born = absurd (turn_bears_none heap state book rule f within unborn state.collector.stage born)
