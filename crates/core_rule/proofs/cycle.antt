@@ -11,5 +11,3 @@ pub mod FieldFrames
 pub mod AnswerWords
 pub mod SwapCycle
 pub mod NextPhase
-pub mod MarkedAnswers
-pub mod Waits

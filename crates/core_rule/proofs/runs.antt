@@ -6,3 +6,6 @@ pub mod Runs
 pub mod Plays
 pub mod PlayEntries
 pub mod PlayRuns
+pub mod BornWords
+pub mod MarkedAnswers
+pub mod Waits

@@ -57,3 +57,13 @@ pub record Coloured (heap : Heap) (words : List ℕ) (owner : ℕ → Owner) (co
 pub record BornColours (owner : ℕ → Owner) (colour : ℕ → Colour) (q answer : ℕ) : Type 0 where
   pub dark : IsBetween black_births sweep answer → (f : ℕ) → owner f ≡ Bears q → colour f ≡ Black
   pub light : ¬ IsBetween black_births sweep answer → (f : ℕ) → owner f ≡ Bears q → colour f ≡ White
+
+-- its marked and its scanned bit are those of the colour
+pub record HasColour (heap : Heap) (words : List ℕ) (f : ℕ) (c : Colour) : Type 0 where
+  pub marked : bit_at (control_of heap words f) (32 + f % 16) ≡ marked_bit c
+  pub scanned : bit_at (control_of heap words f) (48 + f % 16) ≡ scanned_bit c
+
+-- and the colour is that of a birth of a seat with this last answer
+pub record HasBirthColour (heap : Heap) (words : List ℕ) (f answer : ℕ) : Type 0 where
+  pub dark : IsBetween black_births sweep answer → HasColour heap words f Black
+  pub light : ¬ IsBetween black_births sweep answer → HasColour heap words f White

@@ -10,6 +10,10 @@ use Rattle.core_rule.specs.Owners.{Owner, Free, taken_bit, born_bit}
 abbrev pub control_of : Heap → List ℕ → ℕ → ℕ
 control_of heap words f = at heap words (Control (f / 16))
 
+-- the fragment's born bit is set
+abbrev pub IsBorn : Heap → List ℕ → ℕ → Type 0
+IsBorn heap words f = bit_at (control_of heap words f) (16 + f % 16) ≡ 1
+
 pub record Bits (heap : Heap) (words : List ℕ) (owner : ℕ → Owner) : Type 0 where
   pub taken : (f : ℕ) → f < 16 * heap.groups → bit_at (control_of heap words f) (f % 16) ≡ taken_bit (owner f)
   pub born : (f : ℕ) → f < 16 * heap.groups → bit_at (control_of heap words f) (16 + f % 16) ≡ born_bit (owner f)

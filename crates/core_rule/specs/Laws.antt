@@ -5,6 +5,7 @@ use Rattle.heap_model.specs.declared.entry.Entry.{Entry}
 use Rattle.heap_model.specs.declared.entry.Entry.TheVariants.{Answers}
 use Rattle.heap_model.specs.Heap.{IsHeap}
 use Rattle.heap_model.specs.Account.{IsLegal}
+use Rattle.heap_model.specs.PhaseCounts.{answered}
 use Rattle.heap_model.specs.PhasePlan.{cycle_phases, marking}
 use Rattle.heap_model.specs.Phases.{IsBehind}
 use Rattle.heap_model.specs.Space.{gained, lost}
@@ -15,6 +16,8 @@ use Rattle.core_machine.specs.collector.Collector.{next_turn, turn_answer}
 use Rattle.core_machine.specs.machine.Machine.{State, seat_at, found_by, Event, Begins, Steps, Turns, Can, after, entries, Run, after_all, history}
 use Rattle.core_machine.specs.machine.Opening.{IsOpening}
 use Rattle.core_rule.specs.Book.{Book, Colour}
+use Rattle.core_rule.specs.Colours.{HasBirthColour}
+use Rattle.core_rule.specs.ControlWords.{IsBorn}
 use Rattle.core_rule.specs.Flight.{IsRootMarked}
 use Rattle.core_rule.specs.Rule.{Rule}
 
@@ -79,3 +82,9 @@ HasMarkedRoots state colour _ = Unit {0}
 abbrev pub EachAnswerIsMarked : Type 0
 EachAnswerIsMarked = (heap : Heap) (state : State) (book : Book) (event : Event) → Rule heap state book → Can heap state event
     → All (HasMarkedRoots state book.colour) (entries heap state event)
+
+-- an event that bears a fragment is a seat's step, which gives it the colour of the seat's births
+abbrev pub EachBirthHasItsColour : Type 0
+EachBirthHasItsColour = (heap : Heap) (state : State) (book : Book) (event : Event) (f : ℕ) → Rule heap state book → Can heap state event
+    → f < 16 * heap.groups → ¬ IsBorn heap state.words f → IsBorn heap (after heap state event).words f
+    → (q : ℕ) × (event ≡ Steps q) × HasBirthColour heap (after heap state event).words f (answered q book.history)

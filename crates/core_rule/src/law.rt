@@ -1,4 +1,4 @@
-ghost use Rattle.core_rule.specs.Laws.{EachEventKeeps, EveryRunKeeps, WholeCallsPlay, FreeIsUnused, EachAnswerIsMarked, EachWaitIsBehind};
+ghost use Rattle.core_rule.specs.Laws.{EachEventKeeps, EveryRunKeeps, WholeCallsPlay, FreeIsUnused, EachBirthHasItsColour, EachAnswerIsMarked, EachWaitIsBehind};
 
 /// The rule holds after every list of begins, steps and turns of the collector, over every heap.
 pub fn law_every_run()
@@ -6,6 +6,7 @@ pub fn law_every_run()
     ensures run { EveryRunKeeps }
     ensures play { WholeCallsPlay }
     ensures free { FreeIsUnused }
+    ensures births { EachBirthHasItsColour }
     ensures answers { EachAnswerIsMarked }
     ensures waits { EachWaitIsBehind }
 {}

@@ -93,7 +93,7 @@ module _ (word f x : ℕ) where
   shade_taken : bit_at shaded_word (x % 16) ≡ bit_at word (x % 16)
   shade_taken = other_bit (x % 16) (λ e. omega (arith, e))
 
-  shade_born : bit_at shaded_word (16 + x % 16) ≡ bit_at word (16 + x % 16)
+  pub shade_born : bit_at shaded_word (16 + x % 16) ≡ bit_at word (16 + x % 16)
   shade_born = other_bit (16 + x % 16) (λ e. omega (arith, e))
 
   shade_scanned : bit_at shaded_word (48 + x % 16) ≡ bit_at word (48 + x % 16)

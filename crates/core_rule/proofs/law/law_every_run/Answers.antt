@@ -1,7 +1,8 @@
 use Rattle.core_machine.proofs.machine_lemmas.Runs.{machine_after}
 use Rattle.core_rule.proofs.counts.FreeSums.{free_is_unused}
-use Rattle.core_rule.proofs.cycle.MarkedAnswers.{each_answer_is_marked}
-use Rattle.core_rule.proofs.cycle.Waits.{each_wait_is_behind}
+use Rattle.core_rule.proofs.runs.BornWords.{each_birth_has_its_colour}
+use Rattle.core_rule.proofs.runs.MarkedAnswers.{each_answer_is_marked}
+use Rattle.core_rule.proofs.runs.Waits.{each_wait_is_behind}
 use Rattle.core_rule.proofs.runs.OpeningStands.{opening_stands}
 use Rattle.core_rule.proofs.runs.PlayRuns.{whole_calls_play}
 use Rattle.core_rule.proofs.runs.Runs.{each_event_keeps, every_run_keeps}
@@ -19,6 +20,9 @@ returns-clause-play c = whole_calls_play machine_after each_step_keeps each_begi
 
 pub returns-clause-free : goal.returns-clause-free
 returns-clause-free c = free_is_unused
+
+pub returns-clause-births : goal.returns-clause-births
+returns-clause-births c = each_birth_has_its_colour
 
 pub returns-clause-answers : goal.returns-clause-answers
 returns-clause-answers c = each_answer_is_marked

@@ -10,11 +10,11 @@ use Rattle.heap_model.specs.PhasePlan.{cycle_phases, marking}
 use Rattle.core_machine.specs.declared.collector.stage.Stage.{Stage}
 use Rattle.core_machine.specs.declared.collector.stage.Stage.TheVariants.{Looking, Advancing}
 use Rattle.core_machine.specs.declared.place.Leaving.TheVariants.{Emptying, Parting}
-use Rattle.core_machine.specs.declared.place.Making.TheVariants.{Gathering, Returning, Refusing, Storing, Bearing}
+use Rattle.core_machine.specs.declared.place.Making.TheVariants.{Gathering, Returning, Refusing, Bearing}
 use Rattle.core_machine.specs.declared.place.Place.{Place}
 use Rattle.core_machine.specs.declared.place.Place.TheVariants as places
-use Rattle.core_machine.specs.declared.place.Polling.TheVariants.{Asking, Shading, Answering}
-use Rattle.core_machine.specs.declared.place.Reaching.TheVariants.{Opening, Walking, Getting, Naming, LoadingOld, ShadingOld, ShadingNew, Swapping}
+use Rattle.core_machine.specs.declared.place.Polling.TheVariants.{Asking, Answering}
+use Rattle.core_machine.specs.declared.place.Reaching.TheVariants.{Opening, Getting, Swapping}
 use Rattle.core_machine.specs.collector.Collector.{turn_at}
 use Rattle.core_machine.specs.machine.Machine.{State, seat_at, shown, Begins, Steps, Turns, entries}
 use Rattle.core_machine.specs.Moves.{move_at, is_last_birth, last_birth_move, birth_move, takes_some}
@@ -66,13 +66,11 @@ module _ (heap : Heap) (state : State) (colour : ℕ → Colour) where
   get_marked q seat found (Some head) = one_marked _ tt
 
   module _ (q : ℕ) (answers : (seat_at state q).place ≡ places.Polling Answering → (seat_at state q).asked % cycle_phases ≡ marking → (r : ℕ) → IsRootMarked colour (seat_at state q).registers r) where
-    -- what a step shows
+    -- what a step shows, if it shows an entry
     shown_marked : (place : Place) → (seat_at state q).place ≡ place → AreMarked (shown heap state (move_at heap q (seat_at state q) place))
-    shown_marked places.Idle placed = none_marked
     shown_marked (places.Making Gathering) placed = claim_marked q _
     shown_marked (places.Making Returning) placed = one_marked _ tt
     shown_marked (places.Making Refusing) placed = one_marked _ tt
-    shown_marked (places.Making Storing) placed = none_marked
     shown_marked (places.Making Bearing) placed = by (is_last_birth (seat_at state q))
       where
         by : (last : Bool) → AreMarked (shown heap state (Some (if last then last_birth_move q (seat_at state q) else birth_move (seat_at state q))))
@@ -80,18 +78,14 @@ module _ (heap : Heap) (state : State) (colour : ℕ → Colour) where
         by false = none_marked
     shown_marked places.Telling placed = one_marked _ tt
     shown_marked (places.Reaching Opening) placed = meta_marked q (seat_at state q) _
-    shown_marked (places.Reaching Walking) placed = none_marked
     shown_marked (places.Reaching Getting) placed = get_marked q (seat_at state q) (at heap state.words (Word (seat_at state q).reached (field_part (seat_at state q)))) _
-    shown_marked (places.Reaching Naming) placed = none_marked
-    shown_marked (places.Reaching LoadingOld) placed = none_marked
-    shown_marked (places.Reaching ShadingOld) placed = none_marked
-    shown_marked (places.Reaching ShadingNew) placed = none_marked
     shown_marked (places.Reaching Swapping) placed = one_marked _ tt
     shown_marked (places.Polling Asking) placed = poll_marked q (seat_at state q) _
-    shown_marked (places.Polling Shading) placed = none_marked
-    shown_marked (places.Polling Answering) placed = All-cons (HasMarkedRoots state colour) (Answers q (seat_at state q).asked) (reply q (seat_at state q) ∷ []) (answers placed) (one_marked (reply q (seat_at state q)) tt)
+    shown_marked (places.Polling Answering) placed =
+        All-cons (HasMarkedRoots state colour) (Answers q (seat_at state q).asked) (reply q (seat_at state q) ∷ []) (answers placed) (one_marked (reply q (seat_at state q)) tt)
     shown_marked (places.Leaving Emptying) placed = one_marked _ tt
     shown_marked (places.Leaving Parting) placed = one_marked _ tt
+    shown_marked _ placed = none_marked
 
   -- a turn shows no answer
   turn_marked : (stage : Stage) → AreMarked (turn_at heap state.collector stage).adds
