@@ -2,6 +2,7 @@
 pub mod MarkWords
 pub mod LeadsFrames
 pub mod NewbornLeads
+pub mod Births
 pub mod BirthColours
 pub mod BirthAhead
 pub mod LastColours

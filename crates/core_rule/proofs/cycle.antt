@@ -3,6 +3,7 @@ pub mod CycleFrames
 pub mod CycleHistory
 pub mod Unwatched
 pub mod Barriers
+pub mod Roots
 pub mod FreshCycle
 pub mod MakingCycle
 pub mod BirthCycle
@@ -10,3 +11,4 @@ pub mod FieldFrames
 pub mod AnswerWords
 pub mod SwapCycle
 pub mod NextPhase
+pub mod Waits

@@ -1,7 +1,8 @@
 -- The colours of fragments: their bits in the control words, and what is true of them in each phase of a cycle.
-use Rattle.std.specs.Prelude.{◌≡◌, ◌≢◌, ℕ, ◌+◌, ◌*◌, ◌%◌, ◌<◌, ◌≤◌, Bool, if◌then◌else◌, List, Some}
+use Rattle.std.specs.Prelude.{◌≡◌, ◌≢◌, ℕ, ◌+◌, ◌*◌, ◌%◌, ◌<◌, ◌≤◌, List, Some}
 use Rattle.std.specs.Int.{bit_at}
 use Rattle.heap_model.specs.declared.heap.Heap.{Heap}
+use Rattle.heap_model.specs.PhasePlan.{cycle_phases, rest as resting, barriers, black_births, sweep}
 use Rattle.core_machine.specs.declared.table.address.Address.TheVariants.{Word}
 use Rattle.core_machine.specs.table.Layout.{at}
 use Rattle.core_machine.specs.table.Loaded.{lead_of}
@@ -39,22 +40,20 @@ pub record Leads (heap : Heap) (words : List ℕ) (f part g : ℕ) : Type 0 wher
 
 -- the phase is one of its cycle's phases from the one to the other
 pub record IsBetween (low high phase : ℕ) : Type 0 where
-  pub from : low ≤ phase % 7
-  pub upto : phase % 7 ≤ high
+  pub from : low ≤ phase % cycle_phases
+  pub upto : phase % cycle_phases ≤ high
 
 -- at rest all is white, and nothing is black in the first phase; what is marked is born; while black fragments are made, they lead to
 -- marked ones alone; and a kept object with a marked fragment is marked by its first
 pub record Coloured (heap : Heap) (words : List ℕ) (owner : ℕ → Owner) (colour : ℕ → Colour) (fragments : ℕ → List ℕ) (phase : ℕ) : Type 0 where
-  pub rest : phase % 7 ≡ 0 → (f : ℕ) → colour f ≡ White
-  pub early : phase % 7 ≡ 1 → (f : ℕ) → colour f ≢ Black
+  pub rest : phase % cycle_phases ≡ resting → (f : ℕ) → colour f ≡ White
+  pub early : phase % cycle_phases ≡ barriers → (f : ℕ) → colour f ≢ Black
   pub born : (f : ℕ) → IsMarked colour f → born_bit (owner f) ≡ 1
-  pub black : IsBetween 2 5 phase → (f part g : ℕ) → colour f ≡ Black → Leads heap words f part g → IsMarked colour g
-  pub first : IsBetween 1 5 phase → (f i k : ℕ) → owner f ≡ Keeps i k → IsMarked colour f → IsMarked colour (fragment_at (fragments i) 0)
+  pub black : IsBetween black_births sweep phase → (f part g : ℕ) → colour f ≡ Black → Leads heap words f part g → IsMarked colour g
+  pub first : IsBetween barriers sweep phase → (f i k : ℕ) → owner f ≡ Keeps i k → IsMarked colour f → IsMarked colour (fragment_at (fragments i) 0)
 
--- the colour of a birth
-abbrev pub birth_colour : Bool → Colour
-birth_colour black = if black then Black else White
-
--- what a seat has borne of the object that it makes has the colour of its births
-abbrev pub BornColours : (ℕ → Owner) → (ℕ → Colour) → ℕ → Bool → Type 0
-BornColours owner colour q black = (f : ℕ) → owner f ≡ Bears q → colour f ≡ birth_colour black
+-- what the seat has borne of the object that it makes: black from its answer to a cycle's phase of black births on, up to that to its sweep, and
+-- else white
+pub record BornColours (owner : ℕ → Owner) (colour : ℕ → Colour) (q answer : ℕ) : Type 0 where
+  pub dark : IsBetween black_births sweep answer → (f : ℕ) → owner f ≡ Bears q → colour f ≡ Black
+  pub light : ¬ IsBetween black_births sweep answer → (f : ℕ) → owner f ≡ Bears q → colour f ≡ White

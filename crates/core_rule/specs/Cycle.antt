@@ -1,9 +1,9 @@
 -- What is true of the heap and of a seat in the phases of a cycle.
 use Rattle.std.specs.Prelude.{◌≡◌, ℕ, ◌≤◌, Bool, List}
 use Rattle.heap_model.specs.declared.heap.Heap.{Heap}
+use Rattle.heap_model.specs.PhasePlan.{marking}
 use Rattle.core_machine.specs.declared.table.address.Address.TheVariants.{Phase}
 use Rattle.core_machine.specs.table.Layout.{at}
-use Rattle.core_machine.specs.seat.MakingMoves.{bears_black}
 use Rattle.core_machine.specs.seat.Seat.{Seat}
 use Rattle.core_rule.specs.Owners.{Owner}
 use Rattle.core_rule.specs.Book.{Colour}
@@ -14,7 +14,7 @@ use Rattle.core_rule.specs.Flight.{Flight}
 -- the phase word is the history's phase, so far none after the first cycle's third; the control words have the colours, which are right
 pub record HeapInCycle (heap : Heap) (words : List ℕ) (phase : ℕ) (owner : ℕ → Owner) (colour : ℕ → Colour) (fragments : ℕ → List ℕ) : Type 0 where
   pub word : at heap words Phase ≡ phase
-  pub so_far : phase ≤ 3
+  pub so_far : phase ≤ marking
   pub marks : Marks heap words colour
   pub coloured : Coloured heap words owner colour fragments phase
 
@@ -23,4 +23,4 @@ pub record SeatInCycle (heap : Heap) (words : List ℕ) (phase answers : ℕ) (g
   pub answers_told : Answers heap words phase answers gone q seat.left seat.answered seat.asked
   pub answer : AnswerStands phase seat.answered seat.asked seat.place
   pub flight : Flight heap words colour phase seat
-  pub births : BornColours owner colour q (bears_black seat)
+  pub births : BornColours owner colour q seat.answered

@@ -1,15 +1,18 @@
 -- What a set and an answer in flight have loaded and shaded.
-use Rattle.std.specs.Prelude.{◌≡◌, ℕ, ◌<◌, ◌⊎◌, true, List, slice_index_or, Option, Some, None, IfSome}
+use Rattle.std.specs.Prelude.{◌≡◌, ℕ, ◌%◌, ◌<◌, ◌⊎◌, List, length, take, Option, Some, None, IfSome}
+use Rattle.std.specs.List.{filter_map}
 use Rattle.heap_model.specs.declared.heap.Heap.{Heap}
+use Rattle.heap_model.specs.PhasePlan.{cycle_phases, barriers, black_births, marking, sweep}
 use Rattle.core_machine.specs.declared.place.Place.{Place}
 use Rattle.core_machine.specs.declared.place.Place.TheVariants as places
+use Rattle.core_machine.specs.declared.place.Polling.{Polling}
+use Rattle.core_machine.specs.declared.place.Polling.TheVariants.{Asking, Shading, Answering}
 use Rattle.core_machine.specs.declared.place.Reaching.{Reaching}
 use Rattle.core_machine.specs.declared.place.Reaching.TheVariants.{ShadingOld, ShadingNew, Swapping}
+use Rattle.core_machine.specs.declared.seat.register.Register.{Register}
 use Rattle.core_machine.specs.table.Loaded.{head_in}
-use Rattle.core_machine.specs.seat.Polling.{roots}
-use Rattle.core_machine.specs.seat.Reaching.{has_barrier}
 use Rattle.core_machine.specs.seat.ReachingMoves.{field_part, new_register}
-use Rattle.core_machine.specs.seat.Registers.{head_of}
+use Rattle.core_machine.specs.seat.Registers.{register_in, head_of}
 use Rattle.core_machine.specs.seat.Seat.{Seat}
 use Rattle.core_rule.specs.Book.{Colour}
 use Rattle.core_rule.specs.Colours.{IsMarked, Leads, IsBetween}
@@ -22,14 +25,15 @@ Watches heap words colour seat old = (g : ℕ) → Leads heap words seat.reached
 abbrev pub FieldStands : Heap → List ℕ → (ℕ → Colour) → Seat → Reaching → Type 0
 FieldStands heap words colour seat ShadingOld = Watches heap words colour seat (head_in seat.loaded)
 FieldStands heap words colour seat ShadingNew = Watches heap words colour seat None
-FieldStands heap words colour seat Swapping = has_barrier seat ≡ true → Watches heap words colour seat None
+FieldStands heap words colour seat Swapping = Watches heap words colour seat None
 FieldStands heap words colour seat _ = Unit {0}
 
--- the old value of a set is marked once it was shaded, and so is the new one at the swap
+-- the old value of a set is marked once it was shaded; at the swap so is the new one, from the seat's answer to a cycle's phase of barriers on, up to that
+-- to its sweep
 abbrev pub ShadedStands : (ℕ → Colour) → Seat → Reaching → Type 0
 ShadedStands colour seat ShadingNew = IfSome (head_in seat.loaded) (IsMarked colour)
-ShadedStands colour seat Swapping =
-    has_barrier seat ≡ true → IfSome (head_in seat.loaded) (IsMarked colour) × IfSome (head_of (new_register seat)) (IsMarked colour)
+ShadedStands colour seat Swapping = IsBetween barriers sweep seat.answered
+    → IfSome (head_in seat.loaded) (IsMarked colour) × IfSome (head_of (new_register seat)) (IsMarked colour)
 ShadedStands colour seat _ = Unit {0}
 
 -- what holds at the places of reaching
@@ -37,8 +41,28 @@ abbrev pub WhileReaching : (Reaching → Type 0) → Place → Type 0
 WhileReaching P (places.Reaching place) = P place
 WhileReaching P _ = Unit {0}
 
--- of a set whose seat has answered the cycle's second phase no value is lost unmarked; what a set and an answer have shaded is marked
+-- the object that the register holds is marked, where it holds one
+abbrev pub IsRootMarked : (ℕ → Colour) → List Register → ℕ → Type 0
+IsRootMarked colour registers r = IfSome (head_of (register_in registers r)) (IsMarked colour)
+
+-- how many of the registers before this one hold an object
+abbrev pub objects_before : List Register → ℕ → ℕ
+objects_before registers r = length (filter_map head_of (take r registers))
+
+-- the registers' objects are marked in their order, so many so far; and before the answer each of them is
+abbrev pub RootsStand : (ℕ → Colour) → Seat → Polling → Type 0
+RootsStand colour seat Asking = Unit {0}
+RootsStand colour seat Shading = (r : ℕ) → objects_before seat.registers r < seat.shaded → IsRootMarked colour seat.registers r
+RootsStand colour seat Answering = (r : ℕ) → IsRootMarked colour seat.registers r
+
+-- what holds at the places of polling
+abbrev pub WhilePolling : (Polling → Type 0) → Place → Type 0
+WhilePolling P (places.Polling place) = P place
+WhilePolling P _ = Unit {0}
+
+-- of a set whose seat has answered the cycle's phase of black births no value is lost unmarked; what a set has shaded is marked; and so are the
+-- objects of a seat's registers where it is about to answer that marking begins
 pub record Flight (heap : Heap) (words : List ℕ) (colour : ℕ → Colour) (phase : ℕ) (seat : Seat) : Type 0 where
-  pub set : IsBetween 2 5 phase → IsBetween 2 5 seat.answered → WhileReaching (FieldStands heap words colour seat) seat.place
-  pub shaded : IsBetween 1 5 phase → WhileReaching (ShadedStands colour seat) seat.place
-  pub roots : IsBetween 1 5 phase → (j : ℕ) → j < seat.shaded → IsMarked colour (slice_index_or (roots seat) j 0)
+  pub set : IsBetween black_births sweep phase → IsBetween black_births sweep seat.answered → WhileReaching (FieldStands heap words colour seat) seat.place
+  pub shaded : IsBetween barriers sweep phase → WhileReaching (ShadedStands colour seat) seat.place
+  pub roots : seat.asked % cycle_phases ≡ marking → WhilePolling (RootsStand colour seat) seat.place

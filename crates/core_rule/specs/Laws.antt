@@ -4,10 +4,13 @@ use Rattle.heap_model.specs.declared.heap.Heap.{Heap}
 use Rattle.heap_model.specs.declared.entry.Entry.{Entry}
 use Rattle.heap_model.specs.Heap.{IsHeap}
 use Rattle.heap_model.specs.Account.{IsLegal}
+use Rattle.heap_model.specs.Phases.{IsBehind}
 use Rattle.heap_model.specs.Space.{gained, lost}
+use Rattle.heap_model.specs.declared.collector_calls.Turn.TheVariants.{Waits}
 use Rattle.core_machine.specs.declared.place.Place.TheVariants.{Idle}
 use Rattle.core_machine.specs.machine.Calls.{free_fragments}
-use Rattle.core_machine.specs.machine.Machine.{State, seat_at, Event, Begins, Steps, Turns, Can, after, entries, Run, after_all, history}
+use Rattle.core_machine.specs.collector.Collector.{next_turn, turn_answer}
+use Rattle.core_machine.specs.machine.Machine.{State, seat_at, found_by, Event, Begins, Steps, Turns, Can, after, entries, Run, after_all, history}
 use Rattle.core_machine.specs.machine.Opening.{IsOpening}
 use Rattle.core_rule.specs.Book.{Book}
 use Rattle.core_rule.specs.Rule.{Rule}
@@ -57,3 +60,9 @@ WholeCallsPlay = (heap : Heap) (state : State) (events : List Event) → IsHeap 
 abbrev pub FreeIsUnused : Type 0
 FreeIsUnused = (heap : Heap) (state : State) (book : Book) → Rule heap state book
     → free_fragments heap state.words + gained book.history ≡ 16 * heap.groups + lost book.history
+
+-- where a turn answers that it waits for a seat, that seat is there, and by the history it hasn't left and has answered the phase before the one told
+abbrev pub EachWaitIsBehind : Type 0
+EachWaitIsBehind = (heap : Heap) (state : State) (book : Book) (seat answer p : ℕ) → Rule heap state book
+    → turn_answer state.collector state.collector.stage (found_by heap state (next_turn heap state.collector).step) ≡ Waits seat answer p
+    → (seat < heap.seats) × IsBehind seat answer p book.history × (answer + 1 ≡ p)

@@ -1,5 +1,5 @@
 -- Where a seat stands on the way to a field.
-use Rattle.std.specs.Prelude.{◌≡◌, ℕ, ◌-◌, ◌<◌, ◌≤◌, List, length, Some}
+use Rattle.std.specs.Prelude.{◌≡◌, ℕ, ◌-◌, ◌<◌, ◌≤◌, List, length, Some, IsSome}
 use Rattle.heap_model.specs.declared.cell.Cell.{Cell}
 use Rattle.heap_model.specs.declared.id.Id.{Id}
 use Rattle.core_machine.specs.declared.place.Place.{Place}
@@ -42,6 +42,10 @@ pub record LoadedKept (made : List Id) (owner : ℕ → Owner) (fragments : ℕ 
   pub kept : IsKept owner fragments number
   pub loads : head_in seat.loaded ≡ Some (fragment_at (fragments number) 0)
 
+-- where a set has loaded an object, that is a kept one, up to its swap
+abbrev pub OldKept : List Id → (ℕ → Owner) → (ℕ → List ℕ) → Seat → Type 0
+OldKept made owner fragments seat = IsSome (head_in seat.loaded) → LoadedKept made owner fragments seat
+
 abbrev pub ReachingStands : (ℕ → List Cell) → List Id → (ℕ → Owner) → (ℕ → List ℕ) → Seat → Reaching → Type 0
 ReachingStands cells made owner fragments seat Opening = SetsOut made owner fragments seat
 ReachingStands cells made owner fragments seat Walking = Finds cells made owner fragments seat
@@ -49,8 +53,8 @@ ReachingStands cells made owner fragments seat Getting = Finds cells made owner 
 ReachingStands cells made owner fragments seat Naming = Unit {0}
 ReachingStands cells made owner fragments seat LoadingOld = Finds cells made owner fragments seat
 ReachingStands cells made owner fragments seat ShadingOld = Finds cells made owner fragments seat × LoadedKept made owner fragments seat
-ReachingStands cells made owner fragments seat ShadingNew = Finds cells made owner fragments seat
-ReachingStands cells made owner fragments seat Swapping = Finds cells made owner fragments seat
+ReachingStands cells made owner fragments seat ShadingNew = Finds cells made owner fragments seat × OldKept made owner fragments seat
+ReachingStands cells made owner fragments seat Swapping = Finds cells made owner fragments seat × OldKept made owner fragments seat
 
 -- what is true of a seat's way at its place
 abbrev pub WayStands : (ℕ → List Cell) → List Id → (ℕ → Owner) → (ℕ → List ℕ) → Seat → Place → Type 0

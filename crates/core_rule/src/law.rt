@@ -1,4 +1,4 @@
-ghost use Rattle.core_rule.specs.Laws.{EachEventKeeps, EveryRunKeeps, WholeCallsPlay, FreeIsUnused};
+ghost use Rattle.core_rule.specs.Laws.{EachEventKeeps, EveryRunKeeps, WholeCallsPlay, FreeIsUnused, EachWaitIsBehind};
 
 /// The rule holds after every list of begins, steps and turns of the collector, over every heap.
 pub fn law_every_run()
@@ -6,4 +6,5 @@ pub fn law_every_run()
     ensures run { EveryRunKeeps }
     ensures play { WholeCallsPlay }
     ensures free { FreeIsUnused }
+    ensures waits { EachWaitIsBehind }
 {}

@@ -11,7 +11,7 @@ use Rattle.core_machine.specs.table.Loaded.{lead_of}
 use Rattle.core_machine.specs.seat.Making.{newborn_word, next_name}
 use Rattle.core_machine.specs.seat.Seat.{Seat}
 use Rattle.core_rule.specs.Book.{Colour, White, Black, fragment_at}
-use Rattle.core_rule.specs.Colours.{Leads, IsMarked, BornColours}
+use Rattle.core_rule.specs.Colours.{Leads, IsMarked}
 use Rattle.core_rule.specs.Holding.{Holding}
 use Rattle.core_rule.specs.Owners.{Owner, Bears, bears_bit}
 use Rattle.core_rule.specs.Together.{IsInOrder}
@@ -19,6 +19,7 @@ use Rattle.core_rule.proofs.hand.Bodies.{body_borne, body_once}
 use Rattle.core_rule.proofs.owners.Handed.{none_or_some}
 use Rattle.core_rule.proofs.hand.HandMoves.{hand_once}
 use Rattle.core_rule.proofs.lists.Members.{place_of, place_within, tally_at}
+use Rattle.core_rule.proofs.colours.Births.{AreBorne}
 use Rattle.core_rule.proofs.colours.NewbornLeads.{newborn_leads}
 use Rattle.core_rule.proofs.lists.OrderedLists.{past_front}
 use Rattle.core_rule.proofs.lists.Parts.{parts_tally}
@@ -32,7 +33,7 @@ is_borne q _ some = absurd (omega (arith, some))
 -- a body's words are stored, its fragments those of the heap, and its hand is the front of it
 module _ (heap : Heap) (words : List ℕ) (owner : ℕ → Owner) (colour : ℕ → Colour) (q : ℕ) (seat : Seat) (limits : IsHeap heap) (here : q < heap.seats)
     (numbered : seat.made + 1 < 2 ^ 32) (few : fields_of seat.command ≤ 47) (some : 1 ≤ length seat.body) (within : AreFragments heap seat.body)
-    (holding : Holding owner q seat.reserve seat.hand seat.body) (births : BornColours owner colour q true)
+    (holding : Holding owner q seat.reserve seat.hand seat.body) (births : AreBorne owner colour q true)
     (stored : (k part : ℕ) → k < length seat.body → part < 4 → at heap words (Word (fragment_at seat.body k) part) ≡ newborn_word q seat k part) where
   once : (f : ℕ) → tally f seat.body ≤ 1
   once f = body_once owner q seat.reserve seat.hand seat.body holding some f

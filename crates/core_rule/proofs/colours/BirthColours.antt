@@ -10,11 +10,12 @@ use Rattle.core_machine.specs.seat.MakingMoves.{bears_black}
 use Rattle.core_machine.specs.table.Operation.{all_taken, untaken, birth_bits}
 use Rattle.core_machine.specs.seat.Seat.{Seat}
 use Rattle.core_rule.specs.Book.{Colour, White, Grey, Black, fragment_at}
-use Rattle.core_rule.specs.Colours.{Marks, Leads, IsMarked, IsBetween, Coloured, birth_colour, marked_bit, scanned_bit}
+use Rattle.core_rule.specs.Colours.{Marks, Leads, IsMarked, IsBetween, Coloured, marked_bit, scanned_bit}
 use Rattle.core_rule.specs.Owners.{Owner, Keeps, born_bit}
 use Rattle.core_rule.specs.Phases.{IsNear}
 use Rattle.core_rule.proofs.owners.Handed.{none_or_some}
 use Rattle.core_rule.proofs.words.MarkBits.{claim_past, untaken_past, birth_marked, birth_scanned}
+use Rattle.core_rule.proofs.colours.Births.{birth_colour}
 use Rattle.core_rule.proofs.colours.MarkWords.{marks_after, found_marked, found_scanned}
 use Rattle.core_rule.proofs.words.MaskLemmas.{mask_bit, mask-lt}
 use Rattle.core_rule.proofs.owners.OwnerLemmas.{born_once}

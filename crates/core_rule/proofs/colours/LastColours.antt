@@ -4,10 +4,11 @@ use Rattle.std.proofs.Common.{◌≡◌, ◌≢◌, ℕ, ◌+◌, ◌≤◌, inl
 use Rattle.heap_model.specs.declared.heap.Heap.{Heap}
 use Rattle.core_machine.specs.table.Fragments.{in_group, part_in, tally}
 use Rattle.core_rule.specs.Book.{Colour, fragment_at}
-use Rattle.core_rule.specs.Colours.{IsMarked, IsBetween, Coloured, BornColours, birth_colour}
+use Rattle.core_rule.specs.Colours.{IsMarked, IsBetween, Coloured}
 use Rattle.core_rule.specs.Holding.{Holding}
 use Rattle.core_rule.specs.Owners.{Owner, Holds, Bears, Keeps, born_bit, bears_bit}
 use Rattle.core_rule.proofs.colours.BirthAhead.{is_borne}
+use Rattle.core_rule.proofs.colours.Births.{birth_colour, AreBorne}
 use Rattle.core_rule.proofs.colours.BirthColours.{painted, painted_in, painted_out}
 use Rattle.core_rule.proofs.hand.Bodies.{body_borne}
 use Rattle.core_rule.proofs.owners.Handed.{none_or_some}
@@ -19,7 +20,7 @@ use Rattle.core_rule.proofs.lists.Parts.{filter_all, not_there}
 use Rattle.core_rule.proofs.lists.Tallies.{one_at_same}
 
 module _ (owner : ℕ → Owner) (colour : ℕ → Colour) (q : ℕ) (reserve hand body : List ℕ) (holding : Holding owner q reserve hand body) (some : 1 ≤ length body)
-    (g n : ℕ) (all : list_all (in_group g) hand ≡ true) (black : Bool) (births : BornColours owner colour q black) where
+    (g n : ℕ) (all : list_all (in_group g) hand ≡ true) (black : Bool) (births : AreBorne owner colour q black) where
   abbrev part : List ℕ
   part = part_in g hand
 

@@ -1,26 +1,52 @@
--- While black fragments are made each set's barrier is on, and a field's word leads where its reference does.
-use Rattle.std.proofs.Common.{◌≡◌, ℕ, ◌+◌, ◌%◌, ◌<◌, ◌≤◌, true, false, inl, inr, refl, arith, ◌==◌, ◌≢◌, Bool, nat_lt, if◌then◌else◌}
-use Rattle.std.proofs.lemmas.Bool.{lt-ltb, ltb-true}
-use Rattle.heap_model.specs.PhaseCounts.{phase}
+-- The machine's tests of a seat's last answer are the rule's windows; while black fragments are made each set's barrier is on; and a field's word leads
+-- where its reference does.
+use Rattle.std.proofs.Common.{◌≡◌, ℕ, ◌%◌, ◌<◌, true, false, inl, inr, refl, arith, ◌==◌, ◌≢◌, nat_lt, if◌then◌else◌}
+use Rattle.std.proofs.lemmas.Bool.Decides.{nat_tests}
+use Rattle.heap_model.specs.PhasePlan.{barriers, black_births, sweep}
 use Rattle.core_machine.specs.table.Loaded.{head_in, lead_of}
+use Rattle.core_machine.specs.seat.MakingMoves.{bears_black}
 use Rattle.core_machine.specs.seat.Reaching.{has_barrier}
 use Rattle.core_machine.specs.seat.ReachingMoves.{field_part}
 use Rattle.core_machine.specs.seat.Seat.{Seat}
 use Rattle.core_rule.specs.Colours.{IsBetween}
 use Rattle.core_rule.specs.Phases.{IsNear}
 
--- the answer comes in the same cycle
-answer_within : (phase answer low : ℕ) → 0 < low → IsNear phase answer → IsBetween low 5 phase → (low ≤ answer % 7 + 1) × (answer % 7 ≤ 5)
-answer_within phase answer low some near between = elim near [
-  | inl same ↦ (omega (arith, same, between.from, between.upto, some), omega (arith, same, between.from, between.upto, some))
-  | inr before ↦ (omega (arith, before, between.from, between.upto, some), omega (arith, before, between.from, between.upto, some))
-]
+-- the test of a number for a window
+inside : (low high n : ℕ) → (if nat_lt low n then nat_lt n high else false) ≡ true → (low < n) × (n < high)
+inside low high n is = grind (arith, nat_tests, is)
 
--- so the barrier is on
-pub barrier_on : (phase : ℕ) (seat : Seat) → IsNear phase seat.answered → IsBetween 2 5 phase → has_barrier seat ≡ true
-barrier_on phase seat near between =
-    let within = answer_within phase seat.answered 2 (omega arith) near between in
-    rw (lt-ltb 0 (seat.answered % 7) (omega (arith, within.0)), lt-ltb (seat.answered % 7) 6 (omega (arith, within.1))) refl
+is_inside : (low high n : ℕ) → low < n → n < high → (if nat_lt low n then nat_lt n high else false) ≡ true
+is_inside low high n above below = grind (arith, nat_tests, above, below)
+
+module _ (seat : Seat) where
+  -- a set's barrier is on from the answer to a cycle's phase of barriers on, up to that to its sweep
+  pub barrier_window : has_barrier seat ≡ true → IsBetween barriers sweep seat.answered
+  barrier_window on = let both = inside 0 6 (seat.answered % 7) on in record { from = omega (arith, both.0); upto = omega (arith, both.1) }
+
+  pub window_barrier : IsBetween barriers sweep seat.answered → has_barrier seat ≡ true
+  window_barrier between = is_inside 0 6 (seat.answered % 7) (omega (arith, between.from)) (omega (arith, between.upto))
+
+  -- births are black from the answer to its phase of black births on
+  pub black_window : bears_black seat ≡ true → IsBetween black_births sweep seat.answered
+  black_window black = let both = inside 1 6 (seat.answered % 7) black in record { from = omega (arith, both.0); upto = omega (arith, both.1) }
+
+  pub window_black : IsBetween black_births sweep seat.answered → bears_black seat ≡ true
+  window_black between = is_inside 1 6 (seat.answered % 7) (omega (arith, between.from)) (omega (arith, between.upto))
+
+module _ (phase answer : ℕ) (near : IsNear phase answer) where
+  -- while black fragments are made the barrier of a seat's sets is on
+  pub barrier_making : IsBetween black_births sweep phase → IsBetween barriers sweep answer
+  barrier_making making = elim near [
+    | inl same ↦ record { from = omega (arith, same, making.from); upto = omega (arith, same, making.upto) }
+    | inr before ↦ record { from = omega (arith, before, making.from, making.upto); upto = omega (arith, before, making.from, making.upto) }
+  ]
+
+  -- a seat whose barrier is on runs a cycle
+  pub barrier_runs : IsBetween barriers sweep answer → phase % 7 ≢ 0
+  barrier_runs on = elim near [
+    | inl same ↦ λ rests. omega (arith, same, rests, on.from)
+    | inr before ↦ λ rests. omega (arith, before, rests, on.upto)
+  ]
 
 -- a field is no first word
 pub field_lead : (seat : Seat) (word : ℕ) → lead_of (field_part seat) word ≡ head_in word
@@ -31,22 +57,3 @@ field_lead seat word = by _ (omega arith)
 
 pub part_below : (seat : Seat) → field_part seat < 4
 part_below seat = omega arith
-
--- a seat whose barrier is on runs a cycle
-pub barrier_runs : (phase : ℕ) (seat : Seat) → IsNear phase seat.answered → has_barrier seat ≡ true → phase % 7 ≢ 0
-barrier_runs phase seat near on =
-    let some : 0 < seat.answered % 7 = first (nat_lt 0 (seat.answered % 7)) (nat_lt (seat.answered % 7) 6) refl on in
-    let few : seat.answered % 7 < 6 = second (nat_lt 0 (seat.answered % 7)) (nat_lt (seat.answered % 7) 6) refl on in
-    elim near [
-      | inl same ↦ λ rests. omega (arith, same, rests, some)
-      | inr before ↦ λ rests. omega (arith, before, rests, few)
-    ]
-  where
-    first : (a b : Bool) → nat_lt 0 (seat.answered % 7) ≡ a → (if a then b else false) ≡ true → 0 < seat.answered % 7
-    first true b is both = ltb-true 0 (seat.answered % 7) is
-    first false b is both = cc
-
-    second : (a b : Bool) → nat_lt (seat.answered % 7) 6 ≡ b → (if a then b else false) ≡ true → seat.answered % 7 < 6
-    second true true is both = ltb-true (seat.answered % 7) 6 is
-    second true false is both = cc
-    second false b is both = cc

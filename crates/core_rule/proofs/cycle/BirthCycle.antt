@@ -14,11 +14,12 @@ use Rattle.core_machine.specs.Moves.{bears_black, last_part}
 use Rattle.core_machine.specs.table.Operation.{birth_bits}
 use Rattle.core_machine.specs.seat.Seat.{Seat}
 use Rattle.core_rule.specs.Book.{Book, Colour, fragment_at}
-use Rattle.core_rule.specs.Colours.{BornColours, birth_colour, IsMarked, IsBetween}
+use Rattle.core_rule.specs.Colours.{IsMarked, IsBetween}
 use Rattle.core_rule.specs.Cycle.{HeapInCycle}
 use Rattle.core_rule.specs.Owners.{born_bit, Owner, Keeps as KeepsPart}
 use Rattle.core_rule.specs.Rule.{Rule, SeatStands}
 use Rattle.core_rule.proofs.colours.BirthAhead.{born_ahead}
+use Rattle.core_rule.proofs.colours.Births.{birth_colour, AreBorne, births_are}
 use Rattle.core_rule.proofs.colours.BirthColours.{painted, was_white, marks_stay, birth_coloured, marks_birth}
 use Rattle.core_rule.proofs.hand.ClaimOrder.{born_in_order}
 use Rattle.core_rule.proofs.hand.HandMoves.{hand_once, part_held}
@@ -77,7 +78,7 @@ module _ (heap : Heap) (state : State) (book : Book) (q : ℕ) (rule : Rule heap
             (bears_late heap state book q Bearing rule here place) bears
             (λ f k x leads. leads_control heap state.words g _ group_born f k x leads)
             (λ dark. born_ahead heap state.words book.owner book.colour q seat rule.limits here at_place.0.makes.numbered (few_fields seat at_place.0) some_born stands.fits.body_within stands.holding
-            (subst (BornColours book.owner book.colour q) dark stands.cycle.births)
+            (subst (AreBorne book.owner book.colour q) dark (births_are book.owner book.colour q seat stands.cycle.births))
             (all_stored heap state.words seat.body (newborn_word q seat) seat.stored at_place.3 stands.stored)
             g (born_in_order heap seat.cursor seat.tried seat.hand seat.body stands.fits.hand_within some_born stands.together))
             first cycle.coloured;

@@ -4,24 +4,38 @@ use Rattle.heap_model.specs.declared.heap.Heap.{Heap}
 use Rattle.core_machine.specs.declared.table.address.Address.TheVariants.{Answer}
 use Rattle.core_machine.specs.declared.place.Place.{Place}
 use Rattle.core_machine.specs.declared.place.Place.TheVariants as places
+use Rattle.core_machine.specs.declared.place.Polling.{Polling}
+use Rattle.core_machine.specs.declared.place.Polling.TheVariants.{Asking, Shading, Answering}
 use Rattle.core_machine.specs.declared.place.Reaching.{Reaching}
 use Rattle.core_machine.specs.declared.place.Reaching.TheVariants.{ShadingOld, ShadingNew, Swapping}
 use Rattle.core_machine.specs.table.Layout.{at}
-use Rattle.core_machine.specs.seat.MakingMoves.{bears_black}
 use Rattle.core_machine.specs.seat.ReachingMoves.{field_part}
 use Rattle.core_machine.specs.seat.Seat.{Seat}
 use Rattle.core_rule.specs.Book.{Colour, Black}
 use Rattle.core_rule.specs.Colours.{IsMarked, Leads, IsBetween, Coloured, BornColours}
 use Rattle.core_rule.specs.Cycle.{SeatInCycle}
-use Rattle.core_rule.specs.Flight.{Flight, Watches, FieldStands, ShadedStands, WhileReaching}
+use Rattle.core_rule.specs.Flight.{Flight, Watches, FieldStands, ShadedStands, RootsStand, WhileReaching, WhilePolling}
 use Rattle.core_rule.specs.Owners.{Owner, Bears, Keeps, born_bit}
 use Rattle.core_rule.specs.Phases.{Answers, AnswerStands}
+use Rattle.core_rule.proofs.colours.Births.{births_stay}
 use Rattle.core_rule.proofs.lists.Options.{if_some}
 
 -- what holds on the way goes on to hold
 pub while_reaching : (P Q : Reaching → Type 0) → ((place : Reaching) → P place → Q place) → (place : Place) → WhileReaching P place → WhileReaching Q place
 while_reaching P Q more (places.Reaching place) holds = more place holds
 while_reaching P Q more _ holds = tt
+
+-- so does what holds while the phase is answered
+pub while_polling : (P Q : Polling → Type 0) → ((place : Polling) → P place → Q place) → (place : Place) → WhilePolling P place → WhilePolling Q place
+while_polling P Q more (places.Polling place) holds = more place holds
+while_polling P Q more _ holds = tt
+
+-- the roots stay marked
+pub roots_stay : (colour coloured : ℕ → Colour) (seat : Seat) → ((f : ℕ) → IsMarked colour f → IsMarked coloured f)
+    → (place : Polling) → RootsStand colour seat place → RootsStand coloured seat place
+roots_stay colour coloured seat marks Asking roots = tt
+roots_stay colour coloured seat marks Shading roots = λ r before. if_some (IsMarked colour) (IsMarked coloured) marks _ (roots r before)
+roots_stay colour coloured seat marks Answering roots = λ r. if_some (IsMarked colour) (IsMarked coloured) marks _ (roots r)
 
 -- more is marked, and the field leads to no more than it did but for what is marked
 module _ (heap : Heap) (words now : List ℕ) (colour coloured : ℕ → Colour) (seat : Seat) (marks : (f : ℕ) → IsMarked colour f → IsMarked coloured f) where
@@ -38,7 +52,7 @@ module _ (heap : Heap) (words now : List ℕ) (colour coloured : ℕ → Colour)
     pub field_stays : (place : Reaching) → FieldStands heap words colour seat place → FieldStands heap now coloured seat place
     field_stays ShadingOld field = watches_stay _ field
     field_stays ShadingNew field = watches_stay _ field
-    field_stays Swapping field = λ on. watches_stay _ (field on)
+    field_stays Swapping field = watches_stay _ field
     field_stays _ field = tt
 
   shaded_stays : (place : Reaching) → ShadedStands colour seat place → ShadedStands coloured seat place
@@ -81,9 +95,9 @@ cycle_stays heap words now owner later colour coloured phase answers gone q seat
         (field_stays heap words now colour coloured seat leaves.marks (leaves.leads marking)) seat.place (cycle.flight.set marking snapped);
     shaded = λ marking. while_reaching (ShadedStands colour seat) (ShadedStands coloured seat)
         (shaded_stays heap words now colour coloured seat leaves.marks) seat.place (cycle.flight.shaded marking);
-    roots = λ marking j less. leaves.marks _ (cycle.flight.roots marking j less);
+    roots = λ begins. while_polling (RootsStand colour seat) (RootsStand coloured seat) (roots_stay colour coloured seat leaves.marks) seat.place (cycle.flight.roots begins);
   };
-  births = λ f borne. (leaves.births f borne).1 ∙ cycle.births f (leaves.births f borne).0;
+  births = births_stay owner later colour coloured q seat.answered leaves.births cycle.births;
 }
 
 -- what it has answered, and whether it has left, is as before
@@ -106,7 +120,7 @@ answers_same heap words now phase answers gone q seat next same word told = rw (
 -- a seat that goes on, by what it has in flight then
 pub cycle_by_flight : (heap : Heap) (words now : List ℕ) (owner later : ℕ → Owner) (colour coloured : ℕ → Colour) (phase answers : ℕ) (gone : Bool) (q : ℕ) (seat next : Seat)
     → SameAnswer seat next → at heap now (Answer q) ≡ at heap words (Answer q) → AnswerStands phase next.answered next.asked next.place
-    → Flight heap now coloured phase next → BornColours later coloured q (bears_black next)
+    → Flight heap now coloured phase next → BornColours later coloured q next.answered
     → SeatInCycle heap words phase answers gone owner colour q seat → SeatInCycle heap now phase answers gone later coloured q next
 cycle_by_flight heap words now owner later colour coloured phase answers gone q seat next same word answer flight births cycle = record {
   answers_told = answers_same heap words now phase answers gone q seat next same word cycle.answers_told;

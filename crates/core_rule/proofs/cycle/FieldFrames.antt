@@ -40,8 +40,8 @@ IsWatching _ = ⊥
 module _ (cells : ℕ → List Cell) (made : List Id) (owner : ℕ → Owner) (fragments : ℕ → List ℕ) (seat : Seat) where
   way_found : (reaching : Reaching) → IsWatching reaching → WayStands cells made owner fragments seat (places.Reaching reaching) → Finds cells made owner fragments seat
   way_found ShadingOld watches way = way.0
-  way_found ShadingNew watches way = way
-  way_found Swapping watches way = way
+  way_found ShadingNew watches way = way.0
+  way_found Swapping watches way = way.0
   way_found _ watches way = absurd watches
 
 pub watched_kept : (heap : Heap) (words : List ℕ) (g : State) (made : List Id) (owner : ℕ → Owner) (fragments : ℕ → List ℕ) → IsHeap heap → Bits heap words owner → AreMade g made
@@ -60,7 +60,7 @@ module _ (heap : Heap) (words now : List ℕ) (colour : ℕ → Colour) (seat : 
       → FieldStands heap words colour seat reaching → FieldStands heap now colour seat reaching
   watched_stays ShadingOld leads field = λ g later. field g (leads tt g later)
   watched_stays ShadingNew leads field = λ g later. field g (leads tt g later)
-  watched_stays Swapping leads field = λ on g later. field on g (leads tt g later)
+  watched_stays Swapping leads field = λ g later. field g (leads tt g later)
   watched_stays _ leads field = tt
 
   fields_stay : (place : Place)

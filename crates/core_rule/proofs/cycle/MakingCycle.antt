@@ -1,16 +1,16 @@
 -- What a step of making leaves of the heap's and of each seat's part in a cycle.
-use Rattle.std.proofs.Common.{◌≡◌, ◌≢◌, ℕ, ◌<◌, ◌≤◌, inl, inr, Bool, List, refl, sym, ap, ◌∙◌, arith}
+use Rattle.std.proofs.Common.{◌≡◌, ◌≢◌, ℕ, ◌<◌, ◌≤◌, inl, inr, Bool, List, refl, sym, ◌∙◌, subst, arith}
 use Rattle.heap_model.specs.declared.heap.Heap.{Heap}
 use Rattle.core_machine.specs.declared.table.address.Address.TheVariants.{Phase, Answer, Control}
 use Rattle.core_machine.specs.table.Fragments.{tally}
 use Rattle.core_machine.specs.table.Layout.{at, put}
-use Rattle.core_machine.specs.seat.MakingMoves.{bears_black}
 use Rattle.core_machine.specs.seat.Seat.{Seat}
 use Rattle.core_rule.specs.Book.{Colour}
-use Rattle.core_rule.specs.Colours.{Marks, IsMarked, BornColours, birth_colour}
+use Rattle.core_rule.specs.Colours.{Marks, IsMarked, BornColours}
 use Rattle.core_rule.specs.Cycle.{HeapInCycle, SeatInCycle}
 use Rattle.core_rule.specs.Owners.{Owner, Bears, born_bit, handed}
 use Rattle.core_rule.proofs.words.Addresses.{at-put_apart}
+use Rattle.core_rule.proofs.colours.Births.{birth_colour, AreBorne, births_stay}
 use Rattle.core_rule.proofs.colours.BirthColours.{painted, painted_in, painted_out}
 use Rattle.core_rule.proofs.cycle.CycleFrames.{cycle_stays, coloured_stays, SameAnswer}
 use Rattle.core_rule.proofs.owners.Handed.{none_or_some, handed_in, handed_out, handed_cases, stays}
@@ -25,10 +25,6 @@ module _ (heap : Heap) (words : List ℕ) (n : ℕ) where
 
   pub answer_after_control : (g q : ℕ) → q < 16 → at heap (put heap words (Control g) n) (Answer q) ≡ at heap words (Answer q)
   answer_after_control g q few = at-put_apart heap words (Control g) (Answer q) n (λ e. omega (arith, e, few))
-
--- a seat's births have the same colour while its answer is the same
-pub same_births : (seat next : Seat) → next.answered ≡ seat.answered → bears_black next ≡ bears_black seat
-same_births seat next same = rw same refl
 
 -- another seat's part stays
 pub cycle_control : (heap : Heap) (words : List ℕ) (owner later : ℕ → Owner) (colour coloured : ℕ → Colour) (now answers : ℕ) (gone : Bool) (r : ℕ) (seat : Seat) (g word : ℕ)
@@ -46,11 +42,11 @@ cycle_control heap words owner later colour coloured now answers gone r seat g w
 
 -- a seat that goes on with the same answer, and bears no more, has its part in the cycle
 pub cycle_goes_on : (heap : Heap) (words later_words : List ℕ) (owner later : ℕ → Owner) (colour : ℕ → Colour) (now answers : ℕ) (gone : Bool) (q : ℕ) (seat next : Seat)
-    → SameAnswer seat next → IsApart next.place → next.shaded ≡ 0 → at heap later_words (Answer q) ≡ at heap words (Answer q) → ((f : ℕ) → later f ≡ Bears q → owner f ≡ Bears q)
+    → SameAnswer seat next → IsApart next.place → at heap later_words (Answer q) ≡ at heap words (Answer q) → ((f : ℕ) → later f ≡ Bears q → owner f ≡ Bears q)
     → SeatInCycle heap words now answers gone owner colour q seat → SeatInCycle heap later_words now answers gone later colour q next
-cycle_goes_on heap words later_words owner later colour now answers gone q seat next same apart none word before cycle =
-    cycle_apart heap words later_words owner later colour colour now answers gone q seat next same apart none word
-    (λ f borne. cycle.births f (before f borne) ∙ ap birth_colour (sym (same_births seat next same.answered))) cycle
+cycle_goes_on heap words later_words owner later colour now answers gone q seat next same apart word before cycle =
+    cycle_apart heap words later_words owner later colour colour now answers gone q seat next same apart word
+    (births_stay owner later colour colour q next.answered (λ f borne. (before f borne, refl)) (subst (BornColours owner colour q) (sym same.answered) cycle.births)) cycle
 
 -- no seat bears more
 pub borne_before : (o : Owner) (owner : ℕ → Owner) (fs : List ℕ) (r f : ℕ) → o ≢ Bears r → handed o owner fs f ≡ Bears r → owner f ≡ Bears r
@@ -72,7 +68,7 @@ heap_hands heap words owner colour fragments now g word o fs below unborn none s
 
 module _ (owner : ℕ → Owner) (colour : ℕ → Colour) (fs : List ℕ) (q : ℕ) (black : Bool) where
   -- what a seat bears has the colour of its births
-  pub born_more : BornColours owner colour q black → BornColours (handed (Bears q) owner fs) (painted (birth_colour black) colour fs) q black
+  pub born_more : AreBorne owner colour q black → AreBorne (handed (Bears q) owner fs) (painted (birth_colour black) colour fs) q black
   born_more births f borne = elim (none_or_some (tally f fs)) as (λ _. painted (birth_colour black) colour fs f ≡ birth_colour black) [
     | inl away ↦ painted_out (birth_colour black) colour fs f away ∙ births f (sym (handed_out (Bears q) owner fs f away) ∙ borne)
     | inr there ↦ painted_in (birth_colour black) colour fs f there

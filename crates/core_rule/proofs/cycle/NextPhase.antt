@@ -1,5 +1,5 @@
 -- What stands of a seat, and of the colours, once the next phase has begun, up to a cycle's third.
-use Rattle.std.proofs.Common.{◌≡◌, ◌⊎◌, ℕ, ◌+◌, ◌%◌, ◌<◌, nat_lt, if◌then◌else◌, Bool, true, false, List, inl, inr, refl, sym, ap, ◌∙◌, subst, arith}
+use Rattle.std.proofs.Common.{◌≡◌, ◌⊎◌, ℕ, ◌+◌, ◌<◌, Bool, true, false, List, inl, inr, refl, sym, ◌∙◌, subst, arith}
 use Rattle.std.proofs.lemmas.Bool.Decides.{eqb_tells}
 use Rattle.heap_model.specs.declared.heap.Heap.{Heap}
 use Rattle.core_machine.specs.declared.table.address.Address.TheVariants.{Answer}
@@ -7,16 +7,16 @@ use Rattle.core_machine.specs.declared.place.Place.{Place}
 use Rattle.core_machine.specs.declared.place.Place.TheVariants as places
 use Rattle.core_machine.specs.declared.place.Polling.TheVariants.{Asking, Shading, Answering}
 use Rattle.core_machine.specs.declared.place.Reaching.TheVariants.{ShadingNew, Swapping}
-use Rattle.core_machine.specs.seat.Fits.{Fits, FitsWay, FitsAnswer}
+use Rattle.core_machine.specs.seat.Fits.{Fits, FitsWay}
 use Rattle.core_machine.specs.table.Layout.{at}
-use Rattle.core_machine.specs.seat.Reaching.{has_barrier}
 use Rattle.core_machine.specs.seat.Seat.{Seat}
 use Rattle.core_rule.specs.Book.{Colour}
 use Rattle.core_rule.specs.Colours.{Leads, IsBetween, Coloured}
 use Rattle.core_rule.specs.Cycle.{SeatInCycle}
-use Rattle.core_rule.specs.Flight.{FieldStands, ShadedStands, WhileReaching}
+use Rattle.core_rule.specs.Flight.{FieldStands, ShadedStands, RootsStand, WhileReaching, WhilePolling}
 use Rattle.core_rule.specs.Owners.{Owner}
 use Rattle.core_rule.specs.Phases.{AnswerStands}
+use Rattle.core_rule.proofs.cycle.Barriers.{barrier_window}
 use Rattle.core_rule.proofs.cycle.CycleFrames.{while_reaching, field_stays}
 
 -- no fragment is black in the first phase, and none is marked before it
@@ -46,19 +46,19 @@ present_or_idle heap seat fits = by seat.left (λ gone. (fits.gone gone).idle)
     by false idle = inl refl
 
 -- without the barrier no set shades
-unshaded : (colour : ℕ → Colour) (seat : Seat) (place : Place) → FitsWay seat place → has_barrier seat ≡ false → WhileReaching (ShadedStands colour seat) place
-unshaded colour seat (places.Reaching ShadingNew) fits off = absurd (cc (fits.1, off))
-unshaded colour seat (places.Reaching Swapping) fits off = λ on. absurd (cc (on, off))
+unshaded : (colour : ℕ → Colour) (seat : Seat) (place : Place) → FitsWay seat place → seat.answered ≡ 0 → WhileReaching (ShadedStands colour seat) place
+unshaded colour seat (places.Reaching ShadingNew) fits off = let on = barrier_window seat fits.1 in absurd (omega (arith, on.from, off))
+unshaded colour seat (places.Reaching Swapping) fits off = λ on. absurd (omega (arith, on.from, off))
 unshaded colour seat _ fits off = tt
 
 -- what a seat at a place is about to answer, it has not answered
 module _ (seat : Seat) (phase : ℕ) where
   -- a seat that has answered the phase is about to answer nothing
-  silent : (place : Place) → FitsAnswer seat place → AnswerStands phase seat.answered seat.asked place → seat.answered ≡ phase → seat.shaded ≡ 0
-  silent (places.Polling Asking) fits asks same = fits.0.none_shaded
-  silent (places.Polling Shading) fits asks same = absurd (omega (arith, asks.now, asks.next, same))
-  silent (places.Polling Answering) fits asks same = absurd (omega (arith, asks.now, asks.next, same))
-  silent _ fits asks same = fits.none_shaded
+  unasked : (colour : ℕ → Colour) (place : Place) → AnswerStands phase seat.answered seat.asked place → seat.answered ≡ phase → WhilePolling (RootsStand colour seat) place
+  unasked colour (places.Polling Asking) asks same = tt
+  unasked colour (places.Polling Shading) asks same = absurd (omega (arith, asks.now, asks.next, same))
+  unasked colour (places.Polling Answering) asks same = absurd (omega (arith, asks.now, asks.next, same))
+  unasked colour _ asks same = tt
 
   waits : (place : Place) → AnswerStands phase seat.answered seat.asked place → seat.answered ≡ phase → AnswerStands (phase + 1) seat.answered seat.asked place
   waits (places.Polling Shading) asks same = absurd (omega (arith, asks.now, asks.next, same))
@@ -94,22 +94,15 @@ cycle_next heap words now owner colour phase answers gone q seat early word lead
         ];
         shaded = λ marking. elim (present_or_idle heap seat fits) [
           | inl present ↦ elim (eqb_tells phase 0) [
-            | inl none ↦ unshaded colour seat seat.place fits.way_at_place
-                (ap (λ a. if nat_lt 0 (a % 7) then nat_lt (a % 7) 6 else false) (has present ∙ none.1))
+            | inl none ↦ unshaded colour seat seat.place fits.way_at_place (has present ∙ none.1)
             | inr some ↦ cycle.flight.shaded record { from = omega (arith, some.1, early); upto = omega (arith, early) }
           ]
           | inr idle ↦ subst (WhileReaching (ShadedStands colour seat)) (sym idle) tt
         ];
-        roots = λ marking j less. absurd (omega (arith, less, none_shaded has));
+        roots = λ begins. elim (present_or_idle heap seat fits) [
+          | inl present ↦ unasked seat phase colour seat.place cycle.answer (has present)
+          | inr idle ↦ subst (WhilePolling (RootsStand colour seat)) (sym idle) tt
+        ];
       };
       births = cycle.births;
     }
-  where
-    none_shaded : (seat.left ≡ false → seat.answered ≡ phase) → seat.shaded ≡ 0
-    none_shaded has = elim (present_or_idle heap seat fits) [
-      | inl present ↦ silent seat phase seat.place fits.answer_at_place cycle.answer (has present)
-      | inr idle ↦ idle_shaded seat.place idle fits.answer_at_place
-    ]
-      where
-        idle_shaded : (place : Place) → place ≡ places.Idle → FitsAnswer seat place → seat.shaded ≡ 0
-        idle_shaded place is fits_at = (subst (FitsAnswer seat) is fits_at).none_shaded

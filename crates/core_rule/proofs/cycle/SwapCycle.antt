@@ -22,7 +22,7 @@ use Rattle.core_rule.specs.Registers.{Holds}
 use Rattle.core_rule.specs.Rule.{Rule}
 use Rattle.core_rule.proofs.words.Addresses.{at-put_apart, control_after_word}
 use Rattle.core_rule.proofs.ways.AtObject.{is_near}
-use Rattle.core_rule.proofs.cycle.Barriers.{barrier_on, field_lead, part_below}
+use Rattle.core_rule.proofs.cycle.Barriers.{barrier_making, field_lead, part_below}
 use Rattle.core_rule.proofs.cycle.CycleFrames.{LeavesCycle}
 use Rattle.core_rule.proofs.ways.KeptWords.{has_room}
 use Rattle.core_rule.proofs.colours.LeadsFrames.{leads_put}
@@ -58,7 +58,7 @@ module _ (heap : Heap) (state : State) (book : Book) (q : ℕ) (rule : Rule heap
       let stands = rule.seats_stand q here in
       let shaded : ShadedStands book.colour seat Swapping
       = subst (λ y. WhileReaching (ShadedStands book.colour seat) y) place (stands.cycle.flight.shaded (record { from = omega (arith, making.from); upto = making.upto })) in
-      let on = barrier_on p seat (is_near heap state book q rule here Swapping place) making in
+      let on = barrier_making p seat.answered (is_near heap state book q rule here Swapping place) making in
       of_some (IsMarked book.colour) (head_of_register (new_register seat)) x (sym new_leads ∙ leads) (shaded on).1
 
   leads_now : IsBetween 2 5 p → (f part x : ℕ) → Leads heap words_swapped f part x → Leads heap state.words f part x ⊎ IsMarked book.colour x

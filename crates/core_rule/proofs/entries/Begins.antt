@@ -23,7 +23,6 @@ pub record SameData (seat next : Seat) : Type 0 where
   pub mine : next.mine ≡ seat.mine
   pub made : next.made ≡ seat.made
   pub sets : next.sets ≡ seat.sets
-  pub shaded : next.shaded ≡ seat.shaded
   pub answered : next.answered ≡ seat.answered
   pub left : next.left ≡ seat.left
   pub asked : next.asked ≡ seat.asked
@@ -31,7 +30,7 @@ pub record SameData (seat next : Seat) : Type 0 where
 pub same_data : (seat : Seat) (place : Place) (command : Command) (reached links cursor tried given : ℕ) (reserve hand body : List ℕ)
     → SameData seat (record seat { place = place; command = command; reached = reached; links = links; cursor = cursor; tried = tried; given = given; reserve = reserve; hand = hand; body = body })
 same_data seat place command reached links cursor tried given reserve hand body =
-    record { registers = refl; stored = refl; mine = refl; made = refl; sets = refl; shaded = refl; answered = refl; left = refl; asked = refl }
+    record { registers = refl; stored = refl; mine = refl; made = refl; sets = refl; answered = refl; left = refl; asked = refl }
 
 module _ (heap : Heap) (words : List ℕ) (book : Book) (q : ℕ) where
   -- the book after it

@@ -94,12 +94,12 @@ module _ (heap : Heap) (state : State) (book : Book) (q : ℕ) (rule : Rule heap
       }
 
   -- the seat has its part in the cycle, where it goes on with none of a set or an answer
-  pub cycle_given : (now : Seat) → SameAnswer (seat_at state q) now → IsApart now.place → now.shaded ≡ 0
+  pub cycle_given : (now : Seat) → SameAnswer (seat_at state q) now → IsApart now.place
       → SeatInCycle heap words_given (phase book_given.history) (answered q book_given.history) (has_left q book_given.history) owner book.colour q now
-  cycle_given now same apart none =
+  cycle_given now same apart =
       let cycle = (rule.seats_stand q here).cycle in
       cycle_own heap words_given owner book.colour book.history entry refl q now
-      (cycle_goes_on heap state.words words_given book.owner owner book.colour (phase book.history) (answered q book.history) (has_left q book.history) q (seat_at state q) now same apart none
+      (cycle_goes_on heap state.words words_given book.owner owner book.colour (phase book.history) (answered q book.history) (has_left q book.history) q (seat_at state q) now same apart
       (answer_after_control heap state.words word g q (omega (arith, here, rule.limits.seats_fit))) (λ f. borne_before Free book.owner fs q f free_bears_none) cycle) refl refl
 
   -- each other seat stands

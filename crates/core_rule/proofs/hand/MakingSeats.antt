@@ -5,7 +5,7 @@ use Rattle.heap_model.specs.PhaseCounts.{phase}
 use Rattle.core_machine.specs.declared.place.Making.{Making}
 use Rattle.core_machine.specs.declared.place.Place.TheVariants as places
 use Rattle.core_machine.specs.seat.Commands.{fields_of}
-use Rattle.core_machine.specs.seat.Fits.{Fits, HasBody, IsSilent}
+use Rattle.core_machine.specs.seat.Fits.{Fits, HasBody}
 use Rattle.core_machine.specs.machine.Machine.{State, seat_at}
 use Rattle.core_machine.specs.seat.Making.{last_group, first_group}
 use Rattle.core_machine.specs.Moves.{bears_black}
@@ -24,10 +24,6 @@ bears_late heap state book q making rule here place early =
     let stands = rule.seats_stand q here in
     let present = in_flight heap (seat_at state q) stands.fits (λ idle. absurd (cc (place, idle))) in
     white_early (phase book.history) (seat_at state q) (stands.cycle.answers_told.near present) early
-
--- and has shaded nothing
-pub none_shaded : (heap : Heap) (seat : Seat) (making : Making) → Fits heap seat → seat.place ≡ places.Making making → seat.shaded ≡ 0
-none_shaded heap seat making fits place = let silent : IsSilent seat = rw place at fits.answer_at_place in silent.none_shaded
 
 -- the groups of its hand's first and last fragments are the heap's
 pub first_within : (heap : Heap) (seat : Seat) → Fits heap seat → 0 < length seat.hand → first_group seat.hand < heap.groups

@@ -72,8 +72,8 @@ opening_seat_stands heap words q fits below none_answered = record {
   cycle = record {
     answers_told = record { told = refl; leaves = refl; word = none_answered; near = λ present. inl refl; loaded = omega arith };
     answer = tt;
-    flight = record { set = λ marking snapped. tt; shaded = λ marking. tt; roots = λ marking j less. absurd (omega (arith, less)) };
-    births = λ f borne. refl;
+    flight = record { set = λ marking snapped. tt; shaded = λ marking. tt; roots = λ begins. tt };
+    births = record { dark = λ between f borne. absurd (omega (arith, between.from)); light = λ apart f borne. refl };
   };
   together = nothing_together heap (opening_seat heap q).cursor 0 [] [] refl refl;
   counts = record {
@@ -120,7 +120,7 @@ opening_rule heap state fits machine opens = record {
       (opening_seat_stands heap state.words q (subst (Fits heap) (opening_seat_at heap state q opens below) (machine.fit q (rw machine.seated below))) below
       (opens.words_open (Answer q) (omega (arith, below, fits.seats_fit)) ∙ opening_answer heap q below));
   collector_stands = subst (λ (c : Collector). CollectorStands heap c []) (sym opens.nothing_done)
-      record { log = refl; phase_told = refl; looked = λ q less. absurd (omega (arith, less)); goes_on = λ advancing. absurd (cc) };
+      record { log = refl; phase_told = refl; looked = λ q less. absurd (omega (arith, less)); advances = λ advancing. absurd (cc); goes_on = λ advancing. absurd (cc) };
 }
 
 pub opening_stands : (heap : Heap) (state : State) → IsHeap heap → IsOpening heap state → StandsFor heap state [] []

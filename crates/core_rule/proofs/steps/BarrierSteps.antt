@@ -1,5 +1,5 @@
 -- How a set with the barrier on goes on, up to its swap.
-use Rattle.std.proofs.Common.{◌≡◌, ℕ, ◌<◌, true, [], filter, Option, Some, None, refl, sym, ◌∙◌, subst, arith, ◌/◌, slice_set}
+use Rattle.std.proofs.Common.{◌≡◌, ℕ, ◌<◌, true, [], filter, Option, Some, None, refl, sym, subst, arith, ◌/◌, slice_set}
 use Rattle.std.proofs.lemmas.List.{append-nil}
 use Rattle.heap_model.specs.declared.heap.Heap.{Heap}
 use Rattle.heap_model.specs.Cycles.{graph_of}
@@ -12,7 +12,6 @@ use Rattle.core_machine.specs.declared.place.Place.TheVariants as places
 use Rattle.core_machine.specs.declared.place.Reaching.{Reaching}
 use Rattle.core_machine.specs.declared.place.Reaching.TheVariants.{ShadingNew, Swapping}
 use Rattle.core_machine.specs.seat.Commands.{target_of}
-use Rattle.core_machine.specs.seat.Fits.{IsSilent}
 use Rattle.core_machine.specs.machine.Machine.{State, seat_at}
 use Rattle.core_machine.specs.seat.Reaching.{has_barrier, new_place}
 use Rattle.core_machine.specs.seat.ReachingMoves.{field_part}
@@ -30,9 +29,10 @@ use Rattle.core_rule.specs.Rule.{Rule}
 use Rattle.core_rule.specs.Ways.{ReachingStands}
 use Rattle.core_rule.proofs.steps.Assemble.{Keeps}
 use Rattle.core_rule.proofs.ways.AtObject.{is_near}
-use Rattle.core_rule.proofs.cycle.Barriers.{barrier_runs}
+use Rattle.core_rule.proofs.cycle.Barriers.{barrier_window, barrier_runs}
 use Rattle.core_rule.proofs.cycle.CycleFrames.{cycle_by_flight}
 use Rattle.core_rule.proofs.entries.InFlight.{began_on}
+use Rattle.core_rule.proofs.colours.Births.{births_stay}
 use Rattle.core_rule.proofs.colours.LeadsFrames.{leads_control}
 use Rattle.core_rule.proofs.ways.LoadedObjects.{KeptHead}
 use Rattle.core_rule.proofs.steps.Loads.{went, loaded_state, load_goes}
@@ -66,9 +66,6 @@ module _ (heap : Heap) (state : State) (book : Book) (q : ℕ) (rule : Rule heap
   pub holds_all : (r : ℕ) → Holds book.made book.owner book.fragments (register_in seat.registers r) (register g q r)
   holds_all r = (rule.seats_stand q here).registers r (awake (target_of seat.command) r)
 
-  silent : IsSilent seat
-  silent = rw place at (rule.seats_stand q here).fits.answer_at_place
-
   -- what a call has at a place other than a name's
   abbrev Unnamed : Reaching → Type 0
   Unnamed next = (seat_now : Seat) → Awaits g book.made book.owner book.fragments q seat_now (places.Reaching next) []
@@ -90,7 +87,7 @@ module _ (heap : Heap) (state : State) (book : Book) (q : ℕ) (rule : Rule heap
       (began_on book.history q (book.begun q) seat.place (places.Reaching next) busy stands.began)
       (cycle_by_flight heap state.words state.words book.owner book.owner book.colour book.colour p (answered q book.history) (has_left q book.history) q seat new
       record { answered = refl; left = refl; asked = refl } refl tt
-      record { set = λ making snapped. field making; shaded = λ making. shaded; roots = λ making j less. absurd (omega (arith, less, silent.none_shaded)) }
+      record { set = λ making snapped. field making; shaded = λ making. shaded; roots = λ begins. tt }
       stands.cycle.births stands.cycle)
 
   module _ (f : ℕ) (head : KeptHead book.made book.owner book.fragments f) (on : has_barrier seat ≡ true) where
@@ -115,12 +112,12 @@ module _ (heap : Heap) (state : State) (book : Book) (q : ℕ) (rule : Rule heap
     shades_on next names way field shaded machine =
         let stands = rule.seats_stand q here in
         let new : Seat = shading seat seat.shaded (places.Reaching next) in
-        shade_keeps heap state book q rule here f head.number head.kept head.is seat.shaded (places.Reaching next) (barrier_runs p seat (is_near heap state book q rule here from place) on) machine
+        shade_keeps heap state book q rule here f head.number head.kept head.is seat.shaded (places.Reaching next) (barrier_runs p seat.answered (is_near heap state book q rule here from place) (barrier_window seat on)) machine
         (λ r unawaited. holds_all r)
         (list_more g book.made book.owner book.fragments q seat book.history busy stands.list g book.history new [] [] [] refl refl (sym (append-nil (filter (is_of q) book.history))) (names new))
         way busy
         (cycle_by_flight heap state.words (words_shaded heap state book q rule here f head.number head.kept head.is) book.owner book.owner book.colour coloured p
         (answered q book.history) (has_left q book.history) q seat new
         record { answered = refl; left = refl; asked = refl } (answer_shaded heap state book q rule here f head.number head.kept head.is q here) tt
-        record { set = field; shaded = shaded; roots = λ making j less. absurd (omega (arith, less, silent.none_shaded)) }
-        (λ x borne. borne_unshaded heap state book q rule here f head.number head.kept head.is q x borne ∙ stands.cycle.births x borne) stands.cycle)
+        record { set = field; shaded = shaded; roots = λ begins. tt }
+        (births_stay book.owner book.owner book.colour coloured q seat.answered (λ x borne. (borne, borne_unshaded heap state book q rule here f head.number head.kept head.is q x borne)) stands.cycle.births) stands.cycle)

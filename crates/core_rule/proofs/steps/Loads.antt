@@ -19,7 +19,6 @@ use Rattle.core_machine.specs.declared.table.address.Address.{Address}
 use Rattle.core_machine.specs.declared.place.Place.{Place}
 use Rattle.core_machine.specs.declared.seat.register.Register.{Register}
 use Rattle.core_machine.specs.seat.Commands.{target_of}
-use Rattle.core_machine.specs.seat.Fits.{IsSilent}
 use Rattle.core_machine.specs.table.Layout.{at, put}
 use Rattle.core_machine.specs.machine.Machine.{State, seat_at}
 use Rattle.core_machine.specs.seat.Reaching.{has_barrier}
@@ -67,12 +66,12 @@ module _ (heap : Heap) (state : State) (book : Book) (q : ℕ) (rule : Rule heap
   from_same begun shown keeps = subst (λ words. Keeps heap (record state { words = words; seats = slice_set state.seats q new }) book begun shown) (sym (put-at heap state.words a)) keeps
 
   -- the seat has its part in the cycle where it shades nothing
-  pub went_cycle : IsSilent (seat_at state q) → IsUnwatchedAt (has_barrier (seat_at state q)) place
+  pub went_cycle : IsUnwatchedAt (has_barrier (seat_at state q)) place
       → SeatInCycle heap state.words (phase book.history) (answered q book.history) (has_left q book.history) book.owner book.colour q new
-  went_cycle silent unwatched =
+  went_cycle unwatched =
       let cycle = (rule.seats_stand q here).cycle in
       cycle_unwatched heap state.words state.words book.owner book.owner book.colour book.colour (phase book.history) (answered q book.history) (has_left q book.history)
-      q (seat_at state q) new record { answered = refl; left = refl; asked = refl } unwatched silent.none_shaded refl cycle.births cycle
+      q (seat_at state q) new record { answered = refl; left = refl; asked = refl } unwatched refl cycle.births cycle
 
   -- nothing is shown
   pub load_goes : Registers (graph_of heap book.history) book.made book.owner book.fragments q registers place (target_of (seat_at state q).command)

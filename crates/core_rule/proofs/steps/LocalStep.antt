@@ -17,7 +17,6 @@ use Rattle.core_machine.specs.declared.place.Place.TheVariants as places
 use Rattle.core_machine.specs.seat.Fits.{IsAtRest}
 use Rattle.core_machine.specs.table.Layout.{at, put}
 use Rattle.core_machine.specs.machine.Machine.{State, seat_at}
-use Rattle.core_machine.specs.seat.MakingMoves.{bears_black}
 use Rattle.core_machine.specs.seat.Seat.{Seat}
 use Rattle.core_machine.specs.machine.Value.{IsMachine}
 use Rattle.core_machine.proofs.table_lemmas.Addresses.{put-at}
@@ -46,7 +45,6 @@ pub record SeatTells (old now : Seat) (entry : Entry) : Type 0 where
   pub mine : now.mine ≡ old.mine ++ entry ∷ []
   pub answered : now.answered ≡ old.answered
   pub asked : now.asked ≡ old.asked
-  pub shaded : now.shaded ≡ 0
   pub made : now.made ≡ old.made
   pub sets : now.sets ≡ old.sets
   pub left : now.left ≡ old.left
@@ -85,8 +83,8 @@ local_reply_keeps heap state book q a now reply rule here machine rest told pres
     (subst (λ ws. HeapInCycle heap ws (phase book.history) book.owner book.colour book.fragments) (sym same) rule.heap_stands.cycle)
     (cycle_own heap words book.owner book.colour book.history (entries.Said q seat.command reply) refl q now
     (cycle_apart heap state.words words book.owner book.owner book.colour book.colour (phase book.history) (answered q book.history) (has_left q book.history) q seat now
-    record { answered = tells.answered; left = tells.left; asked = tells.asked } (subst IsApart (sym tells.idle) tt) tells.shaded (ap (λ ws. at heap ws (Answer q)) same)
-    (subst (λ a. BornColours book.owner book.colour q (bears_black (record seat { answered = a }))) (sym tells.answered) stands.cycle.births) stands.cycle)
+    record { answered = tells.answered; left = tells.left; asked = tells.asked } (subst IsApart (sym tells.idle) tt) (ap (λ ws. at heap ws (Answer q)) same)
+    (subst (BornColours book.owner book.colour q) (sym tells.answered) stands.cycle.births) stands.cycle)
     refl stays)
     (λ r below apart. subst (λ ws. LeavesCycle heap state.words ws book.owner book.owner book.colour book.colour (phase book.history) r (seat_at state r)) (sym same)
     (leaves_same heap state.words book.owner book.colour (phase book.history) r (seat_at state r)))

@@ -1,5 +1,5 @@
 -- The way after a fragment's first word was found.
-use Rattle.std.proofs.Common.{◌≡◌, ℕ, ◌+◌, ◌-◌, ◌<◌, false, eqb, inl, inr, List, sym, ap, ◌∙◌, arith, true}
+use Rattle.std.proofs.Common.{◌≡◌, ℕ, ◌+◌, ◌-◌, ◌<◌, false, eqb, inl, inr, List, None, IsSome, sym, ap, ◌∙◌, subst, arith, true}
 use Rattle.std.proofs.lemmas.Bool.{cond_both, eqb-true, eqb-false}
 use Rattle.std.proofs.lemmas.Bool.Decides.{eqb_tells}
 use Rattle.heap_model.specs.declared.cell.Cell.{Cell}
@@ -16,14 +16,14 @@ use Rattle.core_machine.specs.declared.place.Reaching.{Reaching}
 use Rattle.core_machine.specs.declared.place.Reaching.TheVariants.{Walking, Getting, Swapping, LoadingOld}
 use Rattle.core_machine.specs.seat.Commands.{field_of}
 use Rattle.core_machine.specs.table.Layout.{at}
-use Rattle.core_machine.specs.table.Loaded.{link_in}
+use Rattle.core_machine.specs.table.Loaded.{head_in, link_in}
 use Rattle.core_machine.specs.seat.Reaching.{row_of, has_barrier, field_place, way_place, stepped_on, onward, reaching}
 use Rattle.core_machine.specs.seat.Seat.{Seat}
 use Rattle.core_rule.specs.Book.{fragment_at}
 use Rattle.core_rule.specs.ControlWords.{Bits}
 use Rattle.core_rule.specs.Objects.{AreMade, Objects, cells_at}
 use Rattle.core_rule.specs.Owners.{Owner}
-use Rattle.core_rule.specs.Ways.{Finds, ReachingStands}
+use Rattle.core_rule.specs.Ways.{Finds, LoadedKept, OldKept, ReachingStands}
 use Rattle.core_rule.proofs.ways.KeptWords.{link_found, row_there}
 use Rattle.core_rule.proofs.cycle.Unwatched.{IsUnwatched}
 
@@ -53,10 +53,24 @@ onward_cases P seat found arrived more =
     (λ e. arrived (eqb-true seat.links 0 e))
     (λ e. let some = eqb-false seat.links 0 e in more (omega (arith, some)))
 
+module _ (made : List Id) (owner : ℕ → Owner) (fragments : ℕ → List ℕ) (seat : Seat) where
+  -- where nothing is loaded that refers to an object, there is no old value
+  pub none_old : head_in seat.loaded ≡ None → OldKept made owner fragments seat
+  none_old none some = absurd (no_object (subst (λ o. IsSome o) none some))
+    where
+      no_object : IsSome {T = ℕ} None → ⊥
+      no_object some = cc
+
+  -- what is loaded is so wherever the call stands
+  pub loaded_at : (place : Reaching) (mine : List Entry) → LoadedKept made owner fragments seat
+      → LoadedKept made owner fragments (record seat { place = places.Reaching place; mine = mine })
+  loaded_at place mine loaded = record { number = loaded.number; below = loaded.below; kept = loaded.kept; loads = loaded.loads }
+
 module _ (cells : ℕ → List Cell) (made : List Id) (owner : ℕ → Owner) (fragments : ℕ → List ℕ) where
   -- a field that is found is found at the place that comes next
-  pub way_stands : (seat reached : Seat) → Finds cells made owner fragments seat → ReachingStands cells made owner fragments seat (way_place reached)
-  way_stands seat reached finds = way_cases (λ place. ReachingStands cells made owner fragments seat place) reached finds finds (λ on. finds) (λ off. finds)
+  pub way_stands : (seat reached : Seat) → seat.loaded ≡ 0 → Finds cells made owner fragments seat → ReachingStands cells made owner fragments seat (way_place reached)
+  way_stands seat reached unloaded finds =
+      way_cases (λ place. ReachingStands cells made owner fragments seat place) reached finds finds (λ on. finds) (λ off. (finds, none_old made owner fragments seat (ap head_in unloaded)))
 
   -- it is found wherever the call stands
   pub finds_at : (seat : Seat) (loaded : ℕ) (place : Reaching) (mine : List Entry) → Finds cells made owner fragments seat

@@ -52,8 +52,8 @@ module _ (cells now_cells : ℕ → List Cell) (made now_made : List Id) (owner 
   ways_stay seat (places.Reaching Getting) way = finds_stays seat way
   ways_stay seat (places.Reaching LoadingOld) way = finds_stays seat way
   ways_stay seat (places.Reaching ShadingOld) way = (finds_stays seat way.0, loaded_stays seat way.1)
-  ways_stay seat (places.Reaching ShadingNew) way = finds_stays seat way
-  ways_stay seat (places.Reaching Swapping) way = finds_stays seat way
+  ways_stay seat (places.Reaching ShadingNew) way = (finds_stays seat way.0, λ some. loaded_stays seat (way.1 some))
+  ways_stay seat (places.Reaching Swapping) way = (finds_stays seat way.0, λ some. loaded_stays seat (way.1 some))
   ways_stay seat _ way = way
 
 -- a way stays where the same fragments are kept

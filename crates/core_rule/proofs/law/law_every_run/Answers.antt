@@ -1,5 +1,6 @@
 use Rattle.core_machine.proofs.machine_lemmas.Runs.{machine_after}
 use Rattle.core_rule.proofs.counts.FreeSums.{free_is_unused}
+use Rattle.core_rule.proofs.cycle.Waits.{each_wait_is_behind}
 use Rattle.core_rule.proofs.runs.OpeningStands.{opening_stands}
 use Rattle.core_rule.proofs.runs.PlayRuns.{whole_calls_play}
 use Rattle.core_rule.proofs.runs.Runs.{each_event_keeps, every_run_keeps}
@@ -17,3 +18,6 @@ returns-clause-play c = whole_calls_play machine_after each_step_keeps each_begi
 
 pub returns-clause-free : goal.returns-clause-free
 returns-clause-free c = free_is_unused
+
+pub returns-clause-waits : goal.returns-clause-waits
+returns-clause-waits c = each_wait_is_behind

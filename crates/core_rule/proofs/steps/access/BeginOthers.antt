@@ -9,7 +9,7 @@ use Rattle.heap_model.specs.PhaseCounts.{phase, answered, has_left}
 use Rattle.heap_model.specs.State.{State as Graph}
 use Rattle.core_machine.specs.declared.place.Place.TheVariants as places
 use Rattle.core_machine.specs.seat.Commands.{IsRecord, target_of}
-use Rattle.core_machine.specs.seat.Fits.{IsAtRest, IsSilent}
+use Rattle.core_machine.specs.seat.Fits.{IsAtRest}
 use Rattle.core_machine.specs.machine.Machine.{State, seat_at, starts, MayBegin, Begins, after}
 use Rattle.core_machine.specs.seat.Registers.{register_in}
 use Rattle.core_machine.specs.seat.Seat.{Seat}
@@ -37,7 +37,6 @@ begin_others_keep heap state book q command rule here may other machine =
     let g : Graph = graph_of heap book.history in
     let stands = rule.seats_stand q here in
     let rest : IsAtRest old = rw may.idle at stands.fits.at_place in
-    let silent : IsSilent old = rw may.idle at stands.fits.answer_at_place in
     let awaits = rw may.idle at stands.list.awaits in
     let holds : (r : ℕ) → Holds book.made book.owner book.fragments (register_in old.registers r) (register g q r)
     = λ r. stands.registers r (none_awaited old.place places.Idle (target_of old.command) r may.idle (λ none. none)) in
@@ -60,7 +59,7 @@ begin_others_keep heap state book q command rule here may other machine =
       };
       way = start.way;
       cycle = cycle_fresh heap state.words book.owner book.colour (phase book.history) (answered q book.history) (has_left q book.history) q old next
-          record { answered = same.answered; left = same.left; asked = same.asked } start.fresh (same.shaded ∙ silent.none_shaded) stands.cycle;
+          record { answered = same.answered; left = same.left; asked = same.asked } start.fresh stands.cycle;
       together = nothing_together heap next.cursor next.tried next.hand next.body (own.hand ∙ rest.empty_hand) (own.body ∙ rest.no_body);
       counts = record {
         numbered = same.made ∙ stands.counts.numbered;

@@ -94,8 +94,7 @@ module _ (heap : Heap) (state : State) (book : Book) (q : ℕ) (rule : Rule heap
       (list_more g book.made book.owner book.fragments q seat book.history busy stands.list (put g q (target_of seat.command) (value_of new)) _ _ (entry ∷ []) [] (entry ∷ []) refl refl
       (own_entries q book.history entry (eq-eqb q q refl)) refl)
       tt tt (no_leave_told q q seat.command reply (λ leaves. subst IsGet leaves a_get))
-      (went_cycle heap state book q rule here (Word seat.reached (field_part seat)) (slice_set seat.registers (target_of seat.command) new) 0 0 0 places.Idle (entry ∷ []) machine
-      (rw place at stands.fits.answer_at_place) tt)
+      (went_cycle heap state book q rule here (Word seat.reached (field_part seat)) (slice_set seat.registers (target_of seat.command) new) 0 0 0 places.Idle (entry ∷ []) machine tt)
 
   -- a reference awaits its object's name, and the history has the reply
   pending_keeps : (found : ℕ) (id : Id) → NamesKept book.made book.owner book.fragments (values.Object id) → head_in found ≡ Some (head_of book.made book.fragments id)
@@ -121,8 +120,7 @@ module _ (heap : Heap) (state : State) (book : Book) (q : ℕ) (rule : Rule heap
       (own_entries q book.history entry (eq-eqb q q refl))
       (record { id = id; kept = kept; loads = loads; held = put_target g q d value present in_graph; told = refl }))
       tt tt (no_leave_told q q seat.command reply (λ leaves. subst IsGet leaves a_get))
-      (went_cycle heap state book q rule here (Word seat.reached (field_part seat)) seat.registers seat.reached seat.links found (places.Reaching Naming) [] machine
-      (rw place at stands.fits.answer_at_place) tt)
+      (went_cycle heap state book q rule here (Word seat.reached (field_part seat)) seat.registers seat.reached seat.links found (places.Reaching Naming) [] machine tt)
 
 -- loading a field keeps the rule
 pub get_keeps : (heap : Heap) (state : State) (book : Book) (q : ℕ) → Rule heap state book → q < heap.seats

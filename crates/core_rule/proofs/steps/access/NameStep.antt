@@ -71,5 +71,4 @@ name_keeps heap state book q rule here place machine =
     })
     tt
     (record { earlier = stands.began.earlier; unanswered = λ busy. absurd (busy tt) })
-    (went_cycle heap state book q rule here (Word at_name 1) (slice_set seat.registers d (registers.Object at_name (id_in found))) 0 0 0 places.Idle added machine
-    (rw place at stands.fits.answer_at_place) tt)
+    (went_cycle heap state book q rule here (Word at_name 1) (slice_set seat.registers d (registers.Object at_name (id_in found))) 0 0 0 places.Idle added machine tt)

@@ -26,7 +26,7 @@ use Rattle.core_rule.proofs.cycle.Barriers.{field_lead}
 use Rattle.core_rule.proofs.steps.BarrierSteps.{new_cases, loads_on}
 use Rattle.core_rule.proofs.ways.LoadedObjects.{loaded_kept}
 use Rattle.core_rule.proofs.steps.Loads.{went, loaded_state}
-use Rattle.core_rule.proofs.ways.OnwardWays.{finds_at}
+use Rattle.core_rule.proofs.ways.OnwardWays.{finds_at, none_old}
 use Rattle.core_rule.proofs.lists.Options.{none_holds}
 
 -- loading the old value keeps the rule
@@ -46,14 +46,15 @@ old_keeps heap state book q rule here place machine =
     let on = loads_on heap state book q rule here LoadingOld place (λ answered. answered) (λ d r awaited. awaited) found in
     let at_next = λ (next : Reaching). finds_at (cells_at g book.made) book.made book.owner book.fragments seat found next (seat.mine ++ []) finds in
     let leads : (x : ℕ) → Leads heap state.words seat.reached (field_part seat) x → head_in found ≡ Some x = λ x leads. sym (field_lead seat found) ∙ leads.to in
+    let unloaded = λ (next : Reaching). none_old book.made book.owner book.fragments (went seat seat.registers seat.reached seat.links found (places.Reaching next) []) in
     let goal = λ (o : Option ℕ). IsMachine heap (loaded_state heap state q (Word seat.reached (field_part seat)) (with_entries (old_found (record seat { loaded = found }) o) []))
     → Keeps heap (loaded_state heap state q (Word seat.reached (field_part seat)) (with_entries (old_found (record seat { loaded = found }) o) [])) book book.begun [] in
     let by_head : (o : Option ℕ) → head_in found ≡ o → goal o = λ o. elim o as (λ x. head_in found ≡ x → goal x) [
       | None ↦ λ none. new_cases (λ next. IsMachine heap (loaded_state heap state q (Word seat.reached (field_part seat)) (went seat seat.registers seat.reached seat.links found (places.Reaching next) []))
           → Keeps heap (loaded_state heap state q (Word seat.reached (field_part seat)) (went seat seat.registers seat.reached seat.links found (places.Reaching next) [])) book book.begun []) new_head
-          (λ no_new. on Swapping (λ s. refl) (at_next Swapping) (λ making is_on x lead. absurd (unnamed (sym none ∙ leads x lead)))
+          (λ no_new. on Swapping (λ s. refl) (at_next Swapping, unloaded Swapping none) (λ making x lead. absurd (unnamed (sym none ∙ leads x lead)))
           (λ is_on. (none_holds (IsMarked book.colour) (head_in found) none, none_holds (IsMarked book.colour) new_head no_new)))
-          (λ f some. on ShadingNew (λ s. refl) (at_next ShadingNew) (λ making x lead. absurd (unnamed (sym none ∙ leads x lead))) (none_holds (IsMarked book.colour) (head_in found) none))
+          (λ f some. on ShadingNew (λ s. refl) (at_next ShadingNew, unloaded ShadingNew none) (λ making x lead. absurd (unnamed (sym none ∙ leads x lead))) (none_holds (IsMarked book.colour) (head_in found) none))
       | Some f ↦ λ some.
           let head = loaded_kept heap state.words g book.made book.owner book.fragments rule.limits old.control_words old.ids old.objects seat fits.0.2 finds f some in
           on ShadingOld (λ s. refl) (at_next ShadingOld, record { number = head.number; below = head.below; kept = head.kept; loads = some ∙ ap Some head.is })

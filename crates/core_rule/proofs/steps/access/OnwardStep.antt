@@ -9,7 +9,7 @@ use Rattle.core_machine.specs.declared.table.address.Address.TheVariants.{Word}
 use Rattle.core_machine.specs.declared.place.Place.TheVariants as places
 use Rattle.core_machine.specs.declared.place.Reaching.TheVariants.{Walking}
 use Rattle.core_machine.specs.seat.Commands.{target_of}
-use Rattle.core_machine.specs.seat.Fits.{IsSilent}
+use Rattle.core_machine.specs.seat.FitsReaching.{Walks}
 use Rattle.core_machine.specs.table.Layout.{at}
 use Rattle.core_machine.specs.table.Loaded.{link_in}
 use Rattle.core_machine.specs.machine.Machine.{State, seat_at, stepped, found_by}
@@ -32,7 +32,7 @@ use Rattle.core_rule.proofs.entries.SeatLists.{list_more}
 use Rattle.core_rule.proofs.cycle.Unwatched.{IsUnwatched}
 
 module _ (heap : Heap) (state : State) (book : Book) (q : ℕ) (rule : Rule heap state book) (here : q < heap.seats)
-    (busy : ¬ IsAnswered (seat_at state q).place) (free : (d r : ℕ) → ¬ IsAwaited (seat_at state q).place d r) (silent : IsSilent (seat_at state q)) where
+    (busy : ¬ IsAnswered (seat_at state q).place) (free : (d r : ℕ) → ¬ IsAwaited (seat_at state q).place d r) (unloaded : (seat_at state q).loaded ≡ 0) where
   -- the word that the step finds, and the state after it
   abbrev found_first : ℕ
   found_first = at heap state.words (Word (seat_at state q).reached 0)
@@ -54,9 +54,9 @@ module _ (heap : Heap) (state : State) (book : Book) (q : ℕ) (rule : Rule heap
       (λ r unawaited. stands.registers r (free (target_of seat.command) r))
       (list_more g book.made book.owner book.fragments q seat book.history busy stands.list g book.history new [] [] [] refl refl (sym (append-nil (filter (is_of q) book.history)))
       (way_cases (λ place. Awaits g book.made book.owner book.fragments q new (places.Reaching place) []) next refl refl (λ on. refl) (λ off. refl)))
-      (way_stands (cells_at g book.made) book.made book.owner book.fragments new next finds)
+      (way_stands (cells_at g book.made) book.made book.owner book.fragments new next unloaded finds)
       (began_on book.history q (book.begun q) seat.place (places.Reaching (way_place next)) busy stands.began)
-      (went_cycle heap state book q rule here (Word seat.reached 0) seat.registers reached links seat.loaded (places.Reaching (way_place next)) [] machine silent
+      (went_cycle heap state book q rule here (Word seat.reached 0) seat.registers reached links seat.loaded (places.Reaching (way_place next)) [] machine
       (subst (λ b. IsUnwatched b (way_place next)) same (way_unwatched next)))
 
   -- the way goes on, or the field's fragment is reached
@@ -83,5 +83,6 @@ pub walk_keeps : (heap : Heap) (state : State) (book : Book) (q : ℕ) → Rule 
 walk_keeps heap state book q rule here place machine =
     let finds : Finds (cells_at (graph_of heap book.history) book.made) book.made book.owner book.fragments (seat_at state q)
     = rw place at (rule.seats_stand q here).way in
+    let walks : Walks (seat_at state q) = rw place at (rule.seats_stand q here).fits.way_at_place in
     onward_keeps heap state book q rule here (λ answered. subst IsAnswered place answered) (λ d r awaited. subst (λ p. IsAwaited p d r) place awaited)
-    (rw place at (rule.seats_stand q here).fits.answer_at_place) finds machine
+    walks.none_loaded finds machine

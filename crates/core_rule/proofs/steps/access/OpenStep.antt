@@ -85,7 +85,7 @@ module _ (heap : Heap) (state : State) (book : Book) (q : ℕ) (rule : Rule heap
       (list_more g book.made book.owner book.fragments q seat book.history busy stands.list g _ _ (entry ∷ []) [] (entry ∷ []) refl refl
       (own_entries q book.history entry (eq-eqb q q refl)) refl)
       tt tt stays_here
-      (went_cycle heap state book q rule here (Word seat.reached 0) seat.registers 0 0 0 places.Idle (entry ∷ []) machine (rw place at stands.fits.answer_at_place) tt)
+      (went_cycle heap state book q rule here (Word seat.reached 0) seat.registers 0 0 0 places.Idle (entry ∷ []) machine tt)
 
 -- loading the length keeps the rule
 pub open_keeps : (heap : Heap) (state : State) (book : Book) (q : ℕ) → Rule heap state book → q < heap.seats
@@ -121,7 +121,7 @@ open_keeps heap state book q rule here place machine =
     (subst (λ n. Accepts g (Said q seat.command (replies.Length n))) (sym size) (accepts_length g q id seat.command opens.works.in_range present made held len))
     (keeps_length heap false book.history q enough little (length_in found) seat.command len) (leaves_none (replies.Length (length_in found))))
     (λ field more. onward_keeps heap state book q rule here (busy heap state book q rule here place) (free heap state book q rule here place)
-    (rw place at stands.fits.answer_at_place) (record { number = number; way = way; within = omega (arith, more, size) }))
+    opens.none_loaded (record { number = number; way = way; within = omega (arith, more, size) }))
     (λ field past. met_keeps heap state book q rule here place replies.NoField refl (graph_no_field g q seat.command field)
     (accepts_no_field g q id seat.command opens.works.in_range present made held field (omega (arith, past, size)))
     (keeps_no_field heap false book.history q enough little seat.command field) (leaves_none replies.NoField))

@@ -21,12 +21,12 @@ use Rattle.core_rule.specs.Colours.{IsMarked, IsBetween}
 use Rattle.core_rule.specs.Flight.{Watches, FieldStands, ShadedStands, WhileReaching}
 use Rattle.core_rule.specs.Objects.{cells_at}
 use Rattle.core_rule.specs.Rule.{Rule}
-use Rattle.core_rule.specs.Ways.{Finds}
+use Rattle.core_rule.specs.Ways.{Finds, OldKept}
 use Rattle.core_rule.proofs.steps.Assemble.{Keeps}
 use Rattle.core_rule.proofs.steps.BarrierSteps.{shades_on, leads_back, holds_all}
 use Rattle.core_rule.proofs.cycle.CycleFrames.{watches_stay}
 use Rattle.core_rule.proofs.ways.LoadedObjects.{held_kept}
-use Rattle.core_rule.proofs.ways.OnwardWays.{finds_at}
+use Rattle.core_rule.proofs.ways.OnwardWays.{finds_at, loaded_at}
 use Rattle.core_rule.proofs.lists.Options.{if_some, some_holds}
 use Rattle.core_rule.proofs.colours.ShadeColours.{with_mark, mark_marks, mark_keeps}
 use Rattle.core_rule.proofs.steps.ShadeStep.{words_shaded}
@@ -43,7 +43,7 @@ shade_new_keeps heap state book q rule here place machine =
     let p : ℕ = phase book.history in
     let stands = rule.seats_stand q here in
     let fits : Sets seat × (has_barrier seat ≡ true) × IsSome (head_of (new_register seat)) = rw place at stands.fits.way_at_place in
-    let finds : Finds (cells_at g book.made) book.made book.owner book.fragments seat = rw place at stands.way in
+    let way : Finds (cells_at g book.made) book.made book.owner book.fragments seat × OldKept book.made book.owner book.fragments seat = rw place at stands.way in
     let f : ℕ = unwrap_or (head_of (new_register seat)) 0 in
     let some : head_of (new_register seat) ≡ Some f = whole (head_of (new_register seat)) fits.2 in
     let head = held_kept book.made book.owner book.fragments (new_register seat) _
@@ -54,9 +54,11 @@ shade_new_keeps heap state book q rule here place machine =
     = subst (λ x. IsBetween 2 5 p → IsBetween 2 5 seat.answered → WhileReaching (FieldStands heap state.words book.colour seat) x) place stands.cycle.flight.set in
     let was : IsBetween 1 5 p → IfSome (head_in seat.loaded) (IsMarked book.colour)
     = subst (λ x. IsBetween 1 5 p → WhileReaching (ShadedStands book.colour seat) x) place stands.cycle.flight.shaded in
-    shades_on heap state book q rule here ShadingNew place (λ answered. answered) (λ d r awaited. awaited) f head fits.1 Swapping (λ s. refl)
-    (finds_at (cells_at g book.made) book.made book.owner book.fragments seat seat.loaded Swapping (seat.mine ++ []) finds)
-    (λ making snapped is_on. watches_stay heap state.words (words_shaded heap state book q rule here f head.number head.kept head.is) book.colour coloured seat (mark_keeps book.colour f)
+    shades_on heap state book q rule here ShadingNew place (λ answered. answered) (λ d r awaited. awaited) f head fits.1 Swapping (λ s. refl) (
+      finds_at (cells_at g book.made) book.made book.owner book.fragments seat seat.loaded Swapping (seat.mine ++ []) way.0,
+      λ (some : IsSome (head_in seat.loaded)). loaded_at book.made book.owner book.fragments seat Swapping (seat.mine ++ []) (way.1 some),
+    )
+    (λ making snapped. watches_stay heap state.words (words_shaded heap state book q rule here f head.number head.kept head.is) book.colour coloured seat (mark_keeps book.colour f)
     (λ x lead. inl (back x lead)) None (watched making snapped))
     (λ making is_on. (
       if_some (IsMarked book.colour) (IsMarked coloured) (mark_keeps book.colour f) (head_in seat.loaded) (was making),

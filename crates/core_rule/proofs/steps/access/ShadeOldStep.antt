@@ -24,7 +24,7 @@ use Rattle.core_rule.specs.Ways.{Finds, LoadedKept}
 use Rattle.core_rule.proofs.steps.Assemble.{Keeps}
 use Rattle.core_rule.proofs.steps.BarrierSteps.{new_cases, shades_on, leads_back}
 use Rattle.core_rule.proofs.ways.LoadedObjects.{KeptHead}
-use Rattle.core_rule.proofs.ways.OnwardWays.{finds_at}
+use Rattle.core_rule.proofs.ways.OnwardWays.{finds_at, loaded_at}
 use Rattle.core_rule.proofs.lists.Options.{some_holds, none_holds, from_some}
 use Rattle.core_rule.proofs.colours.ShadeColours.{with_mark, mark_marks, mark_keeps}
 use Rattle.core_rule.proofs.steps.ShadeStep.{shading, words_shaded}
@@ -50,6 +50,7 @@ shade_old_keeps heap state book q rule here place machine =
     let on = shades_on heap state book q rule here ShadingOld place (λ answered. answered) (λ d r awaited. awaited) f head fits.1 in
     let back = leads_back heap state book q rule here ShadingOld place (λ answered. answered) (λ d r awaited. awaited) f head fits.1 in
     let at_next = λ (next : Reaching). finds_at (cells_at g book.made) book.made book.owner book.fragments seat seat.loaded next (seat.mine ++ []) way.0 in
+    let kept_at = λ (next : Reaching) (some : IsSome (head_in seat.loaded)). loaded_at book.made book.owner book.fragments seat next (seat.mine ++ []) way.1 in
     let marked : IfSome (head_in seat.loaded) (IsMarked coloured) = some_holds (IsMarked coloured) (head_in seat.loaded) f loads (mark_marks book.colour f) in
     let watched : IsBetween 2 5 p → IsBetween 2 5 seat.answered → Watches heap state.words book.colour seat (head_in seat.loaded)
     = subst (λ x. IsBetween 2 5 p → IsBetween 2 5 seat.answered → WhileReaching (FieldStands heap state.words book.colour seat) x) place stands.cycle.flight.set in
@@ -62,9 +63,9 @@ shade_old_keeps heap state book q rule here place machine =
     new_cases (λ next. IsMachine heap (record state { words = words_shaded heap state book q rule here f head.number head.kept head.is; seats = slice_set state.seats q (shading seat seat.shaded (places.Reaching next)) })
     → Keeps heap (record state { words = words_shaded heap state book q rule here f head.number head.kept head.is; seats = slice_set state.seats q (shading seat seat.shaded (places.Reaching next)) }) book book.begun [])
     (head_of (new_register seat))
-    (λ no_new. on Swapping (λ s. refl) (at_next Swapping) (λ making snapped is_on. field making snapped)
+    (λ no_new. on Swapping (λ s. refl) (at_next Swapping, kept_at Swapping) (λ making snapped. field making snapped)
     (λ making is_on. (marked, none_holds (IsMarked coloured) (head_of (new_register seat)) no_new)))
-    (λ x some. on ShadingNew (λ s. refl) (at_next ShadingNew) field (λ making. marked))
+    (λ x some. on ShadingNew (λ s. refl) (at_next ShadingNew, kept_at ShadingNew) field (λ making. marked))
     machine
   where
     one : (f x : ℕ) → Some f ≡ Some x → f ≡ x

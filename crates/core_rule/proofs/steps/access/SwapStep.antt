@@ -27,7 +27,7 @@ use Rattle.core_machine.specs.declared.table.address.Address.TheVariants.{Word}
 use Rattle.core_machine.specs.declared.place.Place.TheVariants as places
 use Rattle.core_machine.specs.declared.place.Reaching.TheVariants.{Swapping}
 use Rattle.core_machine.specs.seat.Commands.{object_of, source_of, field_of, target_of}
-use Rattle.core_machine.specs.seat.Fits.{IsAtRest, IsSilent}
+use Rattle.core_machine.specs.seat.Fits.{IsAtRest}
 use Rattle.core_machine.specs.seat.FitsReaching.{IsSet, Sets as FitsSets}
 use Rattle.core_machine.specs.table.Layout.{at, put}
 use Rattle.core_machine.specs.table.Loaded.{stamp_in}
@@ -42,7 +42,7 @@ use Rattle.core_rule.specs.Book.{Book, fragment_at, id_at, head_of}
 use Rattle.core_rule.specs.Objects.{AreMade, NamesKept, Objects, cells_in, cells_at, value_word}
 use Rattle.core_rule.specs.Registers.{Holds}
 use Rattle.core_rule.specs.Rule.{Rule}
-use Rattle.core_rule.specs.Ways.{Finds}
+use Rattle.core_rule.specs.Ways.{Finds, OldKept}
 use Rattle.core_rule.proofs.steps.Assemble.{Keeps}
 use Rattle.core_rule.proofs.entries.AtRest.{in_flight, spent_own, few_own, none_awaited}
 use Rattle.core_rule.proofs.graph.CellSet.{Sets, sets_cell}
@@ -101,11 +101,11 @@ swap_keeps heap state book q rule here place machine =
     let rest : IsAtRest seat = rw place at stands.fits.at_place in
     let fits : FitsSets seat × (has_barrier seat ≡ false → seat.loaded ≡ 0) = rw place at stands.fits.way_at_place in
     let a_set : IsSet seat.command = fits.0.1 in
-    let finds : Finds (cells_at g book.made) book.made book.owner book.fragments seat = rw place at stands.way in
+    let way : Finds (cells_at g book.made) book.made book.owner book.fragments seat × OldKept book.made book.owner book.fragments seat = rw place at stands.way in
+    let finds : Finds (cells_at g book.made) book.made book.owner book.fragments seat = way.0 in
     let busy : seat.place ≢ places.Idle = λ idle. absurd (cc (place, idle)) in
     let present : (party g q).left ≡ false = stands.counts.leaves ∙ in_flight heap seat stands.fits busy in
     let awaits = rw place at stands.list.awaits in
-    let silent : IsSilent seat = rw place at stands.fits.answer_at_place in
     let holds : (r : ℕ) → Holds book.made book.owner book.fragments (register_in seat.registers r) (register g q r)
     = λ r. stands.registers r (none_awaited seat.place (places.Reaching Swapping) (target_of seat.command) r place (λ none. none)) in
     let n : ℕ = finds.number in
@@ -173,7 +173,7 @@ swap_keeps heap state book q rule here place machine =
     (cycle_own heap (put heap state.words (Word seat.reached part) word) book.owner book.colour book.history (entries.Said q seat.command (replies.Was stamp)) refl q
     (seat_after (swap_move q seat) found)
     (cycle_apart heap state.words (put heap state.words (Word seat.reached part) word) book.owner book.owner book.colour book.colour (phase book.history) (answered q book.history) (has_left q book.history)
-    q seat (seat_after (swap_move q seat) found) record { answered = refl; left = refl; asked = refl } tt silent.none_shaded
+    q seat (seat_after (swap_move q seat) found) record { answered = refl; left = refl; asked = refl } tt
     (answer_swapped heap state book q rule here place cell.value cell.stamp (holds (source_of seat.command)) names.0 small word is_word q here) stands.cycle.births stands.cycle)
     refl (no_leave_told q q seat.command (replies.Was stamp) (λ leaves. subst IsSet leaves a_set)))
     (leaves_swapped heap state book q rule here place cell.value cell.stamp (holds (source_of seat.command)) names.0 small word is_word)

@@ -9,7 +9,7 @@ use Rattle.heap_model.specs.State.{State as Graph}
 use Rattle.core_machine.specs.declared.table.address.Address.TheVariants.{Phase}
 use Rattle.core_machine.specs.declared.place.Place.TheVariants as places
 use Rattle.core_machine.specs.seat.Commands.{target_of}
-use Rattle.core_machine.specs.seat.Fits.{IsAtRest, IsLocal, IsSilent}
+use Rattle.core_machine.specs.seat.Fits.{IsAtRest, IsLocal}
 use Rattle.core_machine.specs.table.Layout.{at}
 use Rattle.core_machine.specs.machine.Machine.{State, seat_at, stepped, found_by}
 use Rattle.core_machine.specs.Moves.{telling_move, seat_after}
@@ -40,10 +40,9 @@ telling_keeps heap state book q rule here place machine =
     let busy : seat.place ≢ places.Idle = λ idle. absurd (cc (place, idle)) in
     let present : (party g q).left ≡ false = stands.counts.leaves ∙ in_flight heap seat stands.fits busy in
     let awaits = rw place at stands.list.awaits in
-    let silent : IsSilent seat = rw place at stands.fits.answer_at_place in
     local_reply_keeps heap state book q Phase (seat_after (telling_move q seat) (at heap state.words Phase)) (local_reply seat.registers seat.command) rule here machine
     at_place.0 (all_told seat.mine stands.list.awaited (filter (is_of q) book.history) stands.list.own awaits) present at_place.1
     (local_replies heap book.history g q book.made book.owner book.fragments seat.registers present stands.fits.registers_whole (registers_length heap book.history q present)
     (λ i. stands.registers i (none_awaited seat.place places.Telling (target_of seat.command) i place (λ none. none))) seat.command at_place.1 at_place.2)
     (no_leave_told q q seat.command (local_reply seat.registers seat.command) (λ leaves. subst (IsLocal seat.registers) leaves at_place.2))
-    record { idle = refl; reserve = refl; mine = refl; answered = refl; asked = refl; shaded = silent.none_shaded; made = refl; sets = refl; left = refl }
+    record { idle = refl; reserve = refl; mine = refl; answered = refl; asked = refl; made = refl; sets = refl; left = refl }

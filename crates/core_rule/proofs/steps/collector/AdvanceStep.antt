@@ -12,7 +12,6 @@ use Rattle.heap_model.proofs.Histories.{graph_after-more}
 use Rattle.core_machine.specs.declared.table.address.Address.TheVariants.{Answer, Phase}
 use Rattle.core_machine.specs.declared.collector.stage.Stage.TheVariants.{Advancing}
 use Rattle.core_machine.specs.collector.Collector.{advance_turn}
-use Rattle.core_machine.specs.seat.Fits.{FitsStage}
 use Rattle.core_machine.specs.table.Layout.{put, table_length}
 use Rattle.core_machine.specs.machine.Machine.{State, seat_at, turned}
 use Rattle.core_machine.specs.machine.Value.{IsMachine}
@@ -53,7 +52,7 @@ module _ (heap : Heap) (state : State) (book : Book) (rule : Rule heap state boo
 
   -- all have answered
   all_answered : AllAnswered heap book.history
-  all_answered q below present = rule.collector_stands.looked q (omega (arith, below, subst (FitsStage heap state.collector) advancing rule.machine.collector_fit.at_stage)) below present
+  all_answered = rule.collector_stands.advances advancing
 
   told : next ≡ phase book.history + 1
   told = ap (λ p. p + 1) rule.collector_stands.phase_told
@@ -112,7 +111,8 @@ module _ (heap : Heap) (state : State) (book : Book) (rule : Rule heap state boo
         log = rw (filter-append is_collectors book.history (Advance next ∷ []), rule.collector_stands.log) refl;
         phase_told = told ∙ sym grown;
         looked = λ q none below present. absurd (omega (arith, none));
-        goes_on = λ on. cc;
+        advances = λ on. absurd (cc (on));
+        goes_on = λ on. absurd (cc (on));
       };
     };
   }

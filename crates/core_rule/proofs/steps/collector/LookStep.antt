@@ -37,6 +37,7 @@ log_stays heap collector history stands = record {
   log = append-nil collector.log ∙ stands.log;
   phase_told = stands.phase_told;
   looked = stands.looked;
+  advances = stands.advances;
   goes_on = stands.goes_on;
 }
 
@@ -49,12 +50,14 @@ module _ (heap : Heap) (collector : Collector) (history : List Entry) (stands : 
       log = stands.log;
       phase_told = stands.phase_told;
       looked = λ q none below present. absurd (omega (arith, none));
+      advances = λ on. absurd (cc (on, looking));
       goes_on = λ on. absurd (cc (on, looking));
     })
     | inr other ↦ rw other.0 (record {
       log = stands.log;
       phase_told = stands.phase_told;
       looked = λ q less below present. all q below present;
+      advances = λ on. all;
       goes_on = λ on. omega (arith, other.1, early, stands.phase_told);
     })
   ]
@@ -73,6 +76,7 @@ module _ (heap : Heap) (collector : Collector) (history : List Entry) (stands : 
         log = stands.log;
         phase_told = stands.phase_told;
         looked = more_seen;
+        advances = λ on. absurd (cc (on, looking));
         goes_on = λ on. absurd (cc (on, looking));
       })
       | inr last ↦ rw last.0 (all_seen (λ q below present. more_seen q (omega (arith, last.1, below)) below present))

@@ -151,8 +151,11 @@ module _ (heap : Heap) (state : State) (book : Book) (q : ℕ) (rule : Rule heap
       loaded = omega arith;
     };
     answer = tt;
-    flight = record { set = λ marking snapped. tt; shaded = λ marking. tt; roots = λ marking j less. absurd (omega (arith, less)) };
-    births = λ f bears. absurd (bears_nothing book.owner q seat.reserve seat.hand seat.body rest.no_body stands.holding f bears);
+    flight = record { set = λ marking snapped. tt; shaded = λ marking. tt; roots = λ begins. tt };
+    births = record {
+      dark = λ between f bears. absurd (bears_nothing book.owner q seat.reserve seat.hand seat.body rest.no_body stands.holding f bears);
+      light = λ apart f bears. absurd (bears_nothing book.owner q seat.reserve seat.hand seat.body rest.no_body stands.holding f bears);
+    };
   }
 
   own_stands : SeatStands heap words later q now

@@ -17,7 +17,7 @@ use Rattle.core_machine.specs.declared.place.Place.{Place}
 use Rattle.core_machine.specs.declared.place.Place.TheVariants as places
 use Rattle.core_machine.specs.seat.AnsweringMoves.{empty_move}
 use Rattle.core_machine.specs.seat.Commands.{target_of}
-use Rattle.core_machine.specs.seat.Fits.{IsAtRest, IsSilent}
+use Rattle.core_machine.specs.seat.Fits.{IsAtRest}
 use Rattle.core_machine.specs.table.Layout.{at}
 use Rattle.core_machine.specs.machine.Machine.{State, seat_at, stepped, found_by}
 use Rattle.core_machine.specs.Moves.{seat_after}
@@ -52,7 +52,6 @@ empty_keeps heap state book q rule here place machine =
     let g : Graph = graph_of heap book.history in
     let at_place : IsAtRest seat × (seat.command ≡ commands.Leave) × (0 < length seat.reserve) = rw place at stands.fits.at_place in
     let rest : IsAtRest seat = at_place.0 in
-    let silent : IsSilent seat = rw place at stands.fits.answer_at_place in
     let busy : seat.place ≢ places.Idle = λ idle. absurd (cc (place, idle)) in
     let present : (party g q).left ≡ false = stands.counts.leaves ∙ in_flight heap seat stands.fits busy in
     let awaits = rw place at stands.list.awaits in
@@ -76,7 +75,7 @@ empty_keeps heap state book q rule here place machine =
           (none_awaited seat.place (places.Leaving Emptying) (target_of seat.command) r place (λ none. none)));
       list = whole_list (graph_of heap later.history) later.history book.made later.owner book.fragments q now refl (own_grows q book.history seat.mine entry (eq-eqb q q refl) told);
       way = tt;
-      cycle = cycle_given heap state book q rule here seat.cursor fs below held once now record { answered = refl; left = refl; asked = refl } tt silent.none_shaded;
+      cycle = cycle_given heap state book q rule here seat.cursor fs below held once now record { answered = refl; left = refl; asked = refl } tt;
       together = nothing_together heap seat.cursor seat.tried seat.hand seat.body rest.empty_hand rest.no_body;
       counts = rw graph (counts_own g g book.history q seat now stands.counts entry (eq-eqb q q refl)
           stands.counts.numbered stands.counts.stamped stands.counts.leaves (omega arith));

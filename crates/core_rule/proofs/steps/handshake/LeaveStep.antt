@@ -24,7 +24,7 @@ use Rattle.core_machine.specs.declared.place.Leaving.TheVariants.{Parting}
 use Rattle.core_machine.specs.declared.place.Place.TheVariants as places
 use Rattle.core_machine.specs.declared.seat.register.Register.TheVariants as registers
 use Rattle.core_machine.specs.seat.AnsweringMoves.{leave_move}
-use Rattle.core_machine.specs.seat.Fits.{IsAtRest, IsSilent}
+use Rattle.core_machine.specs.seat.Fits.{IsAtRest}
 use Rattle.core_machine.specs.table.Layout.{at, put}
 use Rattle.core_machine.specs.machine.Machine.{State, seat_at, stepped, found_by}
 use Rattle.core_machine.specs.Moves.{seat_after}
@@ -82,7 +82,6 @@ leave_keeps heap state book q rule here place machine =
     = objects_words heap state.words words g book.made book.owner book.fragments (λ f i k part is within. same.parts f part) rule.heap_stands.objects in
     let left : Entry = entries.Said q seat.command replies.Done in
     let leaves : is_leave_of q left ≡ true = ap (λ c. is_leave_of q (entries.Said q c replies.Done)) at_place.1 ∙ eq-eqb q q refl in
-    let silent : IsSilent seat = rw place at stands.fits.answer_at_place in
     let told = stands.cycle.answers_told in
     reply_keeps heap state book q words (seat_after (leave_move q seat) (at heap state.words (Answer q))) seat.command replies.Done rule here machine
     refl at_place.0 (all_told seat.mine stands.list.awaited (filter (is_of q) book.history) stands.list.own awaits)
@@ -111,7 +110,7 @@ leave_keeps heap state book q rule here place machine =
         loaded = omega (arith, told.loaded, phase_stays book.history left refl);
       };
       answer = tt;
-      flight = record { set = λ marking snapped. tt; shaded = λ marking. tt; roots = λ marking j less. absurd (omega (arith, less, silent.none_shaded)) };
+      flight = record { set = λ marking snapped. tt; shaded = λ marking. tt; roots = λ begins. tt };
       births = stands.cycle.births;
     }
     (λ r below apart. leaves_answer heap state.words q LEFT small book.owner book.colour (phase book.history) r (seat_at state r) apart)

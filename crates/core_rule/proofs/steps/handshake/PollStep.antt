@@ -29,6 +29,7 @@ use Rattle.core_rule.specs.Cycle.{SeatInCycle}
 use Rattle.core_rule.specs.Phases.{Asks, PollingStands}
 use Rattle.core_rule.specs.Rule.{Rule, SeatStands}
 use Rattle.core_rule.proofs.steps.Assemble.{Keeps, seat_steps, fit_after}
+use Rattle.core_rule.proofs.cycle.Roots.{roots_marked}
 use Rattle.core_rule.proofs.entries.AtRest.{in_flight, none_awaited}
 use Rattle.core_rule.proofs.entries.InFlight.{began_on}
 use Rattle.core_rule.proofs.graph.LocalReplies.{IsLocalReply, HoldAll}
@@ -99,7 +100,7 @@ module _ (heap : Heap) (state : State) (book : Book) (q : ℕ) (rule : Rule heap
       (subst IsCommand (sym asks.1) tt)
       (subst (λ c. IsLocalReply heap book.history g q book.made book.owner book.fragments c (replies.Phase found) seat.registers) (sym asks.1) local)
       (no_leave_told q q seat.command (replies.Phase found) (λ leaves. absurd (cc (leaves, asks.1))))
-      record { idle = refl; reserve = refl; mine = refl; answered = refl; asked = refl; shaded = asks.0.none_shaded; made = refl; sets = refl; left = refl }
+      record { idle = refl; reserve = refl; mine = refl; answered = refl; asked = refl; made = refl; sets = refl; left = refl }
 
   -- it hasn't, so that it is one phase behind
   own_cycle : found ≢ seat.answered
@@ -114,9 +115,9 @@ module _ (heap : Heap) (state : State) (book : Book) (q : ℕ) (rule : Rule heap
         answers_told = record { told = told.told; leaves = told.leaves; word = told.word; near = told.near; loaded = omega (arith, is_phase) };
         answer = asks_at (phase book.history) seat.answered found (nat_lt seat.shaded (length (roots (record seat { asked = found })))) record { now = is_phase; next = next };
         flight = record {
-          set = λ marking snapped. tt;
-          shaded = λ marking. tt;
-          roots = λ marking j less. absurd (omega (arith, less, asks.0.none_shaded));
+          set = λ making snapped. tt;
+          shaded = λ running. tt;
+          roots = λ begins. roots_marked book.colour (record seat { asked = found }) begins (λ r before. absurd (omega (arith, before, asks.0.none_shaded)));
         };
         births = stands.cycle.births;
       }

@@ -1,6 +1,6 @@
 -- Shading a root keeps the rule.
-use Rattle.std.proofs.Common.{◌≡◌, ℕ, ◌+◌, ◌%◌, ◌<◌, ◌==◌, if◌then◌else◌, Bool, true, false, List, [], length, filter, slice_index_or, inl, inr, refl, sym, ◌∙◌, subst, arith, nat_lt}
-use Rattle.std.proofs.lemmas.Bool.{cond_both, eqb-true, cases_lt}
+use Rattle.std.proofs.Common.{◌≡◌, ℕ, ◌+◌, ◌%◌, ◌<◌, ◌==◌, if◌then◌else◌, Bool, true, false, List, [], length, filter, slice_index_or, refl, sym, ap, subst, arith, nat_lt}
+use Rattle.std.proofs.lemmas.Bool.{cond_both, eqb-true}
 use Rattle.std.proofs.lemmas.List.{append-nil}
 use Rattle.heap_model.specs.declared.heap.Heap.{Heap}
 use Rattle.heap_model.specs.Cycles.{graph_of}
@@ -19,16 +19,18 @@ use Rattle.core_machine.specs.seat.Registers.{heads, register_in}
 use Rattle.core_machine.specs.seat.Seat.{Seat}
 use Rattle.core_machine.specs.machine.Value.{IsMachine}
 use Rattle.core_rule.specs.Book.{Book}
-use Rattle.core_rule.specs.Colours.{IsMarked}
+use Rattle.core_rule.specs.Flight.{RootsStand, WhilePolling}
 use Rattle.core_rule.specs.Gathers.{IsAnswered}
 use Rattle.core_rule.specs.Phases.{Asks, PollingStands, AnswerStands}
 use Rattle.core_rule.specs.Registers.{IsAwaited, Holds}
 use Rattle.core_rule.specs.Rule.{Rule}
 use Rattle.core_rule.proofs.steps.Assemble.{Keeps}
 use Rattle.core_rule.proofs.cycle.CycleFrames.{cycle_by_flight}
+use Rattle.core_rule.proofs.colours.Births.{births_stay}
+use Rattle.core_rule.proofs.cycle.Roots.{FrontMarked, front_more, roots_all, roots_marked}
 use Rattle.core_rule.proofs.ways.LoadedObjects.{KeptHead, heads_kept}
 use Rattle.core_rule.proofs.entries.SeatLists.{list_more}
-use Rattle.core_rule.proofs.colours.ShadeColours.{with_mark, mark_marks, mark_keeps}
+use Rattle.core_rule.proofs.colours.ShadeColours.{with_mark}
 use Rattle.core_rule.proofs.steps.ShadeStep.{shading, words_shaded, shade_keeps, answer_shaded, borne_unshaded}
 
 -- whoever goes on to shade or to answer asks for the phase
@@ -55,7 +57,7 @@ root_keeps heap state book q rule here place machine =
     let asks : Asks p seat.answered seat.asked = subst (λ x. AnswerStands p seat.answered seat.asked x) place stands.cycle.answer in
     let third : (seat.asked % 7 == 3) ≡ true = roots_third (seat.asked % 7 == 3) (heads seat.registers) seat.shaded fits.1 in
     let is_third : seat.asked % 7 ≡ 3 = eqb-true (seat.asked % 7) 3 third in
-    let all : roots seat ≡ heads seat.registers = rw third refl in
+    let all : roots seat ≡ heads seat.registers = roots_all seat is_third in
     let f : ℕ = slice_index_or (roots seat) seat.shaded 0 in
     let busy : ¬ IsAnswered seat.place = λ done. subst IsAnswered place done in
     let held : (r : ℕ) → Holds book.made book.owner book.fragments (register_in seat.registers r) (register g q r)
@@ -63,6 +65,8 @@ root_keeps heap state book q rule here place machine =
     let head : KeptHead book.made book.owner book.fragments f
     = subst (λ (fs : List ℕ). KeptHead book.made book.owner book.fragments (slice_index_or fs seat.shaded 0)) (sym all)
     (heads_kept book.made book.owner book.fragments seat.registers (λ r. register g q r) held seat.shaded (subst (λ (fs : List ℕ). seat.shaded < length fs) all fits.1)) in
+    let front : FrontMarked book.colour seat.registers seat.shaded
+    = subst (λ x. seat.asked % 7 ≡ 3 → WhilePolling (RootsStand book.colour seat) x) place stands.cycle.flight.roots is_third in
     let new : Seat = shading seat (seat.shaded + 1) (places.Polling (answer_place (record seat { shaded = seat.shaded + 1 }))) in
     shade_keeps heap state book q rule here f head.number head.kept head.is (seat.shaded + 1) (places.Polling (answer_place (record seat { shaded = seat.shaded + 1 })))
     (λ rests. omega (arith, rests, asks.now, is_third)) machine
@@ -75,12 +79,9 @@ root_keeps heap state book q rule here place machine =
     (asks_on p seat.answered seat.asked (record seat { shaded = seat.shaded + 1 }) asks)
     record {
       set = λ making snapped. tt;
-      shaded = λ making. tt;
-      roots = λ making j less. elim (cases_lt j seat.shaded) [
-        | inl before ↦ mark_keeps book.colour f _ (stands.cycle.flight.roots making j before)
-        | inr past ↦
-            let last : seat.shaded ≡ j = omega (arith, less, past) in
-            subst (λ n. IsMarked (with_mark book.colour f) (slice_index_or (roots seat) n 0)) last (mark_marks book.colour f)
-      ];
+      shaded = λ running. tt;
+      roots = λ begins. roots_marked (with_mark book.colour f) (record seat { shaded = seat.shaded + 1 }) begins
+          (subst (λ (x : ℕ). FrontMarked (with_mark book.colour x) seat.registers (seat.shaded + 1)) (ap (λ (fs : List ℕ). slice_index_or fs seat.shaded 0) (sym all))
+          (front_more book.colour seat.registers seat.shaded front));
     }
-    (λ x borne. borne_unshaded heap state book q rule here f head.number head.kept head.is q x borne ∙ stands.cycle.births x borne) stands.cycle)
+    (births_stay book.owner book.owner book.colour (with_mark book.colour f) q seat.answered (λ x borne. (borne, borne_unshaded heap state book q rule here f head.number head.kept head.is q x borne)) stands.cycle.births) stands.cycle)

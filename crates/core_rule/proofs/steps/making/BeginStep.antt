@@ -7,7 +7,7 @@ use Rattle.heap_model.specs.Cycles.{graph_of}
 use Rattle.heap_model.specs.PhaseCounts.{phase, answered, has_left}
 use Rattle.core_machine.specs.declared.place.Place.TheVariants as places
 use Rattle.core_machine.specs.seat.Commands.{IsRecord, target_of}
-use Rattle.core_machine.specs.seat.Fits.{IsAtRest, IsSilent}
+use Rattle.core_machine.specs.seat.Fits.{IsAtRest}
 use Rattle.core_machine.specs.machine.Machine.{State, seat_at, MayBegin}
 use Rattle.core_machine.specs.seat.Making.{goes_on}
 use Rattle.core_machine.specs.seat.Seat.{Seat}
@@ -34,7 +34,6 @@ begin_keeps heap state book q command rule here may a_record machine =
     let next : Seat = goes_on heap seat in
     let stands = rule.seats_stand q here in
     let rest : IsAtRest (seat_at state q) = rw may.idle at stands.fits.at_place in
-    let silent : IsSilent (seat_at state q) = rw may.idle at stands.fits.answer_at_place in
     let stays = same_goes_on heap seat in
     let same = stays.same in
     seat_steps heap state book q state.words next (book_begun heap state.words book q) []
@@ -49,7 +48,7 @@ begin_keeps heap state book q command rule here may a_record machine =
           (same.mine ∙ idle_list (graph_of heap book.history) book.history book.made book.owner book.fragments q (seat_at state q) may.idle stands.list);
       way = rw stays.placed tt;
       cycle = cycle_goes_on heap state.words state.words book.owner book.owner book.colour (phase book.history) (answered q book.history) (has_left q book.history) q (seat_at state q) next
-          record { answered = same.answered; left = same.left; asked = same.asked } (rw stays.placed tt) (same.shaded ∙ silent.none_shaded) refl (λ f borne. borne) stands.cycle;
+          record { answered = same.answered; left = same.left; asked = same.asked } (rw stays.placed tt) refl (λ f borne. borne) stands.cycle;
       together = together_goes_on heap seat rest.no_body stands.fits.cursor_within stands.fits.reserve_of_cursor
           (nothing_together heap seat.cursor seat.tried seat.hand seat.body rest.empty_hand rest.no_body);
       counts = record {

@@ -18,11 +18,12 @@ use Rattle.core_machine.specs.seat.Seat.{Seat}
 use Rattle.core_machine.specs.machine.Value.{IsMachine}
 use Rattle.core_machine.proofs.table_lemmas.Addresses.{length-put}
 use Rattle.core_rule.specs.Book.{Book, Colour, White, fragment_at}
-use Rattle.core_rule.specs.Colours.{IsMarked, birth_colour}
+use Rattle.core_rule.specs.Colours.{IsMarked}
 use Rattle.core_rule.specs.Objects.{cells_at}
 use Rattle.core_rule.specs.Owners.{Owner, Bears, born_bit, handed}
 use Rattle.core_rule.specs.Rule.{Rule}
 use Rattle.core_rule.proofs.steps.Assemble.{fit_after, Keeps, seat_steps}
+use Rattle.core_rule.proofs.colours.Births.{birth_colour, births_are, are_births}
 use Rattle.core_rule.proofs.colours.BirthColours.{painted_cases}
 use Rattle.core_rule.proofs.cycle.BirthCycle.{words_born, colours_born, group_born, some_born, marks_born, heap_born}
 use Rattle.core_rule.proofs.hand.Bodies.{whole_full}
@@ -33,7 +34,6 @@ use Rattle.core_rule.proofs.gather.GatherMoves.{gathers_same}
 use Rattle.core_rule.proofs.owners.Handed.{gains}
 use Rattle.core_rule.proofs.hand.HandMoves.{hand_held, hand_once, part_held, part_once, holding_bears, holding_born, held_within}
 use Rattle.core_rule.proofs.cycle.MakingCycle.{answer_after_control, cycle_control, born_more, born_others}
-use Rattle.core_rule.proofs.hand.MakingSeats.{none_shaded}
 use Rattle.core_rule.proofs.objects.ObjectFrames.{bears_keeps_none, holds_keeps_none, objects_control, objects_owners, registers_owners, part_kept}
 use Rattle.core_rule.proofs.entries.OwnEntries.{counts_same}
 use Rattle.core_rule.proofs.owners.OwnerFrames.{owners_handed}
@@ -95,9 +95,9 @@ birth_keeps heap state book q rule here place more machine =
           (append-nil seat.mine ∙ making_list (graph_of heap book.history) book.history book.made book.owner book.fragments q seat Bearing place stands.list);
       way = rw place tt;
       cycle = cycle_apart heap state.words words book.owner owner book.colour colour (phase book.history) (answered q book.history) (has_left q book.history) q
-          seat (seat_after (birth_move seat) found) record { answered = refl; left = refl; asked = refl } (rw place tt) (none_shaded heap seat Bearing stands.fits place)
+          seat (seat_after (birth_move seat) found) record { answered = refl; left = refl; asked = refl } (rw place tt)
           (answer_after_control heap state.words word g q (omega (arith, here, rule.limits.seats_fit)))
-          (born_more book.owner book.colour part q black stands.cycle.births) stands.cycle;
+          (are_births owner colour q seat (born_more book.owner book.colour part q black (births_are book.owner book.colour q seat stands.cycle.births))) stands.cycle;
       together = together_bears heap seat.cursor seat.tried seat.hand seat.body stands.fits.hand_within some stands.together;
       counts = counts_same (graph_of heap book.history) book.history q seat (seat_after (birth_move seat) found) refl refl refl
           (rw (whole_full (part_out g seat.hand) seat.hand seat.body some) refl) stands.counts;

@@ -45,7 +45,6 @@ use Rattle.core_rule.proofs.hand.GoesOn.{holding_goes_on, length_goes_on, gather
 use Rattle.core_rule.proofs.hand.HandMoves.{holding_claims, holding_claimed}
 use Rattle.core_rule.proofs.entries.InFlight.{awaits_none, is_busy}
 use Rattle.core_rule.proofs.cycle.MakingCycle.{answer_after_control, cycle_control, cycle_goes_on, heap_hands, borne_before}
-use Rattle.core_rule.proofs.hand.MakingSeats.{none_shaded}
 use Rattle.core_rule.proofs.objects.ObjectFrames.{handed_kept, holds_keeps_none, objects_control, objects_owners, registers_owners}
 use Rattle.core_rule.proofs.owners.OwnerFrames.{owners_handed}
 use Rattle.core_rule.proofs.owners.OwnerLemmas.{free_by_bit}
@@ -147,7 +146,7 @@ claim_keeps heap state book q rule here place machine =
       way = rw stays.placed tt;
       cycle = tells.cycles words owner book.colour q next
           (cycle_goes_on heap state.words words book.owner owner book.colour (phase book.history) (answered q book.history) (has_left q book.history) q seat next
-          record { answered = same.answered; left = same.left; asked = same.asked } (rw stays.placed tt) (same.shaded ∙ none_shaded heap seat Gathering stands.fits place)
+          record { answered = same.answered; left = same.left; asked = same.asked } (rw stays.placed tt)
           (answer_after_control heap state.words word g q (omega (arith, here, rule.limits.seats_fit)))
           (λ f. borne_before (Holds q) book.owner fs q f holds_bears_none) stands.cycle);
       together = together_goes_on heap mid gathers.no_body stands.fits.cursor_within stands.fits.reserve_of_cursor

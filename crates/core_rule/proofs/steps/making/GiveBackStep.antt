@@ -30,7 +30,7 @@ use Rattle.core_rule.proofs.gather.GatherSteps.{own_gives}
 use Rattle.core_rule.proofs.frames.GivingBack.{words_given, book_given, graph_given, kept_given, heap_given, cycle_given, other_given}
 use Rattle.core_rule.proofs.hand.HandMoves.{hand_held, hand_once, part_held, part_once, held_within, holding_gives}
 use Rattle.core_rule.proofs.entries.InFlight.{awaits_none, tried_within, began_past, is_busy}
-use Rattle.core_rule.proofs.hand.MakingSeats.{none_shaded, first_within}
+use Rattle.core_rule.proofs.hand.MakingSeats.{first_within}
 use Rattle.core_rule.proofs.objects.ObjectFrames.{registers_owners}
 use Rattle.core_rule.proofs.entries.OwnEntries.{own_grows, counts_own}
 use Rattle.core_rule.proofs.lists.Parts.{parts_length, first_some}
@@ -83,7 +83,7 @@ give_back_keeps heap state book q rule here place machine =
           (awaits_none Returning seat.place (target_of seat.command) r place));
       list = whole_list (graph_of heap later.history) later.history book.made later.owner book.fragments q now refl (own_grows q book.history seat.mine entry (eq-eqb q q refl) list);
       way = tt;
-      cycle = cycle_given heap state book q rule here g part below held once now record { answered = refl; left = refl; asked = refl } tt (none_shaded heap seat Returning stands.fits place);
+      cycle = cycle_given heap state book q rule here g part below held once now record { answered = refl; left = refl; asked = refl } tt;
       together = together_gives heap seat.cursor seat.tried g seat.hand seat.body refuses.no_body stands.together;
       counts = rw graph (counts_own before before book.history q seat now stands.counts entry (eq-eqb q q refl)
           stands.counts.numbered stands.counts.stamped stands.counts.leaves (omega (arith, left_of_hand seat.reserve seat.hand seat.body g refuses.no_body)));

@@ -23,11 +23,11 @@ use Rattle.core_machine.specs.seat.Seat.{Seat}
 use Rattle.core_machine.specs.machine.Value.{IsMachine}
 use Rattle.core_machine.proofs.table_lemmas.Addresses.{length-put}
 use Rattle.core_rule.specs.Book.{Book}
-use Rattle.core_rule.specs.Colours.{birth_colour}
 use Rattle.core_rule.specs.Gathers.{GathersRight}
 use Rattle.core_rule.specs.Objects.{AreMade, cells_at}
 use Rattle.core_rule.specs.Rule.{Rule}
 use Rattle.core_rule.proofs.steps.Assemble.{fit_after, present_at, Keeps, seat_steps}
+use Rattle.core_rule.proofs.colours.Births.{birth_colour, AreBorne, births_are, are_births}
 use Rattle.core_rule.proofs.colours.BirthColours.{painted}
 use Rattle.core_rule.proofs.cycle.BirthCycle.{words_born, group_born, some_born, marks_born, heap_born}
 use Rattle.core_rule.proofs.hand.Bodies.{body_once, body_own}
@@ -45,7 +45,6 @@ use Rattle.core_rule.proofs.objects.LastBirth.{one_more, all_stored, registers_o
 use Rattle.core_rule.proofs.colours.LastColours.{kept_bears, kept_own, kept_borne, kept_first}
 use Rattle.core_rule.proofs.entries.MadeEntry.{graph_grown, used_made, counts_made, made_legal}
 use Rattle.core_rule.proofs.cycle.MakingCycle.{answer_after_control, cycle_control}
-use Rattle.core_rule.proofs.hand.MakingSeats.{none_shaded}
 use Rattle.core_rule.proofs.objects.NamesGrowth.{names_grown, object_grows, old_apart}
 use Rattle.core_rule.proofs.objects.ObjectFrames.{objects_control}
 use Rattle.core_rule.proofs.objects.ObjectsGrowth.{NewBody, objects_grown}
@@ -114,6 +113,7 @@ last_birth_keeps heap state book q rule here place last machine =
       newborn = stored;
     } in
     let black : Bool = bears_black seat in
+    let births : AreBorne book.owner book.colour q black = births_are book.owner book.colour q seat stands.cycle.births in
     let marks = marks_born heap state book q rule here place in
     seat_steps heap state book q words (seat_after (last_birth_move q seat) found) now (entry ∷ []) rule here machine refl refl
     record {
@@ -129,8 +129,8 @@ last_birth_keeps heap state book q rule here place last machine =
       legal = made_legal g book.history q seat stands.counts has.whole some present heap refl has.makes.a_record has.makes.in_range stands.fits.small_reserve rule.heap_stands.legal;
       cycle = heap_cycle_more heap words now.owner now.colour book.history entry refl now.fragments
           (heap_born heap state book q rule here place now.owner now.fragments
-          (kept_bears book.owner book.colour q seat.reserve seat.hand body stands.holding some group (length book.made) last black stands.cycle.births)
-          (kept_first book.owner book.colour q seat.reserve seat.hand body stands.holding some group (length book.made) last black stands.cycle.births
+          (kept_bears book.owner book.colour q seat.reserve seat.hand body stands.holding some group (length book.made) last black births)
+          (kept_first book.owner book.colour q seat.reserve seat.hand body stands.holding some group (length book.made) last black births
           heap state.words book.fragments (phase book.history) rule.heap_stands.cycle.coloured marks (λ f i k keeps. old_apart book.made i (rule.heap_stands.objects.back f i k keeps).0)));
     }
     record {
@@ -146,9 +146,9 @@ last_birth_keeps heap state book q rule here place last machine =
       way = tt;
       cycle = cycle_own heap words now.owner now.colour book.history entry refl q (seat_after (last_birth_move q seat) found)
           (cycle_apart heap state.words words book.owner now.owner book.colour now.colour (phase book.history) (answered q book.history) (has_left q book.history) q
-          seat (seat_after (last_birth_move q seat) found) record { answered = refl; left = refl; asked = refl } tt (none_shaded heap seat Bearing stands.fits place)
+          seat (seat_after (last_birth_move q seat) found) record { answered = refl; left = refl; asked = refl } tt
           (answer_after_control heap state.words word group q (omega (arith, here, rule.limits.seats_fit)))
-          (kept_own book.owner book.colour q seat.reserve seat.hand body stands.holding some group (length book.made) last black stands.cycle.births) stands.cycle)
+          (are_births now.owner now.colour q seat (kept_own book.owner book.colour q seat.reserve seat.hand body stands.holding some group (length book.made) last black births)) stands.cycle)
           refl (no_leave_told q q seat.command _ (λ leaves. subst IsRecord leaves has.makes.a_record));
       together = nothing_together heap seat.cursor seat.tried [] [] refl refl;
       counts = rw graph (counts_made g book.history q seat stands.counts has.whole some present d (fresh false fields) found);
@@ -172,7 +172,7 @@ last_birth_keeps heap state book q rule here place last machine =
       cycle = cycle_other heap words now.owner now.colour book.history entry refl r (seat_at state r)
           (cycle_control heap state.words book.owner now.owner book.colour now.colour (phase book.history) (answered r book.history) (has_left r book.history) r (seat_at state r) group word below
           (omega (arith, less, rule.limits.seats_fit)) marks
-          (kept_borne book.owner book.colour q seat.reserve seat.hand body stands.holding some group (length book.made) last black stands.cycle.births r) other.cycle) (of_other q r apart);
+          (kept_borne book.owner book.colour q seat.reserve seat.hand body stands.holding some group (length book.made) last black births r) other.cycle) (of_other q r apart);
       together = other.together;
       counts = rw graph (counts_stay g grown r (same_party g grown r (party_other g q d (fresh false fields) present r apart)) book.history entry (seat_at state r) (of_other q r apart) other.counts);
       began = began_stays book.history entry r (book.begun r) (seat_at state r).place (of_other q r apart) other.began;

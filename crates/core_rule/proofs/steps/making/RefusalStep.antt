@@ -33,7 +33,6 @@ use Rattle.core_rule.proofs.gather.GatherMoves.{nothing_tried}
 use Rattle.core_rule.proofs.entries.InFlight.{awaits_none, is_busy, began_idle}
 use Rattle.core_rule.proofs.entries.Legality.{legal_more}
 use Rattle.core_rule.proofs.cycle.MakingCycle.{cycle_goes_on}
-use Rattle.core_rule.proofs.hand.MakingSeats.{none_shaded}
 use Rattle.core_rule.proofs.entries.Others.{of_other}
 use Rattle.core_rule.proofs.entries.OwnEntries.{own_grows, counts_own}
 use Rattle.core_rule.proofs.entries.PhaseEntries.{no_leave_told}
@@ -89,7 +88,7 @@ refusal_keeps heap state book q rule here place machine =
       way = tt;
       cycle = cycle_own heap state.words book.owner book.colour book.history entry refl q (seat_after (refusal_move q seat) (at heap state.words Phase))
           (cycle_goes_on heap state.words state.words book.owner book.owner book.colour (phase book.history) (answered q book.history) (has_left q book.history) q seat
-          (seat_after (refusal_move q seat) (at heap state.words Phase)) record { answered = refl; left = refl; asked = refl } tt (none_shaded heap seat Refusing stands.fits place)
+          (seat_after (refusal_move q seat) (at heap state.words Phase)) record { answered = refl; left = refl; asked = refl } tt
           refl (λ f borne. borne) stands.cycle) refl (no_leave_told q q seat.command _ (λ leaves. subst IsRecord leaves refuses.makes.a_record));
       together = nothing_together heap seat.cursor 0 seat.hand seat.body at_place.1 refuses.no_body;
       counts = rw graph (counts_own g g book.history q seat (seat_after (refusal_move q seat) (at heap state.words Phase)) stands.counts entry (eq-eqb q q refl)

@@ -27,7 +27,6 @@ use Rattle.core_rule.proofs.cycle.FieldFrames.{cycle_store, heap_store, watched_
 use Rattle.core_rule.proofs.hand.HandMoves.{hand_held}
 use Rattle.core_rule.proofs.entries.InFlight.{awaits_none, stored_within, began_on, is_busy}
 use Rattle.core_rule.proofs.cycle.MakingCycle.{cycle_goes_on}
-use Rattle.core_rule.proofs.hand.MakingSeats.{none_shaded}
 use Rattle.core_rule.proofs.lists.Members.{tally_at}
 use Rattle.core_rule.proofs.objects.ObjectFrames.{objects_store}
 use Rattle.core_rule.proofs.entries.OwnEntries.{counts_same}
@@ -78,7 +77,7 @@ store_keeps heap state book q rule here place machine =
           (append-nil seat.mine ∙ making_list (graph_of heap book.history) book.history book.made book.owner book.fragments q seat Storing place stands.list);
       way = tt;
       cycle = cycle_goes_on heap state.words words book.owner book.owner book.colour (phase book.history) (answered q book.history) (has_left q book.history) q seat
-          (seat_after (store_move q seat) found) record { answered = refl; left = refl; asked = refl } tt (none_shaded heap seat Storing stands.fits place)
+          (seat_after (store_move q seat) found) record { answered = refl; left = refl; asked = refl } tt
           (at-put_apart heap state.words (Word f part) (Answer q) word (λ e. omega (arith, e, here, rule.limits.seats_fit))) (λ x borne. borne) stands.cycle;
       together = stands.together;
       counts = counts_same (graph_of heap book.history) book.history q seat (seat_after (store_move q seat) found) refl refl refl refl stands.counts;

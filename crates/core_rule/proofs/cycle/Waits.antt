@@ -1,0 +1,80 @@
+-- A turn that waits found a seat that is there, hasn't left, and is one phase behind.
+use Rattle.std.proofs.Common.{◌≡◌, ◌≢◌, ℕ, ◌+◌, ◌<◌, Bool, true, false, if◌then◌else◌, List, refl, sym, ap, ◌∙◌, subst, inl, inr, arith}
+use Rattle.std.proofs.lemmas.Bool.Decides.{eqb_tells}
+use Rattle.heap_words.specs.declared.phase.TheConstants.{LEFT}
+use Rattle.heap_model.specs.declared.collector_calls.Turn.TheVariants.{Stepped, Waits}
+use Rattle.heap_model.specs.declared.entry.Entry.{Entry}
+use Rattle.heap_model.specs.declared.heap.Heap.{Heap}
+use Rattle.heap_model.specs.Phases.{IsBehind}
+use Rattle.core_machine.specs.declared.table.address.Address.TheVariants.{Answer}
+use Rattle.core_machine.specs.declared.collector.stage.Stage.{Stage}
+use Rattle.core_machine.specs.declared.collector.stage.Stage.TheVariants.{Looking, Advancing}
+use Rattle.core_machine.specs.collector.Collector.{Collector, has_answered, turn_at, turn_answer}
+use Rattle.core_machine.specs.seat.Fits.{FitsStage}
+use Rattle.core_machine.specs.table.Layout.{at}
+use Rattle.core_machine.specs.machine.Machine.{State, found_by, seat_at}
+use Rattle.core_machine.specs.seat.Seat.{Seat}
+use Rattle.core_rule.specs.Book.{Book}
+use Rattle.core_rule.specs.Laws.{EachWaitIsBehind}
+use Rattle.core_rule.specs.Phases.{answer_word}
+use Rattle.core_rule.specs.Rule.{Rule}
+
+-- a word that shows no answer is neither the phase nor that of a seat that has left
+unanswered : (p word : ℕ) → has_answered p word ≡ false → (word ≢ p) × (word ≢ LEFT)
+unanswered p word none = elim (eqb_tells word p) [
+  | inl same ↦ absurd (cc (none, same.0))
+  | inr other ↦ elim (eqb_tells word LEFT) [
+    | inl left ↦ absurd (cc (none, other.0, left.0))
+    | inr neither ↦ (other.1, neither.1)
+  ]
+]
+
+-- the seat is there and hasn't left, and its answer is to the phase before this one
+abbrev IsOneBehind : Heap → List Entry → ℕ → ℕ → ℕ → Type 0
+IsOneBehind heap history seat answer p = (seat < heap.seats) × IsBehind seat answer p history × (answer + 1 ≡ p)
+
+module _ (heap : Heap) (state : State) (book : Book) (rule : Rule heap state book) where
+  abbrev collector : Collector
+  collector = state.collector
+
+  abbrev q : ℕ
+  q = collector.looked
+
+  abbrev word : ℕ
+  word = at heap state.words (Answer q)
+
+  -- the seat that was looked at is
+  looked_behind : collector.stage ≡ Looking → has_answered collector.phase word ≡ false → IsOneBehind heap book.history q word collector.phase
+  looked_behind looking none =
+      let below : q < heap.seats = subst (FitsStage heap collector) looking rule.machine.collector_fit.at_stage in
+      let seat : Seat = seat_at state q in
+      let told = (rule.seats_stand q below).cycle.answers_told in
+      let here = rule.collector_stands.phase_told in
+      let neither = unanswered collector.phase word none in
+      let present : seat.left ≡ false = stays seat.left (λ gone. neither.1 (told.word ∙ ap (λ left. answer_word left seat.answered) gone)) in
+      let is : word ≡ seat.answered = told.word ∙ ap (λ left. answer_word left seat.answered) present in
+      elim (told.near present) [
+        | inl same ↦ absurd (neither.0 (is ∙ same ∙ sym here))
+        | inr before ↦ (below, record { present = told.leaves ∙ present; answered = told.told ∙ sym is; here = sym here }, omega (arith, is, before, here))
+      ]
+    where
+      stays : (left : Bool) → (left ≡ true → ⊥) → left ≡ false
+      stays true none = absurd (none refl)
+      stays false none = refl
+
+  -- so the one that a turn waits for is
+  waits_behind : (seat answer p : ℕ) (stage : Stage) → collector.stage ≡ stage
+      → turn_answer collector stage (found_by heap state (turn_at heap collector stage).step) ≡ Waits seat answer p → IsOneBehind heap book.history seat answer p
+  waits_behind seat answer p Advancing advancing waits = absurd (cc waits)
+  waits_behind seat answer p Looking looking waits = by (has_answered collector.phase word) refl waits
+    where
+      by : (b : Bool) → has_answered collector.phase word ≡ b → (if b then Stepped else Waits q word collector.phase) ≡ Waits seat answer p → IsOneBehind heap book.history seat answer p
+      by true seen same = absurd (cc same)
+      by false none same =
+          let which : seat ≡ q = cc same in
+          let what : answer ≡ word = cc same in
+          let when : p ≡ collector.phase = cc same in
+          rw (which, what, when) (looked_behind looking none)
+
+pub each_wait_is_behind : EachWaitIsBehind
+each_wait_is_behind heap state book seat answer p rule waits = waits_behind heap state book rule seat answer p state.collector.stage refl waits
