@@ -149,7 +149,7 @@ impl Machine {
         let heap = self.heap;
         let index = step.address().index(&heap);
         let found = self.words[index];
-        self.words[index] = step.written(found);
+        self.words[index] = step.operation().written(found);
         let party = &mut self.seats[seat as usize];
         party.learn(&heap, seat, found);
         found
@@ -183,7 +183,7 @@ impl Machine {
         let heap = self.heap;
         let index = step.address().index(&heap);
         let found = self.words[index];
-        self.words[index] = step.written(found);
+        self.words[index] = step.operation().written(found);
         let answer = self.collector.learn(&heap, found);
         (found, answer)
     }
