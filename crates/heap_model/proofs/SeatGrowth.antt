@@ -54,6 +54,7 @@ quiet_before g s unborn last (commands.New d fields) reply before comes = quiet_
 quiet_before g s unborn last (commands.Array d cells) reply before comes = quiet_array g s unborn (array_fragments cells) reply before comes
 quiet_before g s unborn last commands.Poll reply before comes = quiet_answers g s last reply before comes
 quiet_before g s unborn last commands.Leave reply before comes = ap (graph_after g) comes ∙ quiet_last_gives g s unborn (eqb unborn 0)
+quiet_before g s unborn last commands.Collect reply before comes = absurd comes
 quiet_before g s unborn last command reply before comes = ap (graph_after g) comes
 
 pub each_call_grows : EachCallGrows
