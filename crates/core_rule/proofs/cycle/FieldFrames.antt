@@ -1,10 +1,10 @@
 -- A store into a seat's new object leaves the fields at which others stand, and the colours.
 use Rattle.std.proofs.Common.{◌≡◌, ◌≢◌, ℕ, ◌-◌, ◌<◌, Bool, List, length, refl, sym, ap, ◌∙◌, subst, arith}
-use Rattle.heap_model.specs.declared.cell.Cell.{Cell}
+use Rattle.heap_model.specs.declared.graph.cell.Cell.{Cell}
 use Rattle.heap_model.specs.declared.heap.Heap.{Heap}
 use Rattle.heap_model.specs.declared.id.Id.{Id}
 use Rattle.heap_model.specs.Heap.{IsHeap}
-use Rattle.heap_model.specs.State.{State}
+use Rattle.heap_model.specs.graph.State.{State}
 use Rattle.core_machine.specs.declared.table.address.Address.TheVariants.{Phase, Answer, Word}
 use Rattle.core_machine.specs.declared.place.Place.{Place}
 use Rattle.core_machine.specs.declared.place.Place.TheVariants as places
