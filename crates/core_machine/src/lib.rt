@@ -14,5 +14,6 @@ pub use machine::Machine;
 pub use place::{Leaving, Making, Place, Polling, Reaching};
 pub use seat::SeatParty;
 pub use seat::register::Register;
+pub use step::operation::Operation;
 pub use step::{AnsweringStep, MakingStep, ReachingStep, Step, TurningStep};
 pub use table::address::Address;

@@ -124,6 +124,7 @@ impl Machine {
         requires party { IsParty self.old party }
         requires due { due_of self.old.heap self.old.state party ≡ Some step.now }
         requires room { 2 ≤ spare_of self.old party }
+        ensures can { Can self.old.heap self.old.state (event_of self.old.state party) }
         ensures heap { self.new.heap ≡ self.old.heap }
         ensures state { self.new.state ≡ after self.old.heap self.old.state (event_of self.old.state party) }
         ensures found { result ≡ found_by self.old.heap self.old.state step.now }
@@ -148,7 +149,7 @@ impl Machine {
         let heap = self.heap;
         let index = step.address().index(&heap);
         let found = self.words[index];
-        self.words[index] = step.written(found);
+        self.words[index] = step.operation().written(found);
         let party = &mut self.seats[seat as usize];
         party.learn(&heap, seat, found);
         found
@@ -157,6 +158,7 @@ impl Machine {
     /// Makes the collector's due step.
     pub fn play_turn(&mut self) -> Turn
         requires room { 2 ≤ spare_of self.old (length self.old.state.seats) }
+        ensures can { Can self.old.heap self.old.state Turns }
         ensures heap { self.new.heap ≡ self.old.heap }
         ensures state { self.new.state ≡ after self.old.heap self.old.state Turns }
         ensures answer { let collector = self.old.state.collector in
@@ -171,6 +173,7 @@ impl Machine {
     fn turn(&mut self, step: &Step) -> (u64, Turn)
         requires due { (next_turn self.old.heap self.old.state.collector).step ≡ step.now }
         requires room { 2 ≤ spare_of self.old (length self.old.state.seats) }
+        ensures can { Can self.old.heap self.old.state Turns }
         ensures heap { self.new.heap ≡ self.old.heap }
         ensures state { self.new.state ≡ after self.old.heap self.old.state Turns }
         ensures found { result.0 ≡ found_by self.old.heap self.old.state step.now }
@@ -180,7 +183,7 @@ impl Machine {
         let heap = self.heap;
         let index = step.address().index(&heap);
         let found = self.words[index];
-        self.words[index] = step.written(found);
+        self.words[index] = step.operation().written(found);
         let answer = self.collector.learn(&heap, found);
         (found, answer)
     }

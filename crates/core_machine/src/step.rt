@@ -1,9 +1,12 @@
 ghost use Rattle.std.specs.Prelude.{◌≡◌};
-ghost use Rattle.core_machine.specs.table.Operation.{address_of, written, making_address, making_written, birth_bits as birth_bits_of, reaching_address, reaching_written, shade_bit as shade_bit_of, answering_address, answering_written, turning_address, turning_written};
+ghost use Rattle.core_machine.specs.table.Operation.{address_of, operation_of, making_address, making_operation, birth_bits as birth_bits_of, reaching_address, reaching_operation, shade_bit as shade_bit_of, answering_address, answering_operation, turning_address, turning_operation};
 
+use crate::step::operation::Operation;
 use crate::table::address::Address;
 use heap_model::limits::GROUP_FRAGMENTS;
 use heap_words::LEFT;
+
+pub(crate) mod operation;
 
 /// One atomic step: one operation on one word of the table.
 #[derive(Clone, Copy)]
@@ -84,16 +87,16 @@ impl Step {
         }
     }
 
-    /// The word that the step leaves where it found this one.
-    pub fn written(&self, found: u64) -> u64
-        ensures { result ≡ written self.now found }
+    /// What the step does with the word.
+    pub fn operation(&self) -> Operation
+        ensures { result ≡ operation_of self.now }
     {
         match *self {
-            Step::Making(step) => step.written(found),
-            Step::PollLoad => found,
-            Step::Reaching(step) => step.written(found),
-            Step::Answering(step) => step.written(),
-            Step::Turning(step) => step.written(found),
+            Step::Making(step) => step.operation(),
+            Step::PollLoad => Operation::Load,
+            Step::Reaching(step) => step.operation(),
+            Step::Answering(step) => step.operation(),
+            Step::Turning(step) => step.operation(),
         }
     }
 }
@@ -111,15 +114,15 @@ impl MakingStep {
         }
     }
 
-    fn written(&self, found: u64) -> u64
-        ensures { result ≡ making_written self.now found }
+    fn operation(&self) -> Operation
+        ensures { result ≡ making_operation self.now }
     {
         match *self {
-            MakingStep::Claim { .. } => found | 0xffff,
-            MakingStep::GiveBack { bits, .. } => found & !u64::from(bits),
-            MakingStep::NewbornStore { word, .. } => word,
+            MakingStep::Claim { .. } => Operation::Or(0xffff),
+            MakingStep::GiveBack { bits, .. } => Operation::And(!u64::from(bits)),
+            MakingStep::NewbornStore { word, .. } => Operation::Store(word),
             MakingStep::Birth { bits, black, .. } | MakingStep::LastBirth { bits, black, .. } => {
-                found | birth_bits(black, bits)
+                Operation::Or(birth_bits(black, bits))
             }
         }
     }
@@ -142,16 +145,16 @@ impl ReachingStep {
         }
     }
 
-    fn written(&self, found: u64) -> u64
-        ensures { result ≡ reaching_written self.now found }
+    fn operation(&self) -> Operation
+        ensures { result ≡ reaching_operation self.now }
     {
         match *self {
             ReachingStep::WalkLoad { .. }
             | ReachingStep::NameLoad { .. }
             | ReachingStep::GetLoad { .. }
-            | ReachingStep::OldLoad { .. } => found,
-            ReachingStep::Shade { fragment } => found | shade_bit(fragment),
-            ReachingStep::Swap { word, .. } => word,
+            | ReachingStep::OldLoad { .. } => Operation::Load,
+            ReachingStep::Shade { fragment } => Operation::Or(shade_bit(fragment)),
+            ReachingStep::Swap { word, .. } => Operation::Exchange(word),
         }
     }
 }
@@ -167,12 +170,12 @@ impl AnsweringStep {
         }
     }
 
-    fn written(&self) -> u64
-        ensures { result ≡ answering_written self.now }
+    fn operation(&self) -> Operation
+        ensures { result ≡ answering_operation self.now }
     {
         match *self {
-            AnsweringStep::AnswerStore { phase, .. } => phase,
-            AnsweringStep::LeaveStore { .. } => LEFT,
+            AnsweringStep::AnswerStore { phase, .. } => Operation::Store(phase),
+            AnsweringStep::LeaveStore { .. } => Operation::Store(LEFT),
         }
     }
 }
@@ -187,12 +190,12 @@ impl TurningStep {
         }
     }
 
-    fn written(&self, found: u64) -> u64
-        ensures { result ≡ turning_written self.now found }
+    fn operation(&self) -> Operation
+        ensures { result ≡ turning_operation self.now }
     {
         match *self {
-            TurningStep::LookLoad { .. } => found,
-            TurningStep::AdvanceStore { phase } => phase,
+            TurningStep::LookLoad { .. } => Operation::Load,
+            TurningStep::AdvanceStore { phase } => Operation::Store(phase),
         }
     }
 }

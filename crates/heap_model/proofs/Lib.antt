@@ -13,6 +13,7 @@ pub mod Opening
 pub mod OrderLemmas
 pub mod SearchLemmas
 pub mod SeatCallLemmas
+pub mod SeatGrowth
 pub mod SeatsMore
 pub mod Snoc
 pub mod SwungLemmas

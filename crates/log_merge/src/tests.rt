@@ -1,6 +1,7 @@
 mod account;
 mod collector_calls;
 mod graph;
+mod note;
 mod seat_calls;
 
 use crate::{CheckFault, check};

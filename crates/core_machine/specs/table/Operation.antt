@@ -1,9 +1,11 @@
--- Which word each step touches, and what it writes there.
+-- Which word each step touches, and what it does with it.
 use Rattle.std.specs.Prelude.{ℕ, ◌+◌, ◌-◌, ◌*◌, ◌/◌, ◌%◌, ◌^◌, Bool, true, false, bit_and, bit_or}
 use Rattle.heap_words.specs.declared.phase.TheConstants.{LEFT}
 use Rattle.heap_model.specs.Limits.{group_fragments}
 use Rattle.core_machine.specs.declared.table.address.Address.{Address}
 use Rattle.core_machine.specs.declared.table.address.Address.TheVariants as addresses
+use Rattle.core_machine.specs.declared.step.operation.Operation.{Operation}
+use Rattle.core_machine.specs.declared.step.operation.Operation.TheVariants.{Load, Store, Exchange, Or, And}
 use Rattle.core_machine.specs.declared.step.Step.{Step}
 use Rattle.core_machine.specs.declared.step.Step.TheVariants.{Making, PollLoad, Reaching, Answering, Turning}
 use Rattle.core_machine.specs.declared.step.MakingStep.{MakingStep}
@@ -19,9 +21,13 @@ use Rattle.core_machine.specs.declared.step.TurningStep.TheVariants.{LookLoad, A
 abbrev pub all_taken : ℕ
 all_taken = 2 ^ 16 - 1
 
+-- all bits of a word but these
+abbrev pub all_but : ℕ → ℕ
+all_but bits = 2 ^ 64 - 1 - bits
+
 -- the control word without these taken bits
 abbrev pub untaken : ℕ → ℕ → ℕ
-untaken bits word = bit_and word (2 ^ 64 - 1 - bits)
+untaken bits word = bit_and word (all_but bits)
 
 -- the bits that a birth sets: born, and where births are black marked and scanned too
 abbrev pub birth_bits : Bool → ℕ → ℕ
@@ -63,41 +69,53 @@ address_of (Reaching step) = reaching_address step
 address_of (Answering step) = answering_address step
 address_of (Turning step) = turning_address step
 
--- what a step of making writes, by the word found
-abbrev pub making_written : MakingStep → ℕ → ℕ
-making_written (Claim group) found = bit_or found all_taken
-making_written (GiveBack group bits) found = untaken bits found
-making_written (NewbornStore fragment part word) found = word
-making_written (Birth group bits black) found = bit_or found (birth_bits black bits)
-making_written (LastBirth group bits black) found = bit_or found (birth_bits black bits)
+-- what a step of making does with its word
+abbrev pub making_operation : MakingStep → Operation
+making_operation (Claim group) = Or all_taken
+making_operation (GiveBack group bits) = And (all_but bits)
+making_operation (NewbornStore fragment part word) = Store word
+making_operation (Birth group bits black) = Or (birth_bits black bits)
+making_operation (LastBirth group bits black) = Or (birth_bits black bits)
 
 -- the bit that a shade sets: the fragment is marked
 abbrev pub shade_bit : ℕ → ℕ
 shade_bit fragment = 2 ^ (32 + fragment % 16)
 
--- what a step of reaching writes, by the word found; a load writes the same again
-abbrev pub reaching_written : ReachingStep → ℕ → ℕ
-reaching_written (WalkLoad fragment) found = found
-reaching_written (NameLoad head) found = found
-reaching_written (GetLoad fragment part) found = found
-reaching_written (OldLoad fragment part) found = found
-reaching_written (Shade fragment) found = bit_or found (shade_bit fragment)
-reaching_written (Swap fragment part word) found = word
+-- what a step of reaching does with its word
+abbrev pub reaching_operation : ReachingStep → Operation
+reaching_operation (WalkLoad fragment) = Load
+reaching_operation (NameLoad head) = Load
+reaching_operation (GetLoad fragment part) = Load
+reaching_operation (OldLoad fragment part) = Load
+reaching_operation (Shade fragment) = Or (shade_bit fragment)
+reaching_operation (Swap fragment part word) = Exchange word
 
--- what a seat writes into its own word
-abbrev pub answering_written : AnsweringStep → ℕ
-answering_written (AnswerStore seat phase) = phase
-answering_written (LeaveStore seat) = LEFT
+-- what a seat does with its own word
+abbrev pub answering_operation : AnsweringStep → Operation
+answering_operation (AnswerStore seat phase) = Store phase
+answering_operation (LeaveStore seat) = Store LEFT
 
--- what a step of the collector writes, by the word found
-abbrev pub turning_written : TurningStep → ℕ → ℕ
-turning_written (LookLoad seat) found = found
-turning_written (AdvanceStore phase) found = phase
+-- what a step of the collector does with its word
+abbrev pub turning_operation : TurningStep → Operation
+turning_operation (LookLoad seat) = Load
+turning_operation (AdvanceStore phase) = Store phase
 
--- what a step writes, by the word found; a load writes the same again
+-- what a step does with its word
+abbrev pub operation_of : Step → Operation
+operation_of (Making step) = making_operation step
+operation_of PollLoad = Load
+operation_of (Reaching step) = reaching_operation step
+operation_of (Answering step) = answering_operation step
+operation_of (Turning step) = turning_operation step
+
+-- the word that an operation leaves where it found this one; a load leaves it as it is
+abbrev pub applied : Operation → ℕ → ℕ
+applied Load found = found
+applied (Store word) found = word
+applied (Exchange word) found = word
+applied (Or bits) found = bit_or found bits
+applied (And bits) found = bit_and found bits
+
+-- the word that a step leaves where it found this one
 abbrev pub written : Step → ℕ → ℕ
-written (Making step) found = making_written step found
-written PollLoad found = found
-written (Reaching step) found = reaching_written step found
-written (Answering step) found = answering_written step
-written (Turning step) found = turning_written step found
+written step found = applied (operation_of step) found

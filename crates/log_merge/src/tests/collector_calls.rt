@@ -1,7 +1,9 @@
-ghost use Rattle.std.specs.Prelude.{◌≡◌, ◌+◌, ◌<◌, ◌≤◌, [], ◌∷◌, ◌++◌, vec_len, vec_capacity, IfSome};
+ghost use Rattle.std.specs.Prelude.{◌≡◌, ◌-◌, ◌≤◌, [], IfSome};
+ghost use Rattle.heap_model.specs.declared.collector_calls.Turn.TheVariants.{Waits};
 ghost use Rattle.heap_model.specs.CollectorCalls.{StepsTo};
 
 use super::entry_of;
+use super::note::note;
 use heap_model::{CollectorCalls, Entry, Id, Memory, Turn};
 use std::alloc::Global;
 use std::marker::Model;
@@ -59,14 +61,16 @@ fn work(phase: u64, turns: u64) -> Option<Entry>
     }
 }
 
-/// Adds an entry, for which there is room.
-fn note(log: &mut Vec<Entry>, entry: Entry)
-    requires { vec_len log.old < vec_capacity log.old }
-    ensures items { log.new.items ≡ log.old.items ++ entry ∷ [] }
-    ensures len { vec_len log.new ≡ vec_len log.old + 1 }
-    ensures capacity { vec_capacity log.old ≤ vec_capacity log.new }
+/// The turn that finds the seat 0 one phase behind.
+fn wait_in(phase: u64) -> Turn
+    requires { 1 ≤ phase }
+    ensures { result ≡ Waits 0 (phase - 1) phase }
 {
-    let _ = log.push(entry);
+    Turn::Waits {
+        seat: 0,
+        answered: phase - 1,
+        phase,
+    }
 }
 
 impl CollectorCalls for Steady {
@@ -80,11 +84,7 @@ impl CollectorCalls for Steady {
             }
             Turn::Stepped
         } else if self.turns % 4 == 1 && phase > 0 {
-            Turn::Waits {
-                seat: 0,
-                answered: phase - 1,
-                phase,
-            }
+            wait_in(phase)
         } else {
             self.phase += 1;
             if phase % 7 == 6 {
@@ -143,11 +143,7 @@ fn answer_of(number: u64) -> Turn {
     match number {
         0 => Turn::Stepped,
         7 => Turn::Ended { cycle: 0, kept: 0 },
-        phase => Turn::Waits {
-            seat: 0,
-            answered: phase - 1,
-            phase,
-        },
+        phase => wait_in(phase),
     }
 }
 

@@ -1,7 +1,8 @@
-ghost use Rattle.std.specs.Prelude.{IsTrue};
+ghost use Rattle.std.specs.Prelude.{◌≡◌, ◌+◌, ◌<◌, ◌≤◌, ◌^◌, false, length, IsTrue};
 ghost use Rattle.heap_model.specs.SeatCalls.{IsReady};
+ghost use Rattle.heap_model.specs.SeatState.{own_party};
 
-use heap_model::{Command, Entry, SeatCalls};
+use heap_model::{Command, Entry, SeatCalls, seat_laws};
 use lone::Lone;
 use reply_text::read_history;
 use std::test::Fail;
@@ -153,5 +154,42 @@ fn does_as_told(rt: HostRuntime) -> Result<(), Fail> {
         assert_eq!(rt; seat.stamps_left(), 67108863 - sets);
         assert!(rt; super::checked(alloc, &text)?.is_ok());
     }
+    Ok(())
+}
+
+/// Makes an object of one fragment and polls five times, in room for 16 entries.
+fn make_and_poll<S: SeatCalls>(seat: &mut S)
+    requires present { (own_party (S.state seat.old)).left ≡ false }
+    requires name { length (own_party (S.state seat.old)).objects + 1 < 2 ^ 32 }
+    requires room { 16 ≤ (S.state seat.old).spare }
+    ensures { (own_party (S.state seat.new)).left ≡ false }
+{
+    seat_laws();
+    let _ = seat.new_record(1, 2);
+    for _i in 0..5_u8 {
+        let _ = seat.poll();
+    }
+}
+
+/// Polls seven times, in room for 16 entries.
+fn poll_seven_times<S: SeatCalls>(seat: &mut S)
+    requires present { (own_party (S.state seat.old)).left ≡ false }
+    requires room { 16 ≤ (S.state seat.old).spare }
+{
+    seat_laws();
+    for _i in 0..7_u8 {
+        let _ = seat.poll();
+    }
+}
+
+#[test]
+fn finds_its_room(rt: HostRuntime) -> Result<(), Fail> {
+    let mut seat = Lone::new(rt.alloc())?;
+    seat.room(16)?;
+    assert!(rt; !seat.left() && seat.names_left() > 0);
+    make_and_poll(&mut seat);
+    seat.room(16)?;
+    poll_seven_times(&mut seat);
+    assert_eq!(rt; seat.log().len(), 14);
     Ok(())
 }

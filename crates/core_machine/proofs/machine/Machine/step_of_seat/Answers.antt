@@ -1,6 +1,7 @@
 use Rattle.std.proofs.Common.{arith, ◌≡◌, ◌∙◌, ap, sym, subst, set}
+use Rattle.core_machine.specs.declared.step.operation.Operation.{Operation}
 use Rattle.core_machine.specs.table.Layout.{index_of, put, InTable}
-use Rattle.core_machine.specs.table.Operation.{address_of}
+use Rattle.core_machine.specs.table.Operation.{address_of, applied}
 use Rattle.core_machine.specs.machine.Machine.{after, Steps}
 use Rattle.core_machine.specs.machine.Value.{MachineValue}
 use Rattle.core_machine.proofs.table_lemmas.Addresses.{at_read, put_write}
@@ -41,7 +42,7 @@ invariant_of-self c =
     let found = at_read m.heap m.words.items (address_of c.args.step.now) c.index-index.result c.index-found.result.now place
     (omega (arith, c.index-index.ensures.within, c.self.invariant.table)) c.index-found.ensures in
     let now = put_write m.heap m.words.items (address_of c.args.step.now) c.index-index.result c.written.result place
-    ∙ ap (put m.heap m.words.items (address_of c.args.step.now)) c.written.ensures in
+    ∙ ap (put m.heap m.words.items (address_of c.args.step.now)) (c.written.ensures ∙ ap (λ (o : Operation). applied o c.index-found.result.now) c.operation.ensures) in
     let state = step_state_of m.heap m.words.items m.seats.items m.collector.collector 0 c.args.seat c.index_mut-party.result.now c.learn.new.self within c.index_mut-party.ensures.value
     c.args.step.now c.index-found.result.now _ due found now c.learn.ensures.seat in
     step_machine m.heap m.words.items m.seats.items m.collector.collector 0 c.args.seat c.index_mut-party.result.now c.learn.new.self within c.index_mut-party.ensures.value
@@ -56,7 +57,7 @@ returns-clause-state c =
     let found = at_read m.heap m.words.items (address_of c.args.step.now) c.index-index.result c.index-found.result.now place
     (omega (arith, c.index-index.ensures.within, c.self.invariant.table)) c.index-found.ensures in
     let now = put_write m.heap m.words.items (address_of c.args.step.now) c.index-index.result c.written.result place
-    ∙ ap (put m.heap m.words.items (address_of c.args.step.now)) c.written.ensures in
+    ∙ ap (put m.heap m.words.items (address_of c.args.step.now)) (c.written.ensures ∙ ap (λ (o : Operation). applied o c.index-found.result.now) c.operation.ensures) in
     subst (λ (v : MachineValue). state_of (set m.words.items c.index-index.result c.written.result) (set m.seats.items c.args.seat c.learn.new.self) m.collector.collector ≡ after v.heap v.state (Steps c.args.seat))
     c.self.view_is
     (step_state_of m.heap m.words.items m.seats.items m.collector.collector 0 c.args.seat c.index_mut-party.result.now c.learn.new.self within c.index_mut-party.ensures.value

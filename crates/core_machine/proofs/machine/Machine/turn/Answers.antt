@@ -1,6 +1,7 @@
 use Rattle.std.proofs.Common.{arith, ◌≡◌, ◌∙◌, ap, subst, set}
+use Rattle.core_machine.specs.declared.step.operation.Operation.{Operation}
 use Rattle.core_machine.specs.table.Layout.{index_of, put}
-use Rattle.core_machine.specs.table.Operation.{address_of}
+use Rattle.core_machine.specs.table.Operation.{address_of, applied}
 use Rattle.core_machine.specs.machine.Machine.{after, Turns}
 use Rattle.core_machine.specs.machine.Value.{MachineValue}
 use Rattle.core_machine.proofs.table_lemmas.Addresses.{at_read, put_write}
@@ -16,7 +17,7 @@ invariant_of-self c =
     let found = at_read m.heap m.words.items (address_of c.args.step.now) c.index-index.result c.index-found.result.now place
     (omega (arith, c.index-index.ensures.within, c.self.invariant.table)) c.index-found.ensures in
     let now = put_write m.heap m.words.items (address_of c.args.step.now) c.index-index.result c.written.result place
-    ∙ ap (put m.heap m.words.items (address_of c.args.step.now)) c.written.ensures in
+    ∙ ap (put m.heap m.words.items (address_of c.args.step.now)) (c.written.ensures ∙ ap (λ (o : Operation). applied o c.index-found.result.now) c.operation.ensures) in
     let state = turn_state m.heap m.words.items m.seats.items m.collector.collector c.args.step.now c.index-found.result.now _ c.learn-answer.new.self.collector due found now c.learn-answer.ensures.collector in
     turn_machine m.heap m.words.items m.seats.items m.collector.collector _ c.learn-answer.new.self.collector c.learn-answer.ensures.may state c.self.invariant
 
@@ -28,7 +29,7 @@ returns-clause-state c =
     let found = at_read m.heap m.words.items (address_of c.args.step.now) c.index-index.result c.index-found.result.now place
     (omega (arith, c.index-index.ensures.within, c.self.invariant.table)) c.index-found.ensures in
     let now = put_write m.heap m.words.items (address_of c.args.step.now) c.index-index.result c.written.result place
-    ∙ ap (put m.heap m.words.items (address_of c.args.step.now)) c.written.ensures in
+    ∙ ap (put m.heap m.words.items (address_of c.args.step.now)) (c.written.ensures ∙ ap (λ (o : Operation). applied o c.index-found.result.now) c.operation.ensures) in
     subst (λ (v : MachineValue). state_of (set m.words.items c.index-index.result c.written.result) m.seats.items c.learn-answer.new.self.collector ≡ after v.heap v.state Turns)
     c.self.view_is
     (turn_state m.heap m.words.items m.seats.items m.collector.collector c.args.step.now c.index-found.result.now _ c.learn-answer.new.self.collector due found now c.learn-answer.ensures.collector)

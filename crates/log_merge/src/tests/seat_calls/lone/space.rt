@@ -2,7 +2,7 @@ ghost use Rattle.std.specs.Prelude.{◌≡◌, ◌+◌, ◌<◌, ◌≤◌, ◌+
 ghost use Rattle.heap_model.specs.SeatCalls.{takes_of, gives_of};
 ghost use Rattle.log_merge.specs.LoneSeat.{claim_of, TakesEnough, TakesTooLittle};
 
-use super::entries::note;
+use crate::tests::note::note;
 use heap_model::Entry;
 
 /// The fragments that a seat has of its own, and those that are free in the only group.

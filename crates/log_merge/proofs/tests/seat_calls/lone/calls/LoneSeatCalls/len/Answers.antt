@@ -4,7 +4,7 @@ use Rattle.std.proofs.lemmas.Option.{IfSome_then}
 use Rattle.heap_model.specs.SeatState.{held}
 use Rattle.log_merge.specs.LoneSeat.{lone_length}
 use Rattle.log_merge.proofs.LoneLemmas.{own_length, IfSome-unwrap_or}
-use Rattle.log_merge.proofs.tests.seat_calls.lone.LoneSeatCalls.len.Goals as goal
+use Rattle.log_merge.proofs.tests.seat_calls.lone.calls.LoneSeatCalls.len.Goals as goal
 
 pub returns-clause-own : goal.returns-clause-own
 returns-clause-own c =

@@ -1,7 +1,7 @@
 use Rattle.std.proofs.Common.{refl, inl, inr, rules}
 use Rattle.log_merge.proofs.LoneCalls.{answer_notes, lone_adds, lone_after_answer, lone_after_poll, notes_none}
-use Rattle.log_merge.proofs.tests.seat_calls.lone.LoneSeatCalls.poll.Goals as goal
-use Rattle.log_merge.proofs.tests.seat_calls.lone.LoneSeatCalls.poll.Goals.{then-self, else-self}
+use Rattle.log_merge.proofs.tests.seat_calls.lone.calls.LoneSeatCalls.poll.Goals as goal
+use Rattle.log_merge.proofs.tests.seat_calls.lone.calls.LoneSeatCalls.poll.Goals.{then-self, else-self}
 
 pub invariant_of-self : goal.invariant_of-self
 invariant_of-self c = elim c.if-self.branch [

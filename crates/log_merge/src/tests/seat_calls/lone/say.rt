@@ -1,17 +1,8 @@
 ghost use Rattle.std.specs.Prelude.{◌≡◌, ◌+◌, ◌<◌, ◌≤◌, [], ◌∷◌, ◌++◌, vec_len, vec_capacity};
 ghost use Rattle.heap_model.specs.declared.entry.Entry.TheVariants.{Said};
 
+use crate::tests::note::note;
 use heap_model::{Command, Entry, Reply};
-
-/// Adds an item, for which there is room.
-pub fn note<T: Copy>(list: &mut Vec<T>, item: T)
-    requires { vec_len list.old < vec_capacity list.old }
-    ensures items { list.new.items ≡ list.old.items ++ item ∷ [] }
-    ensures len { vec_len list.new ≡ vec_len list.old + 1 }
-    ensures capacity { vec_capacity list.old ≤ vec_capacity list.new }
-{
-    let _ = list.push(item);
-}
 
 /// Adds a reply.
 pub fn say(mine: &mut Vec<Entry>, command: Command, reply: Reply)

@@ -1,6 +1,6 @@
 use Rattle.std.proofs.Common.{refl, arith, rules}
 use Rattle.log_merge.proofs.LoneCalls.{leave_notes, lone_adds, lone_after_leave}
-use Rattle.log_merge.proofs.tests.seat_calls.lone.LoneSeatCalls.leave.Goals as goal
+use Rattle.log_merge.proofs.tests.seat_calls.lone.calls.LoneSeatCalls.leave.Goals as goal
 
 pub invariant_of-self : goal.invariant_of-self
 invariant_of-self c =

@@ -1,6 +1,6 @@
 use Rattle.std.proofs.Common.{◌<◌, ◌+◌, ◌^◌, refl, rules}
 use Rattle.log_merge.proofs.LoneCalls.{lone_adds, lone_after_set, notes_none}
-use Rattle.log_merge.proofs.tests.seat_calls.lone.LoneSeatCalls.set.Goals as goal
+use Rattle.log_merge.proofs.tests.seat_calls.lone.calls.LoneSeatCalls.set.Goals as goal
 
 pub invariant_of-self : goal.invariant_of-self
 invariant_of-self c =

@@ -1,0 +1,31 @@
+ghost use Rattle.std.specs.Prelude.{◌≡◌};
+ghost use Rattle.core_machine.specs.table.Operation.{applied};
+
+/// What an atomic step does with the one word that it touches; it finds the word as it was before.
+#[derive(Clone, Copy)]
+pub enum Operation {
+    /// The word stays.
+    Load,
+    /// The word becomes this one, and what was found isn't looked at.
+    Store(u64),
+    /// The word becomes this one.
+    Exchange(u64),
+    /// These bits are set.
+    Or(u64),
+    /// These bits alone are kept.
+    And(u64),
+}
+
+impl Operation {
+    /// The word that it leaves where it found this one.
+    pub fn written(&self, found: u64) -> u64
+        ensures { result ≡ applied self.now found }
+    {
+        match *self {
+            Operation::Load => found,
+            Operation::Store(word) | Operation::Exchange(word) => word,
+            Operation::Or(bits) => found | bits,
+            Operation::And(bits) => found & bits,
+        }
+    }
+}
