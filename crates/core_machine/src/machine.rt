@@ -1,5 +1,5 @@
 ghost use Rattle.std.specs.Prelude.{◌≡◌, ◌≢◌, ℕ, ◌+◌, ◌-◌, ◌*◌, ◌<◌, ◌≤◌, ◌↔◌, IsTrue, [], ◌∷◌, ◌++◌, length, Some, OnOk, OnErr};
-ghost use Rattle.heap_model.specs.Space.{need_of};
+ghost use Rattle.heap_model.specs.account.Space.{need_of};
 ghost use Rattle.core_machine.specs.machine.Machine.{Begins, Steps, Turns, Can, after, seat_at, found_by};
 ghost use Rattle.core_machine.specs.declared.table.address.Address.TheVariants.{Phase};
 ghost use Rattle.core_machine.specs.table.Layout.{at, InTable};

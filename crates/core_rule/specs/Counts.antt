@@ -6,11 +6,11 @@ use Rattle.heap_model.specs.declared.id.Value.TheVariants as values
 use Rattle.heap_model.specs.declared.reply.Reply.TheVariants.{Got}
 use Rattle.heap_model.specs.declared.entry.Entry.{Entry}
 use Rattle.heap_model.specs.declared.entry.Entry.TheVariants.{Said}
-use Rattle.heap_model.specs.Objects.{party, register}
-use Rattle.heap_model.specs.State.{State}
-use Rattle.heap_model.specs.Noting.{seat_of}
-use Rattle.heap_model.specs.Space.{gained, lost, taken_of, spent_of}
-use Rattle.heap_model.specs.Effects.{is_of}
+use Rattle.heap_model.specs.graph.Objects.{party, register}
+use Rattle.heap_model.specs.graph.State.{State}
+use Rattle.heap_model.specs.account.Noting.{seat_of}
+use Rattle.heap_model.specs.account.Space.{gained, lost, taken_of, spent_of}
+use Rattle.heap_model.specs.account.Effects.{is_of}
 use Rattle.core_machine.specs.declared.place.Place.{Place}
 use Rattle.core_machine.specs.declared.place.Place.TheVariants as places
 use Rattle.core_machine.specs.declared.place.Reaching.TheVariants.{Naming}

@@ -3,9 +3,9 @@ use Rattle.std.specs.Prelude.{◌≡◌, ℕ, ◌+◌, ◌*◌, ◌%◌, ◌≤�
 use Rattle.std.specs.List.{list_any}
 use Rattle.heap_model.specs.declared.heap.Heap.{Heap}
 use Rattle.heap_model.specs.declared.entry.Entry.{Entry}
-use Rattle.heap_model.specs.Refusals.{given_up}
-use Rattle.heap_model.specs.Space.{total_but}
-use Rattle.heap_model.specs.Windows.{is_reply_to}
+use Rattle.heap_model.specs.account.Refusals.{given_up}
+use Rattle.heap_model.specs.account.Space.{total_but}
+use Rattle.heap_model.specs.account.Windows.{is_reply_to}
 use Rattle.core_machine.specs.declared.place.Place.{Place}
 use Rattle.core_machine.specs.declared.place.Place.TheVariants as places
 use Rattle.core_machine.specs.declared.place.Reaching.TheVariants.{Naming}

@@ -4,12 +4,12 @@ use Rattle.heap_model.specs.declared.heap.Heap.{Heap}
 use Rattle.heap_model.specs.declared.entry.Entry.{Entry}
 use Rattle.heap_model.specs.declared.entry.Entry.TheVariants.{Answers}
 use Rattle.heap_model.specs.Heap.{IsHeap}
-use Rattle.heap_model.specs.Account.{IsLegal}
-use Rattle.heap_model.specs.PhaseCounts.{answered}
+use Rattle.heap_model.specs.account.Account.{IsLegal}
+use Rattle.heap_model.specs.account.PhaseCounts.{answered}
 use Rattle.heap_model.specs.PhasePlan.{cycle_phases, marking}
-use Rattle.heap_model.specs.Phases.{IsBehind}
-use Rattle.heap_model.specs.Space.{gained, lost}
-use Rattle.heap_model.specs.declared.collector_calls.Turn.TheVariants.{Waits}
+use Rattle.heap_model.specs.account.Phases.{IsBehind}
+use Rattle.heap_model.specs.account.Space.{gained, lost}
+use Rattle.heap_model.specs.declared.calls.collector_calls.Turn.TheVariants.{Waits}
 use Rattle.core_machine.specs.declared.place.Place.TheVariants.{Idle}
 use Rattle.core_machine.specs.machine.Calls.{free_fragments}
 use Rattle.core_machine.specs.collector.Collector.{next_turn, turn_answer}

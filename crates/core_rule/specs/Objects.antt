@@ -4,14 +4,14 @@ use Rattle.heap_words.specs.declared.kind.Kind.TheVariants as kinds
 use Rattle.heap_words.specs.declared.name.Name.{Name}
 use Rattle.heap_words.specs.Cell.{cell_word}
 use Rattle.heap_model.specs.declared.heap.Heap.{Heap}
-use Rattle.heap_model.specs.declared.cell.Cell.{Cell}
+use Rattle.heap_model.specs.declared.graph.cell.Cell.{Cell}
 use Rattle.heap_model.specs.declared.id.Id.{Id}
 use Rattle.heap_model.specs.declared.id.Id.TheVariants.{Board, Made}
 use Rattle.heap_model.specs.declared.id.Value.{Value}
 use Rattle.heap_model.specs.declared.id.Value.TheVariants.{Nil, Number, Object}
-use Rattle.heap_model.specs.Objects.{node}
-use Rattle.heap_model.specs.State.{State, Node}
-use Rattle.heap_model.specs.Reach.{IsMade}
+use Rattle.heap_model.specs.graph.Objects.{node}
+use Rattle.heap_model.specs.graph.State.{State, Node}
+use Rattle.heap_model.specs.graph.Reach.{IsMade}
 use Rattle.heap_model.specs.Needs.{record_fragments}
 use Rattle.core_machine.specs.declared.table.address.Address.TheVariants.{Word}
 use Rattle.core_machine.specs.table.Layout.{at}

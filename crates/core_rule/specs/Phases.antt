@@ -3,7 +3,7 @@ use Rattle.std.specs.Prelude.{◌≡◌, ℕ, ◌+◌, ◌<◌, ◌≤◌, ◌�
 use Rattle.heap_words.specs.declared.phase.TheConstants.{LEFT}
 use Rattle.heap_model.specs.declared.heap.Heap.{Heap}
 use Rattle.heap_model.specs.declared.entry.Entry.{Entry}
-use Rattle.heap_model.specs.PhaseCounts.{phase, answered, has_left, AllAnswered}
+use Rattle.heap_model.specs.account.PhaseCounts.{phase, answered, has_left, AllAnswered}
 use Rattle.heap_model.specs.PhasePlan.{marking}
 use Rattle.core_machine.specs.declared.table.address.Address.TheVariants.{Answer}
 use Rattle.core_machine.specs.declared.place.Place.{Place}

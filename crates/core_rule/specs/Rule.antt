@@ -3,9 +3,9 @@ use Rattle.std.specs.Prelude.{ℕ, ◌<◌, false, List, drop}
 use Rattle.heap_model.specs.declared.entry.Entry.{Entry}
 use Rattle.heap_model.specs.declared.heap.Heap.{Heap}
 use Rattle.heap_model.specs.declared.id.Id.{Id}
-use Rattle.heap_model.specs.Account.{IsLegal}
-use Rattle.heap_model.specs.Cycles.{graph_of}
-use Rattle.heap_model.specs.State.{State as Graph}
+use Rattle.heap_model.specs.account.Account.{IsLegal}
+use Rattle.heap_model.specs.account.Cycles.{graph_of}
+use Rattle.heap_model.specs.graph.State.{State as Graph}
 use Rattle.core_machine.specs.seat.Commands.{target_of}
 use Rattle.core_machine.specs.seat.Fits.{Fits}
 use Rattle.core_machine.specs.machine.Machine.{State, seat_at}
@@ -18,7 +18,7 @@ use Rattle.core_rule.specs.Owners.{Owner, OwnersStand}
 use Rattle.core_rule.specs.Registers.{Registers}
 use Rattle.core_rule.specs.Holding.{Holding, IsStored}
 use Rattle.core_rule.specs.Counts.{OwnCounts, OwnList, AreUsed}
-use Rattle.heap_model.specs.PhaseCounts.{phase, answered, has_left}
+use Rattle.heap_model.specs.account.PhaseCounts.{phase, answered, has_left}
 use Rattle.core_rule.specs.Phases.{CollectorStands}
 use Rattle.core_rule.specs.Cycle.{HeapInCycle, SeatInCycle}
 use Rattle.core_rule.specs.Together.{AreTogether}

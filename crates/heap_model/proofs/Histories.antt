@@ -4,13 +4,13 @@ use Rattle.std.proofs.lemmas.List.Sums.{sum_by-append, fold-append}
 use Rattle.std.proofs.lemmas.List.{append-nil}
 use Rattle.heap_model.specs.declared.heap.Heap.{Heap}
 use Rattle.heap_model.specs.declared.entry.Entry.{Entry}
-use Rattle.heap_model.specs.State.{State}
-use Rattle.heap_model.specs.Growth.{after, graph_after}
-use Rattle.heap_model.specs.Legal.{Accepts, AcceptsAll}
-use Rattle.heap_model.specs.declared.effect.Effect.{Effect}
-use Rattle.heap_model.specs.Space.{total, total_of}
-use Rattle.heap_model.specs.Effects.{effect_of, is_of}
-use Rattle.heap_model.specs.Account.{KeepsSpace, KeepsSpaceAfter}
+use Rattle.heap_model.specs.graph.State.{State}
+use Rattle.heap_model.specs.graph.Growth.{after, graph_after}
+use Rattle.heap_model.specs.graph.Legal.{Accepts, AcceptsAll}
+use Rattle.heap_model.specs.declared.account.effect.Effect.{Effect}
+use Rattle.heap_model.specs.account.Space.{total, total_of}
+use Rattle.heap_model.specs.account.Effects.{effect_of, is_of}
+use Rattle.heap_model.specs.account.Account.{KeepsSpace, KeepsSpaceAfter}
 
 -- the graph grows by the entry
 pub graph_after-more : (g : State) (history : List Entry) (entry : Entry) → graph_after g (history ++ entry ∷ []) ≡ after (graph_after g history) entry

@@ -5,7 +5,7 @@ ghost use Rattle.heap_model.specs.Heap.{IsHeap};
 use crate::account::cycle::Cycle;
 use crate::account::seat::SeatAccount;
 use crate::account::swung::Swung;
-use crate::effect::Effect;
+use crate::account::effect::Effect;
 use crate::entry::Entry;
 use crate::fault::{ApplyFault, Memory};
 use crate::graph::Graph;
@@ -17,6 +17,7 @@ use std::marker::Model;
 mod applying;
 mod counts;
 mod cycle;
+pub(crate) mod effect;
 mod noting;
 mod phases;
 mod seat;
@@ -36,7 +37,7 @@ pub struct Account {
 }
 
 impl Model for Account {
-    ghost use Rattle.heap_model.specs.Books.{Books, AreBooks};
+    ghost use Rattle.heap_model.specs.account.Books.{Books, AreBooks};
 
     ghost Value = { Books };
 
@@ -46,12 +47,12 @@ impl Model for Account {
 }
 
 impl Account {
-    ghost use Rattle.heap_model.specs.Space.{gained, lost, used, spine};
-    ghost use Rattle.heap_model.specs.PhaseCounts.{phase};
-    ghost use Rattle.heap_model.specs.Cycles.{graph_of};
-    ghost use Rattle.heap_model.specs.Account.{KeepsSpace, MayLackMemory};
-    ghost use Rattle.heap_model.specs.Books.{Tells};
-    ghost use Rattle.heap_model.specs.Noting.{IsSeatBelow};
+    ghost use Rattle.heap_model.specs.account.Space.{gained, lost, used, spine};
+    ghost use Rattle.heap_model.specs.account.PhaseCounts.{phase};
+    ghost use Rattle.heap_model.specs.account.Cycles.{graph_of};
+    ghost use Rattle.heap_model.specs.account.Account.{KeepsSpace, MayLackMemory};
+    ghost use Rattle.heap_model.specs.account.Books.{Tells};
+    ghost use Rattle.heap_model.specs.account.Noting.{IsSeatBelow};
 
     /// The account of a heap in which nothing was done yet.
     pub fn new(alloc: Global, heap: Heap) -> Result<Account, Memory>

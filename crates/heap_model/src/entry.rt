@@ -40,7 +40,7 @@ pub enum Entry {
 }
 
 impl Entry {
-    ghost use Rattle.heap_model.specs.Noting.{seat_of};
+    ghost use Rattle.heap_model.specs.account.Noting.{seat_of};
 
     /// The seat whose entry it is; none where it is the collector's.
     pub fn seat(&self) -> Option<u8>

@@ -6,15 +6,18 @@ use crate::fault::{ApplyFault, Memory};
 use crate::heap::Heap;
 use crate::id::Value;
 use crate::limits::BOARD_FIELDS;
-use crate::object::Object;
-use crate::seat::Seat;
+use crate::graph::object::Object;
+use crate::graph::seat::Seat;
 use std::alloc::Global;
 use std::marker::Model;
 
+pub(crate) mod cell;
 mod growth;
 mod legal;
 mod lookup;
+pub(crate) mod object;
 mod reach;
+pub(crate) mod seat;
 mod sizes;
 
 /// The objects that were ever made, and what each seat holds: a heap that never collects.
@@ -28,7 +31,7 @@ pub struct Graph {
 impl Model for Graph {
     ghost use Rattle.std.specs.Prelude.{◌≤◌, length};
     ghost use Rattle.heap_model.specs.Limits.{most_seats};
-    ghost use Rattle.heap_model.specs.State.{State};
+    ghost use Rattle.heap_model.specs.graph.State.{State};
 
     ghost Value = { State };
 
@@ -39,10 +42,10 @@ impl Model for Graph {
 
 impl Graph {
     ghost use Rattle.heap_model.specs.Limits.{most_seats, last_register};
-    ghost use Rattle.heap_model.specs.Objects.{register as value_of};
-    ghost use Rattle.heap_model.specs.State.{opening};
-    ghost use Rattle.heap_model.specs.Growth.{after};
-    ghost use Rattle.heap_model.specs.Legal.{Accepts};
+    ghost use Rattle.heap_model.specs.graph.Objects.{register as value_of};
+    ghost use Rattle.heap_model.specs.graph.State.{opening};
+    ghost use Rattle.heap_model.specs.graph.Growth.{after};
+    ghost use Rattle.heap_model.specs.graph.Legal.{Accepts};
 
     /// The graph in which nothing was done yet.
     pub fn new(alloc: Global, heap: Heap) -> Result<Graph, Memory>

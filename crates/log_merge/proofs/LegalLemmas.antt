@@ -4,10 +4,10 @@ use Rattle.std.proofs.lemmas.List.{append-nil, map-append, take-append-drop}
 use Rattle.std.proofs.lemmas.List.Concat.{flat_map-append}
 use Rattle.heap_model.specs.declared.heap.Heap.{Heap}
 use Rattle.heap_model.specs.declared.entry.Entry.{Entry}
-use Rattle.heap_model.specs.Objects.{opening}
-use Rattle.heap_model.specs.Legal.{AcceptsAll}
-use Rattle.heap_model.specs.Account.{KeepsSpaceAfter}
-use Rattle.heap_model.specs.Cycles.{graph_of}
+use Rattle.heap_model.specs.graph.Objects.{opening}
+use Rattle.heap_model.specs.graph.Legal.{AcceptsAll}
+use Rattle.heap_model.specs.account.Account.{KeepsSpaceAfter}
+use Rattle.heap_model.specs.account.Cycles.{graph_of}
 use Rattle.heap_model.proofs.Histories.{graph_after-more}
 use Rattle.script_text.specs.declared.script.Form.{Form}
 use Rattle.script_text.specs.declared.script.Form.TheVariants.{Play, Run}

@@ -11,12 +11,12 @@ use Rattle.heap_model.specs.declared.reply.Reply.TheVariants as replies
 use Rattle.heap_model.specs.declared.entry.Entry.{Entry}
 use Rattle.heap_model.specs.declared.entry.Entry.TheVariants.{Said, Answers}
 use Rattle.heap_model.specs.Command.{IsCommand}
-use Rattle.heap_model.specs.Growth.{after_reply}
+use Rattle.heap_model.specs.graph.Growth.{after_reply}
 use Rattle.heap_model.specs.Needs.{made_by, need_of}
-use Rattle.heap_model.specs.SeatCalls.{Adds, ComesBefore, GathersEnough, GathersTooLittle, last_gives, takes_of, gives_of}
-use Rattle.heap_model.specs.SeatReplies.{LacksFragments}
-use Rattle.heap_model.specs.SeatState.{SeatState}
-use Rattle.heap_model.specs.Space.{taken_of, spent_of}
+use Rattle.heap_model.specs.calls.SeatCalls.{Adds, ComesBefore, GathersEnough, GathersTooLittle, last_gives, takes_of, gives_of}
+use Rattle.heap_model.specs.calls.SeatReplies.{LacksFragments}
+use Rattle.heap_model.specs.calls.SeatState.{SeatState}
+use Rattle.heap_model.specs.account.Space.{taken_of, spent_of}
 use Rattle.log_merge.specs.LoneSeat.{claim_of, lone_heap, lone_graph, AsksFor, IsLone, IsLoneGraph, TellsLone, TakesEnough, TakesTooLittle}
 use Rattle.log_merge.proofs.LoneEntries.{AreQuiet, ComeTo, come_to-answers, come_to-append, come_to-none, come_to-said, come_to-takes, come_to-gives, lone_graph-call, quiet-append, quiet-gives, quiet-takes, tells_more, total_of-append}
 use Rattle.log_merge.proofs.LoneLemmas.{IsLoneGraph-left, IsLoneGraph-made, IsLoneGraph-set, after_full}

@@ -7,16 +7,16 @@ use Rattle.heap_model.specs.declared.command.Command.{Command}
 use Rattle.heap_model.specs.declared.reply.Reply.{Reply}
 use Rattle.heap_model.specs.declared.entry.Entry.{Entry}
 use Rattle.heap_model.specs.declared.entry.Entry.TheVariants.{Said, Takes, GivesBack, Answers}
-use Rattle.heap_model.specs.declared.effect.Effect.{Effect}
+use Rattle.heap_model.specs.declared.account.effect.Effect.{Effect}
 use Rattle.heap_model.specs.Command.{IsCommand}
-use Rattle.heap_model.specs.Effects.{effect_of, is_of}
-use Rattle.heap_model.specs.Growth.{after, after_reply, graph_after}
+use Rattle.heap_model.specs.account.Effects.{effect_of, is_of}
+use Rattle.heap_model.specs.graph.Growth.{after, after_reply, graph_after}
 use Rattle.heap_model.specs.Needs.{made_by}
-use Rattle.heap_model.specs.PhaseCounts.{answered}
-use Rattle.heap_model.specs.SeatCalls.{takes_of, gives_of}
-use Rattle.heap_model.specs.SeatLaws.{IsOwn}
-use Rattle.heap_model.specs.Space.{taken_of, spent_of, total_of}
-use Rattle.heap_model.specs.State.{State, opening}
+use Rattle.heap_model.specs.account.PhaseCounts.{answered}
+use Rattle.heap_model.specs.calls.SeatCalls.{takes_of, gives_of}
+use Rattle.heap_model.specs.calls.SeatLaws.{IsOwn}
+use Rattle.heap_model.specs.account.Space.{taken_of, spent_of, total_of}
+use Rattle.heap_model.specs.graph.State.{State, opening}
 use Rattle.log_merge.specs.LoneSeat.{lone_heap, lone_graph, TellsLone}
 
 -- the entries are the seat's, and come to these sums

@@ -7,16 +7,16 @@ use Rattle.heap_model.specs.declared.id.Id.{Id}
 use Rattle.heap_model.specs.declared.id.Id.TheVariants.{Board, Made}
 use Rattle.heap_model.specs.declared.id.Value.{Value}
 use Rattle.heap_model.specs.declared.id.Value.TheVariants.{Nil, Number, Object}
-use Rattle.heap_model.specs.declared.cell.Cell.{Cell}
+use Rattle.heap_model.specs.declared.graph.cell.Cell.{Cell}
 use Rattle.heap_model.specs.declared.command.Command.{Command}
 use Rattle.heap_model.specs.declared.command.Command.TheVariants as commands
 use Rattle.heap_model.specs.declared.reply.Reply.TheVariants as replies
 use Rattle.heap_model.specs.declared.entry.Entry.{Entry}
-use Rattle.heap_model.specs.Objects.{party, register, target, nobody}
-use Rattle.heap_model.specs.State.{State, Node, Party, unset, fresh}
-use Rattle.heap_model.specs.Growth.{after_reply}
-use Rattle.heap_model.specs.Changes.{with_party, write, with_cell, with_object_cell, count_set, set_cell, add, leave}
-use Rattle.heap_model.specs.SeatState.{SeatState, own_graph}
+use Rattle.heap_model.specs.graph.Objects.{party, register, target, nobody}
+use Rattle.heap_model.specs.graph.State.{State, Node, Party, unset, fresh}
+use Rattle.heap_model.specs.graph.Growth.{after_reply}
+use Rattle.heap_model.specs.graph.Changes.{with_party, write, with_cell, with_object_cell, count_set, set_cell, add, leave}
+use Rattle.heap_model.specs.calls.SeatState.{SeatState, own_graph}
 use Rattle.log_merge.specs.LoneSeat.{lone_heap, lone_graph, lone_length, IsLoneGraph, AsksFor}
 
 -- the one seat is another now

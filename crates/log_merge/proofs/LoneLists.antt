@@ -5,7 +5,7 @@ use Rattle.std.proofs.lemmas.Bool.{cases_eq, cond-true, cond-false, eq-eqb, ne_e
 use Rattle.std.proofs.lemmas.List.{append-nil, append_assoc}
 use Rattle.std.proofs.lemmas.List.Elements.{All-nil, All-cons}
 use Rattle.heap_model.specs.declared.entry.Entry.{Entry}
-use Rattle.heap_model.specs.SeatCalls.{IsGroupCount, GathersEnough, takes_of, gives_of, last_gives}
+use Rattle.heap_model.specs.calls.SeatCalls.{IsGroupCount, GathersEnough, takes_of, gives_of, last_gives}
 use Rattle.log_merge.specs.LoneSeat.{claim_of, TakesEnough, TakesTooLittle}
 
 not_empty : (xs : List ℕ) (x : ℕ) → [] ≡ xs ++ x ∷ [] → ⊥

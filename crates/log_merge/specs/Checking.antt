@@ -3,8 +3,8 @@ use Rattle.std.specs.Prelude.{◌≡◌, ◌+◌, ◌≤◌, List, [], ◌++◌,
 use Rattle.std.specs.Option.{ForSome}
 use Rattle.heap_model.specs.declared.heap.Heap.{Heap}
 use Rattle.heap_model.specs.declared.entry.Entry.{Entry}
-use Rattle.heap_model.specs.Books.{Books, Tells}
-use Rattle.heap_model.specs.Cycles.{graph_of}
+use Rattle.heap_model.specs.account.Books.{Books, Tells}
+use Rattle.heap_model.specs.account.Cycles.{graph_of}
 use Rattle.script_text.specs.declared.script.Form.{Form}
 use Rattle.script_text.specs.declared.script.Form.TheVariants.{Play, Run}
 use Rattle.reply_text.specs.declared.line.HistoryLine.{HistoryLine}

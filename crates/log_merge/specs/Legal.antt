@@ -3,9 +3,9 @@ use Rattle.std.specs.Prelude.{◌≡◌, ℕ, ◌+◌, ◌*◌, true, List, Opti
 use Rattle.heap_model.specs.declared.heap.Heap.{Heap}
 use Rattle.heap_model.specs.declared.entry.Entry.{Entry}
 use Rattle.heap_model.specs.Limits.{group_fragments}
-use Rattle.heap_model.specs.Legal.{IsObjectLegal}
-use Rattle.heap_model.specs.Account.{IsLegal}
-use Rattle.heap_model.specs.Space.{gained, lost, granted, returned}
+use Rattle.heap_model.specs.graph.Legal.{IsObjectLegal}
+use Rattle.heap_model.specs.account.Account.{IsLegal}
+use Rattle.heap_model.specs.account.Space.{gained, lost, granted, returned}
 use Rattle.script_text.specs.declared.script.Form.{Form}
 use Rattle.script_text.specs.declared.script.Form.TheVariants.{Play, Run}
 use Rattle.reply_text.specs.declared.history.History.{History}

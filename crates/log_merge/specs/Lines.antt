@@ -3,9 +3,9 @@ use Rattle.std.specs.Prelude.{◌≡◌, ℕ, ◌+◌, true, List, [], ◌∷◌
 use Rattle.std.specs.List.{flat_map}
 use Rattle.heap_model.specs.declared.heap.Heap.{Heap}
 use Rattle.heap_model.specs.declared.entry.Entry.{Entry}
-use Rattle.heap_model.specs.Legal.{Accepts}
-use Rattle.heap_model.specs.Account.{KeepsSpace}
-use Rattle.heap_model.specs.Cycles.{graph_of}
+use Rattle.heap_model.specs.graph.Legal.{Accepts}
+use Rattle.heap_model.specs.account.Account.{KeepsSpace}
+use Rattle.heap_model.specs.account.Cycles.{graph_of}
 use Rattle.script_text.specs.declared.script.Form.{Form}
 use Rattle.script_text.specs.declared.script.Form.TheVariants.{Play, Run}
 use Rattle.reply_text.specs.declared.history.History.{History}

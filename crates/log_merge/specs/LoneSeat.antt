@@ -7,13 +7,13 @@ use Rattle.heap_model.specs.declared.id.Value.TheVariants.{Nil, Number, Object}
 use Rattle.heap_model.specs.declared.command.Command.{Command}
 use Rattle.heap_model.specs.declared.command.Command.TheVariants as commands
 use Rattle.heap_model.specs.declared.entry.Entry.{Entry}
-use Rattle.heap_model.specs.Objects.{party}
-use Rattle.heap_model.specs.State.{State, opening}
-use Rattle.heap_model.specs.Growth.{graph_after}
-use Rattle.heap_model.specs.PhaseCounts.{answered}
-use Rattle.heap_model.specs.SeatCalls.{GathersEnough, GathersTooLittle, takes_of, gives_of}
-use Rattle.heap_model.specs.SeatLaws.{IsOwn}
-use Rattle.heap_model.specs.Space.{taken_of, spent_of}
+use Rattle.heap_model.specs.graph.Objects.{party}
+use Rattle.heap_model.specs.graph.State.{State, opening}
+use Rattle.heap_model.specs.graph.Growth.{graph_after}
+use Rattle.heap_model.specs.account.PhaseCounts.{answered}
+use Rattle.heap_model.specs.calls.SeatCalls.{GathersEnough, GathersTooLittle, takes_of, gives_of}
+use Rattle.heap_model.specs.calls.SeatLaws.{IsOwn}
+use Rattle.heap_model.specs.account.Space.{taken_of, spent_of}
 
 -- one group, six spine words and one seat
 abbrev pub lone_heap : Heap

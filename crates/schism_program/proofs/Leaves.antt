@@ -8,7 +8,7 @@ use Rattle.heap_model.specs.declared.heap.Heap.{Heap}
 use Rattle.heap_model.specs.declared.command.Command.TheVariants.{Leave}
 use Rattle.heap_model.specs.declared.entry.Entry.{Entry}
 use Rattle.heap_model.specs.declared.entry.Entry.TheVariants.{Said}
-use Rattle.heap_model.specs.SeatCalls.{leave_entries}
+use Rattle.heap_model.specs.calls.SeatCalls.{leave_entries}
 use Rattle.core_machine.specs.machine.Machine.{State, seat_at}
 use Rattle.core_machine.specs.seat.Seat.{Seat}
 use Rattle.schism_program.specs.Calls.{NotesCall}

@@ -2,16 +2,16 @@
 use Rattle.std.proofs.Common.{◌≡◌, ℕ, List, [], ◌∷◌, ◌++◌, refl, arith}
 use Rattle.std.specs.List.{AllByRecursion, flat_map}
 use Rattle.std.proofs.lemmas.List.Sums.{sum_by-append, sum_by-cons}
-use Rattle.heap_model.specs.declared.effect.Effect.{Effect}
+use Rattle.heap_model.specs.declared.account.effect.Effect.{Effect}
 use Rattle.heap_model.specs.declared.command.Command.{Command}
 use Rattle.heap_model.specs.declared.command.Command.TheVariants.{Array}
 use Rattle.heap_model.specs.declared.entry.Entry.{Entry}
 use Rattle.heap_model.specs.declared.entry.Entry.TheVariants.{Said, Takes, GivesBack, Answers}
 use Rattle.heap_model.specs.declared.reply.Reply.{Reply}
 use Rattle.heap_model.specs.declared.reply.Reply.TheVariants.{Made}
-use Rattle.heap_model.specs.Effects.{effect_of}
+use Rattle.heap_model.specs.account.Effects.{effect_of}
 use Rattle.heap_model.specs.Needs.{words_by}
-use Rattle.heap_model.specs.Space.{total, granted, returned}
+use Rattle.heap_model.specs.account.Space.{total, granted, returned}
 use Rattle.core_machine.specs.machine.Calls.{IsBeside}
 use Rattle.core_machine.specs.seat.Commands.{IsServed}
 use Rattle.schism_program.specs.Play.{replied}

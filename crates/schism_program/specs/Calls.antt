@@ -6,7 +6,7 @@ use Rattle.heap_model.specs.declared.command.Command.TheVariants.{Leave}
 use Rattle.heap_model.specs.declared.entry.Entry.{Entry}
 use Rattle.heap_model.specs.declared.entry.Entry.TheVariants.{Said}
 use Rattle.heap_model.specs.declared.reply.Reply.{Reply}
-use Rattle.heap_model.specs.Space.{granted, returned}
+use Rattle.heap_model.specs.account.Space.{granted, returned}
 use Rattle.core_machine.specs.declared.place.Place.TheVariants.{Idle}
 use Rattle.core_machine.specs.machine.Calls.{PlaysCall, CountsCall, TellsLeave}
 use Rattle.core_machine.specs.machine.Machine.{State, seat_at, Event, Run, after_all, history}

@@ -11,7 +11,7 @@ use Rattle.script_text.specs.declared.script.Line.TheVariants as lines
 use Rattle.script_text.specs.declared.script.Script.{Script}
 use Rattle.reply_text.specs.declared.history.History.{History}
 use Rattle.log_merge.specs.Legal.{IsLegalHistory}
-use Rattle.heap_model.specs.SeatCalls.{leave_entries}
+use Rattle.heap_model.specs.calls.SeatCalls.{leave_entries}
 
 -- the line of a script that an entry answers, if it answers one
 abbrev pub replied : Entry → List Line

@@ -5,7 +5,7 @@ use Rattle.heap_model.specs.declared.heap.Heap.{Heap}
 use Rattle.heap_model.specs.declared.entry.Entry.{Entry}
 use Rattle.script_text.specs.declared.script.Line.{Line}
 use Rattle.heap_model.specs.Limits.{group_fragments}
-use Rattle.heap_model.specs.SeatCalls.{leave_entries}
+use Rattle.heap_model.specs.calls.SeatCalls.{leave_entries}
 use Rattle.core_machine.specs.machine.Calls.{free_fragments}
 use Rattle.core_machine.specs.machine.Machine.{State, seat_at}
 use Rattle.schism_program.specs.Calls.{Played, ArePresent, AreFew}

@@ -14,9 +14,9 @@ use Rattle.heap_model.specs.declared.entry.Entry.TheVariants.{Takes, GivesBack}
 use Rattle.heap_model.specs.declared.id.Id.{Id}
 use Rattle.heap_model.specs.declared.reply.Reply.{Reply}
 use Rattle.heap_model.specs.declared.reply.Reply.TheVariants as replies
-use Rattle.heap_model.specs.SeatCalls.{takes_of, gives_of, IsGroupCount, ClaimsBefore, ComesBefore}
-use Rattle.heap_model.specs.Space.{need_of}
-use Rattle.heap_model.proofs.Snoc.{same_last}
+use Rattle.heap_model.specs.calls.SeatCalls.{takes_of, gives_of, IsGroupCount, ClaimsBefore, ComesBefore}
+use Rattle.heap_model.specs.account.Space.{need_of}
+use Rattle.heap_model.proofs.account_lemmas.Snoc.{same_last}
 use Rattle.core_machine.specs.seat.Commands.{IsRecord}
 use Rattle.core_machine.specs.table.Fragments.{in_group, out_of_group, part_in, part_out, clear_in}
 use Rattle.core_machine.specs.seat.Making.{first_group}

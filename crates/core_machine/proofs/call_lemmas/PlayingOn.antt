@@ -11,7 +11,7 @@ use Rattle.heap_model.specs.declared.entry.Entry.{Entry}
 use Rattle.heap_model.specs.declared.entry.Entry.TheVariants.{Said, Answers}
 use Rattle.heap_model.specs.declared.reply.Reply.{Reply}
 use Rattle.heap_model.specs.declared.reply.Reply.TheVariants as replies
-use Rattle.heap_model.specs.SeatCalls.{AnswersBefore, ComesBefore}
+use Rattle.heap_model.specs.calls.SeatCalls.{AnswersBefore, ComesBefore}
 use Rattle.core_machine.specs.declared.table.address.Address.{Address}
 use Rattle.core_machine.specs.declared.table.address.Address.TheVariants.{Phase, Word}
 use Rattle.core_machine.specs.declared.place.Place.{Place}

@@ -4,7 +4,7 @@ use Rattle.heap_model.specs.declared.command.Command.{Command}
 use Rattle.heap_model.specs.declared.command.Command.TheVariants as commands
 use Rattle.heap_model.specs.declared.entry.Entry.{Entry}
 use Rattle.heap_model.specs.declared.reply.Reply.{Reply}
-use Rattle.heap_model.specs.SeatCalls.{ComesBefore}
+use Rattle.heap_model.specs.calls.SeatCalls.{ComesBefore}
 use Rattle.core_machine.specs.declared.seat.register.Register.{Register}
 use Rattle.core_machine.specs.machine.Calls.{IsPlaceRefusal}
 use Rattle.core_machine.specs.seat.Commands.{IsRecord}

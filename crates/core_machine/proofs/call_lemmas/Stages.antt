@@ -7,8 +7,8 @@ use Rattle.heap_model.specs.declared.entry.Entry.{Entry}
 use Rattle.heap_model.specs.declared.entry.Entry.TheVariants.{Said}
 use Rattle.heap_model.specs.declared.reply.Reply.{Reply}
 use Rattle.heap_model.specs.declared.reply.Reply.TheVariants as replies
-use Rattle.heap_model.specs.SeatCalls.{ClaimsBefore, ComesBefore}
-use Rattle.heap_model.specs.Space.{need_of}
+use Rattle.heap_model.specs.calls.SeatCalls.{ClaimsBefore, ComesBefore}
+use Rattle.heap_model.specs.account.Space.{need_of}
 use Rattle.core_machine.specs.declared.table.address.Address.TheVariants.{Phase, Control}
 use Rattle.core_machine.specs.declared.place.Place.{Place}
 use Rattle.core_machine.specs.declared.place.Place.TheVariants as places

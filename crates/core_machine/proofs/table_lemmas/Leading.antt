@@ -11,7 +11,7 @@ use Rattle.heap_words.specs.Cell.{cell_word}
 use Rattle.heap_words.specs.Name.{name_word}
 use Rattle.heap_model.specs.declared.heap.Heap.{Heap}
 use Rattle.heap_model.specs.Heap.{IsHeap}
-use Rattle.heap_model.specs.Growth.{stamp_of}
+use Rattle.heap_model.specs.graph.Growth.{stamp_of}
 use Rattle.core_machine.specs.declared.table.address.Address.{Address}
 use Rattle.core_machine.specs.declared.table.address.Address.TheVariants.{Phase, Answer, Budget, Spot, Control, Word, Spine}
 use Rattle.core_machine.specs.declared.place.Place.{Place}

@@ -11,7 +11,7 @@ use Rattle.heap_model.specs.declared.heap.Heap.{Heap}
 use Rattle.heap_model.specs.declared.command.Command.{Command}
 use Rattle.heap_model.specs.declared.command.Command.TheVariants.{New, Set}
 use Rattle.heap_model.specs.Heap.{IsHeap}
-use Rattle.heap_model.specs.Growth.{stamp_of}
+use Rattle.heap_model.specs.graph.Growth.{stamp_of}
 use Rattle.heap_model.specs.Command.{IsCommand}
 use Rattle.core_machine.specs.declared.place.Place.{Place}
 use Rattle.core_machine.specs.declared.place.Place.TheVariants as places

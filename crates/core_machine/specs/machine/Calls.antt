@@ -8,8 +8,8 @@ use Rattle.heap_model.specs.declared.entry.Entry.{Entry}
 use Rattle.heap_model.specs.declared.entry.Entry.TheVariants.{Said, Takes, GivesBack, Answers}
 use Rattle.heap_model.specs.declared.reply.Reply.{Reply}
 use Rattle.heap_model.specs.declared.reply.Reply.TheVariants.{Made, Full, NoObject, NoField}
-use Rattle.heap_model.specs.SeatCalls.{ComesBefore, leave_entries}
-use Rattle.heap_model.specs.Space.{need_of}
+use Rattle.heap_model.specs.calls.SeatCalls.{ComesBefore, leave_entries}
+use Rattle.heap_model.specs.account.Space.{need_of}
 use Rattle.core_machine.specs.declared.table.address.Address.TheVariants.{Phase, Control}
 use Rattle.core_machine.specs.declared.place.Place.TheVariants.{Idle}
 use Rattle.core_machine.specs.table.Fragments.{clear_in}

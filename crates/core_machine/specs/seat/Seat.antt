@@ -4,7 +4,7 @@ use Rattle.heap_model.specs.declared.entry.Entry.{Entry}
 use Rattle.heap_model.specs.declared.command.Command.{Command}
 use Rattle.heap_model.specs.declared.command.Command.TheVariants as commands
 use Rattle.heap_model.specs.Limits.{name_limit, stamp_limit}
-use Rattle.heap_model.specs.Space.{need_of}
+use Rattle.heap_model.specs.account.Space.{need_of}
 use Rattle.core_machine.specs.declared.place.Place.{Place}
 use Rattle.core_machine.specs.declared.place.Place.TheVariants.{Idle}
 use Rattle.core_machine.specs.declared.seat.register.Register.{Register}

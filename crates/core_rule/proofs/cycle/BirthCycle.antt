@@ -1,7 +1,7 @@
 -- What a birth leaves of the heap's part in a cycle: its fragments get the colour of the seat's births.
 use Rattle.std.proofs.Common.{◌≡◌, ℕ, ◌*◌, ◌<◌, ◌≤◌, Bool, List, length, bit_or, ap, ◌∙◌, subst, arith, ◌+◌}
 use Rattle.heap_model.specs.declared.heap.Heap.{Heap}
-use Rattle.heap_model.specs.PhaseCounts.{phase}
+use Rattle.heap_model.specs.account.PhaseCounts.{phase}
 use Rattle.core_machine.specs.declared.table.address.Address.TheVariants.{Control}
 use Rattle.core_machine.specs.declared.place.Making.TheVariants.{Bearing}
 use Rattle.core_machine.specs.declared.place.Place.TheVariants as places

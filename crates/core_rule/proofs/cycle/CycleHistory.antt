@@ -2,8 +2,8 @@
 use Rattle.std.proofs.Common.{◌≡◌, ℕ, List, [], ◌∷◌, ◌++◌, false, sym, subst}
 use Rattle.heap_model.specs.declared.entry.Entry.{Entry}
 use Rattle.heap_model.specs.declared.heap.Heap.{Heap}
-use Rattle.heap_model.specs.Effects.{effect_of, is_of}
-use Rattle.heap_model.specs.PhaseCounts.{phase, answered, has_left, is_leave_of}
+use Rattle.heap_model.specs.account.Effects.{effect_of, is_of}
+use Rattle.heap_model.specs.account.PhaseCounts.{phase, answered, has_left, is_leave_of}
 use Rattle.core_machine.specs.seat.Seat.{Seat}
 use Rattle.core_rule.specs.Book.{Colour}
 use Rattle.core_rule.specs.Cycle.{HeapInCycle, SeatInCycle}

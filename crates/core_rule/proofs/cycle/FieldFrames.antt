@@ -1,10 +1,10 @@
 -- The fields at which sets stand are born; so a store into a seat's new object leaves them, and the colours.
 use Rattle.std.proofs.Common.{◌≡◌, ℕ, ◌-◌, ◌<◌, List, length, refl, ap, ◌∙◌, subst, arith, inl}
-use Rattle.heap_model.specs.declared.cell.Cell.{Cell}
+use Rattle.heap_model.specs.declared.graph.cell.Cell.{Cell}
 use Rattle.heap_model.specs.declared.heap.Heap.{Heap}
 use Rattle.heap_model.specs.declared.id.Id.{Id}
-use Rattle.heap_model.specs.Cycles.{graph_of}
-use Rattle.heap_model.specs.State.{State as Graph}
+use Rattle.heap_model.specs.account.Cycles.{graph_of}
+use Rattle.heap_model.specs.graph.State.{State as Graph}
 use Rattle.core_machine.specs.machine.Machine.{State, seat_at}
 use Rattle.core_rule.specs.Rule.{Rule}
 use Rattle.core_machine.specs.declared.table.address.Address.TheVariants.{Phase, Answer, Word}

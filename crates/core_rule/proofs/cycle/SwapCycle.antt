@@ -2,8 +2,8 @@
 use Rattle.std.proofs.Common.{◌≡◌, ◌≢◌, ℕ, ◌^◌, ◌<◌, List, Some, inl, inr, refl, sym, ap, ◌∙◌, subst, arith}
 use Rattle.heap_model.specs.declared.heap.Heap.{Heap}
 use Rattle.heap_model.specs.declared.id.Value.{Value}
-use Rattle.heap_model.specs.Cycles.{graph_of}
-use Rattle.heap_model.specs.PhaseCounts.{phase}
+use Rattle.heap_model.specs.account.Cycles.{graph_of}
+use Rattle.heap_model.specs.account.PhaseCounts.{phase}
 use Rattle.core_machine.specs.declared.table.address.Address.TheVariants.{Answer, Phase, Word}
 use Rattle.core_machine.specs.declared.place.Place.TheVariants as places
 use Rattle.core_machine.specs.declared.place.Reaching.TheVariants.{Swapping}

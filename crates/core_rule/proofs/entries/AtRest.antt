@@ -1,7 +1,7 @@
 -- A seat with a call in flight and nothing at hand: it hasn't left, and what it has of its own is little.
 use Rattle.std.proofs.Common.{◌≡◌, ◌≢◌, ℕ, ◌+◌, ◌<◌, ◌≤◌, Bool, true, false, length, refl, subst, arith}
 use Rattle.heap_model.specs.declared.heap.Heap.{Heap}
-use Rattle.heap_model.specs.Space.{taken_of, spent_of}
+use Rattle.heap_model.specs.account.Space.{taken_of, spent_of}
 use Rattle.core_machine.specs.declared.place.Place.{Place}
 use Rattle.core_machine.specs.declared.place.Place.TheVariants as places
 use Rattle.core_machine.specs.seat.Fits.{Fits, IsAtRest}

@@ -3,8 +3,8 @@ use Rattle.std.proofs.Common.{◌≡◌, ℕ, ◌*◌, ◌≤◌, false, List, [
 use Rattle.std.proofs.lemmas.List.{drop-append-le, length-append}
 use Rattle.heap_model.specs.declared.entry.Entry.{Entry}
 use Rattle.heap_model.specs.declared.heap.Heap.{Heap}
-use Rattle.heap_model.specs.Windows.{is_reply_to}
-use Rattle.heap_model.proofs.Windows.{any-more}
+use Rattle.heap_model.specs.account.Windows.{is_reply_to}
+use Rattle.heap_model.proofs.account_lemmas.Windows.{any-more}
 use Rattle.core_machine.specs.declared.place.Making.{Making}
 use Rattle.core_machine.specs.declared.place.Making.TheVariants.{Gathering, Returning, Refusing, Storing, Bearing}
 use Rattle.core_machine.specs.declared.place.Place.{Place}

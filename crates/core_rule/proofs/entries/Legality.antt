@@ -8,14 +8,14 @@ use Rattle.heap_model.specs.declared.heap.Heap.{Heap}
 use Rattle.heap_model.specs.declared.id.Id.{Id}
 use Rattle.heap_model.specs.declared.reply.Reply.{Reply}
 use Rattle.heap_model.specs.declared.reply.Reply.TheVariants as replies
-use Rattle.heap_model.specs.Account.{KeepsSpace, IsLegal, most_kept}
-use Rattle.heap_model.specs.Cycles.{graph_of}
-use Rattle.heap_model.specs.Legal.{Accepts}
+use Rattle.heap_model.specs.account.Account.{KeepsSpace, IsLegal, most_kept}
+use Rattle.heap_model.specs.account.Cycles.{graph_of}
+use Rattle.heap_model.specs.graph.Legal.{Accepts}
 use Rattle.heap_model.specs.Needs.{record_fragments, made_by}
-use Rattle.heap_model.specs.Phases.{AnswersPhase, BeginsPhase, ShowsPhases}
-use Rattle.heap_model.specs.Refusals.{FindsSpace, ShowsSpace, ShowsSpine}
-use Rattle.heap_model.specs.Space.{gained, lost, taken_of, spent_of}
-use Rattle.heap_model.specs.State.{opening}
+use Rattle.heap_model.specs.account.Phases.{AnswersPhase, BeginsPhase, ShowsPhases}
+use Rattle.heap_model.specs.account.Refusals.{FindsSpace, ShowsSpace, ShowsSpine}
+use Rattle.heap_model.specs.account.Space.{gained, lost, taken_of, spent_of}
+use Rattle.heap_model.specs.graph.State.{opening}
 use Rattle.heap_model.proofs.Histories.{AcceptsAll-more, KeepsSpaceAfter-more}
 
 -- a legal history with one more entry that keeps the rules

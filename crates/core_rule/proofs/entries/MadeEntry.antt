@@ -4,14 +4,14 @@ use Rattle.std.proofs.lemmas.Bool.{eq-eqb}
 use Rattle.heap_model.specs.declared.entry.Entry.{Entry}
 use Rattle.heap_model.specs.declared.heap.Heap.{Heap}
 use Rattle.heap_model.specs.declared.id.Id.TheVariants.{Made}
-use Rattle.heap_model.specs.Account.{IsLegal}
-use Rattle.heap_model.specs.Changes.{add}
+use Rattle.heap_model.specs.account.Account.{IsLegal}
+use Rattle.heap_model.specs.graph.Changes.{add}
 use Rattle.heap_model.specs.Command.{IsCommand}
-use Rattle.heap_model.specs.Cycles.{graph_of}
-use Rattle.heap_model.specs.Effects.{is_of}
-use Rattle.heap_model.specs.Objects.{party}
-use Rattle.heap_model.specs.Space.{taken_of, spent_of}
-use Rattle.heap_model.specs.State.{State, Node, fresh, opening}
+use Rattle.heap_model.specs.account.Cycles.{graph_of}
+use Rattle.heap_model.specs.account.Effects.{is_of}
+use Rattle.heap_model.specs.graph.Objects.{party}
+use Rattle.heap_model.specs.account.Space.{taken_of, spent_of}
+use Rattle.heap_model.specs.graph.State.{State, Node, fresh, opening}
 use Rattle.heap_model.proofs.Histories.{graph_after-more, total-more}
 use Rattle.core_machine.specs.seat.Commands.{IsRecord, target_of, fields_of}
 use Rattle.core_machine.specs.seat.Making.{next_id}

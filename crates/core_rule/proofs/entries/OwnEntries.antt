@@ -1,12 +1,12 @@
 -- A seat's counts when the history grows by an entry of its own.
 use Rattle.std.proofs.Common.{◌≡◌, ℕ, ◌+◌, List, [], ◌∷◌, ◌++◌, filter, refl, sym, ◌∙◌, true, arith, length}
 use Rattle.std.proofs.lemmas.List.Elements.{filter-append}
-use Rattle.heap_model.specs.declared.effect.Effect.{Effect}
+use Rattle.heap_model.specs.declared.account.effect.Effect.{Effect}
 use Rattle.heap_model.specs.declared.entry.Entry.{Entry}
-use Rattle.heap_model.specs.Effects.{effect_of, is_of}
-use Rattle.heap_model.specs.Objects.{party}
-use Rattle.heap_model.specs.Space.{total_of}
-use Rattle.heap_model.specs.State.{State}
+use Rattle.heap_model.specs.account.Effects.{effect_of, is_of}
+use Rattle.heap_model.specs.graph.Objects.{party}
+use Rattle.heap_model.specs.account.Space.{total_of}
+use Rattle.heap_model.specs.graph.State.{State}
 use Rattle.heap_model.proofs.Histories.{total_of-more}
 use Rattle.core_machine.specs.seat.Seat.{Seat}
 use Rattle.core_rule.specs.Counts.{OwnCounts}

@@ -6,10 +6,10 @@ use Rattle.heap_model.specs.declared.command.Command.TheVariants as commands
 use Rattle.heap_model.specs.declared.entry.Entry.{Entry}
 use Rattle.heap_model.specs.declared.entry.Entry.TheVariants as entries
 use Rattle.heap_model.specs.declared.reply.Reply.{Reply}
-use Rattle.heap_model.specs.Effects.{effect_of, is_of}
-use Rattle.heap_model.specs.PhaseCounts.{phase, answered, has_left, is_leave_of}
+use Rattle.heap_model.specs.account.Effects.{effect_of, is_of}
+use Rattle.heap_model.specs.account.PhaseCounts.{phase, answered, has_left, is_leave_of}
 use Rattle.heap_model.proofs.Histories.{total-more, total_of-more}
-use Rattle.heap_model.proofs.Windows.{any-more}
+use Rattle.heap_model.proofs.account_lemmas.Windows.{any-more}
 use Rattle.core_rule.specs.Counts.{is_collectors}
 use Rattle.core_rule.proofs.entries.Others.{total_of-other}
 

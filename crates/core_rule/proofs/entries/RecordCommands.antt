@@ -8,16 +8,16 @@ use Rattle.heap_model.specs.declared.heap.Heap.{Heap}
 use Rattle.heap_model.specs.declared.id.Id.{Id}
 use Rattle.heap_model.specs.declared.id.Id.TheVariants.{Made}
 use Rattle.heap_model.specs.declared.reply.Reply.TheVariants as replies
-use Rattle.heap_model.specs.Account.{KeepsSpace}
-use Rattle.heap_model.specs.Changes.{add}
+use Rattle.heap_model.specs.account.Account.{KeepsSpace}
+use Rattle.heap_model.specs.graph.Changes.{add}
 use Rattle.heap_model.specs.Command.{IsCommand}
-use Rattle.heap_model.specs.Growth.{after}
-use Rattle.heap_model.specs.Legal.{Accepts, IsPresent}
+use Rattle.heap_model.specs.graph.Growth.{after}
+use Rattle.heap_model.specs.graph.Legal.{Accepts, IsPresent}
 use Rattle.heap_model.specs.Needs.{need_of, record_fragments}
-use Rattle.heap_model.specs.Objects.{party}
-use Rattle.heap_model.specs.Refusals.{FindsSpace}
-use Rattle.heap_model.specs.Space.{taken_of, spent_of}
-use Rattle.heap_model.specs.State.{State, fresh}
+use Rattle.heap_model.specs.graph.Objects.{party}
+use Rattle.heap_model.specs.account.Refusals.{FindsSpace}
+use Rattle.heap_model.specs.account.Space.{taken_of, spent_of}
+use Rattle.heap_model.specs.graph.State.{State, fresh}
 use Rattle.core_machine.specs.seat.Commands.{IsRecord, target_of, fields_of}
 use Rattle.core_rule.proofs.entries.Legality.{keeps_made, keeps_full}
 

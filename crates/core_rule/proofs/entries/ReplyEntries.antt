@@ -6,9 +6,9 @@ use Rattle.heap_model.specs.declared.entry.Entry.{Entry}
 use Rattle.heap_model.specs.declared.entry.Entry.TheVariants as entries
 use Rattle.heap_model.specs.declared.heap.Heap.{Heap}
 use Rattle.heap_model.specs.declared.reply.Reply.{Reply}
-use Rattle.heap_model.specs.Effects.{is_of}
+use Rattle.heap_model.specs.account.Effects.{is_of}
 use Rattle.heap_model.specs.Needs.{made_by}
-use Rattle.heap_model.specs.Space.{taken_of, spent_of}
+use Rattle.heap_model.specs.account.Space.{taken_of, spent_of}
 use Rattle.heap_model.proofs.Histories.{total-more}
 use Rattle.core_rule.specs.Counts.{AreUsed}
 use Rattle.core_rule.specs.Owners.{Owner}

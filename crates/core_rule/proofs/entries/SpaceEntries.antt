@@ -3,11 +3,11 @@ use Rattle.std.proofs.Common.{◌≡◌, ℕ, ◌+◌, ◌*◌, ◌≤◌, false
 use Rattle.heap_model.specs.declared.entry.Entry.{Entry}
 use Rattle.heap_model.specs.declared.entry.Entry.TheVariants as entries
 use Rattle.heap_model.specs.declared.heap.Heap.{Heap}
-use Rattle.heap_model.specs.Account.{IsLegal}
-use Rattle.heap_model.specs.Cycles.{graph_of}
-use Rattle.heap_model.specs.Legal.{IsPresent}
-use Rattle.heap_model.specs.Space.{gained, lost, taken_of, spent_of}
-use Rattle.heap_model.specs.State.{opening}
+use Rattle.heap_model.specs.account.Account.{IsLegal}
+use Rattle.heap_model.specs.account.Cycles.{graph_of}
+use Rattle.heap_model.specs.graph.Legal.{IsPresent}
+use Rattle.heap_model.specs.account.Space.{gained, lost, taken_of, spent_of}
+use Rattle.heap_model.specs.graph.State.{opening}
 use Rattle.heap_model.proofs.Histories.{graph_after-more}
 use Rattle.core_rule.proofs.entries.Legality.{legal_more, keeps_takes, keeps_gives}
 

@@ -1,14 +1,14 @@
 -- What stands of the heap and of each seat when a seat tells a reply that makes nothing.
 use Rattle.std.proofs.Common.{◌≡◌, ℕ, List, [], ◌∷◌, ◌++◌, false, refl, arith}
 use Rattle.std.proofs.lemmas.List.{length-append}
-use Rattle.heap_model.specs.declared.effect.Effect.{Effect}
+use Rattle.heap_model.specs.declared.account.effect.Effect.{Effect}
 use Rattle.heap_model.specs.declared.entry.Entry.{Entry}
 use Rattle.heap_model.specs.declared.heap.Heap.{Heap}
-use Rattle.heap_model.specs.Account.{KeepsSpace}
-use Rattle.heap_model.specs.Cycles.{graph_of}
-use Rattle.heap_model.specs.Effects.{effect_of, no_effect, is_of}
-use Rattle.heap_model.specs.Legal.{Accepts}
-use Rattle.heap_model.specs.Objects.{party}
+use Rattle.heap_model.specs.account.Account.{KeepsSpace}
+use Rattle.heap_model.specs.account.Cycles.{graph_of}
+use Rattle.heap_model.specs.account.Effects.{effect_of, no_effect, is_of}
+use Rattle.heap_model.specs.graph.Legal.{Accepts}
+use Rattle.heap_model.specs.graph.Objects.{party}
 use Rattle.core_machine.specs.declared.place.Place.{Place}
 use Rattle.core_machine.specs.seat.Seat.{Seat}
 use Rattle.core_rule.specs.Book.{Book}

@@ -2,8 +2,8 @@
 use Rattle.std.proofs.Common.{◌≡◌, ℕ, ◌+◌, ◌/◌, ◌%◌, ◌≤◌, List, arith}
 use Rattle.heap_model.specs.declared.entry.Entry.{Entry}
 use Rattle.heap_model.specs.declared.heap.Heap.{Heap}
-use Rattle.heap_model.specs.Refusals.{given_up}
-use Rattle.heap_model.specs.Space.{total_but}
+use Rattle.heap_model.specs.account.Refusals.{given_up}
+use Rattle.heap_model.specs.account.Space.{total_but}
 use Rattle.core_machine.proofs.table_lemmas.Free.{sum_upto-none}
 use Rattle.core_rule.specs.Gathers.{GathersRight, free_in_all, free_in_passed, free_in}
 use Rattle.core_rule.specs.Owners.{Owner, free_bit}

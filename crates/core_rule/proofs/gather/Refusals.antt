@@ -4,10 +4,10 @@ use Rattle.std.specs.Prelude.{drop}
 use Rattle.std.proofs.Common.{◌≡◌, ℕ, ◌+◌, ◌*◌, ◌<◌, false, List, arith}
 use Rattle.heap_model.specs.declared.entry.Entry.{Entry}
 use Rattle.heap_model.specs.declared.heap.Heap.{Heap}
-use Rattle.heap_model.specs.Effects.{effect_of}
-use Rattle.heap_model.specs.Refusals.{FindsSpace}
-use Rattle.heap_model.specs.Space.{taken_of, spent_of}
-use Rattle.heap_model.specs.Windows.{is_reply_to}
+use Rattle.heap_model.specs.account.Effects.{effect_of}
+use Rattle.heap_model.specs.account.Refusals.{FindsSpace}
+use Rattle.heap_model.specs.account.Space.{taken_of, spent_of}
+use Rattle.heap_model.specs.account.Windows.{is_reply_to}
 use Rattle.core_rule.specs.Counts.{AreUsed}
 use Rattle.core_rule.specs.Gathers.{GathersRight}
 use Rattle.core_rule.specs.Owners.{Owner}

@@ -5,9 +5,9 @@ use Rattle.std.proofs.lemmas.List.{get_or-set_same, get_or-set_other}
 use Rattle.heap_model.specs.declared.id.Id.{Id}
 use Rattle.heap_model.specs.declared.id.Id.TheVariants.{Board, Made}
 use Rattle.heap_model.specs.declared.id.Value.TheVariants as values
-use Rattle.heap_model.specs.Changes.{add}
-use Rattle.heap_model.specs.Objects.{party, register, node, nobody}
-use Rattle.heap_model.specs.State.{State, Node, Party}
+use Rattle.heap_model.specs.graph.Changes.{add}
+use Rattle.heap_model.specs.graph.Objects.{party, register, node, nobody}
+use Rattle.heap_model.specs.graph.State.{State, Node, Party}
 
 slice_get-push : {A : Type 0} (xs : List A) (x : A) → slice_get (xs ++ x ∷ []) (length xs) ≡ Some x
 slice_get-push [] x = refl

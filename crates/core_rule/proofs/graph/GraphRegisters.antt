@@ -2,7 +2,7 @@
 use Rattle.std.proofs.Common.{◌≡◌, ℕ, ◌<◌, inl, inr, false, List, [], ◌∷◌, length, sym, ap, ◌∙◌, subst, arith}
 use Rattle.std.proofs.lemmas.Bool.{cases_eq}
 use Rattle.std.proofs.lemmas.List.{get_or-set_same, get_or-set_other, length-set, length-replicate, get_or-replicate}
-use Rattle.heap_model.specs.declared.cell.Cell.{Cell}
+use Rattle.heap_model.specs.declared.graph.cell.Cell.{Cell}
 use Rattle.heap_model.specs.declared.command.Command.{Command}
 use Rattle.heap_model.specs.declared.command.Command.TheVariants as commands
 use Rattle.heap_model.specs.declared.entry.Entry.{Entry}
@@ -13,11 +13,11 @@ use Rattle.heap_model.specs.declared.id.Value.{Value}
 use Rattle.heap_model.specs.declared.id.Value.TheVariants.{Nil, Number, Object}
 use Rattle.heap_model.specs.declared.reply.Reply.{Reply}
 use Rattle.heap_model.specs.declared.reply.Reply.TheVariants as replies
-use Rattle.heap_model.specs.Changes.{with_party, put, add, write, count_set}
-use Rattle.heap_model.specs.Cycles.{graph_of}
-use Rattle.heap_model.specs.Growth.{after, after_reply, graph_after}
-use Rattle.heap_model.specs.Objects.{party, nobody}
-use Rattle.heap_model.specs.State.{State, Party, Node, opening, opening_party}
+use Rattle.heap_model.specs.graph.Changes.{with_party, put, add, write, count_set}
+use Rattle.heap_model.specs.account.Cycles.{graph_of}
+use Rattle.heap_model.specs.graph.Growth.{after, after_reply, graph_after}
+use Rattle.heap_model.specs.graph.Objects.{party, nobody}
+use Rattle.heap_model.specs.graph.State.{State, Party, Node, opening, opening_party}
 use Rattle.core_rule.proofs.graph.GraphGrowth.{present_below}
 
 -- each seat of the graph has sixteen registers

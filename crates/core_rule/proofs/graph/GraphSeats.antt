@@ -4,9 +4,9 @@ use Rattle.std.proofs.lemmas.Bool.{cases_eq}
 use Rattle.std.proofs.lemmas.List.{get_or-set_same, get_or-set_other}
 use Rattle.heap_model.specs.declared.id.Id.{Id}
 use Rattle.heap_model.specs.declared.id.Id.TheVariants.{Board, Made}
-use Rattle.heap_model.specs.Changes.{with_party}
-use Rattle.heap_model.specs.Objects.{party, node, nobody}
-use Rattle.heap_model.specs.State.{State, Node, Party}
+use Rattle.heap_model.specs.graph.Changes.{with_party}
+use Rattle.heap_model.specs.graph.Objects.{party, node, nobody}
+use Rattle.heap_model.specs.graph.State.{State, Node, Party}
 use Rattle.core_rule.proofs.graph.GraphGrowth.{present_below}
 use Rattle.core_rule.proofs.graph.SameNodes.{SameNodes, nodes_same}
 

@@ -2,9 +2,9 @@
 use Rattle.std.proofs.Common.{◌≡◌, ◌≢◌, ℕ, ◌+◌, ◌<◌, inl, inr, List, [], ◌∷◌, ◌++◌, length, Option, Some, None, IsSome, refl, sym, ap, ◌∙◌, subst, arith, length-append}
 use Rattle.std.proofs.lemmas.Bool.{cases_lt, false≢true}
 use Rattle.heap_model.specs.declared.id.Id.{Id}
-use Rattle.heap_model.specs.Objects.{node}
-use Rattle.heap_model.specs.Reach.{IsMade}
-use Rattle.heap_model.specs.State.{State, Node}
+use Rattle.heap_model.specs.graph.Objects.{node}
+use Rattle.heap_model.specs.graph.Reach.{IsMade}
+use Rattle.heap_model.specs.graph.State.{State, Node}
 use Rattle.core_rule.specs.Book.{number_of, id_at}
 use Rattle.core_rule.specs.Objects.{FitsName, AreMade}
 use Rattle.core_rule.proofs.graph.Numbering.{id_tells, number_of-le, id_at-number_of, number_of-append, number_of-new, id_at-append, id_at-new, slice_get-append}

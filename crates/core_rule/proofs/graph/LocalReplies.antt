@@ -9,16 +9,16 @@ use Rattle.heap_model.specs.declared.id.Value.{Value}
 use Rattle.heap_model.specs.declared.id.Value.TheVariants as values
 use Rattle.heap_model.specs.declared.reply.Reply.{Reply}
 use Rattle.heap_model.specs.declared.reply.Reply.TheVariants as replies
-use Rattle.heap_model.specs.Account.{most_kept}
-use Rattle.heap_model.specs.Changes.{put}
+use Rattle.heap_model.specs.account.Account.{most_kept}
+use Rattle.heap_model.specs.graph.Changes.{put}
 use Rattle.heap_model.specs.Command.{IsCommand}
-use Rattle.heap_model.specs.Growth.{after_reply}
+use Rattle.heap_model.specs.graph.Growth.{after_reply}
 use Rattle.heap_model.specs.Needs.{made_by}
-use Rattle.heap_model.specs.Objects.{party, register, target, cell_of}
-use Rattle.heap_model.specs.Phases.{ShowsPhases}
-use Rattle.heap_model.specs.Refusals.{ShowsSpace, ShowsSpine}
-use Rattle.heap_model.specs.Replies.{Says, Gets, Sets, Compares, length_reply}
-use Rattle.heap_model.specs.State.{State, Node}
+use Rattle.heap_model.specs.graph.Objects.{party, register, target, cell_of}
+use Rattle.heap_model.specs.account.Phases.{ShowsPhases}
+use Rattle.heap_model.specs.account.Refusals.{ShowsSpace, ShowsSpine}
+use Rattle.heap_model.specs.graph.Replies.{Says, Gets, Sets, Compares, length_reply}
+use Rattle.heap_model.specs.graph.State.{State, Node}
 use Rattle.core_machine.specs.declared.seat.register.Register.{Register}
 use Rattle.core_machine.specs.declared.seat.register.Register.TheVariants as registers
 use Rattle.core_machine.specs.seat.Fits.{IsLocal}

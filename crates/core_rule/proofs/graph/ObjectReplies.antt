@@ -2,7 +2,7 @@
 use Rattle.std.proofs.Common.{◌≡◌, ℕ, ◌+◌, ◌≤◌, Bool, List, length, slice_get, Option, Some, None, IsSome, refl, arith, ◌<◌}
 use Rattle.std.proofs.lemmas.Bool.{false≢true}
 use Rattle.std.proofs.lemmas.Option.{slice_get_past}
-use Rattle.heap_model.specs.declared.cell.Cell.{Cell}
+use Rattle.heap_model.specs.declared.graph.cell.Cell.{Cell}
 use Rattle.heap_model.specs.declared.command.Command.{Command}
 use Rattle.heap_model.specs.declared.command.Command.TheVariants as commands
 use Rattle.heap_model.specs.declared.entry.Entry.{Entry}
@@ -13,18 +13,18 @@ use Rattle.heap_model.specs.declared.id.Value.{Value}
 use Rattle.heap_model.specs.declared.id.Value.TheVariants.{Object}
 use Rattle.heap_model.specs.declared.reply.Reply.{Reply}
 use Rattle.heap_model.specs.declared.reply.Reply.TheVariants as replies
-use Rattle.heap_model.specs.Account.{KeepsSpace, most_kept}
-use Rattle.heap_model.specs.Changes.{put}
+use Rattle.heap_model.specs.account.Account.{KeepsSpace, most_kept}
+use Rattle.heap_model.specs.graph.Changes.{put}
 use Rattle.heap_model.specs.Command.{IsCommand}
-use Rattle.heap_model.specs.Growth.{after_reply}
-use Rattle.heap_model.specs.Legal.{Accepts, IsPresent}
+use Rattle.heap_model.specs.graph.Growth.{after_reply}
+use Rattle.heap_model.specs.graph.Legal.{Accepts, IsPresent}
 use Rattle.heap_model.specs.Needs.{made_by}
-use Rattle.heap_model.specs.Objects.{register, node, cell_of, or_no_field}
-use Rattle.heap_model.specs.Phases.{ShowsPhases}
-use Rattle.heap_model.specs.Refusals.{ShowsSpace, ShowsSpine}
-use Rattle.heap_model.specs.Replies.{length_reply}
-use Rattle.heap_model.specs.Space.{taken_of, spent_of}
-use Rattle.heap_model.specs.State.{State, Node}
+use Rattle.heap_model.specs.graph.Objects.{register, node, cell_of, or_no_field}
+use Rattle.heap_model.specs.account.Phases.{ShowsPhases}
+use Rattle.heap_model.specs.account.Refusals.{ShowsSpace, ShowsSpine}
+use Rattle.heap_model.specs.graph.Replies.{length_reply}
+use Rattle.heap_model.specs.account.Space.{taken_of, spent_of}
+use Rattle.heap_model.specs.graph.State.{State, Node}
 use Rattle.core_machine.specs.seat.Commands.{target_of, object_of, field_of}
 use Rattle.core_machine.specs.seat.FitsReaching.{NamesField, IsGet}
 use Rattle.core_rule.specs.Objects.{cells_in}

@@ -5,9 +5,9 @@ use Rattle.std.proofs.lemmas.List.{get_or-set_same, get_or-set_other}
 use Rattle.heap_model.specs.declared.id.Id.{Id}
 use Rattle.heap_model.specs.declared.id.Value.{Value}
 use Rattle.heap_model.specs.declared.id.Value.TheVariants as values
-use Rattle.heap_model.specs.Changes.{put}
-use Rattle.heap_model.specs.Objects.{party, register}
-use Rattle.heap_model.specs.State.{State, Party}
+use Rattle.heap_model.specs.graph.Changes.{put}
+use Rattle.heap_model.specs.graph.Objects.{party, register}
+use Rattle.heap_model.specs.graph.State.{State, Party}
 use Rattle.core_machine.specs.declared.seat.register.Register.{Register}
 use Rattle.core_machine.specs.declared.seat.register.Register.TheVariants as registers
 use Rattle.core_rule.specs.Owners.{Owner}

@@ -2,8 +2,8 @@
 use Rattle.std.proofs.Common.{◌≡◌, ℕ, List, Option, IsSome, slice_get, sym, ap, ◌∙◌, subst}
 use Rattle.heap_model.specs.declared.heap.Heap.{Heap}
 use Rattle.heap_model.specs.declared.id.Id.{Id}
-use Rattle.heap_model.specs.Objects.{node}
-use Rattle.heap_model.specs.State.{State, Node}
+use Rattle.heap_model.specs.graph.Objects.{node}
+use Rattle.heap_model.specs.graph.State.{State, Node}
 use Rattle.core_rule.specs.Book.{id_at}
 use Rattle.core_rule.specs.Objects.{AreMade, Objects, cells_in, cells_at}
 use Rattle.core_rule.specs.Owners.{Owner}

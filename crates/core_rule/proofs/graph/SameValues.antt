@@ -4,9 +4,9 @@ use Rattle.std.proofs.lemmas.Bool.Decides.{eqb_tells}
 use Rattle.heap_model.specs.declared.id.Id.{Id}
 use Rattle.heap_model.specs.declared.id.Value.{Value}
 use Rattle.heap_model.specs.declared.id.Value.TheVariants as values
-use Rattle.heap_model.specs.Objects.{target}
-use Rattle.heap_model.specs.Replies.{Compares}
-use Rattle.heap_model.specs.State.{State}
+use Rattle.heap_model.specs.graph.Objects.{target}
+use Rattle.heap_model.specs.graph.Replies.{Compares}
+use Rattle.heap_model.specs.graph.State.{State}
 use Rattle.core_machine.specs.declared.seat.register.Register.{Register}
 use Rattle.core_machine.specs.declared.seat.register.Register.TheVariants as registers
 use Rattle.core_machine.specs.seat.Registers.{value_of, head_of, is_same_value}

@@ -4,7 +4,7 @@ use Rattle.std.proofs.lemmas.Option.{slice_get_within, get_or_from_slice_get}
 use Rattle.heap_model.specs.declared.heap.Heap.{Heap}
 use Rattle.heap_model.specs.declared.id.Id.{Id}
 use Rattle.heap_model.specs.declared.id.Id.TheVariants.{Board}
-use Rattle.heap_model.specs.State.{State}
+use Rattle.heap_model.specs.graph.State.{State}
 use Rattle.core_machine.specs.table.Fragments.{tally}
 use Rattle.core_rule.specs.Book.{fragment_at, number_of, head_of}
 use Rattle.core_rule.specs.Holding.{Holding}

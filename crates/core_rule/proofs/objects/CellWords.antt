@@ -9,7 +9,7 @@ use Rattle.heap_words.specs.declared.kind.Kind.TheVariants as kinds
 use Rattle.heap_words.specs.declared.name.Name.{Name}
 use Rattle.heap_words.specs.Cell.{cell_word}
 use Rattle.heap_words.specs.Kind.{kind_number}
-use Rattle.heap_model.specs.declared.cell.Cell.{Cell}
+use Rattle.heap_model.specs.declared.graph.cell.Cell.{Cell}
 use Rattle.heap_model.specs.declared.id.Id.{Id}
 use Rattle.heap_model.specs.declared.id.Value.{Value}
 use Rattle.heap_model.specs.declared.id.Value.TheVariants as values

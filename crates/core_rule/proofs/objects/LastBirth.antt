@@ -5,9 +5,9 @@ use Rattle.heap_model.specs.declared.id.Id.{Id}
 use Rattle.heap_model.specs.declared.id.Id.TheVariants.{Made}
 use Rattle.heap_model.specs.declared.id.Value.{Value}
 use Rattle.heap_model.specs.declared.id.Value.TheVariants as values
-use Rattle.heap_model.specs.Changes.{add}
-use Rattle.heap_model.specs.Objects.{node, party, register}
-use Rattle.heap_model.specs.State.{State, Node}
+use Rattle.heap_model.specs.graph.Changes.{add}
+use Rattle.heap_model.specs.graph.Objects.{node, party, register}
+use Rattle.heap_model.specs.graph.State.{State, Node}
 use Rattle.core_machine.specs.declared.table.address.Address.TheVariants.{Word}
 use Rattle.core_machine.specs.declared.seat.register.Register.{Register}
 use Rattle.core_machine.specs.declared.seat.register.Register.TheVariants as registers

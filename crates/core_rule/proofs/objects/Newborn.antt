@@ -4,7 +4,7 @@ use Rattle.std.proofs.lemmas.Bool.Decides.{nat_tests}
 use Rattle.std.proofs.lemmas.List.{length-replicate}
 use Rattle.heap_words.specs.declared.name.Name.{Name}
 use Rattle.heap_model.specs.declared.id.Id.{Id}
-use Rattle.heap_model.specs.State.{unset}
+use Rattle.heap_model.specs.graph.State.{unset}
 use Rattle.core_machine.specs.table.Newborn.{record_word}
 use Rattle.core_rule.specs.Objects.{field_word, is_cell, object_word}
 

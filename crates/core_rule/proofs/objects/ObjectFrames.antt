@@ -4,7 +4,7 @@ use Rattle.heap_model.specs.declared.heap.Heap.{Heap}
 use Rattle.heap_model.specs.declared.id.Id.{Id}
 use Rattle.heap_model.specs.declared.id.Value.{Value}
 use Rattle.heap_model.specs.declared.id.Value.TheVariants as values
-use Rattle.heap_model.specs.State.{State}
+use Rattle.heap_model.specs.graph.State.{State}
 use Rattle.core_machine.specs.declared.table.address.Address.TheVariants.{Word, Control}
 use Rattle.core_machine.specs.table.Fragments.{tally}
 use Rattle.core_machine.specs.table.Layout.{at, put}

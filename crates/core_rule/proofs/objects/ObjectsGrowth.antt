@@ -1,12 +1,12 @@
 -- The objects when one more is made of a seat's fragments.
 use Rattle.std.proofs.Common.{◌≡◌, ◌^◌, ◌≢◌, ℕ, zero, suc, ◌+◌, ◌<◌, ◌≤◌, false, List, [], ◌∷◌, ◌++◌, length, replicate, slice_get, Some, inl, inr, sym, ap, ◌∙◌, subst, arith, length-append}
 use Rattle.std.proofs.lemmas.List.{length-replicate}
-use Rattle.heap_model.specs.declared.cell.Cell.{Cell}
+use Rattle.heap_model.specs.declared.graph.cell.Cell.{Cell}
 use Rattle.heap_model.specs.declared.heap.Heap.{Heap}
 use Rattle.heap_model.specs.declared.id.Id.{Id}
 use Rattle.heap_model.specs.Needs.{record_fragments}
-use Rattle.heap_model.specs.Objects.{node}
-use Rattle.heap_model.specs.State.{State, fresh, unset}
+use Rattle.heap_model.specs.graph.Objects.{node}
+use Rattle.heap_model.specs.graph.State.{State, fresh, unset}
 use Rattle.core_machine.specs.declared.table.address.Address.TheVariants.{Word}
 use Rattle.core_machine.specs.table.Fragments.{tally}
 use Rattle.core_machine.specs.table.Layout.{at}

@@ -2,12 +2,12 @@
 use Rattle.std.proofs.Common.{◌≡◌, ◌≢◌, ℕ, ◌*◌, ◌^◌, ◌<◌, inl, inr, List, length, set, slice_get, Option, Some, None, IsSome, refl, sym, ap, ◌∙◌, subst, arith}
 use Rattle.std.proofs.lemmas.Bool.{cases_eq}
 use Rattle.std.proofs.lemmas.List.{length-set}
-use Rattle.heap_model.specs.declared.cell.Cell.{Cell}
+use Rattle.heap_model.specs.declared.graph.cell.Cell.{Cell}
 use Rattle.heap_model.specs.declared.heap.Heap.{Heap}
 use Rattle.heap_model.specs.declared.id.Id.{Id}
 use Rattle.heap_model.specs.Needs.{record_fragments}
-use Rattle.heap_model.specs.Objects.{node}
-use Rattle.heap_model.specs.State.{State as Graph, Node}
+use Rattle.heap_model.specs.graph.Objects.{node}
+use Rattle.heap_model.specs.graph.State.{State as Graph, Node}
 use Rattle.core_machine.specs.declared.table.address.Address.TheVariants.{Word}
 use Rattle.core_machine.specs.table.Layout.{at, put, table_length}
 use Rattle.core_machine.specs.seat.Reaching.{row_of, part_of}

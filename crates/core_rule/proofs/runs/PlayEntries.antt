@@ -11,10 +11,10 @@ use Rattle.heap_model.specs.declared.entry.Entry.TheVariants as entries
 use Rattle.heap_model.specs.declared.heap.Heap.{Heap}
 use Rattle.heap_model.specs.declared.reply.Reply.{Reply}
 use Rattle.heap_model.specs.declared.reply.Reply.TheVariants as replies
-use Rattle.heap_model.specs.Account.{KeepsSpace}
-use Rattle.heap_model.specs.Effects.{is_of}
-use Rattle.heap_model.specs.Refusals.{FindsSpace}
-use Rattle.heap_model.specs.Space.{taken_of, spent_of}
+use Rattle.heap_model.specs.account.Account.{KeepsSpace}
+use Rattle.heap_model.specs.account.Effects.{is_of}
+use Rattle.heap_model.specs.account.Refusals.{FindsSpace}
+use Rattle.heap_model.specs.account.Space.{taken_of, spent_of}
 use Rattle.core_machine.specs.declared.table.address.Address.TheVariants.{Word, Phase}
 use Rattle.core_machine.specs.declared.place.Leaving.TheVariants.{Emptying, Parting}
 use Rattle.core_machine.specs.declared.place.Making.TheVariants.{Gathering, Returning, Refusing, Storing, Bearing}

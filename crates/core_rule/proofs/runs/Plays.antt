@@ -5,17 +5,17 @@ use Rattle.std.proofs.lemmas.List.{append-nil}
 use Rattle.std.proofs.lemmas.List.Sums.{sum_by-cons}
 use Rattle.heap_model.specs.declared.command.Command.{Command}
 use Rattle.heap_model.specs.declared.command.Command.TheVariants as commands
-use Rattle.heap_model.specs.declared.effect.Effect.{Effect}
+use Rattle.heap_model.specs.declared.account.effect.Effect.{Effect}
 use Rattle.heap_model.specs.declared.entry.Entry.{Entry}
 use Rattle.heap_model.specs.declared.entry.Entry.TheVariants as entries
 use Rattle.heap_model.specs.declared.heap.Heap.{Heap}
 use Rattle.heap_model.specs.declared.reply.Reply.{Reply}
 use Rattle.heap_model.specs.declared.reply.Reply.TheVariants as replies
-use Rattle.heap_model.specs.Account.{KeepsSpace, KeepsSpaceAfter, IsLegal}
-use Rattle.heap_model.specs.Effects.{effect_of, is_of}
-use Rattle.heap_model.specs.Phases.{ShowsPhases}
-use Rattle.heap_model.specs.Refusals.{FindsSpace, ShowsSpace, ShowsSpine}
-use Rattle.heap_model.specs.Space.{taken_of, spent_of, total, total_but}
+use Rattle.heap_model.specs.account.Account.{KeepsSpace, KeepsSpaceAfter, IsLegal}
+use Rattle.heap_model.specs.account.Effects.{effect_of, is_of}
+use Rattle.heap_model.specs.account.Phases.{ShowsPhases}
+use Rattle.heap_model.specs.account.Refusals.{FindsSpace, ShowsSpace, ShowsSpine}
+use Rattle.heap_model.specs.account.Space.{taken_of, spent_of, total, total_but}
 use Rattle.heap_model.proofs.Histories.{KeepsSpaceAfter-more}
 use Rattle.core_rule.specs.Counts.{AreUsed}
 use Rattle.core_rule.specs.Gathers.{GathersRight}

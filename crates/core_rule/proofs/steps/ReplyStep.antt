@@ -1,20 +1,20 @@
 -- A reply that makes no object keeps the rule, where the words that it changes are none but a seat's answer or a kept object's.
 use Rattle.std.proofs.Common.{◌≡◌, ◌≢◌, ℕ, ◌+◌, ◌<◌, false, List, [], ◌∷◌, ◌++◌, length, filter, drop, slice_set, refl, sym, ◌∙◌, arith, append-nil, ap}
-use Rattle.heap_model.specs.declared.cell.Cell.{Cell}
+use Rattle.heap_model.specs.declared.graph.cell.Cell.{Cell}
 use Rattle.heap_model.specs.declared.command.Command.{Command}
 use Rattle.heap_model.specs.declared.entry.Entry.{Entry}
 use Rattle.heap_model.specs.declared.entry.Entry.TheVariants as entries
 use Rattle.heap_model.specs.declared.heap.Heap.{Heap}
 use Rattle.heap_model.specs.declared.reply.Reply.{Reply}
-use Rattle.heap_model.specs.Account.{IsLegal}
-use Rattle.heap_model.specs.Cycles.{graph_of}
-use Rattle.heap_model.specs.Effects.{is_of}
-use Rattle.heap_model.specs.Growth.{after_reply}
+use Rattle.heap_model.specs.account.Account.{IsLegal}
+use Rattle.heap_model.specs.account.Cycles.{graph_of}
+use Rattle.heap_model.specs.account.Effects.{is_of}
+use Rattle.heap_model.specs.graph.Growth.{after_reply}
 use Rattle.heap_model.specs.Needs.{made_by}
-use Rattle.heap_model.specs.Objects.{party, register}
-use Rattle.heap_model.specs.PhaseCounts.{phase, answered, has_left}
-use Rattle.heap_model.specs.Space.{taken_of, spent_of}
-use Rattle.heap_model.specs.State.{State as Graph, opening}
+use Rattle.heap_model.specs.graph.Objects.{party, register}
+use Rattle.heap_model.specs.account.PhaseCounts.{phase, answered, has_left}
+use Rattle.heap_model.specs.account.Space.{taken_of, spent_of}
+use Rattle.heap_model.specs.graph.State.{State as Graph, opening}
 use Rattle.heap_model.proofs.Histories.{graph_after-more}
 use Rattle.core_machine.specs.declared.place.Place.TheVariants as places
 use Rattle.core_machine.specs.seat.Fits.{Fits, IsAtRest}

@@ -4,10 +4,10 @@ use Rattle.heap_model.specs.declared.heap.Heap.{Heap}
 use Rattle.heap_model.specs.declared.id.Id.{Id}
 use Rattle.heap_model.specs.declared.id.Value.{Value}
 use Rattle.heap_model.specs.declared.id.Value.TheVariants as values
-use Rattle.heap_model.specs.Cycles.{graph_of}
-use Rattle.heap_model.specs.Legal.{IsPresent}
-use Rattle.heap_model.specs.Objects.{register}
-use Rattle.heap_model.specs.PhaseCounts.{phase}
+use Rattle.heap_model.specs.account.Cycles.{graph_of}
+use Rattle.heap_model.specs.graph.Legal.{IsPresent}
+use Rattle.heap_model.specs.graph.Objects.{register}
+use Rattle.heap_model.specs.account.PhaseCounts.{phase}
 use Rattle.core_machine.specs.declared.place.Place.TheVariants as places
 use Rattle.core_machine.specs.declared.place.Reaching.{Reaching}
 use Rattle.core_machine.specs.declared.seat.register.Register.{Register}

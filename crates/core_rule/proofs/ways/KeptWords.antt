@@ -5,13 +5,13 @@ use Rattle.std.proofs.lemmas.List.{get_or_past}
 use Rattle.std.proofs.lemmas.Option.{slice_get_within}
 use Rattle.heap_words.specs.declared.name.Name.{Name}
 use Rattle.heap_words.specs.Name.{name_word}
-use Rattle.heap_model.specs.declared.cell.Cell.{Cell}
+use Rattle.heap_model.specs.declared.graph.cell.Cell.{Cell}
 use Rattle.heap_model.specs.declared.heap.Heap.{Heap}
 use Rattle.heap_model.specs.declared.id.Id.{Id}
 use Rattle.heap_model.specs.declared.id.Value.{Value}
 use Rattle.heap_model.specs.declared.id.Value.TheVariants as values
 use Rattle.heap_model.specs.Heap.{IsHeap}
-use Rattle.heap_model.specs.State.{State}
+use Rattle.heap_model.specs.graph.State.{State}
 use Rattle.core_machine.specs.declared.table.address.Address.TheVariants.{Word}
 use Rattle.core_machine.specs.table.Layout.{at}
 use Rattle.core_machine.specs.table.Loaded.{link_in, length_in, id_in}

@@ -11,11 +11,11 @@ use crate::phase_plan::{BARRIERS, CYCLE_PHASES};
 use crate::reply::Reply;
 
 impl Account {
-    ghost use Rattle.heap_model.specs.Cycles.{graph_of};
-    ghost use Rattle.heap_model.specs.Account.{KeepsSpace, MayLackMemory};
-    ghost use Rattle.heap_model.specs.Books.{Tells};
-    ghost use Rattle.heap_model.specs.Noting.{IsSeatBelow};
-    ghost use Rattle.heap_model.specs.Preparing.{IsPrepared, WantsMemory};
+    ghost use Rattle.heap_model.specs.account.Cycles.{graph_of};
+    ghost use Rattle.heap_model.specs.account.Account.{KeepsSpace, MayLackMemory};
+    ghost use Rattle.heap_model.specs.account.Books.{Tells};
+    ghost use Rattle.heap_model.specs.account.Noting.{IsSeatBelow};
+    ghost use Rattle.heap_model.specs.account.Preparing.{IsPrepared, WantsMemory};
 
     pub(super) fn keeps(&self, graph: &Graph, entry: &Entry, play: bool) -> Result<bool, Memory>
         requires { IsSeatBelow self.now.heap.seats entry.now }

@@ -1,24 +1,24 @@
 ghost use Rattle.std.specs.Prelude.{◌≡◌, ◌<◌, ◌≤◌, ◌+◌, ◌*◌, ◌^◌, ◌↔◌, List, IsTrue};
 ghost use Rattle.heap_model.specs.declared.entry.Entry.{Entry as Entries};
 ghost use Rattle.heap_model.specs.declared.entry.Entry.TheVariants as entries;
-ghost use Rattle.heap_model.specs.Account.{most_kept};
+ghost use Rattle.heap_model.specs.account.Account.{most_kept};
 
 use crate::account::Account;
 use crate::account::seat::SeatAccount;
 use crate::command::Command;
-use crate::effect::Effect;
+use crate::account::effect::Effect;
 use crate::limits::{BOARD_FRAGMENTS, GROUP_FRAGMENTS, MOST_RESERVE};
 use crate::reply::Reply;
 
 impl Account {
     ghost use Rattle.heap_model.specs.Limits.{board_fragments, group_fragments};
-    ghost use Rattle.heap_model.specs.Books.{Tells};
-    ghost use Rattle.heap_model.specs.SeatBooks.{seat_at};
-    ghost use Rattle.heap_model.specs.Space.{total_but, returned};
-    ghost use Rattle.heap_model.specs.Sums.{IsFew};
-    ghost use Rattle.heap_model.specs.Windows.{since_reply};
-    ghost use Rattle.heap_model.specs.Account.{TakesAndGives, MakesOfOwn};
-    ghost use Rattle.heap_model.specs.Refusals.{given_up, ShowsSpace, ShowsSpine, FindsSpace, FindsSpine};
+    ghost use Rattle.heap_model.specs.account.Books.{Tells};
+    ghost use Rattle.heap_model.specs.account.SeatBooks.{seat_at};
+    ghost use Rattle.heap_model.specs.account.Space.{total_but, returned};
+    ghost use Rattle.heap_model.specs.account.Sums.{IsFew};
+    ghost use Rattle.heap_model.specs.account.Windows.{since_reply};
+    ghost use Rattle.heap_model.specs.account.Account.{TakesAndGives, MakesOfOwn};
+    ghost use Rattle.heap_model.specs.account.Refusals.{given_up, ShowsSpace, ShowsSpine, FindsSpace, FindsSpine};
 
     pub(super) fn may_take(&self, seat: u8, count: u32) -> bool
         requires { seat < self.now.heap.seats }

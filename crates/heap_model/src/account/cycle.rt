@@ -20,10 +20,10 @@ pub struct Cycle {
 }
 
 impl Account {
-    ghost use Rattle.heap_model.specs.Cycles.{graph_of, LeavesLittle, LeavesWithinBounds};
-    ghost use Rattle.heap_model.specs.Books.{Tells};
-    ghost use Rattle.heap_model.specs.SeatBooks.{seat_at};
-    ghost use Rattle.heap_model.specs.Preparing.{IsBegun, brought_by, IsWithinBy};
+    ghost use Rattle.heap_model.specs.account.Cycles.{graph_of, LeavesLittle, LeavesWithinBounds};
+    ghost use Rattle.heap_model.specs.account.Books.{Tells};
+    ghost use Rattle.heap_model.specs.account.SeatBooks.{seat_at};
+    ghost use Rattle.heap_model.specs.account.Preparing.{IsBegun, brought_by, IsWithinBy};
 
     /// What is kept of a cycle that begins here.
     pub(super) fn begun_cycle(&self, graph: &Graph) -> Result<Cycle, Memory>

@@ -1,18 +1,18 @@
 ghost use Rattle.std.specs.Prelude.{◌≡◌, ◌<◌, ◌+◌, ◌^◌, ℕ, true, false, [], if◌then◌else◌, slice_index_or, slice_set};
-ghost use Rattle.heap_model.specs.Windows.{begins_phase};
-ghost use Rattle.heap_model.specs.Noting.{seat_of, ended_by};
+ghost use Rattle.heap_model.specs.account.Windows.{begins_phase};
+ghost use Rattle.heap_model.specs.account.Noting.{seat_of, ended_by};
 
 use crate::account::Account;
 use crate::account::seat::SeatAccount;
 use crate::command::Command;
-use crate::effect::Effect;
+use crate::account::effect::Effect;
 use crate::entry::Entry;
 
 impl Account {
-    ghost use Rattle.heap_model.specs.Effects.{effect_of};
-    ghost use Rattle.heap_model.specs.Sums.{plus, IsFew};
-    ghost use Rattle.heap_model.specs.SeatBooks.{seat_at};
-    ghost use Rattle.heap_model.specs.Noting.{IsNoted, IsNotedSeat, IsSeatBelow, is_behind_now};
+    ghost use Rattle.heap_model.specs.account.Effects.{effect_of};
+    ghost use Rattle.heap_model.specs.account.Sums.{plus, IsFew};
+    ghost use Rattle.heap_model.specs.account.SeatBooks.{seat_at};
+    ghost use Rattle.heap_model.specs.account.Noting.{IsNoted, IsNotedSeat, IsSeatBelow, is_behind_now};
 
     /// Counts an entry that was judged.
     pub(super) fn note(&mut self, entry: &Entry)

@@ -8,10 +8,10 @@ use crate::phase_plan::{BARRIERS, CYCLE_PHASES, REST};
 use crate::reply::{Reply, TurnReply};
 
 impl Account {
-    ghost use Rattle.heap_model.specs.Books.{Tells, HasAnswered};
-    ghost use Rattle.heap_model.specs.SeatBooks.{seat_at, first_behind, last_phase};
-    ghost use Rattle.heap_model.specs.Phases.{AnswersPhase, BeginsPhase, IsBehind, WasBehind, SawBehind, ShowsPhases, TurnShows};
-    ghost use Rattle.heap_model.specs.PhaseCounts.{AllAnswered, HasEnded, BeganSince};
+    ghost use Rattle.heap_model.specs.account.Books.{Tells, HasAnswered};
+    ghost use Rattle.heap_model.specs.account.SeatBooks.{seat_at, first_behind, last_phase};
+    ghost use Rattle.heap_model.specs.account.Phases.{AnswersPhase, BeginsPhase, IsBehind, WasBehind, SawBehind, ShowsPhases, TurnShows};
+    ghost use Rattle.heap_model.specs.account.PhaseCounts.{AllAnswered, HasEnded, BeganSince};
 
     pub(super) fn may_answer(&self, seat: u8, phase: u64) -> bool
         requires { seat < self.now.heap.seats }

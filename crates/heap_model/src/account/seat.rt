@@ -1,6 +1,6 @@
 ghost use Rattle.std.specs.Prelude.{◌≡◌, ◌+◌, ◌<◌, ◌^◌};
 
-use crate::effect::Effect;
+use crate::account::effect::Effect;
 
 /// What the account keeps of a seat: what its entries came to, what its and all entries had come to at its last reply,
 /// which seats were behind the phase then, and the phase in which it left, if it has.

@@ -10,10 +10,10 @@ use crate::phase_plan::{CLEARING, COPYING, CYCLE_PHASES, SWEEP};
 
 impl Account {
     ghost use Rattle.heap_model.specs.PhasePlan.{cycle_phases, sweep};
-    ghost use Rattle.heap_model.specs.PhaseCounts.{phase};
-    ghost use Rattle.heap_model.specs.Books.{Tells};
-    ghost use Rattle.heap_model.specs.Cycles.{graph_of, EndsCycle, IsThroughCycle, LeavesWithinBounds};
-    ghost use Rattle.heap_model.specs.Sweep.{Sweeps};
+    ghost use Rattle.heap_model.specs.account.PhaseCounts.{phase};
+    ghost use Rattle.heap_model.specs.account.Books.{Tells};
+    ghost use Rattle.heap_model.specs.account.Cycles.{graph_of, EndsCycle, IsThroughCycle, LeavesWithinBounds};
+    ghost use Rattle.heap_model.specs.account.Sweep.{Sweeps};
 
     pub(super) fn may_free(&self, count: u32) -> bool
         ensures { (history : List Entries) → Tells self.now history → (IsTrue result ↔ Sweeps self.now.heap history (entries.Frees count)) }

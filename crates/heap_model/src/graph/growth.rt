@@ -1,25 +1,25 @@
 ghost use Rattle.std.specs.Prelude.{◌≡◌, ◌<◌, ◌≤◌, ◌+◌, ◌^◌, length, OnOk, OnErr};
 ghost use Rattle.heap_model.specs.declared.id.Id.TheVariants.{Made};
 
-use crate::cell::Cell;
+use crate::graph::cell::Cell;
 use crate::command::Command;
 use crate::entry::Entry;
 use crate::graph::Graph;
 use crate::id::{Id, Value};
 use crate::limits::STAMP_LIMIT;
-use crate::object::Object;
+use crate::graph::object::Object;
 use crate::reply::Reply;
 use std::alloc::AllocError;
 
 impl Graph {
     ghost use Rattle.heap_model.specs.Limits.{last_register};
-    ghost use Rattle.heap_model.specs.Objects.{party};
-    ghost use Rattle.heap_model.specs.State.{fresh};
-    ghost use Rattle.heap_model.specs.Growth.{after, after_reply};
-    ghost use Rattle.heap_model.specs.Changes.{add, put, write, set_cell, leave};
+    ghost use Rattle.heap_model.specs.graph.Objects.{party};
+    ghost use Rattle.heap_model.specs.graph.State.{fresh};
+    ghost use Rattle.heap_model.specs.graph.Growth.{after, after_reply};
+    ghost use Rattle.heap_model.specs.graph.Changes.{add, put, write, set_cell, leave};
     ghost use Rattle.heap_model.specs.Command.{IsCommand};
-    ghost use Rattle.heap_model.specs.Legal.{Accepts, IsPresent};
-    ghost use Rattle.heap_model.specs.Replies.{Says};
+    ghost use Rattle.heap_model.specs.graph.Legal.{Accepts, IsPresent};
+    ghost use Rattle.heap_model.specs.graph.Replies.{Says};
 
     pub(super) fn grow(&mut self, entry: &Entry) -> Result<(), AllocError>
         requires { Accepts self.old entry.now }

@@ -8,9 +8,9 @@ use crate::limits::STAMP_LIMIT;
 use crate::reply::Reply;
 
 impl Graph {
-    ghost use Rattle.heap_model.specs.Objects.{party, cell_at, register as value_of, target as target_of};
-    ghost use Rattle.heap_model.specs.Legal.{Accepts};
-    ghost use Rattle.heap_model.specs.Replies.{Says, Makes, Gets, Sets, Compares, length_reply};
+    ghost use Rattle.heap_model.specs.graph.Objects.{party, cell_at, register as value_of, target as target_of};
+    ghost use Rattle.heap_model.specs.graph.Legal.{Accepts};
+    ghost use Rattle.heap_model.specs.graph.Replies.{Says, Makes, Gets, Sets, Compares, length_reply};
 
     pub(super) fn accepts(&self, entry: &Entry) -> bool
         ensures { IsTrue result ↔ Accepts self.now entry.now }

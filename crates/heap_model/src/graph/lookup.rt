@@ -1,16 +1,16 @@
 ghost use Rattle.std.specs.Prelude.{◌≡◌, ◌≤◌, ◌<◌, ◌^◌, ◌↔◌, length, IsTrue};
 ghost use Rattle.std.specs.Option.{option_copied};
 
-use crate::cell::Cell;
+use crate::graph::cell::Cell;
 use crate::graph::Graph;
 use crate::id::{Id, Value};
-use crate::object::Object;
+use crate::graph::object::Object;
 use crate::reply::Reply;
 
 impl Graph {
     ghost use Rattle.heap_model.specs.Limits.{name_limit};
-    ghost use Rattle.heap_model.specs.Objects.{cell_at, party, register as value_of, target as target_of};
-    ghost use Rattle.heap_model.specs.Legal.{IsPresent};
+    ghost use Rattle.heap_model.specs.graph.Objects.{cell_at, party, register as value_of, target as target_of};
+    ghost use Rattle.heap_model.specs.graph.Legal.{IsPresent};
 
     pub(super) fn is_present(&self, seat: u8) -> bool
         ensures { IsTrue result ↔ IsPresent self.now seat }

@@ -12,11 +12,11 @@ mod marks;
 mod search;
 
 impl Graph {
-    ghost use Rattle.heap_model.specs.Objects.{node};
-    ghost use Rattle.heap_model.specs.Reach.{IsReach, IsReachAmong, Points};
-    ghost use Rattle.heap_model.specs.Sizes.{frags as frags_at};
-    ghost use Rattle.heap_model.specs.Search.{IsSearch, GoesOn, FoundFromObject};
-    ghost use Rattle.heap_model.specs.Marking.{HasMarks, IsListed};
+    ghost use Rattle.heap_model.specs.graph.Objects.{node};
+    ghost use Rattle.heap_model.specs.graph.Reach.{IsReach, IsReachAmong, Points};
+    ghost use Rattle.heap_model.specs.graph.Sizes.{frags as frags_at};
+    ghost use Rattle.heap_model.specs.graph.Search.{IsSearch, GoesOn, FoundFromObject};
+    ghost use Rattle.heap_model.specs.graph.Marking.{HasMarks, IsListed};
 
     /// The objects to which a path leads from some register: the board first, and the others by seat and count.
     pub fn reach(&self) -> Result<Vec<Id>, Memory>

@@ -4,8 +4,8 @@ use crate::graph::Graph;
 use crate::id::{Id, Value};
 
 impl Graph {
-    ghost use Rattle.heap_model.specs.Sizes.{words as words_at, frags_of, words_of};
-    ghost use Rattle.heap_model.specs.Sweep.{IsArray};
+    ghost use Rattle.heap_model.specs.graph.Sizes.{words as words_at, frags_of, words_of};
+    ghost use Rattle.heap_model.specs.account.Sweep.{IsArray};
 
     pub(crate) fn is_array(&self, id: Id) -> bool
         ensures { IsTrue result ↔ IsArray self.now id }

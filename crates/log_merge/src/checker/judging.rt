@@ -2,8 +2,8 @@ ghost use Rattle.std.specs.Prelude.{◌≡◌, ◌<◌, ◌≤◌, ◌+◌, ◌-
 ghost use Rattle.std.specs.Option.{ForSome};
 ghost use Rattle.heap_model.specs.declared.heap.Heap.{Heap};
 ghost use Rattle.heap_model.specs.declared.entry.Entry.{Entry as AnEntry};
-ghost use Rattle.heap_model.specs.Noting.{IsSeatBelow};
-ghost use Rattle.heap_model.specs.Cycles.{graph_of};
+ghost use Rattle.heap_model.specs.account.Noting.{IsSeatBelow};
+ghost use Rattle.heap_model.specs.account.Cycles.{graph_of};
 ghost use Rattle.script_text.specs.declared.script.Form.{Form};
 ghost use Rattle.log_merge.specs.Lines.{KeepsEntry, KeepsRules};
 ghost use Rattle.log_merge.specs.Checking.{Accounts, IsReady, Judged};

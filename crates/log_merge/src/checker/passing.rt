@@ -1,7 +1,7 @@
 ghost use Rattle.std.specs.Prelude.{◌≡◌, ◌<◌, ◌≤◌, ◌+◌, ◌-◌, ◌^◌, [], ◌∷◌, ◌++◌, List, ℕ, length, map, Err, IfErr, OnOk};
 ghost use Rattle.std.specs.List.{AllByRecursion};
 ghost use Rattle.std.specs.Option.{ForSome};
-ghost use Rattle.heap_model.specs.Noting.{IsSeatBelow};
+ghost use Rattle.heap_model.specs.account.Noting.{IsSeatBelow};
 ghost use Rattle.script_text.specs.declared.script.Form.{Form};
 ghost use Rattle.reply_text.specs.declared.line.HistoryLine.{HistoryLine};
 ghost use Rattle.reply_text.specs.declared.line.HistoryLine.TheVariants as lines;

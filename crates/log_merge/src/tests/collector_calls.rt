@@ -1,6 +1,6 @@
 ghost use Rattle.std.specs.Prelude.{◌≡◌, ◌-◌, ◌≤◌, [], IfSome};
-ghost use Rattle.heap_model.specs.declared.collector_calls.Turn.TheVariants.{Waits};
-ghost use Rattle.heap_model.specs.CollectorCalls.{StepsTo};
+ghost use Rattle.heap_model.specs.declared.calls.collector_calls.Turn.TheVariants.{Waits};
+ghost use Rattle.heap_model.specs.calls.CollectorCalls.{StepsTo};
 
 use super::entry_of;
 use super::note::note;
@@ -21,7 +21,7 @@ struct Steady {
 
 impl Model for Steady {
     ghost use Rattle.std.specs.Prelude.{◌-◌, ◌≤◌, length, vec_len, vec_capacity};
-    ghost use Rattle.heap_model.specs.CollectorCalls.{CollectorState};
+    ghost use Rattle.heap_model.specs.calls.CollectorCalls.{CollectorState};
 
     ghost Value = { CollectorState };
 

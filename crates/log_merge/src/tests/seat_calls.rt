@@ -1,6 +1,6 @@
 ghost use Rattle.std.specs.Prelude.{◌≡◌, ◌+◌, ◌<◌, ◌≤◌, ◌^◌, false, length, IsTrue};
-ghost use Rattle.heap_model.specs.SeatCalls.{IsReady};
-ghost use Rattle.heap_model.specs.SeatState.{own_party};
+ghost use Rattle.heap_model.specs.calls.SeatCalls.{IsReady};
+ghost use Rattle.heap_model.specs.calls.SeatState.{own_party};
 
 use heap_model::{Command, Entry, SeatCalls, seat_laws};
 use lone::Lone;

@@ -2,11 +2,11 @@
 use Rattle.std.proofs.Common.{ℕ, ◌<◌, [], length, filter, drop, refl, sym, ◌∙◌, append-nil}
 use Rattle.heap_model.specs.declared.command.Command.{Command}
 use Rattle.heap_model.specs.declared.heap.Heap.{Heap}
-use Rattle.heap_model.specs.Cycles.{graph_of}
-use Rattle.heap_model.specs.Effects.{is_of}
-use Rattle.heap_model.specs.Objects.{register}
-use Rattle.heap_model.specs.PhaseCounts.{phase, answered, has_left}
-use Rattle.heap_model.specs.State.{State as Graph}
+use Rattle.heap_model.specs.account.Cycles.{graph_of}
+use Rattle.heap_model.specs.account.Effects.{is_of}
+use Rattle.heap_model.specs.graph.Objects.{register}
+use Rattle.heap_model.specs.account.PhaseCounts.{phase, answered, has_left}
+use Rattle.heap_model.specs.graph.State.{State as Graph}
 use Rattle.core_machine.specs.declared.place.Place.TheVariants as places
 use Rattle.core_machine.specs.seat.Commands.{IsRecord, target_of}
 use Rattle.core_machine.specs.seat.Fits.{IsAtRest}

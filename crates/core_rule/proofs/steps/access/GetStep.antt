@@ -2,7 +2,7 @@
 use Rattle.std.proofs.Common.{◌≡◌, ℕ, ◌-◌, ◌<◌, false, List, [], ◌∷◌, length, get_or, slice_get, slice_set, slice_index_or, Option, Some, refl, sym, ap, ◌∙◌, subst, arith}
 use Rattle.std.proofs.lemmas.Bool.{eq-eqb}
 use Rattle.std.proofs.lemmas.Option.{slice_get-get_or}
-use Rattle.heap_model.specs.declared.cell.Cell.{Cell}
+use Rattle.heap_model.specs.declared.graph.cell.Cell.{Cell}
 use Rattle.heap_model.specs.declared.entry.Entry.{Entry}
 use Rattle.heap_model.specs.declared.entry.Entry.TheVariants.{Said}
 use Rattle.heap_model.specs.declared.heap.Heap.{Heap}
@@ -11,12 +11,12 @@ use Rattle.heap_model.specs.declared.id.Value.{Value}
 use Rattle.heap_model.specs.declared.id.Value.TheVariants as values
 use Rattle.heap_model.specs.declared.reply.Reply.{Reply}
 use Rattle.heap_model.specs.declared.reply.Reply.TheVariants.{Got}
-use Rattle.heap_model.specs.Changes.{put}
+use Rattle.heap_model.specs.graph.Changes.{put}
 use Rattle.heap_model.specs.Command.{IsCommand}
-use Rattle.heap_model.specs.Cycles.{graph_of}
-use Rattle.heap_model.specs.Legal.{Accepts}
-use Rattle.heap_model.specs.Objects.{register, party}
-use Rattle.heap_model.specs.State.{State as Graph, unset}
+use Rattle.heap_model.specs.account.Cycles.{graph_of}
+use Rattle.heap_model.specs.graph.Legal.{Accepts}
+use Rattle.heap_model.specs.graph.Objects.{register, party}
+use Rattle.heap_model.specs.graph.State.{State as Graph, unset}
 use Rattle.core_machine.specs.declared.table.address.Address.TheVariants.{Word}
 use Rattle.core_machine.specs.declared.place.Place.TheVariants as places
 use Rattle.core_machine.specs.declared.place.Reaching.TheVariants.{Getting, Naming}

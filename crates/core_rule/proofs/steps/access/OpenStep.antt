@@ -9,13 +9,13 @@ use Rattle.heap_model.specs.declared.heap.Heap.{Heap}
 use Rattle.heap_model.specs.declared.id.Id.{Id}
 use Rattle.heap_model.specs.declared.reply.Reply.{Reply}
 use Rattle.heap_model.specs.declared.reply.Reply.TheVariants as replies
-use Rattle.heap_model.specs.Account.{KeepsSpace}
-use Rattle.heap_model.specs.Cycles.{graph_of}
-use Rattle.heap_model.specs.Effects.{effect_of, no_effect}
-use Rattle.heap_model.specs.Growth.{after_reply}
-use Rattle.heap_model.specs.Legal.{Accepts}
-use Rattle.heap_model.specs.PhaseCounts.{is_leave_of}
-use Rattle.heap_model.specs.State.{State as Graph}
+use Rattle.heap_model.specs.account.Account.{KeepsSpace}
+use Rattle.heap_model.specs.account.Cycles.{graph_of}
+use Rattle.heap_model.specs.account.Effects.{effect_of, no_effect}
+use Rattle.heap_model.specs.graph.Growth.{after_reply}
+use Rattle.heap_model.specs.graph.Legal.{Accepts}
+use Rattle.heap_model.specs.account.PhaseCounts.{is_leave_of}
+use Rattle.heap_model.specs.graph.State.{State as Graph}
 use Rattle.core_machine.specs.declared.table.address.Address.TheVariants.{Word}
 use Rattle.core_machine.specs.declared.place.Place.TheVariants as places
 use Rattle.core_machine.specs.declared.place.Reaching.TheVariants.{Opening}

@@ -1,9 +1,9 @@
 -- Shading the new value of a set keeps the rule.
 use Rattle.std.specs.Prelude.{unwrap_or}
 use Rattle.std.proofs.Common.{◌≡◌, ℕ, true, [], ◌++◌, Option, Some, None, IfSome, inl, refl, subst, IsSome}
-use Rattle.heap_model.specs.Cycles.{graph_of}
-use Rattle.heap_model.specs.PhaseCounts.{phase}
-use Rattle.heap_model.specs.State.{State as Graph}
+use Rattle.heap_model.specs.account.Cycles.{graph_of}
+use Rattle.heap_model.specs.account.PhaseCounts.{phase}
+use Rattle.heap_model.specs.graph.State.{State as Graph}
 use Rattle.core_machine.specs.declared.place.Place.TheVariants as places
 use Rattle.core_machine.specs.declared.place.Reaching.TheVariants.{ShadingNew, Swapping}
 use Rattle.core_machine.specs.seat.Commands.{source_of}

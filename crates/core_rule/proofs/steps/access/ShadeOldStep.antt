@@ -1,8 +1,8 @@
 -- Shading the old value of a set keeps the rule.
 use Rattle.std.proofs.Common.{◌≡◌, ℕ, true, [], ◌++◌, Some, None, IfSome, inl, inr, refl, sym, ap, ◌∙◌, subst, ◌⊎◌, IsSome, slice_set}
-use Rattle.heap_model.specs.Cycles.{graph_of}
-use Rattle.heap_model.specs.PhaseCounts.{phase}
-use Rattle.heap_model.specs.State.{State as Graph}
+use Rattle.heap_model.specs.account.Cycles.{graph_of}
+use Rattle.heap_model.specs.account.PhaseCounts.{phase}
+use Rattle.heap_model.specs.graph.State.{State as Graph}
 use Rattle.core_machine.specs.declared.place.Place.TheVariants as places
 use Rattle.core_machine.specs.declared.place.Reaching.{Reaching}
 use Rattle.core_machine.specs.declared.place.Reaching.TheVariants.{ShadingOld, ShadingNew, Swapping}

@@ -1,7 +1,7 @@
 -- The swap of a set keeps the rule.
 use Rattle.std.proofs.Common.{◌≡◌, ◌≢◌, ℕ, ◌+◌, ◌-◌, ◌*◌, ◌^◌, ◌<◌, false, List, filter, get_or, slice_get, Option, Some, Result, Ok, refl, sym, ap, ◌∙◌, subst, arith}
 use Rattle.std.proofs.lemmas.Option.{slice_get-get_or}
-use Rattle.heap_model.specs.declared.cell.Cell.{Cell}
+use Rattle.heap_model.specs.declared.graph.cell.Cell.{Cell}
 use Rattle.heap_model.specs.declared.command.Command.{Command}
 use Rattle.heap_model.specs.declared.command.Command.TheVariants as commands
 use Rattle.heap_model.specs.declared.entry.Entry.{Entry}
@@ -12,17 +12,17 @@ use Rattle.heap_model.specs.declared.id.Value.{Value}
 use Rattle.heap_model.specs.declared.id.Value.TheVariants as values
 use Rattle.heap_model.specs.declared.reply.Reply.{Reply}
 use Rattle.heap_model.specs.declared.reply.Reply.TheVariants as replies
-use Rattle.heap_model.specs.Account.{most_kept}
-use Rattle.heap_model.specs.Changes.{count_set, set_cell, stamp_of, write}
-use Rattle.heap_model.specs.Cycles.{graph_of}
-use Rattle.heap_model.specs.Effects.{is_of}
-use Rattle.heap_model.specs.Growth.{after_reply}
-use Rattle.heap_model.specs.Objects.{party, register, node, target, cell_of, cell_at, or_no_field}
-use Rattle.heap_model.specs.PhaseCounts.{phase, answered, has_left}
-use Rattle.heap_model.specs.Phases.{ShowsPhases}
-use Rattle.heap_model.specs.Replies.{Says}
-use Rattle.heap_model.specs.Replies as says
-use Rattle.heap_model.specs.State.{State as Graph, Node, unset}
+use Rattle.heap_model.specs.account.Account.{most_kept}
+use Rattle.heap_model.specs.graph.Changes.{count_set, set_cell, stamp_of, write}
+use Rattle.heap_model.specs.account.Cycles.{graph_of}
+use Rattle.heap_model.specs.account.Effects.{is_of}
+use Rattle.heap_model.specs.graph.Growth.{after_reply}
+use Rattle.heap_model.specs.graph.Objects.{party, register, node, target, cell_of, cell_at, or_no_field}
+use Rattle.heap_model.specs.account.PhaseCounts.{phase, answered, has_left}
+use Rattle.heap_model.specs.account.Phases.{ShowsPhases}
+use Rattle.heap_model.specs.graph.Replies.{Says}
+use Rattle.heap_model.specs.graph.Replies as says
+use Rattle.heap_model.specs.graph.State.{State as Graph, Node, unset}
 use Rattle.core_machine.specs.declared.table.address.Address.TheVariants.{Word}
 use Rattle.core_machine.specs.declared.place.Place.TheVariants as places
 use Rattle.core_machine.specs.declared.place.Reaching.TheVariants.{Swapping}

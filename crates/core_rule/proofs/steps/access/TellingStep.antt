@@ -1,10 +1,10 @@
 -- Telling the reply of a call that looks at no word keeps the rule.
 use Rattle.std.proofs.Common.{◌≡◌, ◌≢◌, false, filter, refl, ◌∙◌, subst}
 use Rattle.heap_model.specs.Command.{IsCommand}
-use Rattle.heap_model.specs.Cycles.{graph_of}
-use Rattle.heap_model.specs.Effects.{is_of}
-use Rattle.heap_model.specs.Objects.{party}
-use Rattle.heap_model.specs.State.{State as Graph}
+use Rattle.heap_model.specs.account.Cycles.{graph_of}
+use Rattle.heap_model.specs.account.Effects.{is_of}
+use Rattle.heap_model.specs.graph.Objects.{party}
+use Rattle.heap_model.specs.graph.State.{State as Graph}
 use Rattle.core_machine.specs.declared.table.address.Address.TheVariants.{Phase}
 use Rattle.core_machine.specs.declared.place.Place.TheVariants as places
 use Rattle.core_machine.specs.seat.Commands.{target_of}

@@ -8,16 +8,16 @@ use Rattle.heap_model.specs.declared.entry.Entry.TheVariants as entries
 use Rattle.heap_model.specs.declared.id.Value.{Value}
 use Rattle.heap_model.specs.declared.id.Value.TheVariants as values
 use Rattle.heap_model.specs.declared.reply.Reply.TheVariants as replies
-use Rattle.heap_model.specs.Changes.{leave}
+use Rattle.heap_model.specs.graph.Changes.{leave}
 use Rattle.heap_model.specs.Command.{IsCommand}
-use Rattle.heap_model.specs.Cycles.{graph_of}
-use Rattle.heap_model.specs.Effects.{is_of}
-use Rattle.heap_model.specs.Growth.{after_reply}
-use Rattle.heap_model.specs.Objects.{party}
-use Rattle.heap_model.specs.PhaseCounts.{phase, is_leave_of}
-use Rattle.heap_model.specs.Phases.{ShowsPhases}
-use Rattle.heap_model.specs.Replies.{Says}
-use Rattle.heap_model.specs.State.{State as Graph, Party}
+use Rattle.heap_model.specs.account.Cycles.{graph_of}
+use Rattle.heap_model.specs.account.Effects.{is_of}
+use Rattle.heap_model.specs.graph.Growth.{after_reply}
+use Rattle.heap_model.specs.graph.Objects.{party}
+use Rattle.heap_model.specs.account.PhaseCounts.{phase, is_leave_of}
+use Rattle.heap_model.specs.account.Phases.{ShowsPhases}
+use Rattle.heap_model.specs.graph.Replies.{Says}
+use Rattle.heap_model.specs.graph.State.{State as Graph, Party}
 use Rattle.core_machine.specs.declared.table.address.Address.TheVariants.{Answer}
 use Rattle.core_machine.specs.declared.place.Leaving.TheVariants.{Parting}
 use Rattle.core_machine.specs.declared.place.Place.TheVariants as places

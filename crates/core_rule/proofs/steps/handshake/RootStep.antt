@@ -2,11 +2,11 @@
 use Rattle.std.proofs.Common.{◌≡◌, ℕ, ◌+◌, ◌%◌, ◌<◌, ◌==◌, if◌then◌else◌, Bool, true, false, List, [], length, filter, slice_index_or, refl, sym, ap, subst, arith, nat_lt}
 use Rattle.std.proofs.lemmas.Bool.{cond_both, eqb-true}
 use Rattle.std.proofs.lemmas.List.{append-nil}
-use Rattle.heap_model.specs.Cycles.{graph_of}
-use Rattle.heap_model.specs.Effects.{is_of}
-use Rattle.heap_model.specs.Objects.{register}
-use Rattle.heap_model.specs.PhaseCounts.{phase, answered, has_left}
-use Rattle.heap_model.specs.State.{State as Graph}
+use Rattle.heap_model.specs.account.Cycles.{graph_of}
+use Rattle.heap_model.specs.account.Effects.{is_of}
+use Rattle.heap_model.specs.graph.Objects.{register}
+use Rattle.heap_model.specs.account.PhaseCounts.{phase, answered, has_left}
+use Rattle.heap_model.specs.graph.State.{State as Graph}
 use Rattle.core_machine.specs.declared.place.Place.TheVariants as places
 use Rattle.core_machine.specs.declared.place.Polling.TheVariants.{Shading, Answering}
 use Rattle.core_machine.specs.seat.AnsweringMoves.{root_move}

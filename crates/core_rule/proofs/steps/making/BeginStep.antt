@@ -3,8 +3,8 @@ use Rattle.std.proofs.Common.{slice_set, subst, ◌≡◌, ℕ, ◌<◌, [], len
 use Rattle.std.proofs.lemmas.List.{append-nil}
 use Rattle.heap_model.specs.declared.command.Command.{Command}
 use Rattle.heap_model.specs.declared.heap.Heap.{Heap}
-use Rattle.heap_model.specs.Cycles.{graph_of}
-use Rattle.heap_model.specs.PhaseCounts.{phase, answered, has_left}
+use Rattle.heap_model.specs.account.Cycles.{graph_of}
+use Rattle.heap_model.specs.account.PhaseCounts.{phase, answered, has_left}
 use Rattle.core_machine.specs.declared.place.Place.TheVariants as places
 use Rattle.core_machine.specs.seat.Commands.{IsRecord, target_of}
 use Rattle.core_machine.specs.seat.Fits.{IsAtRest}

@@ -3,9 +3,9 @@ use Rattle.std.proofs.Common.{◌≡◌, ℕ, ◌+◌, ◌<◌, ◌≤◌, List,
 use Rattle.std.proofs.lemmas.Bool.{eq-eqb}
 use Rattle.heap_model.specs.declared.entry.Entry.{Entry}
 use Rattle.heap_model.specs.declared.entry.Entry.TheVariants as entries
-use Rattle.heap_model.specs.Cycles.{graph_of}
-use Rattle.heap_model.specs.Space.{taken_of, spent_of}
-use Rattle.heap_model.specs.State.{State as Graph}
+use Rattle.heap_model.specs.account.Cycles.{graph_of}
+use Rattle.heap_model.specs.account.Space.{taken_of, spent_of}
+use Rattle.heap_model.specs.graph.State.{State as Graph}
 use Rattle.core_machine.specs.declared.table.address.Address.TheVariants.{Control}
 use Rattle.core_machine.specs.declared.place.Making.TheVariants.{Returning}
 use Rattle.core_machine.specs.declared.place.Place.TheVariants as places

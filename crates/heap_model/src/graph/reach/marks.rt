@@ -1,7 +1,7 @@
 ghost use Rattle.std.specs.Prelude.{◌≡◌, ◌↔◌, map, replicate, false, length, Some, if◌then◌else◌, IfOk, IsTrue};
 
 use crate::id::Id;
-use crate::seat::Seat;
+use crate::graph::seat::Seat;
 use std::alloc::{AllocError, Global};
 use std::marker::Model;
 
@@ -27,7 +27,7 @@ pub struct Marks {
 }
 
 impl Model for Marks {
-    ghost use Rattle.heap_model.specs.Marking.{Marking};
+    ghost use Rattle.heap_model.specs.graph.Marking.{Marking};
 
     ghost Value = { Marking };
 
@@ -35,7 +35,7 @@ impl Model for Marks {
 }
 
 impl Marks {
-    ghost use Rattle.heap_model.specs.Marking.{mark as mark_of, with_mark, IsMarked};
+    ghost use Rattle.heap_model.specs.graph.Marking.{mark as mark_of, with_mark, IsMarked};
 
     /// The marks of the board and of the objects of these seats, with none set.
     pub fn new(alloc: Global, seats: &[Seat]) -> Result<Marks, AllocError>

@@ -3,8 +3,8 @@ ghost use Rattle.heap_model.specs.declared.id.Value.TheVariants.{Object as Refer
 
 use super::marks::Marks;
 use crate::id::{Id, Value};
-use crate::object::Object;
-use crate::seat::Seat;
+use crate::graph::object::Object;
+use crate::graph::seat::Seat;
 use std::alloc::{AllocError, AllocFailed, Global};
 use std::marker::Model;
 
@@ -16,7 +16,7 @@ pub struct Search {
 }
 
 impl Model for Search {
-    ghost use Rattle.heap_model.specs.Search.{Search};
+    ghost use Rattle.heap_model.specs.graph.Search.{Search};
 
     ghost Value = { Search };
 
@@ -24,9 +24,9 @@ impl Model for Search {
 }
 
 impl Search {
-    ghost use Rattle.heap_model.specs.Reach.{IsRegistered, PointsTo};
-    ghost use Rattle.heap_model.specs.Search.{GoesOn, FoundFromSeat, FoundFromObject};
-    ghost use Rattle.heap_model.specs.Marking.{IsFound};
+    ghost use Rattle.heap_model.specs.graph.Reach.{IsRegistered, PointsTo};
+    ghost use Rattle.heap_model.specs.graph.Search.{GoesOn, FoundFromSeat, FoundFromObject};
+    ghost use Rattle.heap_model.specs.graph.Marking.{IsFound};
 
     pub fn new(alloc: Global, marks: Marks) -> Search
         ensures { result ≡ record { marks = marks; waiting = [] } }

@@ -1,9 +1,9 @@
 ghost use Rattle.std.specs.Prelude.{◌≡◌, ◌+◌, ◌≤◌, ◌<◌, ◌^◌, ◌↔◌, ℕ, [], length, IfOk, IfErr, IfSome};
 ghost use Rattle.heap_model.specs.Command.{IsCommand};
 ghost use Rattle.heap_model.specs.Needs.{made_by, need_of};
-ghost use Rattle.heap_model.specs.SeatState.{HoldsNoObject};
-ghost use Rattle.heap_model.specs.SeatCalls.{ComesBefore, Adds};
-ghost use Rattle.heap_model.specs.SeatReplies.{record_reply, LacksFragments, next_id};
+ghost use Rattle.heap_model.specs.calls.SeatState.{HoldsNoObject};
+ghost use Rattle.heap_model.specs.calls.SeatCalls.{ComesBefore, Adds};
+ghost use Rattle.heap_model.specs.calls.SeatReplies.{record_reply, LacksFragments, next_id};
 ghost use Rattle.log_merge.specs.LoneSeat.{AsksFor};
 
 use crate::tests::note::note;
@@ -35,7 +35,7 @@ pub struct Lone {
 
 impl Model for Lone {
     ghost use Rattle.std.specs.Prelude.{◌-◌, vec_len, vec_capacity};
-    ghost use Rattle.heap_model.specs.SeatState.{SeatState};
+    ghost use Rattle.heap_model.specs.calls.SeatState.{SeatState};
     ghost use Rattle.log_merge.specs.LoneSeat.{lone_heap, IsLone, HasSpace};
 
     ghost Value = { SeatState };
@@ -85,10 +85,10 @@ impl Lone {
 }
 
 impl Lone {
-    ghost use Rattle.heap_model.specs.Objects.{register};
-    ghost use Rattle.heap_model.specs.Growth.{after_reply};
-    ghost use Rattle.heap_model.specs.Changes.{put};
-    ghost use Rattle.heap_model.specs.SeatState.{own_graph, own_object, own_party, held};
+    ghost use Rattle.heap_model.specs.graph.Objects.{register};
+    ghost use Rattle.heap_model.specs.graph.Growth.{after_reply};
+    ghost use Rattle.heap_model.specs.graph.Changes.{put};
+    ghost use Rattle.heap_model.specs.calls.SeatState.{own_graph, own_object, own_party, held};
 
     fn value(&self, r: u8) -> Value
         requires { r ≤ 15 }

@@ -1,6 +1,6 @@
 use Rattle.std.proofs.Common.{rules, arith, ap}
-use Rattle.heap_model.specs.Books.{Books}
-use Rattle.heap_model.proofs.Telling.{answered_then, answered_now}
+use Rattle.heap_model.specs.account.Books.{Books}
+use Rattle.heap_model.proofs.account_lemmas.Telling.{answered_then, answered_now}
 use Rattle.heap_model.proofs.account.Account.all_answered.Goals as goal
 
 pub returns-then-not-has_answered : goal.returns-then-not-has_answered

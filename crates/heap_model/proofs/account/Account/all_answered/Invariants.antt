@@ -1,5 +1,5 @@
 use Rattle.std.proofs.Common.{ℕ, ◌<◌}
-use Rattle.heap_model.specs.Books.{HasAnswered}
+use Rattle.heap_model.specs.account.Books.{HasAnswered}
 use Rattle.heap_model.proofs.account.Account.all_answered.Given as goal
 
 abbrev pub invariant-loop-seat : goal.invariant-loop-seat

@@ -1,6 +1,6 @@
 use Rattle.std.proofs.Common.{subst, rules}
-use Rattle.heap_model.specs.Preparing.{IsPrepared}
-use Rattle.heap_model.proofs.Applying.{applied}
+use Rattle.heap_model.specs.account.Preparing.{IsPrepared}
+use Rattle.heap_model.proofs.account_lemmas.Applying.{applied}
 use Rattle.heap_model.proofs.account.Account.apply.Goals as goal
 
 pub returns-clause-tells : goal.returns-clause-tells

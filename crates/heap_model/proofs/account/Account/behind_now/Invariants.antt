@@ -1,5 +1,5 @@
 use Rattle.std.proofs.Common.{◌≡◌, ℕ, ◌<◌, false, length, slice_index_or}
-use Rattle.heap_model.specs.Noting.{is_behind_now}
+use Rattle.heap_model.specs.account.Noting.{is_behind_now}
 use Rattle.heap_model.proofs.account.Account.behind_now.Given as goal
 
 abbrev pub invariant-loop-seat : goal.invariant-loop-seat

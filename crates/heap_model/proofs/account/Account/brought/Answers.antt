@@ -1,8 +1,8 @@
 use Rattle.std.proofs.Common.{◌≡◌, ◌+◌, sum_by, ap, ◌∙◌, sym, arith}
 use Rattle.std.specs.List.{range_with_len}
-use Rattle.heap_model.specs.SeatBooks.{seat_at}
-use Rattle.heap_model.specs.Preparing.{brought_by}
-use Rattle.heap_model.proofs.CycleLemmas.{sum-range-more}
+use Rattle.heap_model.specs.account.SeatBooks.{seat_at}
+use Rattle.heap_model.specs.account.Preparing.{brought_by}
+use Rattle.heap_model.proofs.account_lemmas.CycleLemmas.{sum-range-more}
 use Rattle.heap_model.proofs.account.Account.brought.Goals as goal
 
 pub loop-seat-preserved : goal.loop-seat-preserved

@@ -1,7 +1,7 @@
 use Rattle.std.proofs.Common.{◌≡◌, ◌*◌, ◌≤◌, ◌^◌, sum_by}
 use Rattle.std.specs.List.{range_with_len}
-use Rattle.heap_model.specs.SeatBooks.{seat_at}
-use Rattle.heap_model.specs.Preparing.{brought_by}
+use Rattle.heap_model.specs.account.SeatBooks.{seat_at}
+use Rattle.heap_model.specs.account.Preparing.{brought_by}
 use Rattle.heap_model.proofs.account.Account.brought.Given as goal
 
 abbrev pub invariant-loop-seat : goal.invariant-loop-seat

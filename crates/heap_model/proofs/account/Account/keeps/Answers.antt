@@ -1,4 +1,4 @@
-use Rattle.heap_model.proofs.Judging.{ok_says, end_keeps, keeps_end}
+use Rattle.heap_model.proofs.account_lemmas.Judging.{ok_says, end_keeps, keeps_end}
 use Rattle.heap_model.proofs.account.Account.keeps.Goals as goal
 
 pub returns-in-Ends-clause-keeps : goal.returns-in-Ends-clause-keeps

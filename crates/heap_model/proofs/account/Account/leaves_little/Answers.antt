@@ -1,10 +1,10 @@
 use Rattle.std.proofs.Common.{◌≡◌, ◌≤◌, subst, sym, ap, ◌∙◌, refl, Result, Ok, Err, OnErr, arith}
 use Rattle.std.proofs.lemmas.Bool.{both_ways, leb-true, le-leb}
-use Rattle.heap_model.specs.Reach.{IsReachAmong}
-use Rattle.heap_model.specs.Sizes.{frags_of}
-use Rattle.heap_model.specs.Cycles.{graph_of}
-use Rattle.heap_model.specs.Books.{Books}
-use Rattle.heap_model.proofs.CycleLemmas.{within_by, reached_by}
+use Rattle.heap_model.specs.graph.Reach.{IsReachAmong}
+use Rattle.heap_model.specs.graph.Sizes.{frags_of}
+use Rattle.heap_model.specs.account.Cycles.{graph_of}
+use Rattle.heap_model.specs.account.Books.{Books}
+use Rattle.heap_model.proofs.account_lemmas.CycleLemmas.{within_by, reached_by}
 use Rattle.heap_model.proofs.account.Account.leaves_little.Goals as goal
 
 pub returns-then-not-is_within-clause-little : goal.returns-then-not-is_within-clause-little

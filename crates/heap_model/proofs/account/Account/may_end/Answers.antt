@@ -1,9 +1,9 @@
 use Rattle.std.proofs.Common.{◌≡◌, ◌+◌, ◌*◌, ◌∙◌, sym, ap, arith, rules}
 use Rattle.std.proofs.lemmas.Result.{on_err_weaker}
-use Rattle.heap_model.specs.Books.{Books}
-use Rattle.heap_model.specs.PhaseCounts.{phase}
-use Rattle.heap_model.specs.Cycles.{LeavesLittle, IsThroughCycle}
-use Rattle.heap_model.proofs.Judging.{ok_says}
+use Rattle.heap_model.specs.account.Books.{Books}
+use Rattle.heap_model.specs.account.PhaseCounts.{phase}
+use Rattle.heap_model.specs.account.Cycles.{LeavesLittle, IsThroughCycle}
+use Rattle.heap_model.proofs.account_lemmas.Judging.{ok_says}
 use Rattle.heap_model.proofs.account.Account.may_end.Goals as goal
 
 pub returns-clause-ends : goal.returns-clause-ends

@@ -1,7 +1,7 @@
 use Rattle.std.proofs.Common.{◌∙◌, sym, ap, subst, arith, Contains}
 use Rattle.std.proofs.lemmas.Bool.{both_ways, ne_eqb, not-true, not_from_false, false_from_ne_true}
-use Rattle.heap_model.specs.Sweep.{IsArray}
-use Rattle.heap_model.specs.Books.{Books}
+use Rattle.heap_model.specs.account.Sweep.{IsArray}
+use Rattle.heap_model.specs.account.Books.{Books}
 use Rattle.heap_model.proofs.account.Account.may_swing.Goals as goal
 use Rattle.heap_model.proofs.account.Account.may_swing.Goals.{then-self-eq-COPYING, else-self-eq-COPYING}
 

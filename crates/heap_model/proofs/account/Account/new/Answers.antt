@@ -1,4 +1,4 @@
-use Rattle.heap_model.proofs.Opening.{tells_nothing}
+use Rattle.heap_model.proofs.account_lemmas.Opening.{tells_nothing}
 use Rattle.heap_model.proofs.account.Account.new.Goals as goal
 
 pub returns-clause-tells : goal.returns-clause-tells

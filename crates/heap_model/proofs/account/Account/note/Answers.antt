@@ -1,5 +1,5 @@
 use Rattle.std.proofs.Common.{rules}
-use Rattle.heap_model.proofs.Noting.{is_noted}
+use Rattle.heap_model.proofs.account_lemmas.Noting.{is_noted}
 use Rattle.heap_model.proofs.account.Account.note.Goals as goal
 
 pub returns-in-Some : goal.returns-in-Some

@@ -1,6 +1,6 @@
 use Rattle.std.proofs.Common.{inl, inr, ap, sym, ◌∙◌, subst, Contains, rules}
 use Rattle.heap_model.specs.declared.entry.Entry.TheVariants as entries
-use Rattle.heap_model.specs.Books.{Books}
+use Rattle.heap_model.specs.account.Books.{Books}
 use Rattle.heap_model.proofs.account.Account.prepare.Goals as goal
 
 pub returns-in_ok-add-in-Swings-clause-prepared : goal.returns-in_ok-add-in-Swings-clause-prepared

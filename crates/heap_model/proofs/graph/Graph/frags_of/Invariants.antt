@@ -1,5 +1,5 @@
 use Rattle.std.proofs.Common.{◌≡◌, ◌*◌, ◌≤◌, take, sum_by}
-use Rattle.heap_model.specs.Sizes.{frags}
+use Rattle.heap_model.specs.graph.Sizes.{frags}
 use Rattle.heap_model.proofs.graph.Graph.frags_of.Given as goal
 
 abbrev pub invariant-loop-id : goal.invariant-loop-id

@@ -1,9 +1,9 @@
 use Rattle.std.proofs.Common.{◌≡◌, length, subst, arith}
 use Rattle.std.proofs.lemmas.Bool.{iff_false}
 use Rattle.heap_model.specs.declared.id.Id.TheVariants.{Made}
-use Rattle.heap_model.specs.Objects.{party}
-use Rattle.heap_model.specs.Marking.{IsListed}
-use Rattle.heap_model.proofs.OrderLemmas.{IsListed-push, IsListed-skip, IsListed-seat}
+use Rattle.heap_model.specs.graph.Objects.{party}
+use Rattle.heap_model.specs.graph.Marking.{IsListed}
+use Rattle.heap_model.proofs.graph_lemmas.OrderLemmas.{IsListed-push, IsListed-skip, IsListed-seat}
 use Rattle.heap_model.proofs.graph.Graph.list_seat.Goals as goal
 use Rattle.heap_model.proofs.graph.Graph.list_seat.Goals.{then-is_marked+in_ok-push, else-is_marked}
 

@@ -1,5 +1,5 @@
 use Rattle.heap_model.specs.declared.id.Id.TheVariants.{Made}
-use Rattle.heap_model.specs.Marking.{IsListed}
+use Rattle.heap_model.specs.graph.Marking.{IsListed}
 use Rattle.heap_model.proofs.graph.Graph.list_seat.Given as goal
 
 abbrev pub invariant-loop-count : goal.invariant-loop-count

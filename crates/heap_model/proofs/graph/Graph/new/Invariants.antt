@@ -1,5 +1,5 @@
 use Rattle.std.proofs.Common.{◌≡◌, replicate}
-use Rattle.heap_model.specs.State.{opening_party}
+use Rattle.heap_model.specs.graph.State.{opening_party}
 use Rattle.heap_model.proofs.graph.Graph.new.Given as goal
 
 abbrev pub invariant-loop-seat : goal.invariant-loop-seat

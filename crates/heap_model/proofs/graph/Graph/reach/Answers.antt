@@ -1,5 +1,5 @@
 use Rattle.std.proofs.Common.{[], refl}
-use Rattle.heap_model.proofs.SearchLemmas.{IsReach-listed}
+use Rattle.heap_model.proofs.graph_lemmas.SearchLemmas.{IsReach-listed}
 use Rattle.heap_model.proofs.graph.Graph.reach.Goals as goal
 
 pub returns : goal.returns

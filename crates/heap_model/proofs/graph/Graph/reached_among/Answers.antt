@@ -1,6 +1,6 @@
 use Rattle.std.proofs.Common.{◌≤◌, length, subst}
-use Rattle.heap_model.specs.Reach.{IsReachAmong}
-use Rattle.heap_model.proofs.Among.{among_none, among_step}
+use Rattle.heap_model.specs.graph.Reach.{IsReachAmong}
+use Rattle.heap_model.proofs.graph_lemmas.Among.{among_none, among_step}
 use Rattle.heap_model.proofs.graph.Graph.reached_among.Goals as goal
 use Rattle.heap_model.proofs.graph.Graph.reached_among.Goals.{then-is_marked+in_ok-push, else-is_marked}
 use Rattle.std.proofs.lemmas.List.{take_all}

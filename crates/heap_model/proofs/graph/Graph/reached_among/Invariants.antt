@@ -1,5 +1,5 @@
 use Rattle.std.proofs.Common.{take}
-use Rattle.heap_model.specs.Reach.{IsReachAmong}
+use Rattle.heap_model.specs.graph.Reach.{IsReachAmong}
 use Rattle.heap_model.proofs.graph.Graph.reached_among.Given as goal
 
 abbrev pub invariant-loop-id : goal.invariant-loop-id

@@ -1,6 +1,6 @@
 use Rattle.std.proofs.Common.{[], subst, sym, ap, ◌∙◌}
-use Rattle.heap_model.specs.Search.{Search, IsSearch}
-use Rattle.heap_model.proofs.SearchLemmas.{IsSearch-step}
+use Rattle.heap_model.specs.graph.Search.{Search, IsSearch}
+use Rattle.heap_model.proofs.graph_lemmas.SearchLemmas.{IsSearch-step}
 use Rattle.heap_model.proofs.graph.Graph.reached_marks.Goals as goal
 
 pub loop-id-preserved : goal.loop-id-preserved

@@ -1,6 +1,6 @@
 use Rattle.std.proofs.Common.{◌+◌, length}
-use Rattle.heap_model.specs.Search.{IsSearch}
-use Rattle.heap_model.specs.Marking.{unmarked}
+use Rattle.heap_model.specs.graph.Search.{IsSearch}
+use Rattle.heap_model.specs.graph.Marking.{unmarked}
 use Rattle.heap_model.proofs.graph.Graph.reached_marks.Given as goal
 
 abbrev pub invariant-loop-id : goal.invariant-loop-id

@@ -1,7 +1,7 @@
 use Rattle.std.proofs.Common.{◌≡◌, ◌<◌, ◌≤◌, get_or, length, rules}
-use Rattle.heap_model.specs.Search.{FoundFromSeat}
-use Rattle.heap_model.proofs.SearchLemmas.{IsSearch-start}
-use Rattle.heap_model.proofs.NoteLemmas.{GoesOn-seat, found_seat, All-taken}
+use Rattle.heap_model.specs.graph.Search.{FoundFromSeat}
+use Rattle.heap_model.proofs.graph_lemmas.SearchLemmas.{IsSearch-start}
+use Rattle.heap_model.proofs.graph_lemmas.NoteLemmas.{GoesOn-seat, found_seat, All-taken}
 use Rattle.heap_model.proofs.graph.Graph.search_from_seats.Goals as goal
 
 pub loop-seat-preserved : goal.loop-seat-preserved

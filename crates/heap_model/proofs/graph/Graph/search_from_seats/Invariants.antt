@@ -1,7 +1,7 @@
 use Rattle.std.proofs.Common.{All, take, []}
-use Rattle.heap_model.specs.Reach.{IsRoot}
-use Rattle.heap_model.specs.Search.{GoesOn, FoundFromSeat}
-use Rattle.heap_model.specs.Marking.{no_marks}
+use Rattle.heap_model.specs.graph.Reach.{IsRoot}
+use Rattle.heap_model.specs.graph.Search.{GoesOn, FoundFromSeat}
+use Rattle.heap_model.specs.graph.Marking.{no_marks}
 use Rattle.heap_model.proofs.graph.Graph.search_from_seats.Given as goal
 
 abbrev pub invariant-loop-seat : goal.invariant-loop-seat

@@ -1,5 +1,5 @@
 use Rattle.std.proofs.Common.{◌≡◌, ◌+◌, ◌*◌, ◌≤◌, false}
-use Rattle.heap_model.specs.SeatState.{own_party}
+use Rattle.heap_model.specs.calls.SeatState.{own_party}
 use Rattle.log_merge.proofs.tests.seat_calls.make_and_poll.Given as goal
 
 abbrev pub invariant-loop-i : goal.invariant-loop-i

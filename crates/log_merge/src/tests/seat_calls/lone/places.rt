@@ -1,6 +1,6 @@
 ghost use Rattle.std.specs.Prelude.{◌≡◌, ◌≤◌, ◌↔◌, IfSome};
-ghost use Rattle.heap_model.specs.SeatState.{IsNoObject};
-ghost use Rattle.heap_model.specs.SeatReplies.{refusal_reply};
+ghost use Rattle.heap_model.specs.calls.SeatState.{IsNoObject};
+ghost use Rattle.heap_model.specs.calls.SeatReplies.{refusal_reply};
 ghost use Rattle.log_merge.specs.LoneSeat.{lone_length};
 
 use heap_model::{Id, PlaceRefusal, Reply, Value};

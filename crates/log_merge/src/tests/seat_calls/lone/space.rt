@@ -1,5 +1,5 @@
 ghost use Rattle.std.specs.Prelude.{◌≡◌, ◌+◌, ◌<◌, ◌≤◌, ◌++◌, vec_len, vec_capacity, IfOk, IfErr};
-ghost use Rattle.heap_model.specs.SeatCalls.{takes_of, gives_of};
+ghost use Rattle.heap_model.specs.calls.SeatCalls.{takes_of, gives_of};
 ghost use Rattle.log_merge.specs.LoneSeat.{claim_of, TakesEnough, TakesTooLittle};
 
 use crate::tests::note::note;

@@ -1,5 +1,5 @@
 use Rattle.std.proofs.Common.{◌≡◌, ◌↔◌, ◌⊎◌, subst, Contains}
-use Rattle.heap_model.proofs.SwungLemmas.{member-added}
+use Rattle.heap_model.proofs.account_lemmas.SwungLemmas.{member-added}
 use Rattle.heap_model.proofs.account.swung.Swung.add.Goals as goal
 
 pub returns-clause-added : goal.returns-clause-added

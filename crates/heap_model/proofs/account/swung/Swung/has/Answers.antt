@@ -1,5 +1,5 @@
 use Rattle.std.proofs.Common.{◌↔◌, IsTrue, subst, sym, Contains}
-use Rattle.heap_model.proofs.SwungLemmas.{has_member}
+use Rattle.heap_model.proofs.account_lemmas.SwungLemmas.{has_member}
 use Rattle.heap_model.proofs.account.swung.Swung.has.Goals as goal
 
 pub returns : goal.returns

@@ -1,5 +1,5 @@
 use Rattle.std.proofs.Common.{rules}
-use Rattle.heap_model.proofs.SearchLemmas.{GoesOn-note, IsFound-note}
+use Rattle.heap_model.proofs.graph_lemmas.SearchLemmas.{GoesOn-note, IsFound-note}
 use Rattle.heap_model.proofs.graph.reach.search.Search.note.Goals as goal
 
 pub returns-in_ok-push-clause-goes_on : goal.returns-in_ok-push-clause-goes_on

@@ -1,5 +1,5 @@
-use Rattle.heap_model.specs.Marking.{IsFound}
-use Rattle.heap_model.proofs.NoteLemmas.{GoesOn-cell, found_cell, All-taken}
+use Rattle.heap_model.specs.graph.Marking.{IsFound}
+use Rattle.heap_model.proofs.graph_lemmas.NoteLemmas.{GoesOn-cell, found_cell, All-taken}
 use Rattle.heap_model.proofs.graph.reach.search.Search.note_object.Goals as goal
 
 pub loop-cell-preserved : goal.loop-cell-preserved

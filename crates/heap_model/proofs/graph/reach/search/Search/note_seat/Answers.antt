@@ -1,5 +1,5 @@
-use Rattle.heap_model.specs.Marking.{IsFound}
-use Rattle.heap_model.proofs.NoteLemmas.{GoesOn-register, found_register, All-taken}
+use Rattle.heap_model.specs.graph.Marking.{IsFound}
+use Rattle.heap_model.proofs.graph_lemmas.NoteLemmas.{GoesOn-register, found_register, All-taken}
 use Rattle.heap_model.proofs.graph.reach.search.Search.note_seat.Goals as goal
 
 pub loop-value-preserved : goal.loop-value-preserved

@@ -1,7 +1,7 @@
 use Rattle.std.proofs.Common.{All, take}
-use Rattle.heap_model.specs.Reach.{IsRegistered}
-use Rattle.heap_model.specs.Search.{GoesOn}
-use Rattle.heap_model.specs.Marking.{IsFound}
+use Rattle.heap_model.specs.graph.Reach.{IsRegistered}
+use Rattle.heap_model.specs.graph.Search.{GoesOn}
+use Rattle.heap_model.specs.graph.Marking.{IsFound}
 use Rattle.heap_model.proofs.graph.reach.search.Search.note_seat.Given as goal
 
 abbrev pub invariant-loop-value : goal.invariant-loop-value

@@ -1,6 +1,6 @@
 use Rattle.std.proofs.Common.{◌≡◌, ◌≤◌, ◌↔◌, Err}
 use Rattle.heap_model.specs.declared.refusal.PlaceRefusal.TheVariants.{NoField}
-use Rattle.heap_model.specs.SeatState.{held}
+use Rattle.heap_model.specs.calls.SeatState.{held}
 use Rattle.log_merge.proofs.LoneLemmas.{own_length}
 use Rattle.log_merge.proofs.tests.seat_calls.lone.Lone.reach.Goals as goal
 

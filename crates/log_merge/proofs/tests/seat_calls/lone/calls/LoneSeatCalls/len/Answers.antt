@@ -1,7 +1,7 @@
 use Rattle.std.proofs.Common.{◌≡◌, ap, ◌∙◌, ℕ, Result, Ok, rules}
 use Rattle.heap_model.specs.declared.refusal.NoObject.{NoObject}
 use Rattle.std.proofs.lemmas.Option.{IfSome_then}
-use Rattle.heap_model.specs.SeatState.{held}
+use Rattle.heap_model.specs.calls.SeatState.{held}
 use Rattle.log_merge.specs.LoneSeat.{lone_length}
 use Rattle.log_merge.proofs.LoneLemmas.{own_length, IfSome-unwrap_or}
 use Rattle.log_merge.proofs.tests.seat_calls.lone.calls.LoneSeatCalls.len.Goals as goal

@@ -1,0 +1,64 @@
+-- What an account that counted one more entry tells.
+use Rattle.std.proofs.Common.{◌≡◌, ℕ, ◌+◌, List, [], ◌∷◌, ◌++◌, inl, inr, refl, sym, ap, ◌∙◌, subst, arith, Bool, true, false, cond}
+use Rattle.std.proofs.lemmas.Bool.{cases_Bool, cond-true, cond-false}
+use Rattle.heap_model.specs.declared.entry.Entry.{Entry}
+use Rattle.heap_model.specs.declared.account.effect.Effect.{Effect}
+use Rattle.heap_model.specs.declared.account.seat.SeatAccount.{SeatAccount}
+use Rattle.heap_model.specs.account.Space.{total, total_of}
+use Rattle.heap_model.specs.account.Effects.{effect_of, is_of}
+use Rattle.heap_model.specs.account.Sums.{plus, IsMeasured}
+use Rattle.heap_model.specs.account.Windows.{is_reply_to, up_to_reply}
+use Rattle.heap_model.specs.account.SeatBooks.{TellsSince}
+use Rattle.heap_model.proofs.Histories.{total-more, total_of-more}
+use Rattle.heap_model.proofs.account_lemmas.Windows.{up_to_last-yes, up_to_last-no, others_since, all_since}
+
+-- a part that grows as its measure does
+part_grows : (b : Bool) (part : Effect → ℕ) (sums effect : Effect) (was is : ℕ) → part (plus sums effect) ≡ part sums + part effect → is ≡ was + cond b (part effect) 0 → part sums ≡ was → part (cond b (plus sums effect) sums) ≡ is
+part_grows true part sums effect was is adds more told = omega (arith, adds, more, told)
+part_grows false part sums effect was is adds more told = omega (arith, more, told)
+
+-- sums that grow as the measure does
+measured_by : (b : Bool) (sums new effect : Effect) (f g : (Effect → ℕ) → ℕ) → new ≡ cond b (plus sums effect) sums → ((part : Effect → ℕ) → g part ≡ f part + cond b (part effect) 0) → IsMeasured sums f → IsMeasured new g
+measured_by b sums new effect f g e more m = record {
+  taken = grows (λ x. x.taken) refl m.taken;
+  given = grows (λ x. x.given) refl m.given;
+  born = grows (λ x. x.born) refl m.born;
+  freed = grows (λ x. x.freed) refl m.freed;
+  words = grows (λ x. x.words) refl m.words;
+  returned = grows (λ x. x.returned) refl m.returned;
+  phases = grows (λ x. x.phases) refl m.phases;
+  answers = grows (λ x. x.answers) refl m.answers;
+}
+  where
+    grows : (part : Effect → ℕ) → part (plus sums effect) ≡ part sums + part effect → part sums ≡ f part → part new ≡ g part
+    grows part adds told = ap part e ∙ part_grows b part sums effect (f part) (g part) adds (more part) told
+
+-- what all did
+pub all-more : (old new : Effect) (history : List Entry) (entry : Entry) → new ≡ plus old (effect_of entry) → IsMeasured old (λ part. total part history) → IsMeasured new (λ part. total part (history ++ entry ∷ []))
+all-more old new history entry e m = measured_by true old new (effect_of entry) _ _ e (λ part. total-more part history entry) m
+
+-- what the seat did
+pub own-more : (s : ℕ) (old new : Effect) (history : List Entry) (entry : Entry) → new ≡ cond (is_of s entry) (plus old (effect_of entry)) old → IsMeasured old (λ part. total_of s part history) → IsMeasured new (λ part. total_of s part (history ++ entry ∷ []))
+own-more s old new history entry e m = measured_by (is_of s entry) old new (effect_of entry) _ _ e (λ part. total_of-more s part history entry) m
+
+-- what was done up to the seat's last reply
+pub then-more : (s : ℕ) (sums : (Effect → ℕ) → List Entry → ℕ) (old now new : Effect) (history : List Entry) (entry : Entry) → new ≡ cond (is_reply_to s entry) now old
+    → IsMeasured now (λ part. sums part (history ++ entry ∷ [])) → IsMeasured old (λ part. sums part (up_to_reply s history)) → IsMeasured new (λ part. sums part (up_to_reply s (history ++ entry ∷ [])))
+then-more s sums old now new history entry e m o =
+    elim (cases_Bool (is_reply_to s entry)) [
+      | inl fits ↦ subst (λ h. IsMeasured new (λ part. sums part h)) (sym (up_to_last-yes (is_reply_to s) history entry fits))
+          (subst (λ x. IsMeasured x (λ part. sums part (history ++ entry ∷ []))) (sym (e ∙ cond-true _ now old fits)) m)
+      | inr fails ↦ subst (λ h. IsMeasured new (λ part. sums part h)) (sym (up_to_last-no (is_reply_to s) history entry fails))
+          (subst (λ x. IsMeasured x (λ part. sums part (up_to_reply s history))) (sym (e ∙ cond-false _ now old fails)) o)
+    ]
+
+-- what was done since
+pub since_is : (all : Effect) (s : ℕ) (seat : SeatAccount) (history : List Entry) → IsMeasured all (λ part. total part history) → IsMeasured seat.own (λ part. total_of s part history)
+    → IsMeasured seat.own_then (λ part. total_of s part (up_to_reply s history)) → IsMeasured seat.all_then (λ part. total part (up_to_reply s history)) → TellsSince all s seat history
+since_is all s seat history a o ot at = record {
+  freed = omega (arith, all_since s (λ e. e.freed) history, a.freed, at.freed);
+  returned = omega (arith, all_since s (λ e. e.returned) history, a.returned, at.returned);
+  given = omega (arith, others_since s (λ e. e.given) history, a.given, o.given, ot.given, at.given);
+  taken = omega (arith, others_since s (λ e. e.taken) history, a.taken, o.taken, ot.taken, at.taken);
+  words = omega (arith, others_since s (λ e. e.words) history, a.words, o.words, ot.words, at.words);
+}

@@ -1,0 +1,85 @@
+-- The parts of a history, and what the sums of the parts are.
+use Rattle.std.proofs.Common.{◌≡◌, ℕ, ◌+◌, List, [], ◌∷◌, ◌++◌, refl, sym, ap, ◌∙◌, Bool, true, false, ◌||◌, cond, arith}
+use Rattle.std.proofs.lemmas.List.Sums.{sum_by-append, sum_by-cons}
+use Rattle.std.specs.List.{list_any, sum_by}
+use Rattle.std.proofs.lemmas.Bool.{cond-true, cond-false, or_right}
+use Rattle.std.proofs.lemmas.List.Folds.{list_any-append}
+use Rattle.heap_model.specs.declared.entry.Entry.{Entry}
+use Rattle.heap_model.specs.declared.account.effect.Effect.{Effect}
+use Rattle.heap_model.specs.account.Space.{total, total_of, total_but}
+use Rattle.heap_model.specs.account.Effects.{effect_of, is_of}
+use Rattle.heap_model.specs.account.Windows.{is_reply_to, up_to_last, after_last, up_to_reply, since_reply}
+
+-- the two parts are the history
+pub parts : (test : Entry → Bool) (history : List Entry) → up_to_last test history ++ after_last test history ≡ history
+parts test [] = refl
+parts test (entry ∷ history) =
+    elim (list_any test (entry ∷ history)) as (λ b. (cond b (entry ∷ up_to_last test history) []) ++ (cond b (after_last test history) (entry ∷ history)) ≡ entry ∷ history)
+    [ true ↦ ap (λ es. entry ∷ es) (parts test history) | false ↦ refl ]
+
+-- a sum over the history is the sum over its two parts
+pub sum-parts : (test : Entry → Bool) (f : Entry → ℕ) (history : List Entry) → sum_by f history ≡ sum_by f (up_to_last test history) + sum_by f (after_last test history)
+sum-parts test f history = ap (sum_by f) (sym (parts test history)) ∙ sum_by-append f (up_to_last test history) (after_last test history)
+
+-- all is the seat's and the others'
+pub total-split : (s : ℕ) (part : Effect → ℕ) (history : List Entry) → total part history ≡ total_of s part history + total_but s part history
+total-split s part [] = refl
+total-split s part (entry ∷ history) =
+    let all = sum_by-cons (λ e. part (effect_of e)) entry history in
+    let own = sum_by-cons (λ e. cond (is_of s e) (part (effect_of e)) 0) entry history in
+    let others = sum_by-cons (λ e. cond (is_of s e) 0 (part (effect_of e))) entry history in
+    let one : part (effect_of entry) ≡ cond (is_of s entry) (part (effect_of entry)) 0 + cond (is_of s entry) 0 (part (effect_of entry)) = one_split (is_of s entry) (part (effect_of entry)) in
+    omega (arith, all, own, others, one, total-split s part history)
+  where
+    one_split : (b : Bool) (n : ℕ) → n ≡ cond b n 0 + cond b 0 n
+    one_split true n = omega arith
+    one_split false n = omega arith
+
+-- what others did since a seat's last reply, by sums over what led there and over all
+pub others_since : (s : ℕ) (part : Effect → ℕ) (history : List Entry)
+    → total_but s part (since_reply s history) + total_of s part history + total part (up_to_reply s history) ≡ total part history + total_of s part (up_to_reply s history)
+others_since s part history =
+    let all = sum-parts (is_reply_to s) (λ e. part (effect_of e)) history in
+    let own = sum-parts (is_reply_to s) (λ e. cond (is_of s e) (part (effect_of e)) 0) history in
+    omega (arith, all, own, total-split s part (since_reply s history))
+
+-- what all did since
+pub all_since : (s : ℕ) (part : Effect → ℕ) (history : List Entry) → total part (since_reply s history) + total part (up_to_reply s history) ≡ total part history
+all_since s part history = let all = sum-parts (is_reply_to s) (λ e. part (effect_of e)) history in omega (arith, all)
+
+or-false : (b : Bool) → (b || false) ≡ b
+or-false true = refl
+or-false false = refl
+
+-- an entry of the history passes the test, or the one more does
+pub any-more : (test : Entry → Bool) (history : List Entry) (entry : Entry) → list_any test (history ++ entry ∷ []) ≡ (list_any test history || test entry)
+any-more test history entry = list_any-append test history (entry ∷ []) ∙ ap (λ b. list_any test history || b) (or-false (test entry))
+
+-- a history with one more entry, which passes the test
+pub up_to_last-yes : (test : Entry → Bool) (history : List Entry) (entry : Entry) → test entry ≡ true → up_to_last test (history ++ entry ∷ []) ≡ history ++ entry ∷ []
+up_to_last-yes test [] entry fits = cond-true (list_any test (entry ∷ [])) (entry ∷ []) [] (any-more test [] entry ∙ fits)
+up_to_last-yes test (first ∷ history) entry fits =
+    cond-true _ _ [] (any-more test (first ∷ history) entry ∙ or_right _ _ fits) ∙ ap (λ es. first ∷ es) (up_to_last-yes test history entry fits)
+
+pub after_last-yes : (test : Entry → Bool) (history : List Entry) (entry : Entry) → test entry ≡ true → after_last test (history ++ entry ∷ []) ≡ []
+after_last-yes test [] entry fits = cond-true (list_any test (entry ∷ [])) [] (entry ∷ []) (any-more test [] entry ∙ fits)
+after_last-yes test (first ∷ history) entry fits =
+    cond-true _ _ _ (any-more test (first ∷ history) entry ∙ or_right _ _ fits) ∙ after_last-yes test history entry fits
+
+-- one that doesn't
+pub up_to_last-no : (test : Entry → Bool) (history : List Entry) (entry : Entry) → test entry ≡ false → up_to_last test (history ++ entry ∷ []) ≡ up_to_last test history
+up_to_last-no test [] entry fails = cond-false (list_any test (entry ∷ [])) (entry ∷ []) [] (any-more test [] entry ∙ fails)
+up_to_last-no test (first ∷ history) entry fails =
+    ap (λ es. cond (list_any test (first ∷ history ++ entry ∷ [])) (first ∷ es) []) (up_to_last-no test history entry fails)
+    ∙ ap (λ b. cond b (first ∷ up_to_last test history) []) (any-more test (first ∷ history) entry ∙ ap (λ b. list_any test (first ∷ history) || b) fails ∙ or-false _)
+
+pub after_last-no : (test : Entry → Bool) (history : List Entry) (entry : Entry) → test entry ≡ false → after_last test (history ++ entry ∷ []) ≡ after_last test history ++ entry ∷ []
+after_last-no test [] entry fails = cond-false (list_any test (entry ∷ [])) [] (entry ∷ []) (any-more test [] entry ∙ fails)
+after_last-no test (first ∷ history) entry fails =
+    ap (λ es. cond (list_any test (first ∷ history ++ entry ∷ [])) es (first ∷ history ++ entry ∷ [])) (after_last-no test history entry fails)
+    ∙ ap (λ b. cond b (after_last test history ++ entry ∷ []) (first ∷ history ++ entry ∷ [])) (any-more test (first ∷ history) entry ∙ ap (λ b. list_any test (first ∷ history) || b) fails ∙ or-false _)
+    ∙ either (list_any test (first ∷ history))
+  where
+    either : (b : Bool) → cond b (after_last test history ++ entry ∷ []) (first ∷ history ++ entry ∷ []) ≡ cond b (after_last test history) (first ∷ history) ++ entry ∷ []
+    either true = refl
+    either false = refl

@@ -1,0 +1,4 @@
+-- What the calls of a seat add.
+pub mod BoardLemmas
+pub mod SeatCallLemmas
+pub mod SeatGrowth

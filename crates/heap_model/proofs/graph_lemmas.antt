@@ -1,0 +1,6 @@
+-- The graph that only grows, and what is reached in it.
+pub mod Among
+pub mod MarkLemmas
+pub mod NoteLemmas
+pub mod OrderLemmas
+pub mod SearchLemmas

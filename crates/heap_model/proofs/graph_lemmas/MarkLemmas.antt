@@ -1,0 +1,103 @@
+-- Setting the mark of an object.
+use Rattle.std.proofs.Common.{◌≡◌, ℕ, zero, suc, ◌+◌, ◌<◌, ◌≤◌, ◌⊎◌, inl, inr, Bool, true, false, not, cond, List, [], ◌∷◌, length, get_or, set, slice_get, sum_by, count_by, map, replicate, Some, is_some, refl, sym, ap, ◌∙◌, subst, arith, length-set}
+use Rattle.std.proofs.lemmas.Bool.{cases_eq, cases_lt}
+use Rattle.std.proofs.lemmas.Option.{slice_get-get_or, slice_get_past, slice_get_within, get_or_from_slice_get, none-some}
+use Rattle.std.proofs.lemmas.List.{get_or-set_same, get_or-set_other, get_or_past}
+use Rattle.std.proofs.lemmas.List.Sums.{sum_by-set}
+use Rattle.heap_model.specs.declared.id.Id.{Id}
+use Rattle.heap_model.specs.declared.id.Id.TheVariants.{Board, Made}
+use Rattle.heap_model.specs.graph.Objects.{party, nobody}
+use Rattle.heap_model.specs.graph.State.{State, Party}
+use Rattle.heap_model.specs.graph.Marking.{Marking, marks_of, mark, with_mark, unmarked, IsMarked, no_marks, HasMarks}
+
+-- an element that is put in place of another is found there
+slice_get-set_same : {A : Type 0} (xs : List A) (i : ℕ) (x : A) → i < length xs → slice_get (set xs i x) i ≡ Some x
+slice_get-set_same xs i x within =
+    let there : i < length (set xs i x) = simp length-set within in
+    slice_get-get_or (set xs i x) i x there ∙ ap Some (get_or-set_same xs i x x within)
+
+-- and all others stay
+slice_get-set_other : {A : Type 0} (xs : List A) (i j : ℕ) (x : A) → (j ≡ i → ⊥) → slice_get (set xs i x) j ≡ slice_get xs j
+slice_get-set_other xs i j x other =
+    elim (cases_lt j (length xs)) [
+      | inl within ↦ (let there : j < length (set xs i x) = simp length-set within in
+          slice_get-get_or (set xs i x) j x there ∙ ap Some (get_or-set_other xs i j x x other) ∙ sym (slice_get-get_or xs j x within))
+      | inr past ↦ (let there : length (set xs i x) ≤ j = simp length-set past in
+          slice_get_past (set xs i x) j there ∙ sym (slice_get_past xs j past))
+    ]
+
+-- a seat of which an object has a mark is there
+seat_within : (rows : List (List Bool)) (s count : ℕ) (b : Bool) → slice_get (get_or rows s []) count ≡ Some b → s < length rows
+seat_within rows s count b h =
+    elim (cases_lt s (length rows)) [
+      | inl within ↦ within
+      | inr past ↦ absurd (none-some b (subst (λ row. slice_get row count ≡ Some b) (get_or_past rows s [] past) h))
+    ]
+
+-- the marks of a seat with one more
+pub marks_of-with_mark : (m : Marking) (s count : ℕ) → mark m (Made s count) ≡ Some false → marks_of (with_mark m (Made s count)) s ≡ set (marks_of m s) count true
+marks_of-with_mark m s count h = get_or-set_same m.seats s (set (marks_of m s) count true) [] (seat_within m.seats s count false h)
+
+-- the mark that is set is set
+pub with_mark-here : (m : Marking) (id : Id) → mark m id ≡ Some false → IsMarked (with_mark m id) id
+with_mark-here m Board h = refl
+with_mark-here m (Made s count) h =
+    rw (marks_of-with_mark m s count h) (slice_get-set_same (marks_of m s) count true (slice_get_within (marks_of m s) count false h))
+
+-- each other mark stays
+pub with_mark-other : (m : Marking) (id other : Id) → mark m id ≡ Some false → (mark (with_mark m id) other ≡ mark m other) ⊎ (id ≡ other)
+with_mark-other m Board Board h = inr refl
+with_mark-other m Board (Made t later) h = inl refl
+with_mark-other m (Made s count) Board h = inl refl
+with_mark-other m (Made s count) (Made t later) h =
+    elim (cases_eq t s) [
+      | inr elsewhere ↦ inl (ap (λ row. slice_get row later) (get_or-set_other m.seats s t (set (marks_of m s) count true) [] elsewhere))
+      | inl here ↦ elim (cases_eq later count) [
+        | inl same ↦ inr (ap (λ x. Made x count) (sym here) ∙ ap (λ x. Made t x) (sym same))
+        | inr another ↦ inl (subst (λ x. slice_get (marks_of (with_mark m (Made s count)) x) later ≡ slice_get (marks_of m x) later) (sym here)
+            (rw (marks_of-with_mark m s count h) (slice_get-set_other (marks_of m s) count later true another)))
+      ]
+    ]
+
+unmarked_row : (row : List Bool) (count : ℕ) → slice_get row count ≡ Some false → count_by not (set row count true) + 1 ≡ count_by not row
+unmarked_row row count h =
+    let e : count_by not (set row count true) + 1 ≡ count_by not row + 0 =
+    subst (λ b. count_by not (set row count true) + cond (not b) 1 0 ≡ count_by not row + 0) (get_or_from_slice_get row count false false h)
+    (sum_by-set (λ x. cond (not x) 1 0) row count true false (slice_get_within row count false h)) in
+    omega arith
+
+unmarked_rows : (rows : List (List Bool)) (s : ℕ) (row : List Bool) → s < length rows → count_by not row + 1 ≡ count_by not (get_or rows s []) → sum_by (λ marks. count_by not marks) (set rows s row) + 1 ≡ sum_by (λ marks. count_by not marks) rows
+unmarked_rows rows s row within less = omega (arith, less, sum_by-set (λ marks. count_by not marks) rows s row [] within)
+
+-- one object less is unmarked
+pub unmarked-with_mark : (m : Marking) (id : Id) → mark m id ≡ Some false → unmarked (with_mark m id) + 1 ≡ unmarked m
+unmarked-with_mark m Board h = grind arith
+unmarked-with_mark m (Made s count) h =
+    let rows = unmarked_rows m.seats s (set (marks_of m s) count true) (seat_within m.seats s count false h) (unmarked_row (marks_of m s) count h) in
+    omega (arith, rows)
+
+-- the opening marks are there for each object, and none is set
+marks_of-no_marks : (seats : List Party) (s : ℕ) → get_or (map (λ seat. replicate (length seat.objects) false) seats) s [] ≡ replicate (length (get_or seats s nobody).objects) false
+marks_of-no_marks [] s = refl
+marks_of-no_marks (seat ∷ seats) zero = refl
+marks_of-no_marks (seat ∷ seats) (suc s) = marks_of-no_marks seats s
+
+is_some-slice_get-replicate : {A : Type 0} (xs : List A) (i : ℕ) → is_some (slice_get (replicate (length xs) false) i) ≡ is_some (slice_get xs i)
+is_some-slice_get-replicate [] i = refl
+is_some-slice_get-replicate (x ∷ xs) zero = refl
+is_some-slice_get-replicate (x ∷ xs) (suc i) = is_some-slice_get-replicate xs i
+
+slice_get-replicate-unset : (n i : ℕ) → slice_get (replicate n false) i ≡ Some true → ⊥
+slice_get-replicate-unset zero i h = none-some true h
+slice_get-replicate-unset (suc n) zero h = cc
+slice_get-replicate-unset (suc n) (suc i) h = slice_get-replicate-unset n i h
+
+pub HasMarks-no_marks : (g : State) → HasMarks g (no_marks g)
+HasMarks-no_marks g Board = refl
+HasMarks-no_marks g (Made s count) =
+    ap (λ row. is_some (slice_get row count)) (marks_of-no_marks g.seats s) ∙ is_some-slice_get-replicate (party g s).objects count
+
+pub IsMarked-no_marks : (g : State) (id : Id) → IsMarked (no_marks g) id → ⊥
+IsMarked-no_marks g Board h = cc
+IsMarked-no_marks g (Made s count) h =
+    slice_get-replicate-unset (length (party g s).objects) count (subst (λ row. slice_get row count ≡ Some true) (marks_of-no_marks g.seats s) h)

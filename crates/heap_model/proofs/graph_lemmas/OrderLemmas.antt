@@ -1,0 +1,103 @@
+-- Listing the marked objects in their order.
+use Rattle.std.proofs.Common.{◌≡◌, ℕ, ◌+◌, ◌<◌, ◌≤◌, ◌⊎◌, inl, inr, true, false, List, [], ◌∷◌, ◌++◌, length, get_or, slice_get, is_some, Contains, refl, sym, ap, ◌∙◌, subst, arith}
+use Rattle.std.proofs.lemmas.Bool.{cases_lt}
+use Rattle.std.proofs.lemmas.List.Elements.{Contains-append_left, Contains-push, Contains-push_cases, Contains-get_or}
+use Rattle.std.proofs.lemmas.List.Quantifiers.{all_pairs_push}
+use Rattle.std.proofs.lemmas.Option.{slice_get_past}
+use Rattle.heap_model.specs.declared.id.Id.{Id}
+use Rattle.heap_model.specs.declared.id.Id.TheVariants.{Board, Made}
+use Rattle.heap_model.specs.graph.Objects.{party}
+use Rattle.heap_model.specs.graph.State.{State}
+use Rattle.heap_model.specs.graph.Reach.{IsBefore}
+use Rattle.heap_model.specs.graph.Marking.{Marking, IsMarked, HasMarks, IsListed}
+
+-- the next place after this one, in its seat
+abbrev pub next_place : Id → Id
+next_place Board = Made 0 0
+next_place (Made s count) = Made s (count + 1)
+
+IsBefore-next : (id place : Id) → IsBefore id place → IsBefore id (next_place place)
+IsBefore-next Board Board before = absurd before
+IsBefore-next (Made s count) Board before = absurd before
+IsBefore-next Board (Made t later) before = tt
+IsBefore-next (Made s count) (Made t later) before = elim before [
+  | inl seat ↦ inl seat
+  | inr same ↦ inr (same.0, omega (arith, same.1))
+]
+
+IsBefore-here : (place : Id) → IsBefore place (next_place place)
+IsBefore-here Board = tt
+IsBefore-here (Made s count) = inr (refl, omega arith)
+
+-- before the next place is what is before this one, and this one
+IsBefore-cases : (id place : Id) → IsBefore id (next_place place) → IsBefore id place ⊎ (place ≡ id)
+IsBefore-cases Board Board before = inr refl
+IsBefore-cases (Made s count) Board before = elim before [ inl seat ↦ absurd (omega (arith, seat)) | inr same ↦ absurd (omega (arith, same.1)) ]
+IsBefore-cases Board (Made t later) before = inl tt
+IsBefore-cases (Made s count) (Made t later) before = elim before [
+  | inl seat ↦ inl (inl seat)
+  | inr same ↦ elim (cases_lt count later) [
+    | inl below ↦ inl (inr (same.0, below))
+    | inr above ↦ (let equal : later ≡ count = omega (arith, same.1, above) in
+        inr (ap (λ x. Made x later) (sym same.0) ∙ ap (λ x. Made s x) equal))
+  ]
+]
+
+-- a marked object is listed after those before it
+pub IsListed-push : (m : Marking) (place : Id) (ids : List Id) → IsListed m place ids → IsMarked m place → IsListed m (next_place place) (ids ++ place ∷ [])
+IsListed-push m place ids listed here = record {
+  ordered = all_pairs_push IsBefore ids place listed.ordered (λ k d within. (listed.marked (get_or ids k d) (Contains-get_or ids k d within)).1);
+  marked = λ id held. elim (Contains-push_cases ids place id held) [
+    | inl old ↦ ((listed.marked id old).0, IsBefore-next id place (listed.marked id old).1)
+    | inr new ↦ subst (λ x. IsMarked m x × IsBefore x (next_place place)) new (here, IsBefore-here place)
+  ];
+  whole = λ id marked before. elim (IsBefore-cases id place before) [
+    | inl old ↦ Contains-append_left ids (place ∷ []) id (listed.whole id marked old)
+    | inr new ↦ subst (λ x. Contains (ids ++ place ∷ []) x) new (Contains-push ids place)
+  ];
+}
+
+-- an object that isn't marked is passed over
+pub IsListed-skip : (m : Marking) (place : Id) (ids : List Id) → IsListed m place ids → (IsMarked m place → ⊥) → IsListed m (next_place place) ids
+IsListed-skip m place ids listed unmarked = record {
+  ordered = listed.ordered;
+  marked = λ id held. ((listed.marked id held).0, IsBefore-next id place (listed.marked id held).1);
+  whole = λ id marked before. elim (IsBefore-cases id place before) [
+    | inl old ↦ listed.whole id marked old
+    | inr new ↦ absurd (unmarked (subst (IsMarked m) (sym new) marked))
+  ];
+}
+
+false-true : false ≡ true → ⊥
+false-true h = cc
+
+-- after the last object of a seat come those of the next
+pub IsListed-seat : (g : State) (m : Marking) (s : ℕ) (ids : List Id) → HasMarks g m → IsListed m (Made s (length (party g s).objects)) ids → IsListed m (Made (s + 1) 0) ids
+IsListed-seat g m s ids objects listed = record {
+  ordered = listed.ordered;
+  marked = λ id held. ((listed.marked id held).0, later id (listed.marked id held).1);
+  whole = λ id marked before. listed.whole id marked (earlier id marked before);
+}
+  where
+    end : ℕ
+    end = length (party g s).objects
+
+    later : (id : Id) → IsBefore id (Made s end) → IsBefore id (Made (s + 1) 0)
+    later Board before = tt
+    later (Made t count) before = elim before [ inl seat ↦ inl (omega (arith, seat)) | inr same ↦ inl (omega (arith, same.0)) ]
+
+    not_above : (t count : ℕ) → IsBefore (Made t count) (Made (s + 1) 0) → s ≤ t → t ≡ s
+    not_above t count before above = elim before [ inl seat ↦ omega (arith, seat, above) | inr same ↦ absurd (omega (arith, same.1)) ]
+
+    within : (t count : ℕ) → t ≡ s → IsMarked m (Made t count) → count < end
+    within t count here marked = elim (cases_lt count end) [
+      | inl inside ↦ inside
+      | inr past ↦ absurd (false-true (ap is_some (sym (slice_get_past (party g s).objects count past)) ∙ subst (λ x. is_some (slice_get (party g x).objects count) ≡ true) here (sym (objects (Made t count)) ∙ ap is_some marked)))
+    ]
+
+    earlier : (id : Id) → IsMarked m id → IsBefore id (Made (s + 1) 0) → IsBefore id (Made s end)
+    earlier Board marked before = tt
+    earlier (Made t count) marked before = elim (cases_lt t s) [
+      | inl below ↦ inl below
+      | inr above ↦ (let here : t ≡ s = not_above t count before above in inr (here, within t count here marked))
+    ]

@@ -1,0 +1,69 @@
+-- The rules of space and phases that each entry keeps. Sums are compared with sums, so that nothing is cut off at 0.
+use Rattle.std.specs.Prelude.{◌≡◌, ℕ, ◌+◌, ◌*◌, ◌%◌, ◌≤◌, Bool, List, [], ◌∷◌, ◌++◌}
+use Rattle.heap_model.specs.Limits.{group_fragments, most_reserve}
+use Rattle.heap_model.specs.PhasePlan.{cycle_phases, barriers}
+use Rattle.heap_model.specs.declared.heap.Heap.{Heap}
+use Rattle.heap_model.specs.declared.command.Command.{Command}
+use Rattle.heap_model.specs.declared.command.Command.TheVariants as commands
+use Rattle.heap_model.specs.declared.entry.Entry.{Entry}
+use Rattle.heap_model.specs.declared.entry.Entry.TheVariants as entries
+use Rattle.heap_model.specs.graph.Legal.{IsObjectLegal}
+use Rattle.heap_model.specs.account.Space.{gained, lost, taken_of, spent_of}
+use Rattle.heap_model.specs.Needs.{made_by}
+use Rattle.heap_model.specs.account.Phases.{AnswersPhase, BeginsPhase, ShowsRightly}
+use Rattle.heap_model.specs.account.Cycles.{EndsCycle, IsThroughCycle, LeavesWithinBounds}
+use Rattle.heap_model.specs.account.Sweep.{Sweeps}
+use Rattle.heap_model.specs.account.Refusals.{RefusesRightly}
+pub use Rattle.heap_model.specs.account.Refusals.{given_up, FindsSpace, ShowsSpace, RefusesSpine}
+
+-- a seat takes what is there, and gives back what it has
+abbrev pub TakesAndGives : Heap → List Entry → Entry → Type 0
+TakesAndGives heap before (entries.Takes s count) = (1 ≤ count) × (gained before + count ≤ group_fragments * heap.groups + lost before)
+TakesAndGives heap before (entries.GivesBack s count) = (1 ≤ count) × (spent_of s before + count ≤ taken_of s before)
+TakesAndGives heap before _ = Unit {0}
+
+-- the most fragments that a seat keeps after this command
+abbrev pub most_kept : Command → ℕ
+most_kept commands.Leave = 0
+most_kept _ = most_reserve
+
+-- an object is made of what its maker has, and little is kept after a reply
+abbrev pub MakesOfOwn : List Entry → Entry → Type 0
+MakesOfOwn before (entries.Said s command reply) =
+    (spent_of s before + made_by command reply ≤ taken_of s before)
+    × (taken_of s before ≤ spent_of s before + made_by command reply + most_kept command)
+MakesOfOwn before _ = Unit {0}
+
+-- the entry keeps the rules after those before it, in a play or in a run
+pub record KeepsSpace (heap : Heap) (play : Bool) (before : List Entry) (entry : Entry) : Type 0 where
+  pub takes : TakesAndGives heap before entry
+  pub makes : MakesOfOwn before entry
+  pub refuses : RefusesRightly heap play before entry
+  pub refuses_spine : RefusesSpine heap play before entry
+  pub answers : AnswersPhase before entry
+  pub begins : BeginsPhase heap before entry
+  pub sweeps : Sweeps heap before entry
+  pub ends : EndsCycle heap before entry
+  pub shows : ShowsRightly heap play before entry
+
+-- memory may be lacked for a legal entry that begins a cycle or swings an array, and where a cycle ends: there all but how much was kept
+-- at least is known to be legal
+abbrev pub MayLackMemory : Heap → Bool → List Entry → Entry → Type 0
+MayLackMemory heap play before (entries.Advance p) = (p % cycle_phases ≡ barriers) × KeepsSpace heap play before (entries.Advance p)
+MayLackMemory heap play before (entries.Swings id) = KeepsSpace heap play before (entries.Swings id)
+MayLackMemory heap play before (entries.Ends cycle kept) = IsThroughCycle heap before cycle × LeavesWithinBounds heap before kept
+MayLackMemory heap play before _ = ⊥
+
+-- each entry keeps the rules after those before it
+abbrev pub KeepsSpaceAfter : Heap → Bool → List Entry → List Entry → Type 0
+KeepsSpaceAfter heap play before [] = Unit {0}
+KeepsSpaceAfter heap play before (entry ∷ rest) = KeepsSpace heap play before entry × KeepsSpaceAfter heap play (before ++ entry ∷ []) rest
+
+-- the history keeps the rules of space and phases, as a play or as a run
+abbrev pub IsSpaceLegal : Heap → Bool → List Entry → Type 0
+IsSpaceLegal heap play history = KeepsSpaceAfter heap play [] history
+
+-- the history is legal, as a play or as a run
+pub record IsLegal (heap : Heap) (play : Bool) (history : List Entry) : Type 0 where
+  pub objects : IsObjectLegal heap history
+  pub space : IsSpaceLegal heap play history

@@ -1,0 +1,66 @@
+-- What the account keeps of a history, and what that has to do with it.
+use Rattle.std.specs.Prelude.{◌≡◌, ℕ, ◌/◌, ◌<◌, ◌≤◌, ◌^◌, ◌↔◌, false, List, length, Contains, Option, Some, is_some}
+use Rattle.heap_model.specs.PhasePlan.{cycle_phases}
+use Rattle.heap_model.specs.declared.heap.Heap.{Heap}
+use Rattle.heap_model.specs.declared.id.Id.{Id}
+use Rattle.heap_model.specs.declared.entry.Entry.{Entry}
+use Rattle.heap_model.specs.declared.account.effect.Effect.{Effect}
+use Rattle.heap_model.specs.declared.account.seat.SeatAccount.{SeatAccount}
+use Rattle.heap_model.specs.declared.account.cycle.Cycle.{Cycle}
+use Rattle.heap_model.specs.Heap.{IsHeap}
+use Rattle.heap_model.specs.graph.Reach.{IsReach}
+use Rattle.heap_model.specs.graph.Sizes.{frags_of, words_of}
+use Rattle.heap_model.specs.account.Space.{granted, total}
+use Rattle.heap_model.specs.account.Sums.{IsFew, IsMeasured}
+use Rattle.heap_model.specs.account.Windows.{up_to_cycle}
+use Rattle.heap_model.specs.account.PhaseCounts.{HasEnded, JustEnded}
+use Rattle.heap_model.specs.account.Cycles.{graph_of, all_bring}
+use Rattle.heap_model.specs.account.Sweep.{HasSwung}
+use Rattle.heap_model.specs.account.SeatBooks.{seat_at, TellsSeat}
+
+-- what an account keeps
+pub record Books : Type 0 where
+  pub heap : Heap
+  pub entries : ℕ
+  pub all : Effect
+  pub seats : List SeatAccount
+  pub cycle : Cycle
+  pub swung : List Id
+  pub ended : Option ℕ
+
+-- the seat has left or answered the phase
+abbrev pub HasAnswered : Books → ℕ → Type 0
+HasAnswered books s = is_some (seat_at books.seats s).left ≡ false → (seat_at books.seats s).own.answers ≡ books.all.phases
+
+-- the sums fit
+pub record CycleFits (cycle : Cycle) : Type 0 where
+  pub frags : cycle.frags < 2 ^ 100
+  pub words : cycle.words < 2 ^ 100
+  pub brought : cycle.brought < 2 ^ 100
+
+-- so few entries were counted that the sums fit
+pub record AreBooks (heap : Heap) (entries : ℕ) (all : Effect) (seats : List SeatAccount) (cycle : Cycle) : Type 0 where
+  pub heap_fits : IsHeap heap
+  pub entries_fit : entries ≤ 2 ^ 32
+  pub all_fits : IsFew entries all
+  pub seats_fit : (s : ℕ) → IsFew entries (seat_at seats s).own
+  pub cycle_fits : CycleFits cycle
+
+-- what is kept of the last cycle is so in the history
+pub record TellsCycle (heap : Heap) (cycle : Cycle) (history : List Entry) : Type 0 where
+  pub reached : IsReach (graph_of heap (up_to_cycle history)) cycle.reached.items
+  pub frags : cycle.frags ≡ frags_of (graph_of heap (up_to_cycle history)) cycle.reached.items
+  pub words : cycle.words ≡ words_of (graph_of heap (up_to_cycle history)) cycle.reached.items
+  pub brought : cycle.brought ≡ all_bring heap (up_to_cycle history)
+  pub taken : cycle.taken_then ≡ total (λ e. e.taken) (up_to_cycle history)
+  pub granted : cycle.words_then ≡ granted (up_to_cycle history)
+
+-- the account tells the history
+pub record Tells (books : Books) (history : List Entry) : Type 0 where
+  pub entries : books.entries ≡ length history
+  pub all : IsMeasured books.all (λ part. total part history)
+  pub seats : (s : ℕ) → s < books.heap.seats → TellsSeat books.heap books.all books.seats s (seat_at books.seats s) history
+  pub ended : (cycle : ℕ) → HasEnded cycle history ↔ (cycle < books.all.phases / cycle_phases)
+  pub just_ended : (cycle : ℕ) → JustEnded cycle history ↔ (books.ended ≡ Some cycle)
+  pub swung : (id : Id) → HasSwung id history ↔ Contains books.swung id
+  pub cycle : 1 ≤ books.all.phases → TellsCycle books.heap books.cycle history

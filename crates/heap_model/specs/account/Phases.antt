@@ -1,0 +1,62 @@
+-- What the seats and the collector may do and show of phases.
+use Rattle.std.specs.Prelude.{◌≡◌, ◌≢◌, ℕ, ◌+◌, ◌%◌, ◌<◌, Bool, true, false, List, ◌++◌}
+use Rattle.heap_model.specs.PhasePlan.{cycle_phases, rest}
+use Rattle.heap_model.specs.declared.heap.Heap.{Heap}
+use Rattle.heap_model.specs.declared.command.Command.{Command}
+use Rattle.heap_model.specs.declared.command.Command.TheVariants as commands
+use Rattle.heap_model.specs.declared.reply.Reply.{Reply}
+use Rattle.heap_model.specs.declared.reply.Reply.TheVariants as replies
+use Rattle.heap_model.specs.declared.reply.TurnReply.{TurnReply}
+use Rattle.heap_model.specs.declared.reply.TurnReply.TheVariants as turns
+use Rattle.heap_model.specs.declared.entry.Entry.{Entry}
+use Rattle.heap_model.specs.declared.entry.Entry.TheVariants as entries
+use Rattle.heap_model.specs.account.Windows.{up_to_reply, since_reply}
+use Rattle.heap_model.specs.account.PhaseCounts.{has_left, AllAnswered, HasEnded, JustEnded, BeganSince}
+pub use Rattle.heap_model.specs.account.PhaseCounts.{phase, answered}
+
+-- a seat answers the phase, which is the next one for it
+abbrev pub AnswersPhase : List Entry → Entry → Type 0
+AnswersPhase before (entries.Answers s p) = (p ≡ phase before) × (p ≡ answered s before + 1)
+AnswersPhase before _ = Unit {0}
+
+-- the next phase begins once all have answered; a multiple of seven is begun by the end of a cycle alone
+abbrev pub BeginsPhase : Heap → List Entry → Entry → Type 0
+BeginsPhase heap before (entries.Advance p) = (p ≡ phase before + 1) × (p % cycle_phases ≢ rest) × AllAnswered heap before
+BeginsPhase heap before _ = Unit {0}
+
+-- the seat is there, and this is its last answer, while this is the phase
+pub record IsBehind (s answer p : ℕ) (history : List Entry) : Type 0 where
+  pub present : has_left s history ≡ false
+  pub answered : answered s history ≡ answer
+  pub here : phase history ≡ p
+
+-- so it was for the other seat at some place since the last reply of `s`, the place right after that reply among them
+abbrev pub WasBehind : ℕ → ℕ → ℕ → ℕ → List Entry → Type 0
+WasBehind s other answer p history =
+    (later rest : List Entry) × (since_reply s history ≡ later ++ rest) × IsBehind other answer p (up_to_reply s history ++ later)
+
+-- in a play a seat is behind when this is shown; in a run it was, by one phase, since the last reply of `s`
+abbrev pub SawBehind : Bool → List Entry → ℕ → ℕ → ℕ → ℕ → Type 0
+SawBehind true before s other answer p = IsBehind other answer p before
+SawBehind false before s other answer p = (p ≡ answer + 1) × WasBehind s other answer p before
+
+-- a poll shows the phase, which the seat has answered; a collect shows a cycle that began since the seat's last reply and has
+-- ended, or another seat that is behind
+abbrev pub ShowsPhases : Heap → Bool → List Entry → ℕ → Command → Reply → Type 0
+ShowsPhases heap play before s commands.Poll (replies.Phase p) = (p ≡ phase before) × (p ≡ answered s before)
+ShowsPhases heap play before s commands.Collect (replies.Cycle cycle) = HasEnded cycle before × BeganSince s cycle before
+ShowsPhases heap play before s commands.Collect (replies.Waits other answer p) =
+    (other < heap.seats) × (other ≢ s) × (answer < p) × SawBehind play before s other answer p
+ShowsPhases heap play before s _ _ = Unit {0}
+
+-- a turn shows the cycle that has just ended, or a seat that is behind
+abbrev pub TurnShows : Heap → List Entry → TurnReply → Type 0
+TurnShows heap before turns.Done = Unit {0}
+TurnShows heap before (turns.Cycle cycle) = JustEnded cycle before
+TurnShows heap before (turns.Waits other answer p) = (other < heap.seats) × (answer < p) × IsBehind other answer p before
+
+-- what is shown of phases is right
+abbrev pub ShowsRightly : Heap → Bool → List Entry → Entry → Type 0
+ShowsRightly heap play before (entries.Said s command reply) = ShowsPhases heap play before s command reply
+ShowsRightly heap play before (entries.Turned command reply) = TurnShows heap before reply
+ShowsRightly heap play before _ = Unit {0}

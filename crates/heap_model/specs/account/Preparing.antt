@@ -1,0 +1,50 @@
+-- What the account keeps of a cycle that begins, compares where one ends, and prepares for an entry.
+use Rattle.std.specs.Prelude.{◌≡◌, ℕ, ◌+◌, ◌-◌, ◌%◌, ◌≤◌, ◌↔◌, ◌⊎◌, Contains, true, false, sum_by}
+use Rattle.std.specs.List.{range_with_len}
+use Rattle.heap_model.specs.Limits.{board_fragments}
+use Rattle.heap_model.specs.PhasePlan.{cycle_phases, barriers}
+use Rattle.heap_model.specs.declared.id.Id.{Id}
+use Rattle.heap_model.specs.declared.entry.Entry.{Entry}
+use Rattle.heap_model.specs.declared.entry.Entry.TheVariants as entries
+use Rattle.heap_model.specs.declared.account.seat.SeatAccount.{SeatAccount}
+use Rattle.heap_model.specs.declared.account.cycle.Cycle.{Cycle}
+use Rattle.heap_model.specs.graph.State.{State}
+use Rattle.heap_model.specs.graph.Reach.{IsReach}
+use Rattle.heap_model.specs.graph.Sizes.{frags_of, words_of}
+use Rattle.heap_model.specs.account.Windows.{begins_cycle}
+use Rattle.heap_model.specs.account.Books.{Books, CycleFits}
+use Rattle.heap_model.specs.account.SeatBooks.{seat_at}
+
+-- what a seat brings into a cycle, by what is kept of it
+abbrev pub brought_by : SeatAccount → ℕ
+brought_by seat = seat.own.taken - (seat.own_then.given + seat.own_then.born)
+
+-- what is kept of a cycle that begins here
+pub record IsBegun (books : Books) (g : State) (cycle : Cycle) : Type 0 where
+  pub reached : IsReach g cycle.reached.items
+  pub frags : cycle.frags ≡ frags_of g cycle.reached.items
+  pub words : cycle.words ≡ words_of g cycle.reached.items
+  pub brought : cycle.brought ≡ sum_by (λ s. brought_by (seat_at books.seats s)) (range_with_len 0 books.heap.seats)
+  pub taken : cycle.taken_then ≡ books.all.taken
+  pub granted : cycle.words_then ≡ books.all.words
+  pub fits : CycleFits cycle
+
+-- what is in use and what was kept are within the bounds, by what the account keeps
+abbrev pub IsWithinBy : Books → ℕ → Type 0
+IsWithinBy books kept =
+    (board_fragments + books.all.taken ≤ books.all.given + books.all.freed + (books.cycle.frags + books.cycle.brought + (books.all.taken - books.cycle.taken_then)))
+    × (books.all.words ≤ books.all.returned + books.cycle.words + (books.all.words - books.cycle.words_then))
+    × (kept ≤ books.cycle.frags + books.cycle.brought + (books.all.taken - books.cycle.taken_then))
+
+-- what the entry needs memory for is kept: an array that swings, and a cycle that begins
+pub record IsPrepared (old : Books) (g : State) (entry : Entry) (new : Books) : Type 0 where
+  pub rest : new ≡ record old { cycle = new.cycle; swung = new.swung }
+  pub swung : (id : Id) → Contains new.swung id ↔ Contains old.swung id ⊎ (entry ≡ entries.Swings id)
+  pub begun : begins_cycle entry ≡ true → IsBegun old g new.cycle
+  pub same : begins_cycle entry ≡ false → new.cycle ≡ old.cycle
+
+-- memory is wanted for an entry that begins a cycle, or swings an array
+abbrev pub WantsMemory : Entry → Type 0
+WantsMemory (entries.Advance p) = p % cycle_phases ≡ barriers
+WantsMemory (entries.Swings id) = Unit {0}
+WantsMemory _ = ⊥

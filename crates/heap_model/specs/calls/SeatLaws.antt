@@ -1,0 +1,56 @@
+-- What is true of every seat, and what follows of how its calls add entries.
+use Rattle.std.specs.Prelude.{◌≡◌, ◌≢◌, ℕ, ◌+◌, ◌*◌, ◌<◌, ◌≤◌, false, List, length, All}
+use Rattle.heap_model.specs.declared.command.Command.{Command}
+use Rattle.heap_model.specs.declared.command.Command.TheVariants.{Leave}
+use Rattle.heap_model.specs.declared.entry.Entry.{Entry}
+use Rattle.heap_model.specs.declared.entry.Entry.TheVariants.{Said, Takes, GivesBack, Answers}
+use Rattle.heap_model.specs.declared.id.Id.TheVariants.{Board}
+use Rattle.heap_model.specs.declared.id.Value.TheVariants.{Object}
+use Rattle.heap_model.specs.declared.reply.Reply.{Reply}
+use Rattle.heap_model.specs.Command.{IsCommand}
+use Rattle.heap_model.specs.graph.Growth.{after_reply}
+use Rattle.heap_model.specs.Heap.{IsHeap}
+use Rattle.heap_model.specs.Needs.{need_of}
+use Rattle.heap_model.specs.calls.SeatCalls.{ComesBefore, Adds}
+use Rattle.heap_model.specs.calls.SeatState.{SeatState, own_graph, own_party, held}
+
+-- the entry is the seat's, and its command's numbers are in their ranges
+abbrev pub IsOwn : ℕ → Entry → Type 0
+IsOwn s (Said q command reply) = (q ≡ s) × IsCommand command
+IsOwn s (Takes q count) = q ≡ s
+IsOwn s (GivesBack q count) = q ≡ s
+IsOwn s (Answers q phase) = q ≡ s
+IsOwn s _ = ⊥
+
+-- the heap is within its limits, the seat is one of its seats, and each of its entries is its own
+pub record IsSeat (seat : SeatState) : Type 0 where
+  pub heap : IsHeap seat.heap
+  pub number : seat.number < seat.heap.seats
+  pub own : All (IsOwn seat.number) seat.mine
+
+-- a call adds at most two entries for each fragment that its command needs, and two more
+abbrev pub EachCallIsShort : Type 0
+EachCallIsShort =
+    (s unborn last : ℕ) (command : Command) (reply : Reply) (before : List Entry) → ComesBefore s unborn last command reply before
+    → length before + 1 ≤ 2 * need_of command + 2
+
+-- so much room is left after a call: for no more entries than those is it spent
+abbrev pub EachCallLeavesRoom : Type 0
+EachCallLeavesRoom = (old new : SeatState) (command : Command) (reply : Reply) → Adds old new command reply → old.spare ≤ new.spare + 2 * need_of command + 2
+
+-- register 0 of a seat that hasn't left is the board
+abbrev pub BoardStays : Type 0
+BoardStays = (seat : SeatState) → IsSeat seat → (own_party seat).left ≡ false → held seat 0 ≡ Object Board
+
+-- a call changes what the seat's own entries tell by its reply alone
+abbrev pub EachCallGrows : Type 0
+EachCallGrows = (old new : SeatState) (command : Command) (reply : Reply) → Adds old new command reply → own_graph new ≡ after_reply (own_graph old) old.number command reply
+
+-- no call but a leave leaves, and a call makes one object at most and does one set at most
+pub record CountsUp (old new : SeatState) (command : Command) : Type 0 where
+  pub present_stays : command ≢ Leave → (own_party new).left ≡ (own_party old).left
+  pub made_more : length (own_party new).objects ≤ length (own_party old).objects + 1
+  pub sets_more : (own_party new).sets ≤ (own_party old).sets + 1
+
+abbrev pub EachCallCounts : Type 0
+EachCallCounts = (old new : SeatState) (command : Command) (reply : Reply) → Adds old new command reply → CountsUp old new command

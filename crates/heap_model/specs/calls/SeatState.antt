@@ -1,0 +1,43 @@
+-- What contracts see of a seat, and what the seat's own entries tell.
+use Rattle.std.specs.Prelude.{ℕ, List, Option}
+use Rattle.heap_model.specs.declared.heap.Heap.{Heap}
+use Rattle.heap_model.specs.declared.id.Value.{Value}
+use Rattle.heap_model.specs.declared.id.Value.TheVariants.{Nil, Number, Object}
+use Rattle.heap_model.specs.declared.entry.Entry.{Entry}
+use Rattle.heap_model.specs.graph.Objects.{party, register, target}
+use Rattle.heap_model.specs.graph.State.{Node, Party, State, opening}
+use Rattle.heap_model.specs.graph.Growth.{graph_after}
+
+-- the heap, the seat's number, its entries in their order, and for how many more there is room
+pub record SeatState : Type 0 where
+  pub heap : Heap
+  pub number : ℕ
+  pub mine : List Entry
+  pub spare : ℕ
+
+-- the graph that grows by the seat's own entries alone: it has the seat's registers, the board and the objects that
+-- the seat made, but not what others set
+abbrev pub own_graph : SeatState → State
+own_graph seat = graph_after (opening seat.heap) seat.mine
+
+-- the seat in that graph
+abbrev pub own_party : SeatState → Party
+own_party seat = party (own_graph seat) seat.number
+
+-- the value of the seat's register
+abbrev pub held : SeatState → ℕ → Value
+held seat r = register (own_graph seat) seat.number r
+
+-- the value is no object
+abbrev pub IsNoObject : Value → Type 0
+IsNoObject Nil = Unit {0}
+IsNoObject (Number n) = Unit {0}
+IsNoObject (Object id) = ⊥
+
+-- the register holds no object
+abbrev pub HoldsNoObject : SeatState → ℕ → Type 0
+HoldsNoObject seat r = IsNoObject (held seat r)
+
+-- the object that the register holds, where it is the board or the seat made it
+abbrev pub own_object : SeatState → ℕ → Option Node
+own_object seat r = target (own_graph seat) (held seat r)

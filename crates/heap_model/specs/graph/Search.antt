@@ -1,0 +1,39 @@
+-- A search through the graph: the marks, and those marked objects whose cells wait to be looked at.
+use Rattle.std.specs.Prelude.{◌≡◌, ◌+◌, ◌⊎◌, List, length, All, Contains, is_some}
+use Rattle.std.specs.Option.{IfSome}
+use Rattle.heap_model.specs.declared.id.Id.{Id}
+use Rattle.heap_model.specs.graph.Objects.{node}
+use Rattle.heap_model.specs.graph.State.{Node, Party, State}
+use Rattle.heap_model.specs.graph.Reach.{Reaches}
+use Rattle.heap_model.specs.graph.Marking.{Marking, mark, IsMarked, unmarked, HasMarks, IsFound}
+
+-- the marks, and the marked ids that wait
+pub record Search : Type 0 where
+  pub marks : Marking
+  pub waiting : List Id
+
+-- the search went on by marking some more objects, of which `P` holds, and which wait now
+pub record GoesOn (P : Id → Type 0) (old new : Search) : Type 0 where
+  pub marked_stay : (id : Id) → IsMarked old.marks id → IsMarked new.marks id
+  pub objects_stay : (id : Id) → is_some (mark new.marks id) ≡ is_some (mark old.marks id)
+  pub waiting_stay : (id : Id) → Contains old.waiting id → Contains new.waiting id
+  pub marked_more : (id : Id) → IsMarked new.marks id → IsMarked old.marks id ⊎ (Contains new.waiting id × P id)
+  pub waiting_more : (id : Id) → Contains new.waiting id → Contains old.waiting id ⊎ IsMarked new.marks id
+  pub work_stays : unmarked new.marks + length new.waiting ≡ unmarked old.marks + length old.waiting
+
+-- all that a register of the seat refers to is marked
+abbrev pub FoundFromSeat : Marking → Party → Type 0
+FoundFromSeat m seat = All (IsFound m) seat.registers
+
+-- all that a cell of the object refers to is marked
+abbrev pub FoundFromObject : Marking → Node → Type 0
+FoundFromObject m object = All (λ cell. IsFound m cell.value) object.cells
+
+-- marked are reached objects alone, among them all that a register refers to, and all that a marked object refers to
+-- unless that one waits
+pub record IsSearch (g : State) (walk : Search) : Type 0 where
+  pub objects : HasMarks g walk.marks
+  pub reached : (id : Id) → IsMarked walk.marks id → Reaches g id
+  pub waiting : (id : Id) → Contains walk.waiting id → IsMarked walk.marks id
+  pub from_seats : All (FoundFromSeat walk.marks) g.seats
+  pub from_objects : (id : Id) → IsMarked walk.marks id → Contains walk.waiting id ⊎ IfSome (node g id) (FoundFromObject walk.marks)

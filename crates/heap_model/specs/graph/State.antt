@@ -1,0 +1,41 @@
+-- The graph as contracts see it, with its objects and seats, and how these are at the opening.
+use Rattle.std.specs.Prelude.{ℕ, Bool, false, List, [], ◌∷◌, replicate}
+use Rattle.heap_model.specs.Limits.{board_fields, last_register}
+use Rattle.heap_model.specs.declared.heap.Heap.{Heap}
+use Rattle.heap_model.specs.declared.id.Id.TheVariants.{Board}
+use Rattle.heap_model.specs.declared.id.Value.{Value}
+use Rattle.heap_model.specs.declared.id.Value.TheVariants.{Nil, Object}
+use Rattle.heap_model.specs.declared.graph.cell.Cell.{Cell}
+
+-- an object: a record or an array of cells
+pub record Node : Type 0 where
+  pub array : Bool
+  pub cells : List Cell
+
+-- a seat: its registers, the objects that it made in their order, the number of its sets, and whether it left
+pub record Party : Type 0 where
+  pub registers : List Value
+  pub objects : List Node
+  pub sets : ℕ
+  pub left : Bool
+
+-- the board, and the seats in their order
+pub record State : Type 0 where
+  pub board : Node
+  pub seats : List Party
+
+-- a cell that was never set
+abbrev pub unset : Cell
+unset = record { value = Nil; stamp = 0 }
+
+-- an object of cells that were never set
+abbrev pub fresh : Bool → ℕ → Node
+fresh array cells = record { array = array; cells = replicate cells unset }
+
+-- a seat at the opening: register 0 is the board, and the others are nil
+abbrev pub opening_party : Party
+opening_party = record { registers = Object Board ∷ replicate last_register Nil; objects = []; sets = 0; left = false }
+
+-- the graph at the opening
+abbrev pub opening : Heap → State
+opening heap = record { board = fresh false board_fields; seats = replicate heap.seats opening_party }

@@ -1,0 +1,3 @@
+pub(crate) mod collector_calls;
+pub(crate) mod laws;
+pub(crate) mod seat_calls;

@@ -1,0 +1,42 @@
+ghost use Rattle.std.specs.Prelude.{◌≡◌, ◌≤◌, length, OnOk, OnErr};
+ghost use Rattle.heap_model.specs.calls.CollectorCalls.{CollectorState, Turns};
+
+use crate::fault::Memory;
+
+/// What one turn of the collector came to: a step, a seat that it waits for, or the end of a cycle.
+#[derive(Clone, Copy, Debug, PartialEq, Eq)]
+pub enum Turn {
+    Stepped,
+    Waits { seat: u8, answered: u64, phase: u64 },
+    Ended { cycle: u64, kept: u64 },
+}
+
+/// The collector of a heap. No call but `room` takes memory.
+pub trait CollectorCalls {
+    /// The collector's entries and the room for more, its phase and its turns.
+    ghost state: { Self → CollectorState };
+
+    /// Makes one step, which is one operation on one word of the heap.
+    fn turn(&mut self) -> Turn
+        requires { 2 ≤ (state self.old).spare }
+        ensures { Turns (state self.old) (state self.new) result };
+
+    /// Makes room for at least `n` more entries.
+    fn room(&mut self, n: usize) -> Result<(), Memory>
+        ensures same { state self.new ≡ record (state self.old) { spare = (state self.new).spare } }
+        ensures more { (state self.old).spare ≤ (state self.new).spare }
+        ensures room { OnOk result (n ≤ (state self.new).spare) }
+        ensures memory { OnErr result (state self.new ≡ state self.old) };
+
+    /// For how many more entries there is room.
+    fn spare(&self) -> usize
+        ensures { result ≡ (state self.now).spare };
+
+    fn phase(&self) -> u64
+        ensures phase { result ≡ (state self.now).phase }
+        ensures logged { result ≤ length (state self.now).log };
+
+    /// The number of turns that were made, or the last number of its type.
+    fn turns(&self) -> u64
+        ensures { result ≡ (state self.now).turns };
+}
