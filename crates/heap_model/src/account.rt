@@ -3,9 +3,9 @@ ghost use Rattle.heap_model.specs.declared.entry.Entry.{Entry as Entries};
 ghost use Rattle.heap_model.specs.Heap.{IsHeap};
 
 use crate::account::cycle::Cycle;
+use crate::account::effect::Effect;
 use crate::account::seat::SeatAccount;
 use crate::account::swung::Swung;
-use crate::account::effect::Effect;
 use crate::entry::Entry;
 use crate::fault::{ApplyFault, Memory};
 use crate::graph::Graph;

@@ -3,11 +3,11 @@ ghost use Rattle.heap_model.specs.Heap.{IsHeap};
 
 use crate::entry::Entry;
 use crate::fault::{ApplyFault, Memory};
+use crate::graph::object::Object;
+use crate::graph::seat::Seat;
 use crate::heap::Heap;
 use crate::id::Value;
 use crate::limits::BOARD_FIELDS;
-use crate::graph::object::Object;
-use crate::graph::seat::Seat;
 use std::alloc::Global;
 use std::marker::Model;
 

@@ -4,9 +4,9 @@ ghost use Rattle.heap_model.specs.declared.entry.Entry.TheVariants as entries;
 ghost use Rattle.heap_model.specs.account.Account.{most_kept};
 
 use crate::account::Account;
+use crate::account::effect::Effect;
 use crate::account::seat::SeatAccount;
 use crate::command::Command;
-use crate::account::effect::Effect;
 use crate::limits::{BOARD_FRAGMENTS, GROUP_FRAGMENTS, MOST_RESERVE};
 use crate::reply::Reply;
 

@@ -3,9 +3,9 @@ ghost use Rattle.heap_model.specs.account.Windows.{begins_phase};
 ghost use Rattle.heap_model.specs.account.Noting.{seat_of, ended_by};
 
 use crate::account::Account;
+use crate::account::effect::Effect;
 use crate::account::seat::SeatAccount;
 use crate::command::Command;
-use crate::account::effect::Effect;
 use crate::entry::Entry;
 
 impl Account {

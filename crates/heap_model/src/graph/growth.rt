@@ -1,13 +1,13 @@
 ghost use Rattle.std.specs.Prelude.{◌≡◌, ◌<◌, ◌≤◌, ◌+◌, ◌^◌, length, OnOk, OnErr};
 ghost use Rattle.heap_model.specs.declared.id.Id.TheVariants.{Made};
 
-use crate::graph::cell::Cell;
 use crate::command::Command;
 use crate::entry::Entry;
 use crate::graph::Graph;
+use crate::graph::cell::Cell;
+use crate::graph::object::Object;
 use crate::id::{Id, Value};
 use crate::limits::STAMP_LIMIT;
-use crate::graph::object::Object;
 use crate::reply::Reply;
 use std::alloc::AllocError;
 

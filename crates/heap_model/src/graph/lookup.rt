@@ -1,10 +1,10 @@
 ghost use Rattle.std.specs.Prelude.{◌≡◌, ◌≤◌, ◌<◌, ◌^◌, ◌↔◌, length, IsTrue};
 ghost use Rattle.std.specs.Option.{option_copied};
 
-use crate::graph::cell::Cell;
 use crate::graph::Graph;
-use crate::id::{Id, Value};
+use crate::graph::cell::Cell;
 use crate::graph::object::Object;
+use crate::id::{Id, Value};
 use crate::reply::Reply;
 
 impl Graph {

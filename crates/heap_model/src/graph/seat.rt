@@ -3,9 +3,9 @@ ghost use Rattle.std.specs.Option.{option_copied};
 ghost use Rattle.heap_model.specs.declared.id.Value.TheVariants.{Nil, Object as Reference};
 
 use crate::graph::cell::Cell;
+use crate::graph::object::Object;
 use crate::id::{Id, Value};
 use crate::limits::REGISTER_COUNT;
-use crate::graph::object::Object;
 use std::alloc::{AllocFailed, Global};
 use std::marker::Model;
 

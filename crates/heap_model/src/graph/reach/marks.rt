@@ -1,7 +1,7 @@
 ghost use Rattle.std.specs.Prelude.{◌≡◌, ◌↔◌, map, replicate, false, length, Some, if◌then◌else◌, IfOk, IsTrue};
 
-use crate::id::Id;
 use crate::graph::seat::Seat;
+use crate::id::Id;
 use std::alloc::{AllocError, Global};
 use std::marker::Model;
 

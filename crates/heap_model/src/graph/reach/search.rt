@@ -2,9 +2,9 @@ ghost use Rattle.std.specs.Prelude.{◌≡◌, [], ◌∷◌, ◌++◌, All, OnO
 ghost use Rattle.heap_model.specs.declared.id.Value.TheVariants.{Object as Reference};
 
 use super::marks::Marks;
-use crate::id::{Id, Value};
 use crate::graph::object::Object;
 use crate::graph::seat::Seat;
+use crate::id::{Id, Value};
 use std::alloc::{AllocError, AllocFailed, Global};
 use std::marker::Model;
 
