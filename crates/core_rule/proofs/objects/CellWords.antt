@@ -1,7 +1,7 @@
 -- The words of an object of which one cell was set: that cell's is another, and no other word is.
 use Rattle.std.specs.Prelude.{if◌then◌else◌}
 use Rattle.std.proofs.Common.{◌≡◌, ◌≢◌, ℕ, ◌+◌, ◌-◌, ◌*◌, ◌%◌, ◌^◌, ◌<◌, ◌≤◌, inl, inr, Bool, true, false, List, length, set, slice_get, Some, refl, sym, ap, ◌∙◌, subst, arith}
-use Rattle.std.proofs.lemmas.Bool.{lt-ltb, ltb-true}
+use Rattle.std.proofs.lemmas.Bool.{ltb-true}
 use Rattle.std.proofs.lemmas.Bool.Decides.{eqb_tells}
 use Rattle.std.proofs.lemmas.List.{length-set}
 use Rattle.heap_words.specs.declared.kind.Kind.{Kind}
@@ -26,13 +26,7 @@ use Rattle.core_rule.specs.Owners.{Owner}
 use Rattle.core_rule.specs.Registers.{Holds}
 use Rattle.core_rule.proofs.graph.CellSet.{slice_get-set_same, slice_get-set_other}
 
--- where a cell may stand
-cell_stands : (k part : ℕ) → 1 ≤ part → 2 ≤ 3 * k + part → is_cell k part ≡ true
-cell_stands k part some second = elim (eqb_tells k 0) as (λ _. is_cell k part ≡ true) [
-  | inl e ↦ rw e.0 (lt-ltb 1 part (omega (arith, e.1, second)))
-  | inr e ↦ rw e.0 (lt-ltb 0 part some)
-]
-
+-- where a cell stands
 stands_cell : (k part : ℕ) → is_cell k part ≡ true → (1 ≤ part) × (2 ≤ 3 * k + part)
 stands_cell k part = elim (eqb_tells k 0) as (λ _. is_cell k part ≡ true → (1 ≤ part) × (2 ≤ 3 * k + part)) [
   | inl e ↦ rw e.0 (λ is. let two : 1 < part = ltb-true 1 part is in (omega arith, omega arith))
