@@ -4,6 +4,7 @@ pub mod collector
 pub mod handshake
 pub mod making
 pub mod Assemble
+pub mod TurnSteps
 pub mod ReplyStep
 pub mod LocalStep
 pub mod Loads

@@ -17,15 +17,15 @@ use Rattle.core_machine.specs.seat.Seat.{Seat}
 use Rattle.core_rule.specs.Book.{Colour}
 use Rattle.core_rule.specs.Colours.{IsMarked, Leads, IsBetween}
 
--- what a set's field leads to now is what it led to when it was loaded, or marked; once that was shaded, it is marked
-abbrev pub Watches : Heap → List ℕ → (ℕ → Colour) → Seat → Option ℕ → Type 0
-Watches heap words colour seat old = (g : ℕ) → Leads heap words seat.reached (field_part seat) g → (old ≡ Some g) ⊎ IsMarked colour g
+-- what word `part` of the fragment leads to now is what it led to when it was loaded, or marked; once that was shaded, it is marked
+abbrev pub Watches : Heap → List ℕ → (ℕ → Colour) → ℕ → ℕ → Option ℕ → Type 0
+Watches heap words colour f part old = (g : ℕ) → Leads heap words f part g → (old ≡ Some g) ⊎ IsMarked colour g
 
 -- the field of a set past its load of the old value
 abbrev pub FieldStands : Heap → List ℕ → (ℕ → Colour) → Seat → Reaching → Type 0
-FieldStands heap words colour seat ShadingOld = Watches heap words colour seat (head_in seat.loaded)
-FieldStands heap words colour seat ShadingNew = Watches heap words colour seat None
-FieldStands heap words colour seat Swapping = Watches heap words colour seat None
+FieldStands heap words colour seat ShadingOld = Watches heap words colour seat.reached (field_part seat) (head_in seat.loaded)
+FieldStands heap words colour seat ShadingNew = Watches heap words colour seat.reached (field_part seat) None
+FieldStands heap words colour seat Swapping = Watches heap words colour seat.reached (field_part seat) None
 FieldStands heap words colour seat _ = Unit {0}
 
 -- the old value of a set is marked once it was shaded; and at the swap so is the new one, while the seat's last answer is to a phase from barriers up to

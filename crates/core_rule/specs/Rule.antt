@@ -1,19 +1,20 @@
 -- The rule: a book stands for a state.
-use Rattle.std.specs.Prelude.{◌≡◌, ℕ, ◌<◌, false, List, length, drop}
+use Rattle.std.specs.Prelude.{ℕ, ◌<◌, false, List, drop}
+use Rattle.heap_model.specs.declared.entry.Entry.{Entry}
 use Rattle.heap_model.specs.declared.heap.Heap.{Heap}
-use Rattle.heap_model.specs.Heap.{IsHeap}
+use Rattle.heap_model.specs.declared.id.Id.{Id}
 use Rattle.heap_model.specs.account.Account.{IsLegal}
 use Rattle.heap_model.specs.account.Cycles.{graph_of}
+use Rattle.heap_model.specs.graph.State.{State as Graph}
 use Rattle.core_machine.specs.seat.Commands.{target_of}
 use Rattle.core_machine.specs.seat.Fits.{Fits}
-use Rattle.core_machine.specs.table.Layout.{table_length}
 use Rattle.core_machine.specs.machine.Machine.{State, seat_at}
 use Rattle.core_machine.specs.seat.Seat.{Seat}
 use Rattle.core_machine.specs.machine.Value.{IsMachine}
 use Rattle.core_rule.specs.Book.{Book}
 use Rattle.core_rule.specs.ControlWords.{Bits}
 use Rattle.core_rule.specs.Objects.{AreMade, Objects, cells_at}
-use Rattle.core_rule.specs.Owners.{OwnersStand}
+use Rattle.core_rule.specs.Owners.{Owner, OwnersStand}
 use Rattle.core_rule.specs.Registers.{Registers}
 use Rattle.core_rule.specs.Holding.{Holding, IsStored}
 use Rattle.core_rule.specs.Counts.{OwnCounts, OwnList, AreUsed}
@@ -26,7 +27,6 @@ use Rattle.core_rule.specs.Gathers.{GathersRight, Began}
 
 -- what is true of the heap
 pub record HeapStands (heap : Heap) (words : List ℕ) (book : Book) : Type 0 where
-  pub table : length words ≡ table_length heap
   pub control_words : Bits heap words book.owner
   pub owners : OwnersStand heap.seats book.owner
   pub ids : AreMade (graph_of heap book.history) book.made
@@ -35,24 +35,34 @@ pub record HeapStands (heap : Heap) (words : List ℕ) (book : Book) : Type 0 wh
   pub cycle : HeapInCycle heap words (phase book.history) book.owner book.colour book.fragments
   pub legal : IsLegal heap false book.history
 
+-- what a seat has: its fragments, what it has stored into them, and their order
+pub record OwnStands (heap : Heap) (words : List ℕ) (owner : ℕ → Owner) (q : ℕ) (seat : Seat) : Type 0 where
+  pub holding : Holding owner q seat.reserve seat.hand seat.body
+  pub stored : IsStored heap words q seat
+  pub together : AreTogether heap seat.cursor seat.tried seat.hand seat.body
+
+-- what it names: its registers, and the way that it is on
+pub record NamesStand (g : Graph) (made : List Id) (owner : ℕ → Owner) (fragments : ℕ → List ℕ) (q : ℕ) (seat : Seat) : Type 0 where
+  pub registers : Registers g made owner fragments q seat.registers seat.place (target_of seat.command)
+  pub way : WayStands (cells_at g made) made owner fragments seat seat.place
+
+-- what the history tells of it: its entries, its counts, its call in flight and what that has gathered
+pub record ToldStands (heap : Heap) (g : Graph) (history : List Entry) (made : List Id) (owner : ℕ → Owner) (fragments : ℕ → List ℕ) (begun q : ℕ) (seat : Seat) : Type 0 where
+  pub list : OwnList g history made owner fragments q seat
+  pub counts : OwnCounts g history q seat
+  pub began : Began history q begun seat.place
+  pub gathers : GathersRight heap owner q (drop begun history) seat.cursor seat.tried seat.given
+
 -- what is true of a seat
 pub record SeatStands (heap : Heap) (words : List ℕ) (book : Book) (q : ℕ) (seat : Seat) : Type 0 where
   pub fits : Fits heap seat
-  pub holding : Holding book.owner q seat.reserve seat.hand seat.body
-  pub stored : IsStored heap words q seat
-  pub registers : Registers (graph_of heap book.history) book.made book.owner book.fragments q seat.registers seat.place (target_of seat.command)
-  pub list : OwnList (graph_of heap book.history) book.history book.made book.owner book.fragments q seat
-  pub way : WayStands (cells_at (graph_of heap book.history) book.made) book.made book.owner book.fragments seat seat.place
+  pub own : OwnStands heap words book.owner q seat
+  pub names : NamesStand (graph_of heap book.history) book.made book.owner book.fragments q seat
+  pub told : ToldStands heap (graph_of heap book.history) book.history book.made book.owner book.fragments (book.begun q) q seat
   pub cycle : SeatInCycle heap words (phase book.history) (answered q book.history) (has_left q book.history) book.owner book.colour q seat
-  pub together : AreTogether heap seat.cursor seat.tried seat.hand seat.body
-  pub counts : OwnCounts (graph_of heap book.history) book.history q seat
-  pub began : Began book.history q (book.begun q) seat.place
-  pub gathers : GathersRight heap book.owner q (drop (book.begun q) book.history) seat.cursor seat.tried seat.given
 
 pub record Rule (heap : Heap) (state : State) (book : Book) : Type 0 where
-  pub limits : IsHeap heap
   pub machine : IsMachine heap state
-  pub all_seats : length state.seats ≡ heap.seats
   pub heap_stands : HeapStands heap state.words book
   pub seats_stand : (q : ℕ) → q < heap.seats → SeatStands heap state.words book q (seat_at state q)
   pub collector_stands : CollectorStands heap state.collector book.history

@@ -7,12 +7,12 @@ use Rattle.heap_model.specs.account.Space.{gained, lost}
 use Rattle.heap_model.proofs.Histories.{total-more}
 use Rattle.core_machine.specs.table.Fragments.{tally}
 use Rattle.core_machine.specs.machine.Sums.{sum_upto}
+use Rattle.core_machine.proofs.table_lemmas.Free.{sum_same}
 use Rattle.core_rule.specs.Counts.{AreUsed}
 use Rattle.core_rule.specs.Gathers.{free_in_all}
 use Rattle.core_rule.specs.Owners.{Owner, Free, Holds, Bears, taken_bit, free_bit, handed}
 use Rattle.core_rule.proofs.counts.FreeSums.{free_unused}
 use Rattle.core_rule.proofs.owners.Handed.{gains, loses, more, fewer, stays}
-use Rattle.core_rule.proofs.lists.SumLemmas.{sum_same}
 
 -- where the same are taken, as many are in use
 pub used_same : (heap : Heap) (owner now : ℕ → Owner) (history : List Entry) → ((f : ℕ) → taken_bit (now f) ≡ taken_bit (owner f)) → AreUsed heap owner history → AreUsed heap now history

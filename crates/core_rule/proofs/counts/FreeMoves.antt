@@ -3,9 +3,10 @@ use Rattle.std.proofs.Common.{◌≡◌, ℕ, suc, ◌+◌, ◌*◌, ◌/◌, �
 use Rattle.heap_model.specs.declared.heap.Heap.{Heap}
 use Rattle.core_machine.specs.table.Fragments.{tally}
 use Rattle.core_machine.specs.machine.Sums.{sum_upto}
+use Rattle.core_machine.proofs.table_lemmas.Free.{sum_same, sum_zero}
 use Rattle.core_rule.specs.Gathers.{free_in, free_in_all, free_in_passed}
 use Rattle.core_rule.specs.Owners.{Owner, free_bit}
-use Rattle.core_rule.proofs.lists.SumLemmas.{sum-suc, sum_same, sum_le, sum_plus, sum_parts, sum_nothing, sum_blocks, sum_wrapped}
+use Rattle.core_rule.proofs.lists.SumLemmas.{sum-suc, sum_le, sum_plus, sum_parts, sum_blocks, sum_wrapped}
 use Rattle.core_rule.proofs.lists.Tallies.{sum_tally}
 
 -- a sum over more is no less
@@ -46,5 +47,5 @@ pub passed_claimed : (heap : Heap) (now : ℕ → Owner) (cursor tried : ℕ) �
 passed_claimed heap now cursor tried none =
     let next : tried + 1 ≡ suc tried = omega arith in
     let last : free_in now ((cursor + tried) % heap.groups) ≡ 0
-    = sum_nothing 16 (λ i. free_bit (now (16 * ((cursor + tried) % heap.groups) + i))) (λ i below. none (16 * ((cursor + tried) % heap.groups) + i) (omega arith)) in
+    = sum_zero 16 (λ i. free_bit (now (16 * ((cursor + tried) % heap.groups) + i))) (λ i below. none (16 * ((cursor + tried) % heap.groups) + i) (omega arith)) in
     rw (next, sum-suc tried (λ j. free_in now ((cursor + j) % heap.groups)), last) (omega arith)

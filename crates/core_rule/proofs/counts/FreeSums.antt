@@ -9,6 +9,7 @@ use Rattle.core_machine.specs.machine.Calls.{free_fragments}
 use Rattle.core_machine.specs.table.Fragments.{clear_in}
 use Rattle.core_machine.specs.table.Layout.{at}
 use Rattle.core_machine.specs.machine.Sums.{sum_upto}
+use Rattle.core_machine.proofs.table_lemmas.Free.{sum_same}
 use Rattle.core_rule.specs.ControlWords.{Bits}
 use Rattle.core_rule.specs.Counts.{AreUsed}
 use Rattle.core_rule.specs.Gathers.{free_in, free_in_all, free_in_passed}
@@ -16,7 +17,7 @@ use Rattle.core_rule.specs.Laws.{FreeIsUnused}
 use Rattle.core_rule.specs.Owners.{Owner, taken_bit, free_bit}
 use Rattle.core_rule.proofs.words.ClearLemmas.{length-clear}
 use Rattle.core_rule.proofs.owners.OwnerLemmas.{taken_or_free}
-use Rattle.core_rule.proofs.lists.SumLemmas.{sum_same, sum_blocks, sum_plus, sum_ones, sum_wrapped}
+use Rattle.core_rule.proofs.lists.SumLemmas.{sum_blocks, sum_plus, sum_ones, sum_wrapped}
 
 -- each fragment is taken or free
 pub taken_and_free : (n : ℕ) (owner : ℕ → Owner) → sum_upto n (λ f. taken_bit (owner f)) + sum_upto n (λ f. free_bit (owner f)) ≡ n

@@ -3,7 +3,6 @@ use Rattle.std.proofs.Common.{◌≢◌, ℕ, ◌<◌, List, inl, refl, ◌∙�
 use Rattle.heap_model.specs.declared.heap.Heap.{Heap}
 use Rattle.core_machine.specs.declared.table.address.Address.TheVariants.{Answer, Phase, Control, Word}
 use Rattle.core_machine.specs.table.Layout.{put}
-use Rattle.core_machine.specs.seat.Seat.{Seat}
 use Rattle.core_rule.specs.Book.{Colour}
 use Rattle.core_rule.specs.Cycle.{HeapInCycle}
 use Rattle.core_rule.specs.Owners.{Owner}
@@ -30,13 +29,13 @@ module _ (heap : Heap) (words : List ℕ) (q n : ℕ) (small : q < 16) where
     so_far = cycle.so_far;
     marks = marks_same heap words now colour fragments_answer.controls cycle.marks;
     coloured = coloured_stays heap words now owner owner colour fragments phase
-        (λ f part x black leads. leads_same heap words now f part x (fragments_answer.parts f part) leads) (λ f marked born. born) (λ f i k keeps. keeps) cycle.coloured;
+        (λ marking f part x born leads. inl (leads_same heap words now f part x (fragments_answer.parts f part) leads)) (λ f marked born. born) (λ f i k keeps. keeps) cycle.coloured;
   }
 
-  pub leaves_answer : (owner : ℕ → Owner) (colour : ℕ → Colour) (phase r : ℕ) (seat : Seat) → r ≢ q → LeavesCycle heap words now owner owner colour colour phase r seat
-  leaves_answer owner colour phase r seat apart = record {
+  pub leaves_answer : (owner : ℕ → Owner) (colour : ℕ → Colour) (phase r : ℕ) → r ≢ q → LeavesCycle heap words now owner owner colour colour phase r
+  leaves_answer owner colour phase r apart = record {
     answer = at-put_apart heap words (Answer q) (Answer r) n (λ e. apart (omega (arith, e)));
-    leads = λ marking x leads. inl (leads_same heap words now _ _ x (fragments_answer.parts _ _) leads);
+    leads = λ marking f part x born leads. inl (leads_same heap words now f part x (fragments_answer.parts f part) leads);
     marks = λ f marked. marked;
     births = λ f bears. (bears, refl);
   }

@@ -56,7 +56,7 @@ module _ (heap : Heap) (state : State) (book : Book) (q : ℕ) (rule : Rule heap
 
   -- nothing of the part was born
   unborn : (f : ℕ) → 1 ≤ tally f (last_part seat) → born_bit (book.owner f) ≡ 0
-  unborn f there = ap born_bit (part_held book.owner q seat.reserve seat.hand seat.body stands.holding g f there)
+  unborn f there = ap born_bit (part_held book.owner q seat.reserve seat.hand seat.body stands.own.holding g f there)
 
   -- what was marked stays so
   pub marks_born : (f : ℕ) → IsMarked book.colour f → IsMarked colours_born f
@@ -72,14 +72,14 @@ module _ (heap : Heap) (state : State) (book : Book) (q : ℕ) (rule : Rule heap
       record {
         word = phase_after_control heap state.words _ g ∙ cycle.word;
         so_far = cycle.so_far;
-        marks = marks_birth heap state.words book.colour g seat.hand black rule.heap_stands.table group_born (hand_once book.owner q seat.reserve seat.hand seat.body stands.holding)
+        marks = marks_birth heap state.words book.colour g seat.hand black rule.machine.table group_born (hand_once book.owner q seat.reserve seat.hand seat.body stands.own.holding)
             (was_white heap state.words words_born book.owner later book.colour (last_part seat) black unborn cycle.coloured.born) cycle.marks;
         coloured = birth_coloured heap state.words words_born book.owner later book.colour (last_part seat) black unborn cycle.coloured.born book.fragments fragments (phase book.history)
             (bears_late heap state book q Bearing rule here place) bears
             (λ f k x leads. leads_control heap state.words g _ group_born f k x leads)
-            (λ dark. born_ahead heap state.words book.owner book.colour q seat rule.limits here at_place.0.makes.numbered (few_fields seat at_place.0) some_born stands.fits.body_within stands.holding
+            (λ dark. born_ahead heap state.words book.owner book.colour q seat rule.machine.limits here at_place.0.makes.numbered (few_fields seat at_place.0) some_born stands.fits.body_within stands.own.holding
             (subst (AreBorne book.owner book.colour q) dark (births_are book.owner book.colour q seat stands.cycle.births))
-            (all_stored heap state.words seat.body (newborn_word q seat) seat.stored at_place.3 stands.stored)
-            g (born_in_order heap seat.cursor seat.tried seat.hand seat.body stands.fits.hand_within some_born stands.together))
+            (all_stored heap state.words seat.body (newborn_word q seat) seat.stored at_place.3 stands.own.stored)
+            g (born_in_order heap seat.cursor seat.tried seat.hand seat.body stands.fits.hand_within some_born stands.own.together))
             first cycle.coloured;
       }

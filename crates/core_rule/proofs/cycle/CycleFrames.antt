@@ -1,5 +1,5 @@
 -- What stays of a seat's part in a cycle, and of the colours.
-use Rattle.std.proofs.Common.{◌⊎◌, ◌≡◌, ℕ, List, Bool, Option, inl, inr, refl, ◌∙◌}
+use Rattle.std.proofs.Common.{◌⊎◌, ◌≡◌, ℕ, List, Bool, Option, inl, inr, refl, ◌∙◌, ◌≢◌, sym}
 use Rattle.heap_model.specs.declared.heap.Heap.{Heap}
 use Rattle.core_machine.specs.declared.table.address.Address.TheVariants.{Answer}
 use Rattle.core_machine.specs.declared.place.Place.{Place}
@@ -11,7 +11,7 @@ use Rattle.core_machine.specs.declared.place.Reaching.TheVariants.{ShadingOld, S
 use Rattle.core_machine.specs.table.Layout.{at}
 use Rattle.core_machine.specs.seat.ReachingMoves.{field_part}
 use Rattle.core_machine.specs.seat.Seat.{Seat}
-use Rattle.core_rule.specs.Book.{Colour, Black}
+use Rattle.core_rule.specs.Book.{Colour, White, Black}
 use Rattle.core_rule.specs.Colours.{IsMarked, Leads, IsBetween, Coloured, BornColours}
 use Rattle.core_rule.specs.Cycle.{SeatInCycle}
 use Rattle.core_rule.specs.Flight.{Flight, Watches, FieldStands, ShadedStands, RootsStand, WhileReaching, WhilePolling}
@@ -37,51 +37,76 @@ roots_stay colour coloured seat marks Asking roots = tt
 roots_stay colour coloured seat marks Shading roots = λ r before. if_some (IsMarked colour) (IsMarked coloured) marks _ (roots r before)
 roots_stay colour coloured seat marks Answering roots = λ r. if_some (IsMarked colour) (IsMarked coloured) marks _ (roots r)
 
--- more is marked, and the field leads to no more than it did but for what is marked
-module _ (heap : Heap) (words now : List ℕ) (colour coloured : ℕ → Colour) (seat : Seat) (marks : (f : ℕ) → IsMarked colour f → IsMarked coloured f) where
-  module _ (leads : (g : ℕ) → Leads heap now seat.reached (field_part seat) g → Leads heap words seat.reached (field_part seat) g ⊎ IsMarked coloured g) where
-    pub watches_stay : (old : Option ℕ) → Watches heap words colour seat old → Watches heap now coloured seat old
-    watches_stay old watches g later = elim (leads g later) [
-      | inl before ↦ elim (watches g before) [
-        | inl same ↦ inl same
-        | inr marked ↦ inr (marks g marked)
-      ]
-      | inr marked ↦ inr marked
-    ]
+-- a set has loaded its field's old value
+abbrev pub IsWatching : Reaching → Type 0
+IsWatching ShadingOld = Unit {0}
+IsWatching ShadingNew = Unit {0}
+IsWatching Swapping = Unit {0}
+IsWatching _ = ⊥
 
-    pub field_stays : (place : Reaching) → FieldStands heap words colour seat place → FieldStands heap now coloured seat place
-    field_stays ShadingOld field = watches_stay _ field
-    field_stays ShadingNew field = watches_stay _ field
-    field_stays Swapping field = watches_stay _ field
-    field_stays _ field = tt
+-- what holds on the way goes on to hold at its place
+reaching_at : (P Q : Reaching → Type 0) (place : Place) → ((reaching : Reaching) → place ≡ places.Reaching reaching → P reaching → Q reaching)
+    → WhileReaching P place → WhileReaching Q place
+reaching_at P Q (places.Reaching reaching) more holds = more reaching refl holds
+reaching_at P Q _ more holds = tt
+
+-- while black fragments are made, the words of born ones lead where they led, or to what is marked
+abbrev pub LeadsStay : Heap → List ℕ → List ℕ → (ℕ → Owner) → (ℕ → Colour) → ℕ → Type 0
+LeadsStay heap words now owner coloured phase =
+    IsBetween 2 5 phase → (f part g : ℕ) → born_bit (owner f) ≡ 1 → Leads heap now f part g → Leads heap words f part g ⊎ IsMarked coloured g
+
+-- more is marked, and what is watched leads to no more than it did but for what is marked
+pub watches_stay : (heap : Heap) (words now : List ℕ) (colour coloured : ℕ → Colour) → ((f : ℕ) → IsMarked colour f → IsMarked coloured f)
+    → (f part : ℕ) → ((g : ℕ) → Leads heap now f part g → Leads heap words f part g ⊎ IsMarked coloured g)
+    → (old : Option ℕ) → Watches heap words colour f part old → Watches heap now coloured f part old
+watches_stay heap words now colour coloured marks f part leads old watches g later = elim (leads g later) [
+  | inl before ↦ elim (watches g before) [
+    | inl same ↦ inl same
+    | inr marked ↦ inr (marks g marked)
+  ]
+  | inr marked ↦ inr marked
+]
+
+module _ (heap : Heap) (words now : List ℕ) (colour coloured : ℕ → Colour) (seat : Seat) (marks : (f : ℕ) → IsMarked colour f → IsMarked coloured f) where
+  pub field_stays : (place : Reaching)
+      → (IsWatching place → (g : ℕ) → Leads heap now seat.reached (field_part seat) g → Leads heap words seat.reached (field_part seat) g ⊎ IsMarked coloured g)
+      → FieldStands heap words colour seat place → FieldStands heap now coloured seat place
+  field_stays ShadingOld leads field = watches_stay heap words now colour coloured marks _ _ (leads tt) _ field
+  field_stays ShadingNew leads field = watches_stay heap words now colour coloured marks _ _ (leads tt) _ field
+  field_stays Swapping leads field = watches_stay heap words now colour coloured marks _ _ (leads tt) _ field
+  field_stays _ leads field = tt
 
   shaded_stays : (place : Reaching) → ShadedStands colour seat place → ShadedStands coloured seat place
   shaded_stays ShadingNew shaded = if_some (IsMarked colour) (IsMarked coloured) marks _ shaded
   shaded_stays Swapping shaded = λ on. (if_some (IsMarked colour) (IsMarked coloured) marks _ (shaded on).0, if_some (IsMarked colour) (IsMarked coloured) marks _ (shaded on).1)
   shaded_stays _ shaded = tt
 
--- what a step of another party leaves of what a seat needs
-pub record LeavesCycle (heap : Heap) (words now : List ℕ) (owner later : ℕ → Owner) (colour coloured : ℕ → Colour) (phase q : ℕ) (seat : Seat) : Type 0 where
+-- what a step of another party leaves of what a seat needs: its answer, where the heap's words lead, what is marked, and what it bears
+pub record LeavesCycle (heap : Heap) (words now : List ℕ) (owner later : ℕ → Owner) (colour coloured : ℕ → Colour) (phase q : ℕ) : Type 0 where
   pub answer : at heap now (Answer q) ≡ at heap words (Answer q)
-  pub leads : IsBetween 2 5 phase → (g : ℕ) → Leads heap now seat.reached (field_part seat) g → Leads heap words seat.reached (field_part seat) g ⊎ IsMarked coloured g
+  pub leads : LeadsStay heap words now owner coloured phase
   pub marks : (f : ℕ) → IsMarked colour f → IsMarked coloured f
   pub births : (f : ℕ) → later f ≡ Bears q → (owner f ≡ Bears q) × (coloured f ≡ colour f)
 
 -- a step that changes nothing leaves all of it
-pub leaves_same : (heap : Heap) (words : List ℕ) (owner : ℕ → Owner) (colour : ℕ → Colour) (phase q : ℕ) (seat : Seat)
-    → LeavesCycle heap words words owner owner colour colour phase q seat
-leaves_same heap words owner colour phase q seat = record {
+pub leaves_same : (heap : Heap) (words : List ℕ) (owner : ℕ → Owner) (colour : ℕ → Colour) (phase q : ℕ)
+    → LeavesCycle heap words words owner owner colour colour phase q
+leaves_same heap words owner colour phase q = record {
   answer = refl;
-  leads = λ marking g leads. inl leads;
+  leads = λ marking f part g born leads. inl leads;
   marks = λ f marked. marked;
   births = λ f borne. (borne, refl);
 }
 
+-- what a set has loaded its field's old value of is born
+abbrev pub WatchesBorn : (ℕ → Owner) → Seat → Type 0
+WatchesBorn owner seat = (reaching : Reaching) → seat.place ≡ places.Reaching reaching → IsWatching reaching → born_bit (owner seat.reached) ≡ 1
+
 -- so its part stands
 pub cycle_stays : (heap : Heap) (words now : List ℕ) (owner later : ℕ → Owner) (colour coloured : ℕ → Colour) (phase answers : ℕ) (gone : Bool) (q : ℕ) (seat : Seat)
-    → LeavesCycle heap words now owner later colour coloured phase q seat
+    → LeavesCycle heap words now owner later colour coloured phase q → WatchesBorn owner seat
     → SeatInCycle heap words phase answers gone owner colour q seat → SeatInCycle heap now phase answers gone later coloured q seat
-cycle_stays heap words now owner later colour coloured phase answers gone q seat leaves cycle = record {
+cycle_stays heap words now owner later colour coloured phase answers gone q seat leaves watched cycle = record {
   answers_told = record {
     told = cycle.answers_told.told;
     leaves = cycle.answers_told.leaves;
@@ -91,8 +116,9 @@ cycle_stays heap words now owner later colour coloured phase answers gone q seat
   };
   answer = cycle.answer;
   flight = record {
-    set = λ marking snapped. while_reaching (FieldStands heap words colour seat) (FieldStands heap now coloured seat)
-        (field_stays heap words now colour coloured seat leaves.marks (leaves.leads marking)) seat.place (cycle.flight.set marking snapped);
+    set = λ marking snapped. reaching_at (FieldStands heap words colour seat) (FieldStands heap now coloured seat) seat.place
+        (λ reaching is. field_stays heap words now colour coloured seat leaves.marks reaching (λ watching g lead. leaves.leads marking _ _ g (watched reaching is watching) lead))
+        (cycle.flight.set marking snapped);
     shaded = λ marking. while_reaching (ShadedStands colour seat) (ShadedStands coloured seat)
         (shaded_stays heap words now colour coloured seat leaves.marks) seat.place (cycle.flight.shaded marking);
     roots = λ begins. while_polling (RootsStand colour seat) (RootsStand coloured seat) (roots_stay colour coloured seat leaves.marks) seat.place (cycle.flight.roots begins);
@@ -135,9 +161,9 @@ pub cycle_told : (heap : Heap) (words : List ℕ) (phase later_phase answers lat
     → SeatInCycle heap words phase answers gone owner colour q seat → SeatInCycle heap words later_phase later_answers later_gone owner colour q seat
 cycle_told heap words phase later_phase answers later_answers gone later_gone owner colour q seat a b c cycle = rw (a, b, c) cycle
 
--- the colours stay right where black fragments lead to no more, what is marked stays born, and what is kept was kept
+-- the colours stay right where so the heap's words lead, what is marked stays born, and what is kept was kept
 pub coloured_stays : (heap : Heap) (words now : List ℕ) (owner later : ℕ → Owner) (colour : ℕ → Colour) (fragments : ℕ → List ℕ) (phase : ℕ)
-    → ((f part g : ℕ) → colour f ≡ Black → Leads heap now f part g → Leads heap words f part g)
+    → LeadsStay heap words now owner colour phase
     → ((f : ℕ) → IsMarked colour f → born_bit (owner f) ≡ 1 → born_bit (later f) ≡ 1)
     → ((f i k : ℕ) → later f ≡ Keeps i k → owner f ≡ Keeps i k)
     → Coloured heap words owner colour fragments phase → Coloured heap now later colour fragments phase
@@ -145,6 +171,12 @@ coloured_stays heap words now owner later colour fragments phase leads born kept
   rest = stands.rest;
   early = stands.early;
   born = λ f marked. born f marked (stands.born f marked);
-  black = λ marking f part g black later_leads. stands.black marking f part g black (leads f part g black later_leads);
+  black = λ marking f part g black later_leads. elim (leads marking f part g (stands.born f (λ white. dark (sym black ∙ white))) later_leads) [
+    | inl before ↦ stands.black marking f part g black before
+    | inr marked ↦ marked
+  ];
   first = λ marking f i k keeps marked. stands.first marking f i k (kept f i k keeps) marked;
 }
+  where
+    dark : Black ≢ White
+    dark e = cc

@@ -12,7 +12,7 @@ use Rattle.core_rule.specs.Owners.{Owner, Bears, born_bit, handed}
 use Rattle.core_rule.proofs.words.Addresses.{at-put_apart}
 use Rattle.core_rule.proofs.colours.Births.{birth_colour, AreBorne, births_stay}
 use Rattle.core_rule.proofs.colours.BirthColours.{painted, painted_in, painted_out}
-use Rattle.core_rule.proofs.cycle.CycleFrames.{cycle_stays, coloured_stays, SameAnswer}
+use Rattle.core_rule.proofs.cycle.CycleFrames.{cycle_stays, coloured_stays, SameAnswer, WatchesBorn}
 use Rattle.core_rule.proofs.owners.Handed.{none_or_some, handed_in, handed_out, handed_cases, stays}
 use Rattle.core_rule.proofs.colours.LeadsFrames.{leads_control}
 use Rattle.core_rule.proofs.objects.ObjectFrames.{SameKept}
@@ -28,17 +28,17 @@ module _ (heap : Heap) (words : List ℕ) (n : ℕ) where
 
 -- another seat's part stays
 pub cycle_control : (heap : Heap) (words : List ℕ) (owner later : ℕ → Owner) (colour coloured : ℕ → Colour) (now answers : ℕ) (gone : Bool) (r : ℕ) (seat : Seat) (g word : ℕ)
-    → g < heap.groups → r < 16 → ((f : ℕ) → IsMarked colour f → IsMarked coloured f) → ((f : ℕ) → later f ≡ Bears r → (owner f ≡ Bears r) × (coloured f ≡ colour f))
+    → g < heap.groups → r < 16 → ((f : ℕ) → IsMarked colour f → IsMarked coloured f) → ((f : ℕ) → later f ≡ Bears r → (owner f ≡ Bears r) × (coloured f ≡ colour f)) → WatchesBorn owner seat
     → SeatInCycle heap words now answers gone owner colour r seat → SeatInCycle heap (put heap words (Control g) word) now answers gone later coloured r seat
-cycle_control heap words owner later colour coloured now answers gone r seat g word below few marks births cycle =
+cycle_control heap words owner later colour coloured now answers gone r seat g word below few marks births watched cycle =
     cycle_stays heap words (put heap words (Control g) word) owner later colour coloured now answers gone r seat
     record {
       answer = answer_after_control heap words word g r few;
-      leads = λ marking x leads. inl (leads_control heap words g word below seat.reached _ x leads);
+      leads = λ marking f part x born leads. inl (leads_control heap words g word below f part x leads);
       marks = marks;
       births = births;
     }
-    cycle
+    watched cycle
 
 -- a seat that goes on with the same answer, and bears no more, has its part in the cycle
 pub cycle_goes_on : (heap : Heap) (words later_words : List ℕ) (owner later : ℕ → Owner) (colour : ℕ → Colour) (now answers : ℕ) (gone : Bool) (q : ℕ) (seat next : Seat)
@@ -61,7 +61,7 @@ heap_hands heap words owner colour fragments now g word o fs below unborn none s
   so_far = cycle.so_far;
   marks = marks;
   coloured = coloured_stays heap words (put heap words (Control g) word) owner (handed o owner fs) colour fragments now
-      (λ f part x black leads. leads_control heap words g word below f part x leads)
+      (λ marking f part x born leads. inl (leads_control heap words g word below f part x leads))
       (λ f marked born. stays born_bit o owner fs (λ x there. none x there ∙ sym unborn) f ∙ born)
       same.was cycle.coloured;
 }

@@ -88,7 +88,7 @@ cycle_next heap words now owner colour phase answers gone q seat early word lead
       flight = record {
         set = λ marking snapped. elim (present_or_idle heap seat fits) [
           | inl present ↦ while_reaching (FieldStands heap words colour seat) (FieldStands heap now colour seat)
-              (field_stays heap words now colour colour seat (λ f marked. marked) (λ g later. inl (leads _ _ g later))) seat.place
+              (λ reaching. field_stays heap words now colour colour seat (λ f marked. marked) reaching (λ watching g later. inl (leads _ _ g later))) seat.place
               (cycle.flight.set (subst (IsBetween 2 5) (has present) snapped) snapped)
           | inr idle ↦ subst (WhileReaching (FieldStands heap now colour seat)) (sym idle) tt
         ];

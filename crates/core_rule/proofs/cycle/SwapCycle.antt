@@ -1,5 +1,5 @@
 -- What a swap puts into a field is marked while black fragments are made; so the colours and the other seats' sets stand.
-use Rattle.std.proofs.Common.{◌≡◌, ◌≢◌, ℕ, ◌^◌, ◌<◌, List, Some, inl, inr, refl, sym, ap, ◌∙◌, subst, arith, ◌⊎◌}
+use Rattle.std.proofs.Common.{◌≡◌, ◌≢◌, ℕ, ◌^◌, ◌<◌, List, Some, inl, inr, refl, sym, ap, ◌∙◌, subst, arith}
 use Rattle.heap_model.specs.declared.heap.Heap.{Heap}
 use Rattle.heap_model.specs.declared.id.Value.{Value}
 use Rattle.heap_model.specs.account.Cycles.{graph_of}
@@ -14,7 +14,7 @@ use Rattle.core_machine.specs.seat.ReachingMoves.{field_part, new_register}
 use Rattle.core_machine.specs.seat.Registers.{head_of as head_of_register}
 use Rattle.core_machine.specs.seat.Seat.{Seat}
 use Rattle.core_rule.specs.Book.{Book, head_of}
-use Rattle.core_rule.specs.Colours.{IsMarked, IsBetween, Leads}
+use Rattle.core_rule.specs.Colours.{IsMarked, IsBetween}
 use Rattle.core_rule.specs.Cycle.{HeapInCycle}
 use Rattle.core_rule.specs.Flight.{ShadedStands, WhileReaching}
 use Rattle.core_rule.specs.Objects.{NamesKept, value_word}
@@ -23,7 +23,7 @@ use Rattle.core_rule.specs.Rule.{Rule}
 use Rattle.core_rule.proofs.words.Addresses.{at-put_apart, control_after_word}
 use Rattle.core_rule.proofs.ways.AtObject.{is_near}
 use Rattle.core_rule.proofs.cycle.Barriers.{barrier_making, field_lead, part_below}
-use Rattle.core_rule.proofs.cycle.CycleFrames.{LeavesCycle}
+use Rattle.core_rule.proofs.cycle.CycleFrames.{LeadsStay, LeavesCycle, coloured_stays}
 use Rattle.core_rule.proofs.ways.KeptWords.{has_room}
 use Rattle.core_rule.proofs.colours.LeadsFrames.{leads_put}
 use Rattle.core_rule.proofs.ways.LoadedObjects.{held_head}
@@ -49,7 +49,7 @@ module _ (heap : Heap) (state : State) (book : Book) (q : ℕ) (rule : Rule heap
   new_leads =
       field_lead seat word ∙ ap head_in is_word
       ∙ head_in-value (head_of book.made book.fragments) value stamp
-      (has_room heap state.words (graph_of heap book.history) book.made book.owner book.fragments rule.limits rule.heap_stands.control_words value names) small
+      (has_room heap state.words (graph_of heap book.history) book.made book.owner book.fragments rule.machine.limits rule.heap_stands.control_words value names) small
       ∙ sym (held_head book.made book.owner book.fragments (new_register seat) value holds)
 
   -- which is marked while black fragments are made
@@ -61,8 +61,8 @@ module _ (heap : Heap) (state : State) (book : Book) (q : ℕ) (rule : Rule heap
       let on = barrier_making p seat.answered (is_near heap state book q rule here Swapping place) making in
       of_some (IsMarked book.colour) (head_of_register (new_register seat)) x (sym new_leads ∙ leads) (shaded on).1
 
-  leads_now : IsBetween 2 5 p → (f part x : ℕ) → Leads heap words_swapped f part x → Leads heap state.words f part x ⊎ IsMarked book.colour x
-  leads_now making f part x leads = elim (leads_put heap state.words seat.reached (field_part seat) word rule.heap_stands.table (part_below seat) f part x leads) [
+  leads_now : LeadsStay heap state.words words_swapped book.owner book.colour p
+  leads_now making f part x born leads = elim (leads_put heap state.words seat.reached (field_part seat) word rule.machine.table (part_below seat) f part x leads) [
     | inl before ↦ inl before
     | inr new ↦ inr (new_marked making x new.2)
   ]
@@ -75,27 +75,18 @@ module _ (heap : Heap) (state : State) (book : Book) (q : ℕ) (rule : Rule heap
         word = at-put_apart heap state.words (Word seat.reached (field_part seat)) Phase word (λ e. omega (arith, e)) ∙ cycle.word;
         so_far = cycle.so_far;
         marks = marks_same heap state.words words_swapped book.colour (λ group below. control_after_word heap state.words word seat.reached (field_part seat) group below) cycle.marks;
-        coloured = record {
-          rest = cycle.coloured.rest;
-          early = cycle.coloured.early;
-          born = cycle.coloured.born;
-          black = λ making f part x black leads. elim (leads_now making f part x leads) [
-            | inl before ↦ cycle.coloured.black making f part x black before
-            | inr marked ↦ marked
-          ];
-          first = cycle.coloured.first;
-        };
+        coloured = coloured_stays heap state.words words_swapped book.owner book.owner book.colour book.fragments p leads_now (λ x marked born. born) (λ x i k keeps. keeps) cycle.coloured;
       }
 
   -- no answer changes
   pub answer_swapped : (r : ℕ) → r < heap.seats → at heap words_swapped (Answer r) ≡ at heap state.words (Answer r)
-  answer_swapped r below = at-put_apart heap state.words (Word seat.reached (field_part seat)) (Answer r) word (λ e. omega (arith, e, below, rule.limits.seats_fit))
+  answer_swapped r below = at-put_apart heap state.words (Word seat.reached (field_part seat)) (Answer r) word (λ e. omega (arith, e, below, rule.machine.limits.seats_fit))
 
   -- and what the others need is left
-  pub leaves_swapped : (r : ℕ) → r < heap.seats → r ≢ q → LeavesCycle heap state.words words_swapped book.owner book.owner book.colour book.colour p r (seat_at state r)
+  pub leaves_swapped : (r : ℕ) → r < heap.seats → r ≢ q → LeavesCycle heap state.words words_swapped book.owner book.owner book.colour book.colour p r
   leaves_swapped r below apart = record {
     answer = answer_swapped r below;
-    leads = λ making x leads. leads_now making _ _ x leads;
+    leads = leads_now;
     marks = λ f marked. marked;
     births = λ f borne. (borne, refl);
   }

@@ -29,7 +29,7 @@ module _ (heap : Heap) (state : State) (book : Book) (q : ℕ) (rule : Rule heap
   pub own_reserve : length (seat_at state q).reserve + spent_of q book.history ≡ taken_of q book.history
   own_reserve =
       let seat : Seat = seat_at state q in
-      bare_hand seat.reserve seat.hand seat.body (spent_of q book.history) (taken_of q book.history) rest.empty_hand rest.no_body (rule.seats_stand q here).counts.unborn
+      bare_hand seat.reserve seat.hand seat.body (spent_of q book.history) (taken_of q book.history) rest.empty_hand rest.no_body (rule.seats_stand q here).told.counts.unborn
 
   pub spent_own : spent_of q book.history ≤ taken_of q book.history
   spent_own = omega (arith, own_reserve)

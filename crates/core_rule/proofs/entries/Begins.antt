@@ -40,7 +40,6 @@ module _ (heap : Heap) (words : List ℕ) (book : Book) (q : ℕ) where
   -- the heap stands
   pub heap_begins : HeapStands heap words book → HeapStands heap words book_begun
   heap_begins stands = record {
-    table = stands.table;
     control_words = stands.control_words;
     owners = stands.owners;
     ids = stands.ids;
@@ -61,14 +60,8 @@ module _ (heap : Heap) (words : List ℕ) (book : Book) (q : ℕ) where
   pub other_begins : (r : ℕ) (seat : Seat) → r ≢ q → SeatStands heap words book r seat → SeatStands heap words book_begun r seat
   other_begins r seat apart other = record {
     fits = other.fits;
-    holding = other.holding;
-    stored = other.stored;
-    registers = other.registers;
-    list = other.list;
-    way = other.way;
+    own = other.own;
+    names = other.names;
+    told = rw (of_other r q (λ e. apart (sym e))) other.told;
     cycle = other.cycle;
-    together = other.together;
-    counts = other.counts;
-    began = rw (of_other r q (λ e. apart (sym e))) other.began;
-    gathers = rw (of_other r q (λ e. apart (sym e))) other.gathers;
   }

@@ -4,6 +4,7 @@ use Rattle.std.proofs.Common.{◌≡◌, ℕ, List, [], ◌++◌, filter, refl, 
 use Rattle.std.proofs.lemmas.List.{append-nil}
 use Rattle.heap_model.specs.declared.entry.Entry.{Entry}
 use Rattle.heap_model.specs.declared.id.Id.{Id}
+use Rattle.heap_model.specs.declared.id.Value.{Value}
 use Rattle.heap_model.specs.declared.id.Value.TheVariants as values
 use Rattle.heap_model.specs.account.Effects.{is_of}
 use Rattle.heap_model.specs.graph.Objects.{register}
@@ -12,18 +13,27 @@ use Rattle.core_machine.specs.declared.place.Making.{Making}
 use Rattle.core_machine.specs.declared.place.Place.{Place}
 use Rattle.core_machine.specs.declared.place.Place.TheVariants as places
 use Rattle.core_machine.specs.declared.place.Reaching.TheVariants.{Naming}
+use Rattle.core_machine.specs.declared.seat.register.Register.{Register}
+use Rattle.core_machine.specs.declared.seat.register.Register.TheVariants as registers
 use Rattle.core_machine.specs.seat.Seat.{Seat}
 use Rattle.core_rule.specs.Book.{head_of}
 use Rattle.core_rule.specs.Counts.{OwnList, Awaits}
 use Rattle.core_rule.specs.Gathers.{IsAnswered}
 use Rattle.core_rule.specs.Objects.{NamesKept}
 use Rattle.core_rule.specs.Owners.{Owner}
-use Rattle.core_rule.proofs.objects.ObjectFrames.{SameKept, names_kept}
+use Rattle.core_rule.specs.Registers as regs
 
 -- what is kept stays kept, under the same first fragment
 pub record NamesStay (made now_made : List Id) (owner now_owner : ℕ → Owner) (fragments now_fragments : ℕ → List ℕ) : Type 0 where
   pub names : (id : Id) → NamesKept made owner fragments (values.Object id) → NamesKept now_made now_owner now_fragments (values.Object id)
   pub heads : (id : Id) → NamesKept made owner fragments (values.Object id) → head_of now_made now_fragments id ≡ head_of made fragments id
+
+-- so a register that held a value holds it
+module _ (made now_made : List Id) (owner now_owner : ℕ → Owner) (fragments now_fragments : ℕ → List ℕ) (stay : NamesStay made now_made owner now_owner fragments now_fragments) where
+  pub holds_stays : (held : Register) (value : Value) → regs.Holds made owner fragments held value → regs.Holds now_made now_owner now_fragments held value
+  holds_stays registers.Nil value holds = holds
+  holds_stays (registers.Number n) value holds = holds
+  holds_stays (registers.Object head id) value holds = (holds.0, stay.names id holds.1, holds.2 ∙ sym (stay.heads id holds.1))
 
 module _ (g now : State) (made now_made : List Id) (owner now_owner : ℕ → Owner) (fragments now_fragments : ℕ → List ℕ) (q : ℕ) (seat : Seat)
     (stay : NamesStay made now_made owner now_owner fragments now_fragments) (same : (r : ℕ) → register now q r ≡ register g q r) where
@@ -68,18 +78,6 @@ module _ (g : State) (history : List Entry) (made : List Id) (owner : ℕ → Ow
   -- while an object is made
   pub list_of_making : (making : Making) → seat.place ≡ places.Making making → seat.mine ≡ filter (is_of q) history → OwnList g history made owner fragments q seat
   list_of_making making placed own = whole_list (subst (λ p. Awaits g made owner fragments q seat p []) (sym placed) refl) own
-
--- the same names are kept where the same fragments are
-pub same_names : (made : List Id) (owner : ℕ → Owner) (fragments : ℕ → List ℕ) → NamesStay made made owner owner fragments fragments
-same_names made owner fragments = record { names = λ id kept. kept; heads = λ id kept. refl }
-
-module _ (g : State) (owner now : ℕ → Owner) (same : SameKept owner now) (made : List Id) (fragments : ℕ → List ℕ) (q : ℕ) (seat : Seat) where
-  -- another seat's list, where the same fragments are kept
-  pub list_owners : (history more : List Entry) → filter (is_of q) more ≡ filter (is_of q) history
-      → OwnList g history made owner fragments q seat → OwnList g more made now fragments q seat
-  list_owners history more entries list =
-      list_stays g g made made owner now fragments fragments q seat
-      record { names = λ id kept. names_kept owner now same made fragments (values.Object id) kept; heads = λ id kept. refl } (λ r. refl) history more entries list
 
 module _ (g : State) (made : List Id) (owner : ℕ → Owner) (fragments : ℕ → List ℕ) (q : ℕ) (seat : Seat) where
   -- a call that isn't answered awaits nothing

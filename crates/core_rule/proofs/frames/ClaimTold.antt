@@ -27,9 +27,9 @@ use Rattle.core_rule.proofs.counts.CountMoves.{claim_used, claim_none, claim_roo
 use Rattle.core_rule.proofs.cycle.CycleHistory.{heap_cycle_more, cycle_own}
 use Rattle.core_rule.proofs.gather.GatherSteps.{no_more, own_claims, own_claims_none, other_claims, other_claims_none}
 use Rattle.core_rule.proofs.entries.InFlight.{began_past}
-use Rattle.core_rule.proofs.entries.Others.{began_stays, of_other, own-other}
+use Rattle.core_rule.proofs.entries.Others.{of_other}
 use Rattle.core_rule.proofs.entries.OwnEntries.{counts_own, counts_same, own_grows}
-use Rattle.core_rule.proofs.frames.SeatFrames.{counts_stay, same_party}
+use Rattle.core_rule.proofs.frames.SeatFrames.{SameTold, told_nothing, told_other}
 use Rattle.core_rule.proofs.entries.SpaceEntries.{graph_takes, legal_takes}
 
 -- what is as it has to be of the history after a claim, with the new owners
@@ -44,14 +44,12 @@ pub record ClaimTold (heap : Heap) (state : State) (book : Book) (q : ℕ) (owne
       → SeatInCycle heap words (phase book.history) (answered r book.history) (has_left r book.history) owner colour r seat
       → SeatInCycle heap words (phase history) (answered r history) (has_left r history) owner colour r seat
   pub own : (mine : List Entry) → mine ≡ filter (is_of q) book.history → mine ++ added ≡ filter (is_of q) history
-  pub others_own : (r : ℕ) → r ≢ q → filter (is_of r) history ≡ filter (is_of r) book.history
+  pub others : (r : ℕ) → r ≢ q → SameTold r book.history history
   pub counts : (now : Seat) → now.made ≡ (seat_at state q).made → now.sets ≡ (seat_at state q).sets → now.left ≡ (seat_at state q).left
       → length now.reserve + length (whole_hand now.hand now.body) ≡ length (seat_at state q).reserve + length (whole_hand (seat_at state q).hand (seat_at state q).body) + count
       → OwnCounts (graph_of heap book.history) history q now
   pub began : (now : Place) → Began history q (book.begun q) now
   pub gathers : GathersRight heap owner q (drop (book.begun q) history) (seat_at state q).cursor ((seat_at state q).tried + 1) 0
-  pub other_counts : (r : ℕ) → r < heap.seats → r ≢ q → OwnCounts (graph_of heap book.history) history r (seat_at state r)
-  pub other_began : (r : ℕ) → r < heap.seats → r ≢ q → Began history r (book.begun r) (seat_at state r).place
   pub other_gathers : (r : ℕ) → r < heap.seats → r ≢ q
       → GathersRight heap owner r (drop (book.begun r) history) (seat_at state r).cursor (seat_at state r).tried (seat_at state r).given
 
@@ -60,7 +58,7 @@ module _ (heap : Heap) (state : State) (book : Book) (q : ℕ) (fs : List ℕ) (
     (once : (f : ℕ) → tally f fs ≤ 1) (below : (f : ℕ) → 1 ≤ tally f fs → f < 16 * heap.groups) (free : (f : ℕ) → 1 ≤ tally f fs → book.owner f ≡ Free)
     (none : (f : ℕ) → f / 16 ≡ ((seat_at state q).cursor + (seat_at state q).tried) % heap.groups → free_bit (handed (Holds q) book.owner fs f) ≡ 0) where
   nothing_given : GathersRight heap book.owner q (drop (book.begun q) book.history) (seat_at state q).cursor (seat_at state q).tried 0
-  nothing_given = subst (λ n. GathersRight heap book.owner q (drop (book.begun q) book.history) (seat_at state q).cursor (seat_at state q).tried n) none_given (rule.seats_stand q here).gathers
+  nothing_given = subst (λ n. GathersRight heap book.owner q (drop (book.begun q) book.history) (seat_at state q).cursor (seat_at state q).tried n) none_given (rule.seats_stand q here).told.gathers
 
   -- it got some
   told_some : 1 ≤ length fs → ClaimTold heap state book q (handed (Holds q) book.owner fs) (length fs) (book.history ++ entries.Takes q (length fs) ∷ []) (entries.Takes q (length fs) ∷ [])
@@ -76,15 +74,13 @@ module _ (heap : Heap) (state : State) (book : Book) (q : ℕ) (fs : List ℕ) (
         phases = λ words owner colour fragments cycle. heap_cycle_more heap words owner colour book.history entry refl fragments cycle;
         cycles = λ words owner colour r seat cycle. cycle_own heap words owner colour book.history entry refl r seat cycle refl refl;
         own = λ mine was. own_grows q book.history mine entry (eq-eqb q q refl) was;
-        others_own = λ r apart. own-other r book.history entry (of_other q r apart);
-        counts = λ now same sets left more. counts_own (graph_of heap book.history) (graph_of heap book.history) book.history q (seat_at state q) now stands.counts entry (eq-eqb q q refl)
-            (same ∙ stands.counts.numbered) (sets ∙ stands.counts.stamped) (stands.counts.leaves ∙ sym left) (omega (arith, more));
-        began = λ now. began_past book.history entry q (book.begun q) (seat_at state q).place now refl (λ still. busy) stands.began;
-        gathers = own_claims heap book.owner book.history q fs once below used (book.begun q) stands.began.earlier (seat_at state q).cursor (seat_at state q).tried 0 free none nothing_given;
-        other_counts = λ r under apart. counts_stay (graph_of heap book.history) (graph_of heap book.history) r (same_party (graph_of heap book.history) (graph_of heap book.history) r refl) book.history entry (seat_at state r) (of_other q r apart) (rule.seats_stand r under).counts;
-        other_began = λ r under apart. began_stays book.history entry r (book.begun r) (seat_at state r).place (of_other q r apart) (rule.seats_stand r under).began;
-        other_gathers = λ r under apart. other_claims heap book.owner book.history q fs once below used (book.begun r) (rule.seats_stand r under).began.earlier
-            (seat_at state r).cursor (seat_at state r).tried (seat_at state r).given free r apart (rule.seats_stand r under).gathers;
+        others = λ r apart. told_other r book.history entry (of_other q r apart);
+        counts = λ now same sets left more. counts_own (graph_of heap book.history) (graph_of heap book.history) book.history q (seat_at state q) now stands.told.counts entry (eq-eqb q q refl)
+            (same ∙ stands.told.counts.numbered) (sets ∙ stands.told.counts.stamped) (stands.told.counts.leaves ∙ sym left) (omega (arith, more));
+        began = λ now. began_past book.history entry q (book.begun q) (seat_at state q).place now refl (λ still. busy) stands.told.began;
+        gathers = own_claims heap book.owner book.history q fs once below used (book.begun q) stands.told.began.earlier (seat_at state q).cursor (seat_at state q).tried 0 free none nothing_given;
+        other_gathers = λ r under apart. other_claims heap book.owner book.history q fs once below used (book.begun r) (rule.seats_stand r under).told.began.earlier
+            (seat_at state r).cursor (seat_at state r).tried (seat_at state r).given free r apart (rule.seats_stand r under).told.gathers;
       }
 
   -- it got none
@@ -100,14 +96,12 @@ module _ (heap : Heap) (state : State) (book : Book) (q : ℕ) (fs : List ℕ) (
         phases = λ words owner colour fragments cycle. cycle;
         cycles = λ words owner colour r seat cycle. cycle;
         own = λ mine was. append-nil mine ∙ was;
-        others_own = λ r apart. refl;
-        counts = λ now same sets left more. counts_same (graph_of heap book.history) book.history q (seat_at state q) now same sets left (no_more _ _ (length fs) more nothing) stands.counts;
-        began = λ now. record { earlier = stands.began.earlier; unanswered = λ active. stands.began.unanswered busy };
-        gathers = own_claims_none heap book.owner book.history q fs once below used (book.begun q) stands.began.earlier (seat_at state q).cursor (seat_at state q).tried 0 free none nothing_given;
-        other_counts = λ r under apart. (rule.seats_stand r under).counts;
-        other_began = λ r under apart. (rule.seats_stand r under).began;
-        other_gathers = λ r under apart. other_claims_none heap book.owner book.history q fs once below used (book.begun r) (rule.seats_stand r under).began.earlier
-            (seat_at state r).cursor (seat_at state r).tried (seat_at state r).given free nothing r (rule.seats_stand r under).gathers;
+        others = λ r apart. told_nothing r book.history;
+        counts = λ now same sets left more. counts_same (graph_of heap book.history) book.history q (seat_at state q) now same sets left (no_more _ _ (length fs) more nothing) stands.told.counts;
+        began = λ now. record { earlier = stands.told.began.earlier; unanswered = λ active. stands.told.began.unanswered busy };
+        gathers = own_claims_none heap book.owner book.history q fs once below used (book.begun q) stands.told.began.earlier (seat_at state q).cursor (seat_at state q).tried 0 free none nothing_given;
+        other_gathers = λ r under apart. other_claims_none heap book.owner book.history q fs once below used (book.begun r) (rule.seats_stand r under).told.began.earlier
+            (seat_at state r).cursor (seat_at state r).tried (seat_at state r).given free nothing r (rule.seats_stand r under).told.gathers;
       }
 
   told_none : length fs ≡ 0 → ClaimTold heap state book q (handed (Holds q) book.owner fs) (length fs) (book.history ++ []) []

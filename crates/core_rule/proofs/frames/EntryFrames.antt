@@ -11,7 +11,7 @@ use Rattle.heap_model.specs.account.PhaseCounts.{phase, answered, has_left}
 use Rattle.heap_model.specs.graph.State.{State as Graph}
 use Rattle.heap_model.proofs.Histories.{total-more}
 use Rattle.core_machine.specs.declared.table.address.Address.TheVariants.{Phase, Control, Word}
-use Rattle.core_machine.specs.table.Layout.{at, put, table_length}
+use Rattle.core_machine.specs.table.Layout.{at, put}
 use Rattle.core_machine.specs.seat.Seat.{Seat}
 use Rattle.core_rule.specs.Book.{Book}
 use Rattle.core_rule.specs.Cycle.{HeapInCycle, SeatInCycle}
@@ -56,10 +56,9 @@ module _ (heap : Heap) (words now : List ℕ) (same : SameFragments heap words n
   after = graph_of heap later.history
 
   -- the heap stands
-  pub heap_past : length now ≡ table_length heap → UsesNothing entry → IsLegal heap false later.history → HeapInCycle heap now (phase later.history) book.owner book.colour book.fragments
+  pub heap_past : UsesNothing entry → IsLegal heap false later.history → HeapInCycle heap now (phase later.history) book.owner book.colour book.fragments
       → HeapStands heap words book → HeapStands heap now later
-  heap_past whole uses legal cycle stands = record {
-    table = whole;
+  heap_past uses legal cycle stands = record {
     control_words = bits_same heap words now book.owner same.controls stands.control_words;
     owners = stands.owners;
     ids = ids_stay before after book.made nodes stands.ids;
@@ -77,4 +76,4 @@ module _ (heap : Heap) (words now : List ℕ) (same : SameFragments heap words n
       → SeatStands heap words book r seat → SeatStands heap now later r seat
   seat_past r seat other party cycle stands =
       seat_stays heap words now book entry r seat other (same_party before after r party)
-      (λ i. ap (λ (cells : List Cell). length cells) (cells_stay before after book.made nodes i)) (λ u less. same.parts _ _ ∙ stands.stored u less) cycle stands
+      (λ i. ap (λ (cells : List Cell). length cells) (cells_stay before after book.made nodes i)) (λ u less. same.parts _ _ ∙ stands.own.stored u less) cycle stands

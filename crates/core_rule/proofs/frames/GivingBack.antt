@@ -1,5 +1,5 @@
 -- What stands of the heap and of each seat when fragments of a group that a seat holds are given back.
-use Rattle.std.proofs.Common.{◌≡◌, ◌≢◌, ℕ, ◌+◌, ◌<◌, ◌≤◌, false, List, [], ◌∷◌, ◌++◌, length, refl, ap, ◌∙◌, arith, ◌*◌}
+use Rattle.std.proofs.Common.{◌≡◌, ◌≢◌, ℕ, ◌+◌, ◌<◌, ◌≤◌, false, List, [], ◌∷◌, ◌++◌, length, refl, ap, arith, ◌*◌}
 use Rattle.heap_model.specs.declared.entry.Entry.{Entry}
 use Rattle.heap_model.specs.declared.entry.Entry.TheVariants as entries
 use Rattle.heap_model.specs.declared.heap.Heap.{Heap}
@@ -9,36 +9,32 @@ use Rattle.heap_model.specs.account.PhaseCounts.{phase, answered, has_left}
 use Rattle.heap_model.specs.account.Space.{taken_of, spent_of}
 use Rattle.heap_model.specs.graph.State.{State as Graph}
 use Rattle.core_machine.specs.declared.table.address.Address.TheVariants.{Control}
-use Rattle.core_machine.specs.seat.Commands.{target_of}
 use Rattle.core_machine.specs.table.Fragments.{mask, tally}
 use Rattle.core_machine.specs.table.Layout.{at, put}
 use Rattle.core_machine.specs.machine.Machine.{State, seat_at}
 use Rattle.core_machine.specs.table.Operation.{untaken}
 use Rattle.core_machine.specs.seat.Seat.{Seat}
-use Rattle.core_machine.proofs.table_lemmas.Addresses.{length-put}
 use Rattle.core_rule.specs.Book.{Book}
 use Rattle.core_rule.specs.ControlWords.{Bits}
 use Rattle.core_rule.specs.Cycle.{SeatInCycle}
-use Rattle.core_rule.specs.Objects.{cells_at}
 use Rattle.core_rule.specs.Owners.{Owner, Free, Bears, Holds, born_bit, handed}
 use Rattle.core_rule.specs.Rule.{Rule, HeapStands, SeatStands}
+use Rattle.core_rule.proofs.cycle.FieldFrames.{watched_born}
 use Rattle.core_rule.proofs.colours.BirthColours.{marks_give}
 use Rattle.core_rule.proofs.counts.CountMoves.{give_used}
 use Rattle.core_rule.proofs.cycle.CycleFrames.{SameAnswer}
 use Rattle.core_rule.proofs.cycle.CycleHistory.{cycle_own, heap_cycle_more, cycle_other}
 use Rattle.core_rule.proofs.gather.GatherSteps.{other_gives}
-use Rattle.core_rule.proofs.hand.HandMoves.{held_within, holding_given}
+use Rattle.core_rule.proofs.hand.HandMoves.{held_within, hand_given}
 use Rattle.core_rule.proofs.entries.InFlight.{tried_within}
 use Rattle.core_rule.proofs.cycle.MakingCycle.{cycle_goes_on, answer_after_control, heap_hands, borne_before, cycle_control}
-use Rattle.core_rule.proofs.objects.ObjectFrames.{SameKept, objects_owners, part_kept, objects_control, free_keeps_none, registers_owners}
-use Rattle.core_rule.proofs.entries.Others.{of_other, own-other, began_stays}
+use Rattle.core_rule.proofs.objects.ObjectFrames.{SameKept, objects_owners, part_kept, objects_control, free_keeps_none}
+use Rattle.core_rule.proofs.entries.Others.{of_other}
 use Rattle.core_rule.proofs.owners.OwnerFrames.{owners_handed}
-use Rattle.core_rule.proofs.frames.SeatFrames.{counts_stay, same_party}
-use Rattle.core_rule.proofs.entries.SeatLists.{list_owners}
+use Rattle.core_rule.proofs.frames.SeatFrames.{same_party, told_other, kept_owners, seat_left}
 use Rattle.core_rule.proofs.entries.SpaceEntries.{graph_gives, legal_gives}
 use Rattle.core_rule.proofs.hand.StoredFrames.{stored_control}
 use Rattle.core_rule.proofs.cycle.Unwatched.{IsApart}
-use Rattle.core_rule.proofs.ways.WayFrames.{way_owners}
 
 free_bears_none : {r : ℕ} → Free ≢ Bears r
 free_bears_none e = cc
@@ -80,7 +76,6 @@ module _ (heap : Heap) (state : State) (book : Book) (q : ℕ) (rule : Rule heap
   heap_given bits present some own =
       let stands = rule.heap_stands in
       record {
-        table = length-put heap state.words (Control g) word ∙ stands.table;
         control_words = bits;
         owners = owners_handed heap.seats book.owner stands.owners Free fs tt kept_given;
         ids = rw graph_given stands.ids;
@@ -90,7 +85,7 @@ module _ (heap : Heap) (state : State) (book : Book) (q : ℕ) (rule : Rule heap
         legal = legal_gives heap book.history q (length fs) stands.legal present some own;
         cycle = heap_cycle_more heap words_given owner book.colour book.history entry refl book.fragments
             (heap_hands heap state.words book.owner book.colour book.fragments (phase book.history) g word Free fs below
-            refl (λ f there. ap born_bit (held f there)) kept_given (marks_give heap state.words book.colour g fs stands.table below stands.cycle.marks) stands.cycle);
+            refl (λ f there. ap born_bit (held f there)) kept_given (marks_give heap state.words book.colour g fs rule.machine.table below stands.cycle.marks) stands.cycle);
       }
 
   -- the seat has its part in the cycle, where it goes on with none of a set or an answer
@@ -100,25 +95,23 @@ module _ (heap : Heap) (state : State) (book : Book) (q : ℕ) (rule : Rule heap
       let cycle = (rule.seats_stand q here).cycle in
       cycle_own heap words_given owner book.colour book.history entry refl q now
       (cycle_goes_on heap state.words words_given book.owner owner book.colour (phase book.history) (answered q book.history) (has_left q book.history) q (seat_at state q) now same apart
-      (answer_after_control heap state.words word g q (omega (arith, here, rule.limits.seats_fit))) (λ f. borne_before Free book.owner fs q f free_bears_none) cycle) refl refl
+      (answer_after_control heap state.words word g q (omega (arith, here, rule.machine.limits.seats_fit))) (λ f. borne_before Free book.owner fs q f free_bears_none) cycle) refl refl
 
   -- each other seat stands
   pub other_given : (r : ℕ) → r < heap.seats → r ≢ q → SeatStands heap state.words book r (seat_at state r) → SeatStands heap words_given book_given r (seat_at state r)
   other_given r under apart other =
       let seat : Seat = seat_at state r in
-      let away = of_other q r apart in record {
-        fits = other.fits;
-        holding = holding_given book.owner r seat.reserve seat.hand seat.body other.holding fs q apart held;
-        stored = stored_control heap state.words r seat g word below other.stored;
-        registers = rw graph_given (registers_owners book.owner owner kept_given book.made book.fragments before r seat.registers seat.place (target_of seat.command) other.registers);
-        list = rw graph_given (list_owners before book.owner owner kept_given book.made book.fragments r seat book.history book_given.history (own-other r book.history entry away) other.list);
-        way = rw graph_given (way_owners (cells_at before book.made) book.owner owner kept_given book.made book.fragments seat other.way);
+      let away = of_other q r apart in
+      seat_left heap state.words words_given book book_given r seat record {
+        calls = refl;
+        party = same_party before (graph_of heap book_given.history) r (ap (λ (g : Graph). party g r) graph_given);
+        told = told_other r book.history entry away;
+        kept = rw graph_given (kept_owners before book.made book.owner owner book.fragments kept_given);
+        hand = hand_given book.owner r q fs apart held;
+        stored = stored_control heap state.words r seat g word below other.own.stored;
+        gathers = other_gives heap book.owner book.history q fs once inside rule.heap_stands.used (book.begun r) other.told.began.earlier seat.cursor seat.tried seat.given held
+            other.fits.cursor_within (tried_within heap seat seat.place other.fits.at_place) r apart other.told.gathers;
         cycle = cycle_other heap words_given owner book.colour book.history entry refl r seat
             (cycle_control heap state.words book.owner owner book.colour book.colour (phase book.history) (answered r book.history) (has_left r book.history) r seat g word below
-            (omega (arith, under, rule.limits.seats_fit)) (λ f marked. marked) (λ f borne. (borne_before Free book.owner fs r f free_bears_none borne, refl)) other.cycle) away;
-        together = other.together;
-        counts = rw graph_given (counts_stay before before r (same_party before before r refl) book.history entry seat away other.counts);
-        began = began_stays book.history entry r (book.begun r) seat.place away other.began;
-        gathers = other_gives heap book.owner book.history q fs once inside rule.heap_stands.used (book.begun r) other.began.earlier seat.cursor seat.tried seat.given held
-            other.fits.cursor_within (tried_within heap seat seat.place other.fits.at_place) r apart other.gathers;
-      }
+            (omega (arith, under, rule.machine.limits.seats_fit)) (λ f marked. marked) (λ f borne. (borne_before Free book.owner fs r f free_bears_none borne, refl)) (watched_born heap state book rule r under) other.cycle) away;
+      } other

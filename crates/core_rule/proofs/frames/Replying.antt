@@ -36,7 +36,7 @@ module _ (heap : Heap) (words : List ℕ) (book : Book) (entry : Entry) (nothing
   -- the heap stands
   pub heap_told : Accepts (graph_of heap book.history) entry → KeepsSpace heap false book.history entry → HeapStands heap words book → HeapStands heap words (with_entry book entry)
   heap_told accepts keeps stands =
-      heap_past heap words words (fragments_same heap words) book entry nodes stands.table
+      heap_past heap words words (fragments_same heap words) book entry nodes
       record { taken = no_part entry (λ e. e.taken) nothing refl; given = no_part entry (λ e. e.given) nothing refl; freed = no_part entry (λ e. e.freed) nothing refl }
       (legal_more heap false book.history entry stands.legal accepts keeps)
       (heap_cycle_more heap words book.owner book.colour book.history entry (no_part entry (λ e. e.phases) nothing refl) book.fragments stands.cycle) stands

@@ -1,5 +1,5 @@
--- What stays of a seat when an entry of another is added, and the graph has its registers and counts as before.
-use Rattle.std.proofs.Common.{◌≡◌, ℕ, false, List, [], ◌∷◌, ◌++◌, length, get_or, refl, sym, ap, ◌∙◌, subst}
+-- What stays of a seat at another's step: all of it, where that leaves what the seat has, what it names and what is told of it.
+use Rattle.std.proofs.Common.{◌≡◌, ℕ, ◌<◌, false, List, [], ◌∷◌, ◌++◌, length, filter, drop, get_or, refl, sym, ap, ◌∙◌, subst, arith}
 use Rattle.heap_model.specs.declared.entry.Entry.{Entry}
 use Rattle.heap_model.specs.declared.heap.Heap.{Heap}
 use Rattle.heap_model.specs.declared.id.Id.{Id}
@@ -9,24 +9,26 @@ use Rattle.heap_model.specs.account.Cycles.{graph_of}
 use Rattle.heap_model.specs.account.Effects.{is_of}
 use Rattle.heap_model.specs.graph.Objects.{party, register, Party}
 use Rattle.heap_model.specs.account.PhaseCounts.{phase, answered, has_left}
+use Rattle.heap_model.specs.account.Space.{spent_of, taken_of}
 use Rattle.heap_model.specs.graph.State.{State as Graph}
 use Rattle.core_machine.specs.declared.place.Place.{Place}
 use Rattle.core_machine.specs.declared.seat.register.Register.{Register}
 use Rattle.core_machine.specs.declared.seat.register.Register.TheVariants as registers
-use Rattle.core_machine.specs.seat.Commands.{target_of}
 use Rattle.core_machine.specs.seat.Seat.{Seat}
 use Rattle.core_rule.specs.Book.{Book}
-use Rattle.core_rule.specs.Counts.{OwnCounts}
 use Rattle.core_rule.specs.Cycle.{SeatInCycle}
 use Rattle.core_rule.specs.Holding.{IsStored}
-use Rattle.core_rule.specs.Objects.{cells_at}
+use Rattle.core_rule.specs.Gathers.{GathersRight, Began}
+use Rattle.core_rule.specs.Objects.{cells_at, IsKept}
 use Rattle.core_rule.specs.Owners.{Owner}
 use Rattle.core_rule.specs.Registers.{Registers}
 use Rattle.core_rule.specs.Registers as regs
 use Rattle.core_rule.specs.Rule.{SeatStands}
 use Rattle.core_rule.proofs.entries.Others.{own-other, total_of-other, began_stays, gathers_stay}
-use Rattle.core_rule.proofs.entries.SeatLists.{list_stays, same_names}
-use Rattle.core_rule.proofs.ways.WayFrames.{ways_stay}
+use Rattle.core_rule.proofs.entries.SeatLists.{list_stays, NamesStay, holds_stays}
+use Rattle.core_rule.proofs.hand.HandMoves.{SameHand, same_hand, holding_stays}
+use Rattle.core_rule.proofs.objects.ObjectFrames.{SameKept, names_kept}
+use Rattle.core_rule.proofs.ways.WayFrames.{ObjectStays, ways_stay}
 
 -- the graph's party has the same registers, and as many objects and sets, and has left where it had
 pub record SameParty (g now : Graph) (r : ℕ) : Type 0 where
@@ -44,48 +46,118 @@ same_party g now r same = record {
   left = ap (λ (p : Party). p.left) same;
 }
 
-module _ (g now : Graph) (r : ℕ) (same : SameParty g now r) where
-  register_stays : (i : ℕ) → register now r i ≡ register g r i
-  register_stays i = ap (λ (rs : List Value). get_or rs i values.Nil) same.registers
+register_stays : (g now : Graph) (r : ℕ) → SameParty g now r → (i : ℕ) → register now r i ≡ register g r i
+register_stays g now r same i = ap (λ (rs : List Value). get_or rs i values.Nil) same.registers
 
-  module _ (made : List Id) (owner : ℕ → Owner) (fragments : ℕ → List ℕ) where
-    -- its registers hold the graph's values
-    registers_stay : (held : List Register) (place : Place) (d : ℕ) → Registers g made owner fragments r held place d → Registers now made owner fragments r held place d
-    registers_stay held place d old i awake = subst (λ v. regs.Holds made owner fragments (get_or held i registers.Nil) v) (sym (register_stays i)) (old i awake)
+-- the later history tells no more of the seat
+pub record SameTold (r : ℕ) (history later : List Entry) : Type 0 where
+  pub own : filter (is_of r) later ≡ filter (is_of r) history
+  pub spent : spent_of r later ≡ spent_of r history
+  pub taken : taken_of r later ≡ taken_of r history
+  pub began : (begun : ℕ) (place : Place) → Began history r begun place → Began later r begun place
 
-  -- its counts are as before
-  pub counts_stay : (history : List Entry) (entry : Entry) (seat : Seat) → is_of r entry ≡ false → OwnCounts g history r seat → OwnCounts now (history ++ entry ∷ []) r seat
-  counts_stay history entry seat other counts = record {
-    numbered = counts.numbered ∙ sym same.objects;
-    stamped = counts.stamped ∙ sym same.sets;
-    leaves = same.left ∙ counts.leaves;
-    unborn = rw (total_of-other r (λ e. e.given) history entry other, total_of-other r (λ e. e.born) history entry other, total_of-other r (λ e. e.taken) history entry other) counts.unborn;
-  }
+-- so it is where nothing is added
+pub told_nothing : (r : ℕ) (history : List Entry) → SameTold r history history
+told_nothing r history = record { own = refl; spent = refl; taken = refl; began = λ begun place began. began }
+
+-- and where an entry of another is
+pub told_other : (r : ℕ) (history : List Entry) (entry : Entry) → is_of r entry ≡ false → SameTold r history (history ++ entry ∷ [])
+told_other r history entry other = record {
+  own = own-other r history entry other;
+  spent = rw (total_of-other r (λ e. e.given) history entry other, total_of-other r (λ e. e.born) history entry other) refl;
+  taken = total_of-other r (λ e. e.taken) history entry other;
+  began = λ begun place began. began_stays history entry r begun place other began;
+}
+
+-- what is kept stays kept, by the same names and in the same fragments
+pub record KeptStays (g now : Graph) (made now_made : List Id) (owner now_owner : ℕ → Owner) (fragments now_fragments : ℕ → List ℕ) : Type 0 where
+  pub names : NamesStay made now_made owner now_owner fragments now_fragments
+  pub objects : (i : ℕ) → i < length made → IsKept owner fragments i
+      → ObjectStays (cells_at g made) (cells_at now now_made) made now_made owner now_owner fragments now_fragments i
+
+-- so it is where the same fragments are kept
+pub kept_owners : (g : Graph) (made : List Id) (owner now : ℕ → Owner) (fragments : ℕ → List ℕ) → SameKept owner now → KeptStays g g made made owner now fragments fragments
+kept_owners g made owner now fragments same = record {
+  names = record { names = λ id kept. names_kept owner now same made fragments (values.Object id) kept; heads = λ id kept. refl };
+  objects = λ i below kept. record { below = below; kept = same.stays _ _ _ kept; id = refl; fragments_stay = refl; cells_stay = refl };
+}
+
+-- and where each object has as many cells
+pub kept_lengths : (g now : Graph) (made : List Id) (owner : ℕ → Owner) (fragments : ℕ → List ℕ) → ((i : ℕ) → length (cells_at now made i) ≡ length (cells_at g made i))
+    → KeptStays g now made made owner owner fragments fragments
+kept_lengths g now made owner fragments longs = record {
+  names = record { names = λ id kept. kept; heads = λ id kept. refl };
+  objects = λ i below kept. record { below = below; kept = kept; id = refl; fragments_stay = refl; cells_stay = longs i };
+}
+
+-- so registers hold what they held
+pub registers_owners : (owner now : ℕ → Owner) → SameKept owner now → (made : List Id) (fragments : ℕ → List ℕ) (g : Graph) (q : ℕ) (held : List Register) (place : Place) (d : ℕ)
+    → Registers g made owner fragments q held place d → Registers g made now fragments q held place d
+registers_owners owner now same made fragments g q held place d old =
+    λ r fresh. holds_stays made made owner now fragments fragments (kept_owners g made owner now fragments same).names _ _ (old r fresh)
+
+-- what a step of another leaves of a seat
+pub record LeavesSeat (heap : Heap) (words : List ℕ) (book now : Book) (r : ℕ) (seat : Seat) : Type 0 where
+  pub calls : now.begun ≡ book.begun
+  pub party : SameParty (graph_of heap book.history) (graph_of heap now.history) r
+  pub told : SameTold r book.history now.history
+  pub kept : KeptStays (graph_of heap book.history) (graph_of heap now.history) book.made now.made book.owner now.owner book.fragments now.fragments
+  pub hand : SameHand r book.owner now.owner
+  pub stored : IsStored heap words r seat
+  pub gathers : GathersRight heap now.owner r (drop (book.begun r) now.history) seat.cursor seat.tried seat.given
+  pub cycle : SeatInCycle heap words (phase now.history) (answered r now.history) (has_left r now.history) now.owner now.colour r seat
+
+-- so all of it stands
+pub seat_left : (heap : Heap) (words now_words : List ℕ) (book now : Book) (r : ℕ) (seat : Seat) → LeavesSeat heap now_words book now r seat
+    → SeatStands heap words book r seat → SeatStands heap now_words now r seat
+seat_left heap words now_words book now r seat leaves old =
+    let g : Graph = graph_of heap book.history in
+    let after : Graph = graph_of heap now.history in
+    let same : (i : ℕ) → register after r i ≡ register g r i = register_stays g after r leaves.party in
+    record {
+      fits = old.fits;
+      own = record {
+        holding = holding_stays book.owner now.owner r seat.reserve seat.hand seat.body leaves.hand old.own.holding;
+        stored = leaves.stored;
+        together = old.own.together;
+      };
+      names = record {
+        registers = λ i awake. subst (regs.Holds now.made now.owner now.fragments (get_or seat.registers i registers.Nil)) (sym (same i))
+            (holds_stays book.made now.made book.owner now.owner book.fragments now.fragments leaves.kept.names _ _ (old.names.registers i awake));
+        way = ways_stay (cells_at g book.made) (cells_at after now.made) book.made now.made book.owner now.owner book.fragments now.fragments leaves.kept.objects seat seat.place old.names.way;
+      };
+      told = rw leaves.calls record {
+        list = list_stays g after book.made now.made book.owner now.owner book.fragments now.fragments r seat leaves.kept.names same book.history now.history leaves.told.own old.told.list;
+        counts = record {
+          numbered = old.told.counts.numbered ∙ sym leaves.party.objects;
+          stamped = old.told.counts.stamped ∙ sym leaves.party.sets;
+          leaves = leaves.party.left ∙ old.told.counts.leaves;
+          unborn = omega (arith, old.told.counts.unborn, leaves.told.spent, leaves.told.taken);
+        };
+        began = leaves.told.began (book.begun r) seat.place old.told.began;
+        gathers = leaves.gathers;
+      };
+      cycle = leaves.cycle;
+    }
 
 -- the book with one more entry
 abbrev pub with_entry : Book → Entry → Book
 with_entry book entry = record book { history = book.history ++ entry ∷ [] }
 
--- so all of it stands, where what it has stored does
+-- it stands where an entry of another is added, and the graph has its registers and counts as before
 pub seat_stays : (heap : Heap) (words now : List ℕ) (book : Book) (entry : Entry) (r : ℕ) (seat : Seat) → is_of r entry ≡ false
     → SameParty (graph_of heap book.history) (graph_of heap (book.history ++ entry ∷ [])) r
     → ((i : ℕ) → length (cells_at (graph_of heap (book.history ++ entry ∷ [])) book.made i) ≡ length (cells_at (graph_of heap book.history) book.made i))
     → IsStored heap now r seat
     → SeatInCycle heap now (phase (book.history ++ entry ∷ [])) (answered r (book.history ++ entry ∷ [])) (has_left r (book.history ++ entry ∷ [])) book.owner book.colour r seat
     → SeatStands heap words book r seat → SeatStands heap now (with_entry book entry) r seat
-seat_stays heap words now book entry r seat other same longs stored cycle old = record {
-  fits = old.fits;
-  holding = old.holding;
+seat_stays heap words now book entry r seat other same longs stored cycle old = seat_left heap words now book (with_entry book entry) r seat record {
+  calls = refl;
+  party = same;
+  told = told_other r book.history entry other;
+  kept = kept_lengths (graph_of heap book.history) (graph_of heap (book.history ++ entry ∷ [])) book.made book.owner book.fragments longs;
+  hand = same_hand r book.owner;
   stored = stored;
-  registers = registers_stay (graph_of heap book.history) (graph_of heap (book.history ++ entry ∷ [])) r same book.made book.owner book.fragments seat.registers seat.place (target_of seat.command) old.registers;
-  list = list_stays (graph_of heap book.history) (graph_of heap (book.history ++ entry ∷ [])) book.made book.made book.owner book.owner book.fragments book.fragments r seat
-      (same_names book.made book.owner book.fragments) (register_stays (graph_of heap book.history) (graph_of heap (book.history ++ entry ∷ [])) r same)
-      book.history (book.history ++ entry ∷ []) (own-other r book.history entry other) old.list;
-  way = ways_stay (cells_at (graph_of heap book.history) book.made) (cells_at (graph_of heap (book.history ++ entry ∷ [])) book.made) book.made book.made book.owner book.owner book.fragments book.fragments
-      (λ i below kept. record { below = below; kept = kept; id = refl; fragments_stay = refl; cells_stay = longs i }) seat seat.place old.way;
+  gathers = gathers_stay heap book.owner r book.history (book.begun r) entry seat.cursor seat.tried seat.given old.told.began.earlier old.told.gathers;
   cycle = cycle;
-  together = old.together;
-  counts = counts_stay (graph_of heap book.history) (graph_of heap (book.history ++ entry ∷ [])) r same book.history entry seat other old.counts;
-  began = began_stays book.history entry r (book.begun r) seat.place other old.began;
-  gathers = gathers_stay heap book.owner r book.history (book.begun r) entry seat.cursor seat.tried seat.given old.began.earlier old.gathers;
-}
+} old

@@ -4,15 +4,15 @@ use Rattle.heap_model.specs.declared.entry.Entry.{Entry}
 use Rattle.heap_model.specs.declared.heap.Heap.{Heap}
 use Rattle.heap_model.specs.account.Refusals.{given_up}
 use Rattle.heap_model.specs.account.Space.{total_but}
+use Rattle.core_machine.proofs.table_lemmas.Free.{sum_upto-none}
 use Rattle.core_rule.specs.Gathers.{GathersRight, free_in_all, free_in_passed, free_in}
 use Rattle.core_rule.specs.Owners.{Owner, free_bit}
 use Rattle.core_rule.proofs.counts.FreeMoves.{passed_less, passed_claimed, all_same}
-use Rattle.core_rule.proofs.lists.SumLemmas.{sum-zero}
 
 -- a gather that has passed no group knows what it has to
 pub nothing_tried : (heap : Heap) (owner : ℕ → Owner) (q : ℕ) (since : List Entry) (cursor : ℕ) → GathersRight heap owner q since cursor 0 0
 nothing_tried heap owner q since cursor = record {
-  passed = rw (sum-zero (λ j. free_in owner ((cursor + j) % heap.groups))) (omega arith);
+  passed = rw (sum_upto-none (λ j. free_in owner ((cursor + j) % heap.groups))) (omega arith);
   returned = omega arith;
 }
 

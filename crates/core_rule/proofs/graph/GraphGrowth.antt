@@ -45,9 +45,6 @@ module _ (g : State) (q d : ℕ) (object : Node) (present : (party g q).left ≡
   party_other r apart = get_or-set_other g.seats q r grown_party nobody apart
 
   -- the registers: the seat's target holds the new object, the others stay
-  pub register_other : (r i : ℕ) → r ≢ q → register (add g q d object) r i ≡ register g r i
-  register_other r i apart = ap (λ (p : Party). get_or p.registers i values.Nil) (party_other r apart)
-
   pub register_target : d < length (party g q).registers → register (add g q d object) q d ≡ values.Object (Made q (length (party g q).objects))
   register_target within =
       ap (λ (p : Party). get_or p.registers d values.Nil) party_same

@@ -10,9 +10,9 @@ use Rattle.core_machine.specs.seat.Fits.{AreFragments}
 use Rattle.core_machine.specs.table.Fragments.{out_of_group, part_in, part_out}
 use Rattle.core_machine.specs.seat.Making.{last_group, gathered, last_claimed, goes_on}
 use Rattle.core_machine.specs.seat.Seat.{Seat, need}
+use Rattle.core_machine.proofs.seat_lemmas.Fitting.{goes_on_cases}
 use Rattle.core_rule.specs.Together.{claim_of, InClaims, IsInOrder, AreTogether}
 use Rattle.core_rule.proofs.hand.EmptyHand.{nothing_together}
-use Rattle.core_rule.proofs.hand.GoesOn.{goes_on_cases}
 use Rattle.core_rule.proofs.lists.OrderedLists.{pairs_front, pairs_append, pairs_zero, pairs_all, group_last}
 
 -- a group at the start or behind it

@@ -1,7 +1,5 @@
 -- The three ways on of a gather.
-use Rattle.std.specs.Prelude.{if◌then◌else◌, nat_lt}
-use Rattle.std.proofs.Common.{◌≡◌, ◌∙◌, subst, ℕ, suc, ◌+◌, ◌<◌, ◌≤◌, inl, inr, List, [], length, take, drop, refl, sym, ap, arith}
-use Rattle.std.proofs.lemmas.Bool.Decides.{leb_tells}
+use Rattle.std.proofs.Common.{◌≡◌, ◌∙◌, subst, ℕ, ◌+◌, List, [], length, take, drop, refl, sym, ap, arith}
 use Rattle.std.proofs.lemmas.List.{length-append, take-append-drop}
 use Rattle.heap_model.specs.declared.entry.Entry.{Entry}
 use Rattle.heap_model.specs.declared.heap.Heap.{Heap}
@@ -9,8 +7,9 @@ use Rattle.core_machine.specs.declared.place.Making.{Making}
 use Rattle.core_machine.specs.declared.place.Making.TheVariants.{Gathering, Storing}
 use Rattle.core_machine.specs.declared.place.Place.TheVariants as places
 use Rattle.core_machine.specs.table.Fragments.{tally}
-use Rattle.core_machine.specs.seat.Making.{gathered, settled, refused, goes_on, last_claimed, returning}
+use Rattle.core_machine.specs.seat.Making.{gathered, goes_on, last_claimed, returning}
 use Rattle.core_machine.specs.seat.Seat.{Seat, need}
+use Rattle.core_machine.proofs.seat_lemmas.Fitting.{goes_on_cases}
 use Rattle.core_rule.specs.Gathers.{GathersRight}
 use Rattle.core_rule.specs.Holding.{Holding, whole_hand}
 use Rattle.core_rule.specs.Owners.{Owner, bears_bit}
@@ -18,20 +17,6 @@ use Rattle.core_rule.proofs.entries.Begins.{SameData, same_data}
 use Rattle.core_rule.proofs.hand.Bodies.{whole_same}
 use Rattle.core_rule.proofs.gather.GatherMoves.{nothing_tried}
 use Rattle.core_rule.proofs.lists.Tallies.{tally-append, tally_parts}
-
--- what holds of each of the three ways holds of the seat after it
-pub goes_on_cases : (P : Seat → Type 0) (heap : Heap) (seat : Seat)
-    → (need seat ≤ length (gathered seat) → P (settled heap seat))
-    → (length (gathered seat) < need seat → seat.tried < heap.groups → P (record seat { place = places.Making Gathering }))
-    → (length (gathered seat) < need seat → heap.groups ≤ seat.tried → P (refused seat))
-    → P (goes_on heap seat)
-goes_on_cases P heap seat enough more none = elim (leb_tells (need seat) (length (gathered seat))) as (λ _. P (goes_on heap seat)) [
-  | inl e ↦ rw e.0 (enough e.1)
-  | inr e ↦ rw e.0 (elim (leb_tells (suc seat.tried) heap.groups) as (λ _. P (if nat_lt seat.tried heap.groups then record seat { place = places.Making Gathering } else refused seat)) [
-    | inl f ↦ rw f.0 (more e.1 f.1)
-    | inr f ↦ rw f.0 (none e.1 (omega (arith, f.1)))
-  ])
-]
 
 -- what was gathered is the seat's, however it is parted into hand and reserve
 pub holding_goes_on : (heap : Heap) (owner : ℕ → Owner) (q : ℕ) (seat : Seat) → seat.body ≡ [] → Holding owner q seat.reserve seat.hand seat.body

@@ -29,13 +29,41 @@ none_borne owner q reserve hand body none holding f =
 pub bears_nothing : (owner : ℕ → Owner) (q : ℕ) (reserve hand body : List ℕ) → body ≡ [] → Holding owner q reserve hand body → (f : ℕ) → owner f ≢ Bears q
 bears_nothing owner q reserve hand body none holding f bears = let one : bears_bit q (owner f) ≡ 1 = ap (bears_bit q) bears ∙ one_at_same q q refl in omega (arith, none_borne owner q reserve hand body none holding f, one)
 
--- another seat's fragments stay
-holding_stays : (owner now : ℕ → Owner) (r : ℕ) (reserve hand body : List ℕ) → ((f : ℕ) → holds_bit r (now f) ≡ holds_bit r (owner f)) → ((f : ℕ) → bears_bit r (now f) ≡ bears_bit r (owner f))
-    → Holding owner r reserve hand body → Holding now r reserve hand body
-holding_stays owner now r reserve hand body holds bears holding = record {
-  held = λ f. holding.held f ∙ sym (holds f);
-  borne = λ f. holding.borne f ∙ sym (ap (λ n. tally f hand + n) (bears f));
+-- the seat holds and bears what it did
+pub record SameHand (r : ℕ) (owner now : ℕ → Owner) : Type 0 where
+  pub held : (f : ℕ) → holds_bit r (now f) ≡ holds_bit r (owner f)
+  pub borne : (f : ℕ) → bears_bit r (now f) ≡ bears_bit r (owner f)
+
+pub same_hand : (r : ℕ) (owner : ℕ → Owner) → SameHand r owner owner
+same_hand r owner = record { held = λ f. refl; borne = λ f. refl }
+
+-- so its fragments stay
+pub holding_stays : (owner now : ℕ → Owner) (r : ℕ) (reserve hand body : List ℕ) → SameHand r owner now → Holding owner r reserve hand body → Holding now r reserve hand body
+holding_stays owner now r reserve hand body same holding = record {
+  held = λ f. holding.held f ∙ sym (same.held f);
+  borne = λ f. holding.borne f ∙ sym (ap (λ n. tally f hand + n) (same.borne f));
 }
+
+-- free fragments go to another seat
+pub hand_claimed : (owner : ℕ → Owner) (r s : ℕ) (fs : List ℕ) → r ≢ s → ((f : ℕ) → 1 ≤ tally f fs → owner f ≡ Free) → SameHand r owner (handed (Holds s) owner fs)
+hand_claimed owner r s fs apart free = record {
+  held = stays (holds_bit r) (Holds s) owner fs (λ x there. ap (holds_bit r) (free x there) ∙ sym (one_at_other s r (λ e. apart (sym e))));
+  borne = stays (bears_bit r) (Holds s) owner fs (λ x there. ap (bears_bit r) (free x there));
+}
+
+-- fragments of another seat go to it as born ones, or to nobody
+module _ (owner : ℕ → Owner) (r s : ℕ) (fs : List ℕ) (apart : r ≢ s) (held : (f : ℕ) → 1 ≤ tally f fs → owner f ≡ Holds s) where
+  pub hand_given : SameHand r owner (handed Free owner fs)
+  hand_given = record {
+    held = stays (holds_bit r) Free owner fs (λ x there. ap (holds_bit r) (held x there) ∙ one_at_other s r (λ e. apart (sym e)));
+    borne = stays (bears_bit r) Free owner fs (λ x there. ap (bears_bit r) (held x there));
+  }
+
+  pub hand_born : SameHand r owner (handed (Bears s) owner fs)
+  hand_born = record {
+    held = stays (holds_bit r) (Bears s) owner fs (λ x there. ap (holds_bit r) (held x there) ∙ one_at_other s r (λ e. apart (sym e)));
+    borne = stays (bears_bit r) (Bears s) owner fs (λ x there. ap (bears_bit r) (held x there) ∙ sym (one_at_other s r (λ e. apart (sym e))));
+  }
 
 module _ (owner : ℕ → Owner) (q : ℕ) (reserve hand body : List ℕ) (holding : Holding owner q reserve hand body) where
   -- what is in the hand is the seat's, each fragment once
@@ -54,28 +82,6 @@ module _ (owner : ℕ → Owner) (q : ℕ) (reserve hand body : List ℕ) (holdi
       borne = λ f. rw (whole_empty (hand ++ fs) body none)
           (omega (arith, none_borne owner q reserve hand body none holding f, stays (bears_bit q) (Holds q) owner fs (λ x there. ap (bears_bit q) (free x there)) f));
     }
-
-    -- another does
-    pub holding_claimed : (s : ℕ) → q ≢ s → Holding (handed (Holds s) owner fs) q reserve hand body
-    holding_claimed s apart = holding_stays owner (handed (Holds s) owner fs) q reserve hand body
-        (stays (holds_bit q) (Holds s) owner fs (λ x there. ap (holds_bit q) (free x there) ∙ sym (one_at_other s q (λ e. apart (sym e)))))
-        (stays (bears_bit q) (Holds s) owner fs (λ x there. ap (bears_bit q) (free x there)))
-        holding
-
-  -- fragments of another seat go to it as born ones, or to nobody
-  module _ (fs : List ℕ) (s : ℕ) (apart : q ≢ s) (held : (f : ℕ) → 1 ≤ tally f fs → owner f ≡ Holds s) where
-    -- either way the seat has what it had
-    pub holding_given : Holding (handed Free owner fs) q reserve hand body
-    holding_given = holding_stays owner (handed Free owner fs) q reserve hand body
-        (stays (holds_bit q) Free owner fs (λ x there. ap (holds_bit q) (held x there) ∙ one_at_other s q (λ e. apart (sym e))))
-        (stays (bears_bit q) Free owner fs (λ x there. ap (bears_bit q) (held x there)))
-        holding
-
-    pub holding_born : Holding (handed (Bears s) owner fs) q reserve hand body
-    holding_born = holding_stays owner (handed (Bears s) owner fs) q reserve hand body
-        (stays (holds_bit q) (Bears s) owner fs (λ x there. ap (holds_bit q) (held x there) ∙ one_at_other s q (λ e. apart (sym e))))
-        (stays (bears_bit q) (Bears s) owner fs (λ x there. ap (bears_bit q) (held x there) ∙ sym (one_at_other s q (λ e. apart (sym e)))))
-        holding
 
   -- those of the hand that are of a group leave it
   module _ (g : ℕ) where

@@ -8,8 +8,9 @@ use Rattle.core_machine.specs.table.Fragments.{in_group, out_of_group, part_in, 
 use Rattle.core_machine.specs.seat.Making.{first_group}
 use Rattle.core_machine.specs.machine.Sums.{sum_upto}
 use Rattle.core_machine.proofs.table_lemmas.Bits.{bool_tells}
+use Rattle.core_machine.proofs.table_lemmas.Free.{sum_zero}
 use Rattle.core_rule.specs.Owners.{one_at}
-use Rattle.core_rule.proofs.lists.SumLemmas.{sum_parts, sum_nothing}
+use Rattle.core_rule.proofs.lists.SumLemmas.{sum_parts}
 use Rattle.core_rule.proofs.lists.Tallies.{one_at_same, one_at_other, sum_tally}
 
 -- a number of things is none where it isn't one or more
@@ -109,7 +110,7 @@ parts_length g xs = length-filter_both (in_group g) (out_of_group g) (λ x. refl
 pub group_length : (g : ℕ) (fs : List ℕ) → ((f : ℕ) → 1 ≤ tally f fs → f / 16 ≡ g) → sum_upto 16 (λ j. tally (16 * g + j) fs) ≡ length fs
 group_length g fs here =
     let all : sum_upto (16 * g + 16) (λ f. tally f fs) ≡ length fs = sum_tally (16 * g + 16) fs (λ f there. omega (arith, here f there)) in
-    let before : sum_upto (16 * g) (λ f. tally f fs) ≡ 0 = sum_nothing (16 * g) (λ f. tally f fs) (λ f below. not_there (tally f fs) (λ there. omega (arith, here f there, below))) in
+    let before : sum_upto (16 * g) (λ f. tally f fs) ≡ 0 = sum_zero (16 * g) (λ f. tally f fs) (λ f below. not_there (tally f fs) (λ there. omega (arith, here f there, below))) in
     let parts : sum_upto (16 * g + 16) (λ f. tally f fs) ≡ sum_upto (16 * g) (λ f. tally f fs) + sum_upto 16 (λ j. tally (16 * g + j) fs) = sum_parts (16 * g) 16 (λ f. tally f fs) in
     omega (arith, all, before, parts)
 

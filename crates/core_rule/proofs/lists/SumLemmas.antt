@@ -1,24 +1,16 @@
 -- Sums over all numbers below one.
 use Rattle.std.proofs.Common.{◌≡◌, ℕ, zero, suc, ◌+◌, ◌*◌, ◌<◌, ◌≤◌, ◌-◌, ◌%◌, refl, ap, subst, arith}
 use Rattle.core_machine.specs.machine.Sums.{sum_upto}
+use Rattle.core_machine.proofs.table_lemmas.Free.{sum_same, sum_upto-none}
 
--- a sum of none, and one of one more
-pub sum-zero : (f : ℕ → ℕ) → sum_upto 0 f ≡ 0
-unfolding sum_upto
-sum-zero f = refl
-
+-- a sum of one more
 pub sum-suc : (n : ℕ) (f : ℕ → ℕ) → sum_upto (suc n) f ≡ sum_upto n f + f n
 unfolding sum_upto
 sum-suc n f = refl
 
--- sums of the same numbers
-pub sum_same : (n : ℕ) (f g : ℕ → ℕ) → ((i : ℕ) → i < n → f i ≡ g i) → sum_upto n f ≡ sum_upto n g
-sum_same zero f g same = rw (sum-zero f, sum-zero g) refl
-sum_same (suc n) f g same = rw (sum-suc n f, sum-suc n g, sum_same n f g (λ i below. same i (omega arith)), same n (omega arith)) refl
-
 -- sums of numbers that are no more
 pub sum_le : (n : ℕ) (f g : ℕ → ℕ) → ((i : ℕ) → i < n → f i ≤ g i) → sum_upto n f ≤ sum_upto n g
-sum_le zero f g less = rw (sum-zero f, sum-zero g) (omega arith)
+sum_le zero f g less = rw (sum_upto-none f, sum_upto-none g) (omega arith)
 sum_le (suc n) f g less =
     let rest : sum_upto n f ≤ sum_upto n g = sum_le n f g (λ i below. less i (omega arith)) in
     let last : f n ≤ g n = less n (omega arith) in
@@ -26,7 +18,7 @@ sum_le (suc n) f g less =
 
 -- a sum of sums
 pub sum_plus : (n : ℕ) (f g h : ℕ → ℕ) → ((i : ℕ) → i < n → f i ≡ g i + h i) → sum_upto n f ≡ sum_upto n g + sum_upto n h
-sum_plus zero f g h same = rw (sum-zero f, sum-zero g, sum-zero h) refl
+sum_plus zero f g h same = rw (sum_upto-none f, sum_upto-none g, sum_upto-none h) refl
 sum_plus (suc n) f g h same =
     let rest : sum_upto n f ≡ sum_upto n g + sum_upto n h = sum_plus n f g h (λ i below. same i (omega arith)) in
     let last : f n ≡ g n + h n = same n (omega arith) in
@@ -36,22 +28,15 @@ sum_plus (suc n) f g h same =
 pub sum_parts : (a b : ℕ) (f : ℕ → ℕ) → sum_upto (a + b) f ≡ sum_upto a f + sum_upto b (λ i. f (a + i))
 sum_parts a zero f =
     let none : a + 0 ≡ a = omega arith in
-    rw (none, sum-zero (λ i. f (a + i))) (omega arith)
+    rw (none, sum_upto-none (λ i. f (a + i))) (omega arith)
 sum_parts a (suc b) f =
     let rest : sum_upto (a + b) f ≡ sum_upto a f + sum_upto b (λ i. f (a + i)) = sum_parts a b f in
     let one : a + suc b ≡ suc (a + b) = omega arith in
     rw (one, sum-suc (a + b) f, sum-suc b (λ i. f (a + i))) (omega arith)
 
--- sums of zeros, and of ones
-pub sum_nothing : (n : ℕ) (f : ℕ → ℕ) → ((i : ℕ) → i < n → f i ≡ 0) → sum_upto n f ≡ 0
-sum_nothing zero f none = sum-zero f
-sum_nothing (suc n) f none =
-    let rest : sum_upto n f ≡ 0 = sum_nothing n f (λ i below. none i (omega arith)) in
-    let last : f n ≡ 0 = none n (omega arith) in
-    rw (sum-suc n f) (omega arith)
-
+-- a sum of ones
 pub sum_ones : (n : ℕ) (f : ℕ → ℕ) → ((i : ℕ) → i < n → f i ≡ 1) → sum_upto n f ≡ n
-sum_ones zero f one = sum-zero f
+sum_ones zero f one = sum_upto-none f
 sum_ones (suc n) f one =
     let rest : sum_upto n f ≡ n = sum_ones n f (λ i below. one i (omega arith)) in
     let last : f n ≡ 1 = one n (omega arith) in
@@ -61,7 +46,7 @@ sum_ones (suc n) f one =
 pub sum_blocks : (size n : ℕ) (f : ℕ → ℕ) → sum_upto n (λ i. sum_upto size (λ j. f (size * i + j))) ≡ sum_upto (size * n) f
 sum_blocks size zero f =
     let none : size * 0 ≡ 0 = omega arith in
-    rw (none, sum-zero f, sum-zero (λ i. sum_upto size (λ j. f (size * i + j)))) refl
+    rw (none, sum_upto-none f, sum_upto-none (λ i. sum_upto size (λ j. f (size * i + j)))) refl
 sum_blocks size (suc n) f =
     let rest = sum_blocks size n f in
     let more : size * suc n ≡ size * n + size = grind arith in

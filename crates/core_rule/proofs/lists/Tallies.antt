@@ -3,8 +3,9 @@ use Rattle.std.proofs.Common.{◌≡◌, ◌≢◌, ℕ, zero, suc, ◌+◌, ◌
 use Rattle.std.proofs.lemmas.Bool.Decides.{eqb_tells}
 use Rattle.core_machine.specs.table.Fragments.{tally}
 use Rattle.core_machine.specs.machine.Sums.{sum_upto}
+use Rattle.core_machine.proofs.table_lemmas.Free.{sum_zero}
 use Rattle.core_rule.specs.Owners.{one_at}
-use Rattle.core_rule.proofs.lists.SumLemmas.{sum-suc, sum_plus, sum_nothing}
+use Rattle.core_rule.proofs.lists.SumLemmas.{sum-suc, sum_plus}
 
 -- whether two numbers are the same, as a number
 pub one_at_same : (x f : ℕ) → x ≡ f → one_at x f ≡ 1
@@ -30,7 +31,7 @@ tally_parts f (suc k) [] = omega arith
 tally_parts f (suc k) (x ∷ xs) = omega (arith, tally_parts f k xs)
 
 sum_one : (n x : ℕ) → n ≤ x → sum_upto n (λ f. one_at x f) ≡ 0
-sum_one n x above = sum_nothing n (λ f. one_at x f) (λ f below. one_at_other x f (λ e. omega (arith, e)))
+sum_one n x above = sum_zero n (λ f. one_at x f) (λ f below. one_at_other x f (λ e. omega (arith, e)))
 
 -- one number below n is counted once
 sum_one_at : (n x : ℕ) → x < n → sum_upto n (λ f. one_at x f) ≡ 1
@@ -42,7 +43,7 @@ sum_one_at (suc n) x below = rw (sum-suc n (λ f. one_at x f)) (elim (eqb_tells 
 
 -- the numbers below n that stand in the list are as many as it has, where it has no others
 pub sum_tally : (n : ℕ) (fs : List ℕ) → ((f : ℕ) → 1 ≤ tally f fs → f < n) → sum_upto n (λ f. tally f fs) ≡ length fs
-sum_tally n [] below = sum_nothing n (λ f. tally f []) (λ f less. refl)
+sum_tally n [] below = sum_zero n (λ f. tally f []) (λ f less. refl)
 sum_tally n (x ∷ xs) below =
     let first : sum_upto n (λ f. one_at x f) ≡ 1 = sum_one_at n x (below x (omega (arith, one_at_same x x refl))) in
     let rest : sum_upto n (λ f. tally f xs) ≡ length xs = sum_tally n xs (λ f there. below f (omega (arith, there))) in

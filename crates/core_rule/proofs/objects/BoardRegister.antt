@@ -46,8 +46,8 @@ first_awake seat _ fits awaited = absurd awaited
 pub board_register : (heap : Heap) (words : List ℕ) (book : Book) (q : ℕ) (seat : Seat) → HeapStands heap words book → SeatStands heap words book q seat → seat.left ≡ false
     → register_in seat.registers 0 ≡ registers.Object 0 Board
 board_register heap words book q seat heap_stands stands there =
-    let value = board_held heap book.history q heap_stands.legal.objects (stands.counts.leaves ∙ there) in
+    let value = board_held heap book.history q heap_stands.legal.objects (stands.told.counts.leaves ∙ there) in
     holds_board book.made book.owner book.fragments (register_in seat.registers 0)
-    (subst (Holds book.made book.owner book.fragments (register_in seat.registers 0)) value (stands.registers 0 (first_awake seat seat.place stands.fits.way_at_place)))
+    (subst (Holds book.made book.owner book.fragments (register_in seat.registers 0)) value (stands.names.registers 0 (first_awake seat seat.place stands.fits.way_at_place)))
     ∙ ap (λ head. registers.Object head Board)
     (board_head heap.seats book.owner heap_stands.owners heap words (graph_of heap book.history) book.made book.fragments heap_stands.objects heap_stands.ids)

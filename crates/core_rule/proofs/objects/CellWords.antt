@@ -1,7 +1,7 @@
 -- The words of an object of which one cell was set: that cell's is another, and no other word is.
 use Rattle.std.specs.Prelude.{if◌then◌else◌}
 use Rattle.std.proofs.Common.{◌≡◌, ◌≢◌, ℕ, ◌+◌, ◌-◌, ◌*◌, ◌%◌, ◌^◌, ◌<◌, ◌≤◌, inl, inr, Bool, true, false, List, length, set, slice_get, Some, refl, sym, ap, ◌∙◌, subst, arith}
-use Rattle.std.proofs.lemmas.Bool.{lt-ltb, ltb-true}
+use Rattle.std.proofs.lemmas.Bool.{ltb-true}
 use Rattle.std.proofs.lemmas.Bool.Decides.{eqb_tells}
 use Rattle.std.proofs.lemmas.List.{length-set}
 use Rattle.heap_words.specs.declared.kind.Kind.{Kind}
@@ -19,31 +19,19 @@ use Rattle.core_machine.specs.table.Loaded.{stamp_in}
 use Rattle.core_machine.specs.table.Newborn.{record_word}
 use Rattle.core_machine.specs.seat.Reaching.{row_of, part_of}
 use Rattle.core_machine.specs.seat.Registers.{register_word}
+use Rattle.core_rule.proofs.ways.Rows.{field_back, cell_there}
 use Rattle.core_rule.specs.Book.{head_of}
 use Rattle.core_rule.specs.Objects.{NamesKept, value_word, field_word, is_cell, object_word}
 use Rattle.core_rule.specs.Owners.{Owner}
 use Rattle.core_rule.specs.Registers.{Holds}
 use Rattle.core_rule.proofs.graph.CellSet.{slice_get-set_same, slice_get-set_other}
 
--- where a cell may stand
-cell_stands : (k part : ℕ) → 1 ≤ part → 2 ≤ 3 * k + part → is_cell k part ≡ true
-cell_stands k part some second = elim (eqb_tells k 0) as (λ _. is_cell k part ≡ true) [
-  | inl e ↦ rw e.0 (lt-ltb 1 part (omega (arith, e.1, second)))
-  | inr e ↦ rw e.0 (lt-ltb 0 part some)
-]
-
+-- where a cell stands
 stands_cell : (k part : ℕ) → is_cell k part ≡ true → (1 ≤ part) × (2 ≤ 3 * k + part)
 stands_cell k part = elim (eqb_tells k 0) as (λ _. is_cell k part ≡ true → (1 ≤ part) × (2 ≤ 3 * k + part)) [
   | inl e ↦ rw e.0 (λ is. let two : 1 < part = ltb-true 1 part is in (omega arith, omega arith))
   | inr e ↦ rw e.0 (λ is. let one : 0 < part = ltb-true 0 part is in let some : k ≢ 0 = e.1 in (omega arith, omega arith))
 ]
-
--- field i stands in a cell of its row
-field_stands : (i : ℕ) → is_cell (row_of i) (part_of i) ≡ true
-field_stands i = cell_stands (row_of i) (part_of i) (omega arith) (omega arith)
-
-field_number : (i : ℕ) → 3 * row_of i + part_of i - 2 ≡ i
-field_number i = omega arith
 
 -- the stamp of a field's word
 stamp_of_word : (kind : Kind) (value stamp : ℕ) → stamp < 2 ^ 32 → stamp_in (cell_word (record { kind = kind; value = value; stamp = stamp })) ≡ stamp
@@ -74,7 +62,7 @@ module _ (head : Id → ℕ) (name : Name) (cells : List Cell) (fragments : List
   -- the word of a cell
   pub word_of_cell : (cell : Cell) → slice_get cells i ≡ Some cell → object_word head name cells fragments (row_of i) (part_of i) ≡ value_word head cell.value cell.stamp
   unfolding object_word
-  word_of_cell cell there = rw (field_stands i, field_number i, there) refl
+  word_of_cell cell there = rw (cell_there i, field_back i, there) refl
 
   module _ (cell : Cell) where
     other_word : (is : Bool) (m k part : ℕ) → (is ≡ true → m ≢ i)

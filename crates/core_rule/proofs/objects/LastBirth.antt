@@ -9,7 +9,6 @@ use Rattle.heap_model.specs.graph.Changes.{add}
 use Rattle.heap_model.specs.graph.Objects.{node, party, register}
 use Rattle.heap_model.specs.graph.State.{State, Node}
 use Rattle.core_machine.specs.declared.table.address.Address.TheVariants.{Word}
-use Rattle.core_machine.specs.declared.place.Place.{Place}
 use Rattle.core_machine.specs.declared.seat.register.Register.{Register}
 use Rattle.core_machine.specs.declared.seat.register.Register.TheVariants as registers
 use Rattle.core_machine.specs.table.Fragments.{tally}
@@ -19,10 +18,11 @@ use Rattle.core_rule.specs.Objects.{IsKept}
 use Rattle.core_rule.specs.Owners.{Owner, Keeps}
 use Rattle.core_rule.specs.Registers.{Registers}
 use Rattle.core_rule.specs.Registers as regs
-use Rattle.core_rule.proofs.graph.GraphGrowth.{node_none, node_new, node_other, register_target, register_rest, register_other}
+use Rattle.core_rule.proofs.graph.GraphGrowth.{node_none, node_new, node_other, register_target, register_rest}
 use Rattle.core_rule.proofs.graph.IdsGrowth.{OneMore}
 use Rattle.core_rule.proofs.owners.Keeping.{kept_by, with_object, object_new}
-use Rattle.core_rule.proofs.objects.NamesGrowth.{kept_new, holds_old}
+use Rattle.core_rule.proofs.objects.NamesGrowth.{kept_new, names_grown}
+use Rattle.core_rule.proofs.entries.SeatLists.{holds_stays}
 use Rattle.core_rule.proofs.graph.Numbering.{number_of-new}
 use Rattle.core_rule.proofs.graph.PutRegister.{registers_with}
 
@@ -57,10 +57,6 @@ module _ (g : State) (q d : ℕ) (object : Node) (present : (party g q).left ≡
   abbrev Now : Register → Value → Type 0
   Now held value = regs.Holds (made ++ id ∷ []) now_owner now_fragments held value
 
-  -- another's registers hold what they held
-  pub registers_others : (r : ℕ) (held : List Register) (place : Place) (e : ℕ) → r ≢ q → Registers g made owner fragments r held place e → Registers (add g q d object) (made ++ id ∷ []) now_owner now_fragments r held place e
-  registers_others r held place e apart old i fresh = subst (Now (get_or held i registers.Nil)) (sym (register_other g q d object present r i apart)) (holds_old made id owner fragments body free _ _ (old i fresh))
-
   module _ (once : (f : ℕ) → tally f body ≤ 1) (some : 1 ≤ length body) (new : number_of made id ≡ length made) where
     holds_new : Now (registers.Object (get_or body 0 0) id) (values.Object id)
     holds_new =
@@ -77,4 +73,4 @@ module _ (g : State) (q d : ℕ) (object : Node) (present : (party g q).left ≡
     registers_own held within there next old =
         registers_with (made ++ id ∷ []) now_owner now_fragments (add g q d object) q d held (registers.Object (get_or body 0 0) id) within
         (subst (Now (registers.Object (get_or body 0 0) id)) (ap values.Object next ∙ sym (register_target g q d object present there)) holds_new)
-        (λ i apart. subst (Now (get_or held i registers.Nil)) (sym (register_rest g q d object present i apart)) (holds_old made id owner fragments body free _ _ (old i)))
+        (λ i apart. subst (Now (get_or held i registers.Nil)) (sym (register_rest g q d object present i apart)) (holds_stays made (made ++ id ∷ []) owner now_owner fragments now_fragments (names_grown made id owner fragments body free) _ _ (old i)))

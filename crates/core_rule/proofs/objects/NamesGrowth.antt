@@ -6,14 +6,11 @@ use Rattle.heap_model.specs.declared.id.Id.{Id}
 use Rattle.heap_model.specs.declared.id.Value.{Value}
 use Rattle.heap_model.specs.declared.id.Value.TheVariants as values
 use Rattle.heap_model.specs.graph.State.{State, Node}
-use Rattle.core_machine.specs.declared.seat.register.Register.{Register}
-use Rattle.core_machine.specs.declared.seat.register.Register.TheVariants as registers
 use Rattle.core_machine.specs.table.Fragments.{tally}
 use Rattle.core_machine.specs.table.Newborn.{record_word}
 use Rattle.core_rule.specs.Book.{fragment_at, number_of, head_of}
 use Rattle.core_rule.specs.Objects.{IsKept, NamesKept, value_word, field_word, is_cell, object_word, AreMade, cells_at, cells_in}
 use Rattle.core_rule.specs.Owners.{Owner, Keeps}
-use Rattle.core_rule.specs.Registers as regs
 use Rattle.core_rule.proofs.graph.IdsGrowth.{OneMore, node_at}
 use Rattle.core_rule.proofs.owners.Keeping.{kept_by, with_object, object_old, object_new, kept_stays, kept_was, kept_part}
 use Rattle.core_rule.proofs.graph.Numbering.{id_at-append, number_of-append}
@@ -76,12 +73,6 @@ module _ (made : List Id) (id : Id) (owner : ℕ → Owner) (fragments : ℕ →
   unfolding object_word
   words_old name cells fs k part names =
       ap (λ w. cond (is_cell k part) w (record_word name (length cells) fs k part)) (field_old (slice_get cells (3 * k + part - 2)) (names (3 * k + part - 2)))
-
-  -- what a register held it holds
-  pub holds_old : (held : Register) (value : Value) → regs.Holds made owner fragments held value → regs.Holds (made ++ id ∷ []) now_owner now_fragments held value
-  holds_old registers.Nil value holds = holds
-  holds_old (registers.Number n) value holds = holds
-  holds_old (registers.Object head x) value holds = (holds.0, names_old (values.Object x) holds.1, holds.2 ∙ sym (head_old x holds.1.0))
 
 -- names and ways go on when one object more is made
 pub names_grown : (made : List Id) (id : Id) (owner : ℕ → Owner) (fragments : ℕ → List ℕ) (body : List ℕ) → ((f i k : ℕ) → 1 ≤ tally f body → owner f ≢ Keeps i k)

@@ -6,15 +6,10 @@ use Rattle.heap_model.specs.declared.id.Value.{Value}
 use Rattle.heap_model.specs.declared.id.Value.TheVariants as values
 use Rattle.heap_model.specs.graph.State.{State}
 use Rattle.core_machine.specs.declared.table.address.Address.TheVariants.{Word, Control}
-use Rattle.core_machine.specs.declared.place.Place.{Place}
-use Rattle.core_machine.specs.declared.seat.register.Register.{Register}
-use Rattle.core_machine.specs.declared.seat.register.Register.TheVariants as registers
 use Rattle.core_machine.specs.table.Fragments.{tally}
 use Rattle.core_machine.specs.table.Layout.{at, put}
 use Rattle.core_rule.specs.Objects.{NamesKept, Objects}
 use Rattle.core_rule.specs.Owners.{Owner, Free, Holds, Bears, Keeps, handed}
-use Rattle.core_rule.specs.Registers.{Registers}
-use Rattle.core_rule.specs.Registers as regs
 use Rattle.core_rule.proofs.words.Addresses.{word_after_control, fragment_other}
 use Rattle.core_rule.proofs.owners.Handed.{handed_cases}
 
@@ -91,13 +86,3 @@ module _ (owner now : ℕ → Owner) (same : SameKept owner now) (made : List Id
     named = λ i j below is cell there. let one = old.named i j below (same.was _ _ _ is) cell there in (names_kept cell.value one.0, one.1);
     back = λ f i k is. let one = old.back f i k (same.was f i k is) in (one.0, same.stays _ _ _ one.1, one.2, one.3);
   }
-
-  holds_kept : (held : Register) (value : Value) → regs.Holds made owner fragments held value → regs.Holds made now fragments held value
-  holds_kept registers.Nil value holds = holds
-  holds_kept (registers.Number n) value holds = holds
-  holds_kept (registers.Object head id) value holds = (holds.0, names_kept (values.Object id) holds.1, holds.2)
-
-  -- and the registers hold what they held
-  pub registers_owners : (g : State) (q : ℕ) (held : List Register) (place : Place) (d : ℕ)
-      → Registers g made owner fragments q held place d → Registers g made now fragments q held place d
-  registers_owners g q held place d old = λ r fresh. holds_kept _ _ (old r fresh)

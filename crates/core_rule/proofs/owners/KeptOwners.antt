@@ -7,11 +7,11 @@ use Rattle.core_machine.specs.table.Fragments.{tally, in_group, part_in, mask}
 use Rattle.core_machine.specs.table.Layout.{at, put, table_length}
 use Rattle.core_machine.specs.table.Operation.{birth_bits}
 use Rattle.core_rule.specs.ControlWords.{Bits}
-use Rattle.core_rule.specs.Holding.{Holding, whole_hand}
+use Rattle.core_rule.specs.Holding.{Holding}
 use Rattle.core_rule.specs.Owners.{Owner, Free, taken_bit, free_bit, born_bit, holds_bit, bears_bit}
 use Rattle.core_rule.proofs.hand.Bodies.{body_borne, body_once, body_own}
 use Rattle.core_rule.proofs.words.ControlSteps.{birth_word_bits}
-use Rattle.core_rule.proofs.hand.HandMoves.{hand_once, hand_held}
+use Rattle.core_rule.proofs.hand.HandMoves.{SameHand, hand_once, hand_held}
 use Rattle.core_rule.proofs.owners.Keeping.{kept_by, kept_cases}
 use Rattle.core_rule.proofs.owners.OwnerLemmas.{own_once, own_taken, own_not_free, own_born, own_none}
 use Rattle.core_rule.proofs.lists.Parts.{filter_all}
@@ -50,12 +50,12 @@ module _ (owner : ℕ → Owner) (q : ℕ) (reserve hand body : List ℕ) (holdi
     }
 
     -- another has what it had
-    pub kept_others : (r : ℕ) (own_reserve own_hand own_body : List ℕ) → r ≢ q → Holding owner r own_reserve own_hand own_body → Holding (kept_by n body owner) r own_reserve own_hand own_body
-    kept_others r own_reserve own_hand own_body apart other = record {
-      held = λ f. kept_cases n body owner (λ o. tally f own_reserve + tally f own_hand ≡ holds_bit r o) f
-          (λ there. omega (arith, other.held f, own_none q r (owner f) apart (body_own owner q reserve hand body holding f there))) (λ away. other.held f);
-      borne = λ f. kept_cases n body owner (λ o. tally f (whole_hand own_hand own_body) ≡ tally f own_hand + bears_bit r o) f
-          (λ there. omega (arith, other.borne f, own_none q r (owner f) apart (body_own owner q reserve hand body holding f there))) (λ away. other.borne f);
+    pub kept_others : (r : ℕ) → r ≢ q → SameHand r owner (kept_by n body owner)
+    kept_others r apart = record {
+      held = λ f. kept_cases n body owner (λ o. holds_bit r o ≡ holds_bit r (owner f)) f
+          (λ there. omega (arith, own_none q r (owner f) apart (body_own owner q reserve hand body holding f there))) (λ away. refl);
+      borne = λ f. kept_cases n body owner (λ o. bears_bit r o ≡ bears_bit r (owner f)) f
+          (λ there. omega (arith, own_none q r (owner f) apart (body_own owner q reserve hand body holding f there))) (λ away. refl);
     }
 
 -- the control word has the bits of the new owners, where all of the hand is of its group

@@ -24,10 +24,10 @@ module _ (heap : Heap) (state : State) (book : Book) (rule : Rule heap state boo
   held_by_seat holds =
       let here : q < heap.seats = subst (IsSeated heap.seats) holds (rule.heap_stands.owners.seated f) in
       let one : holds_bit q (book.owner f) ≡ 1 = ap (holds_bit q) holds ∙ one_at_same q q refl in
-      (here, omega (arith, (rule.seats_stand q here).holding.held f, one))
+      (here, omega (arith, (rule.seats_stand q here).own.holding.held f, one))
 
   -- a borne one is of the object that such a seat makes
   pub borne_by_seat : book.owner f ≡ Bears q → (q < heap.seats) × (1 ≤ tally f (seat_at state q).body)
   borne_by_seat bears =
       let here : q < heap.seats = subst (IsSeated heap.seats) bears (rule.heap_stands.owners.seated f) in
-      (here, borne_in_body book.owner q f (seat_at state q).reserve (seat_at state q).hand (seat_at state q).body (rule.seats_stand q here).holding bears)
+      (here, borne_in_body book.owner q f (seat_at state q).reserve (seat_at state q).hand (seat_at state q).body (rule.seats_stand q here).own.holding bears)

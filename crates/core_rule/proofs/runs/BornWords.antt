@@ -60,7 +60,7 @@ module _ (heap : Heap) (state : State) (book : Book) (rule : Rule heap state boo
 
   -- the fragment's control word is the one written where its group's was
   written_there : (g word : ℕ) → f / 16 ≡ g → control_of heap (put heap words (Control g) word) f ≡ word
-  written_there g word same = rw same (control_same heap words word g rule.heap_stands.table (omega (arith, same, within)))
+  written_there g word same = rw same (control_same heap words word g rule.machine.table (omega (arith, same, within)))
 
   -- so a control word that bears the fragment is its group's
   control_bears : {A : Type 0} (g word : ℕ) → (f / 16 ≡ g → bit_at word (16 + f % 16) ≡ 1 → A) → IsBorn heap (put heap words (Control g) word) f → A
@@ -116,11 +116,11 @@ module _ (heap : Heap) (state : State) (book : Book) (rule : Rule heap state boo
           marked = ap (λ w. bit_at w (32 + f % 16)) there
               ∙ coloured_bit marked_bit refl refl _ _ _ black (subst (λ (b : Bool). bit_at born_word (32 + f % 16) ≡ max (bit_at found (32 + f % 16)) (cond {A = ℕ} b (bit_at bits (f % 16)) 0)) is
               (birth_marked found bits (mask-lt (last_part seat)) (f % 16) (omega arith) (bears_black seat)))
-              (found_marked heap words book.colour book.colour g 0 rule.heap_stands.table below marks f group ∙ ap marked_bit unmarked) mine;
+              (found_marked heap words book.colour book.colour g 0 rule.machine.table below marks f group ∙ ap marked_bit unmarked) mine;
           scanned = ap (λ w. bit_at w (48 + f % 16)) there
               ∙ coloured_bit scanned_bit refl refl _ _ _ black (subst (λ (b : Bool). bit_at born_word (48 + f % 16) ≡ max (bit_at found (48 + f % 16)) (cond {A = ℕ} b (bit_at bits (f % 16)) 0)) is
               (birth_scanned found bits (mask-lt (last_part seat)) (f % 16) (omega arith) (bears_black seat)))
-              (found_scanned heap words book.colour book.colour g 0 rule.heap_stands.table below marks f group ∙ ap scanned_bit unmarked) mine;
+              (found_scanned heap words book.colour book.colour g 0 rule.machine.table below marks f group ∙ ap scanned_bit unmarked) mine;
         }
 
     birth_colours : IsBorn heap words_born f → HasBirthColour heap words_born f (answered q book.history)
@@ -134,7 +134,7 @@ module _ (heap : Heap) (state : State) (book : Book) (rule : Rule heap state boo
         by apart group born false is = bears group born false is
 
     answer_bears_none : (word : ℕ) → ¬ IsBorn heap (put heap words (Answer q) word) f
-    answer_bears_none word = word_bears_none _ (at-put_apart heap words (Answer q) (Control (f / 16)) word (λ e. omega (arith, e, here, rule.limits.seats_fit)))
+    answer_bears_none word = word_bears_none _ (at-put_apart heap words (Answer q) (Control (f / 16)) word (λ e. omega (arith, e, here, rule.machine.limits.seats_fit)))
 
     -- so does each step of a seat that bears the fragment
     step_colours : (place : Place) → IsBorn heap (moved heap state q (move_at heap q seat place)).words f

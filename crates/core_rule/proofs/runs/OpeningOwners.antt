@@ -7,10 +7,11 @@ use Rattle.std.proofs.lemmas.Nat.Bits.{bit_at_above}
 use Rattle.heap_model.specs.declared.heap.Heap.{Heap}
 use Rattle.core_machine.specs.machine.Opening.{board, board_group}
 use Rattle.core_machine.specs.machine.Sums.{sum_upto}
+use Rattle.core_machine.proofs.table_lemmas.Free.{sum_zero}
 use Rattle.core_rule.specs.Book.{fragment_at}
 use Rattle.core_rule.specs.Counts.{AreUsed}
 use Rattle.core_rule.specs.Owners.{Owner, Free, Keeps, IsSeated, OwnersStand, taken_bit, born_bit}
-use Rattle.core_rule.proofs.lists.SumLemmas.{sum_parts, sum_ones, sum_nothing}
+use Rattle.core_rule.proofs.lists.SumLemmas.{sum_parts, sum_ones}
 
 -- the first eleven fragments are the board's
 abbrev pub opening_owner : ℕ → Owner
@@ -74,6 +75,6 @@ opening_used heap some =
     let parts : 16 * heap.groups ≡ 11 + (16 * heap.groups - 11) = omega arith in
     let all = sum_parts 11 (16 * heap.groups - 11) (λ f. taken_bit (opening_owner f)) in
     let kept = sum_ones 11 (λ f. taken_bit (opening_owner f)) (λ f below. ap taken_bit (boards f below)) in
-    let free = sum_nothing (16 * heap.groups - 11) (λ f. taken_bit (opening_owner (11 + f))) (λ f below. ap taken_bit (nobodys (11 + f) (omega arith))) in
+    let free = sum_zero (16 * heap.groups - 11) (λ f. taken_bit (opening_owner (11 + f))) (λ f below. ap taken_bit (nobodys (11 + f) (omega arith))) in
     let sums : sum_upto (16 * heap.groups) (λ f. taken_bit (opening_owner f)) ≡ 11 = ap (λ n. sum_upto n (λ f. taken_bit (opening_owner f))) parts ∙ omega (arith, all, kept, free) in
     omega (arith, sums)

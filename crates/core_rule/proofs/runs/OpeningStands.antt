@@ -1,7 +1,7 @@
 -- The rule holds when a heap opens.
 use Rattle.std.proofs.Common.{◌≡◌, ℕ, zero, suc, ◌+◌, ◌<◌, inl, List, [], ◌∷◌, length, get_or, replicate, refl, sym, ap, ◌∙◌, subst, arith}
 use Rattle.std.proofs.lemmas.Bool.{lt-ltb}
-use Rattle.std.proofs.lemmas.List.FromFn.{get_or-map-range_with_len, length-map-range_with_len}
+use Rattle.std.proofs.lemmas.List.FromFn.{get_or-map-range_with_len}
 use Rattle.heap_model.specs.declared.heap.Heap.{Heap}
 use Rattle.heap_model.specs.declared.id.Id.TheVariants as ids
 use Rattle.heap_model.specs.declared.id.Value.{Value}
@@ -61,29 +61,32 @@ opening_seat_stands : (heap : Heap) (words : List ℕ) (q : ℕ) → Fits heap (
     → SeatStands heap words opening_book q (opening_seat heap q)
 opening_seat_stands heap words q fits below none_answered = record {
   fits = fits;
-  holding = record {
-    held = λ f. opening_cases (λ o. 0 ≡ holds_bit q o) f (λ less. refl) (λ past. refl);
-    borne = λ f. opening_cases (λ o. 0 ≡ 0 + bears_bit q o) f (λ less. refl) (λ past. refl);
+  own = record {
+    holding = record {
+      held = λ f. opening_cases (λ o. 0 ≡ holds_bit q o) f (λ less. refl) (λ past. refl);
+      borne = λ f. opening_cases (λ o. 0 ≡ 0 + bears_bit q o) f (λ less. refl) (λ past. refl);
+    };
+    stored = λ u none. absurd (omega (arith, none));
+    together = nothing_together heap (opening_seat heap q).cursor 0 [] [] refl refl;
   };
-  stored = λ u none. absurd (omega (arith, none));
-  registers = opening_registers heap q below;
-  list = record { awaited = []; own = refl; awaits = refl };
-  way = tt;
+  names = record { registers = opening_registers heap q below; way = tt };
+  told = record {
+    list = record { awaited = []; own = refl; awaits = refl };
+    counts = record {
+      numbered = ap (λ (p : Party). length p.objects) (sym (opening_at heap q below));
+      stamped = ap (λ (p : Party). p.sets) (sym (opening_at heap q below));
+      leaves = ap (λ (p : Party). p.left) (opening_at heap q below);
+      unborn = refl;
+    };
+    began = record { earlier = omega arith; unanswered = λ busy. refl };
+    gathers = nothing_tried heap opening_owner q [] (opening_seat heap q).cursor;
+  };
   cycle = record {
     answers_told = record { told = refl; leaves = refl; word = none_answered; near = λ present. inl refl; loaded = omega arith };
     answer = tt;
     flight = record { set = λ marking snapped. tt; shaded = λ marking. tt; roots = λ begins. tt };
     births = record { dark = λ between f borne. absurd (omega (arith, between.from)); light = λ apart f borne. refl };
   };
-  together = nothing_together heap (opening_seat heap q).cursor 0 [] [] refl refl;
-  counts = record {
-    numbered = ap (λ (p : Party). length p.objects) (sym (opening_at heap q below));
-    stamped = ap (λ (p : Party). p.sets) (sym (opening_at heap q below));
-    leaves = ap (λ (p : Party). p.left) (opening_at heap q below);
-    unborn = refl;
-  };
-  began = record { earlier = omega arith; unanswered = λ busy. refl };
-  gathers = nothing_tried heap opening_owner q [] (opening_seat heap q).cursor;
 }
 
 opening_seat_at : (heap : Heap) (state : State) (q : ℕ) → IsOpening heap state → q < heap.seats → seat_at state q ≡ opening_seat heap q
@@ -92,11 +95,8 @@ opening_seat_at heap state q opens below = ap (λ seats. get_or seats q nobody) 
 -- the opening book stands for an opening state
 opening_rule : (heap : Heap) (state : State) → IsHeap heap → IsMachine heap state → IsOpening heap state → Rule heap state opening_book
 opening_rule heap state fits machine opens = record {
-  limits = fits;
   machine = machine;
-  all_seats = ap length opens.seats_open ∙ length-map-range_with_len (opening_seat heap) 0 heap.seats;
   heap_stands = record {
-    table = opens.table;
     control_words = opening_bits heap state.words fits.some_group opens.words_open;
     owners = opening_seated heap.seats;
     ids = opening_ids heap;

@@ -112,11 +112,11 @@ refusal heap state book q rule here placed alone =
     let fits = stands.fits in
     let refuses : Refuses heap seat × (seat.hand ≡ []) = rw placed at fits.at_place in
     let own : length seat.reserve + spent_of q book.history ≡ taken_of q book.history
-    = bare_hand seat.reserve seat.hand seat.body (spent_of q book.history) (taken_of q book.history) refuses.1 refuses.0.no_body stands.counts.unborn in
+    = bare_hand seat.reserve seat.hand seat.body (spent_of q book.history) (taken_of q book.history) refuses.1 refuses.0.no_body stands.told.counts.unborn in
     let finds : FindsSpace heap true book.history q (length seat.reserve + seat.given)
     = finds_in_play heap book.owner book.history q (book.begun q) seat.cursor seat.given (length seat.reserve) fits.cursor_within
     rule.heap_stands.used own alone
-    (subst (λ n. GathersRight heap book.owner q (drop (book.begun q) book.history) seat.cursor n seat.given) refuses.0.all_tried stands.gathers) in
+    (subst (λ n. GathersRight heap book.owner q (drop (book.begun q) book.history) seat.cursor n seat.given) refuses.0.all_tried stands.told.gathers) in
     let less : length seat.reserve + seat.given < need seat = omega (arith, refuses.0.too_few) in
     one heap book.history q (full_entry q seat) (eq-eqb q q refl)
     (λ run. full_keeps seat.command refuses.0.makes.a_record heap true book.history q (length seat.reserve + seat.given)

@@ -72,7 +72,7 @@ step_plays stays steps heap state book q plays alone can =
     let keeps = steps heap state book q plays.rule here (stays heap state (Steps q) plays.rule.machine can) in
     let adds : AddsPlay heap book.history q (entries heap state (Steps q))
     = adds_play heap state book q (seat_at state q).place plays.rule here refl (plays.own q here active) in
-    let earlier : book.begun q ≤ length book.history = (plays.rule.seats_stand q here).began.earlier in
+    let earlier : book.begun q ≤ length book.history = (plays.rule.seats_stand q here).told.began.earlier in
     let own_now : list_all (is_of q) (drop (keeps.now.begun q) keeps.now.history) ≡ true
     = rw (keeps.calls, keeps.grown) (own_more q (book.begun q) book.history (entries heap state (Steps q)) earlier (plays.own q here active) adds.own) in
     record {
@@ -82,7 +82,7 @@ step_plays stays steps heap state book q plays alone can =
         rule = keeps.rule;
         legal = subst (IsLegal heap true) (sym keeps.grown)
             (play_more heap book.history (entries heap state (Steps q)) adds.may plays.legal (subst (IsLegal heap false) keeps.grown keeps.rule.heap_stands.legal));
-        own = own_alone heap state (after heap state (Steps q)) keeps.now q alone plays.rule.all_seats
+        own = own_alone heap state (after heap state (Steps q)) keeps.now q alone plays.rule.machine.seated
             (λ r apart. moved_other heap state q r (next_move heap q (seat_at state q)) apart) own_now;
       };
     }
@@ -105,7 +105,7 @@ begin_plays stays begin heap state book q command plays alone can =
       plays = record {
         rule = keeps.rule;
         legal = subst (IsLegal heap true) (sym same) plays.legal;
-        own = own_alone heap state (after heap state (Begins q command)) keeps.now q alone plays.rule.all_seats
+        own = own_alone heap state (after heap state (Begins q command)) keeps.now q alone plays.rule.machine.seated
             (λ r apart. get_or-set_other state.seats q r _ nobody apart) own_now;
       };
     }
@@ -127,7 +127,7 @@ turn_plays stays turn heap state book plays idle can =
         legal = subst (IsLegal heap true) (sym keeps.grown)
             (play_more heap book.history (entries heap state Turns) (turn_may heap book.history state.collector state.collector.stage) plays.legal
             (subst (IsLegal heap false) keeps.grown keeps.rule.heap_stands.legal));
-        own = λ r below active. absurd (active (idle r (rw plays.rule.all_seats below)));
+        own = λ r below active. absurd (active (idle r (rw plays.rule.machine.seated below)));
       };
     }
 

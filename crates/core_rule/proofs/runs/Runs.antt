@@ -39,7 +39,7 @@ no_move none = cc
 -- who makes a step is a seat
 pub seat_of_step : (heap : Heap) (state : State) (book : Book) (q : ℕ) → Rule heap state book → Can heap state (Steps q) → q < heap.seats
 seat_of_step heap state book q rule can = elim (leb_tells heap.seats q) as (λ _. q < heap.seats) [
-  | inl past ↦ absurd (nothing_due (seat_at state q) (get_or-eq_default state.seats nobody (rw rule.all_seats past.1)) can)
+  | inl past ↦ absurd (nothing_due (seat_at state q) (get_or-eq_default state.seats nobody (rw rule.machine.seated past.1)) can)
   | inr below ↦ below.1
 ]
   where

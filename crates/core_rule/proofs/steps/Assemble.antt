@@ -9,10 +9,12 @@ use Rattle.heap_model.specs.account.Cycles.{graph_of}
 use Rattle.heap_model.specs.graph.Objects.{party}
 use Rattle.heap_model.specs.account.PhaseCounts.{phase, answered, has_left}
 use Rattle.core_machine.specs.declared.place.Making.{Making}
+use Rattle.core_machine.specs.declared.place.Place.{Place}
 use Rattle.core_machine.specs.declared.place.Place.TheVariants as places
 use Rattle.core_machine.specs.collector.Collector.{Collector}
 use Rattle.core_machine.specs.seat.Fits.{Fits}
-use Rattle.core_machine.specs.machine.Machine.{State, seat_at}
+use Rattle.core_machine.specs.Moves.{Move}
+use Rattle.core_machine.specs.machine.Machine.{State, seat_at, stepped, found_by}
 use Rattle.core_machine.specs.seat.Seat.{Seat, nobody}
 use Rattle.core_machine.specs.machine.Value.{IsMachine}
 use Rattle.core_rule.specs.Book.{Book}
@@ -67,6 +69,16 @@ pub record Keeps (heap : Heap) (state : State) (book : Book) (begun : ℕ → �
   pub calls : now.begun ≡ begun
   pub rule : Rule heap state now
 
+-- a seat's move keeps the rule
+abbrev pub MoveKeeps : Heap → State → Book → ℕ → Move → Type 0
+MoveKeeps heap state book q move = IsMachine heap (stepped heap state q move)
+    → Keeps heap (stepped heap state q move) book book.begun (move.shows state.words (found_by heap state move.step))
+
+-- so does the move that is due to any seat at this place
+abbrev pub StepKeeps : Place → (Heap → ℕ → Seat → Move) → Type 0
+StepKeeps place move = (heap : Heap) (state : State) (book : Book) (q : ℕ) → Rule heap state book → q < heap.seats
+    → (seat_at state q).place ≡ place → MoveKeeps heap state book q (move heap q (seat_at state q))
+
 -- so some book stands for it
 pub stands_for : (heap : Heap) (state : State) (book : Book) (begun : ℕ → ℕ) (added : List Entry) → Keeps heap state book begun added
     → StandsFor heap state book.history added
@@ -77,7 +89,7 @@ pub present_at : (heap : Heap) (state : State) (book : Book) (q : ℕ) (making :
     → (seat_at state q).place ≡ places.Making making → (party (graph_of heap book.history) q).left ≡ false
 present_at heap state book q making rule here placed =
     let stands = rule.seats_stand q here in
-    stands.counts.leaves ∙ in_flight heap (seat_at state q) stands.fits (λ idle. busy (sym placed ∙ idle))
+    stands.told.counts.leaves ∙ in_flight heap (seat_at state q) stands.fits (λ idle. busy (sym placed ∙ idle))
   where
     busy : places.Making making ≡ places.Idle → ⊥
     busy e = cc
@@ -86,7 +98,7 @@ present_at heap state book q making rule here placed =
 pub fit_after : (heap : Heap) (state : State) (book : Book) (q : ℕ) {words : List ℕ} {seat : Seat} → Rule heap state book → q < heap.seats
     → IsMachine heap (record state { words = words; seats = slice_set state.seats q seat }) → Fits heap seat
 fit_after heap state book q {words} {seat} rule here machine =
-    let below : q < length state.seats = rw rule.all_seats here in
+    let below : q < length state.seats = rw rule.machine.seated here in
     subst (Fits heap) (get_or-set_same state.seats q seat nobody below) (machine.fit q (rw (length-set state.seats q seat) below))
 
 -- the rule after a seat's step
@@ -98,16 +110,14 @@ pub seat_steps : (heap : Heap) (state : State) (book : Book) (q : ℕ) (words : 
     → Keeps heap (record state { words = words; seats = slice_set state.seats q seat }) book now.begun added
 seat_steps heap state book q words seat now added rule here machine grown none heap_after self others =
     let stand : (r : ℕ) → r < heap.seats → SeatStands heap words now r (slice_index_or (slice_set state.seats q seat) r nobody)
-    = λ r below. each_seat (λ n s. SeatStands heap words now n s) state.seats q seat (subst (λ n. q < n) (sym rule.all_seats) here) self r
+    = λ r below. each_seat (λ n s. SeatStands heap words now n s) state.seats q seat (subst (λ n. q < n) (sym rule.machine.seated) here) self r
     (λ apart. others r below apart (rule.seats_stand r below)) in
     record {
       now = now;
       grown = grown;
       calls = refl;
       rule = record {
-        limits = rule.limits;
         machine = machine;
-        all_seats = length-set state.seats q seat ∙ rule.all_seats;
         heap_stands = heap_after;
         seats_stand = stand;
         collector_stands = collector_stays heap state.collector book.history added now.history grown none

@@ -64,7 +64,7 @@ module _ (heap : Heap) (state : State) (book : Book) (q : ℕ) (rule : Rule heap
   awake d r awaited = unnamed d r (subst (λ x. IsAwaited x d r) place awaited)
 
   pub holds_all : (r : ℕ) → Holds book.made book.owner book.fragments (register_in seat.registers r) (register g q r)
-  holds_all r = (rule.seats_stand q here).registers r (awake (target_of seat.command) r)
+  holds_all r = (rule.seats_stand q here).names.registers r (awake (target_of seat.command) r)
 
   -- what a call has at a place other than a name's
   abbrev Unnamed : Reaching → Type 0
@@ -82,9 +82,9 @@ module _ (heap : Heap) (state : State) (book : Book) (q : ℕ) (rule : Rule heap
       let new : Seat = went seat seat.registers seat.reached seat.links loaded (places.Reaching next) [] in
       load_goes heap state book q rule here (Word seat.reached (field_part seat)) seat.registers seat.reached seat.links loaded (places.Reaching next) [] machine
       (λ r unawaited. holds_all r)
-      (list_more g book.made book.owner book.fragments q seat book.history busy stands.list g book.history new [] [] [] refl refl (sym (append-nil (filter (is_of q) book.history))) (names new))
+      (list_more g book.made book.owner book.fragments q seat book.history busy stands.told.list g book.history new [] [] [] refl refl (sym (append-nil (filter (is_of q) book.history))) (names new))
       way
-      (began_on book.history q (book.begun q) seat.place (places.Reaching next) busy stands.began)
+      (began_on book.history q (book.begun q) seat.place (places.Reaching next) busy stands.told.began)
       (cycle_by_flight heap state.words state.words book.owner book.owner book.colour book.colour p (answered q book.history) (has_left q book.history) q seat new
       record { answered = refl; left = refl; asked = refl } refl tt
       record { set = λ making snapped. field making; shaded = λ making. shaded; roots = λ begins. tt }
@@ -114,7 +114,7 @@ module _ (heap : Heap) (state : State) (book : Book) (q : ℕ) (rule : Rule heap
         let new : Seat = shading seat seat.shaded (places.Reaching next) in
         shade_keeps heap state book q rule here f head.number head.kept head.is seat.shaded (places.Reaching next) (barrier_runs p seat.answered (is_near heap state book q rule here from place) (barrier_window seat on)) machine
         (λ r unawaited. holds_all r)
-        (list_more g book.made book.owner book.fragments q seat book.history busy stands.list g book.history new [] [] [] refl refl (sym (append-nil (filter (is_of q) book.history))) (names new))
+        (list_more g book.made book.owner book.fragments q seat book.history busy stands.told.list g book.history new [] [] [] refl refl (sym (append-nil (filter (is_of q) book.history))) (names new))
         way busy
         (cycle_by_flight heap state.words (words_shaded heap state book q rule here f head.number head.kept head.is) book.owner book.owner book.colour coloured p
         (answered q book.history) (has_left q book.history) q seat new

@@ -13,8 +13,7 @@ use Rattle.heap_model.specs.account.Effects.{effect_of, no_effect}
 use Rattle.heap_model.specs.graph.Growth.{after_reply}
 use Rattle.heap_model.specs.graph.Legal.{Accepts}
 use Rattle.heap_model.specs.account.PhaseCounts.{phase, answered, has_left, is_leave_of}
-use Rattle.heap_model.specs.graph.State.{State as Graph, opening}
-use Rattle.heap_model.proofs.Histories.{graph_after-more}
+use Rattle.heap_model.specs.graph.State.{State as Graph}
 use Rattle.core_machine.specs.declared.table.address.Address.{Address}
 use Rattle.core_machine.specs.declared.place.Place.{Place}
 use Rattle.core_machine.specs.declared.seat.register.Register.{Register}
@@ -35,11 +34,13 @@ use Rattle.core_rule.specs.Rule.{Rule}
 use Rattle.core_rule.specs.Ways.{WayStands}
 use Rattle.core_rule.proofs.steps.Assemble.{Keeps, seat_steps, fit_after}
 use Rattle.core_rule.proofs.cycle.CycleHistory.{cycle_own}
-use Rattle.core_rule.proofs.entries.Others.{of_other, gathers_stay}
+use Rattle.core_rule.proofs.entries.Others.{gathers_stay}
 use Rattle.core_rule.proofs.entries.OwnEntries.{counts_own, counts_same}
 use Rattle.core_rule.proofs.graph.PutRegister.{OnlyRegisters}
-use Rattle.core_rule.proofs.frames.Replying.{no_part, heap_told, other_told, began_told}
-use Rattle.core_rule.proofs.frames.SeatFrames.{with_entry}
+use Rattle.core_rule.proofs.frames.Replying.{no_part, began_told}
+use Rattle.core_rule.proofs.steps.ReplyStep.{graph_replies, told_keeps}
+use Rattle.core_rule.proofs.entries.Legality.{legal_more}
+use Rattle.core_rule.proofs.cycle.CycleFrames.{leaves_same}
 use Rattle.core_rule.proofs.cycle.Unwatched.{IsUnwatchedAt, cycle_unwatched}
 
 -- the seat with other registers, elsewhere on its way, and with more entries
@@ -86,16 +87,15 @@ module _ (heap : Heap) (state : State) (book : Book) (q : ℕ) (rule : Rule heap
       (seat_steps heap state book q state.words new book [] rule here same_machine (sym (append-nil book.history)) refl rule.heap_stands
       record {
         fits = fit_after heap state book q rule here same_machine;
-        holding = stands.holding;
-        stored = stands.stored;
-        registers = held;
-        list = list;
-        way = way;
+        own = record { holding = stands.own.holding; stored = stands.own.stored; together = stands.own.together };
+        names = record { registers = held; way = way };
+        told = record {
+          list = list;
+          counts = counts_same (graph_of heap book.history) book.history q (seat_at state q) new refl refl refl refl stands.told.counts;
+          began = began;
+          gathers = stands.told.gathers;
+        };
         cycle = cycle;
-        together = stands.together;
-        counts = counts_same (graph_of heap book.history) book.history q (seat_at state q) new refl refl refl refl stands.counts;
-        began = began;
-        gathers = stands.gathers;
       }
       (λ r below apart other. other))
 
@@ -113,26 +113,21 @@ module _ (heap : Heap) (state : State) (book : Book) (q : ℕ) (rule : Rule heap
         let entry : Entry = Said q command reply in
         let g : Graph = graph_of heap book.history in
         let stands = rule.seats_stand q here in
-        let graph : graph_of heap (book.history ++ entry ∷ []) ≡ after = graph_after-more (opening heap) book.history entry ∙ grows in
-        let change : OnlyRegisters g (graph_of heap (book.history ++ entry ∷ [])) q = rw graph only in
-        let now : Graph = graph_of heap (book.history ++ entry ∷ []) in
         from_same book.begun (entry ∷ [])
-        (seat_steps heap state book q state.words new (with_entry book entry) (entry ∷ []) rule here same_machine refl refl
-        (heap_told heap state.words book entry nothing change.changes.nodes accepts keeps rule.heap_stands)
-        record {
-          fits = fit_after heap state book q rule here same_machine;
-          holding = stands.holding;
-          stored = stands.stored;
-          registers = rw graph held;
-          list = rw graph list;
-          way = subst (λ (x : Graph). WayStands (cells_at x book.made) book.made book.owner book.fragments new place) (sym graph) way;
-          cycle = cycle_own heap state.words book.owner book.colour book.history entry (no_part entry (λ e. e.phases) nothing refl) q new cycle
-              (no_part entry (λ e. e.answers) nothing refl) stays;
-          together = stands.together;
-          counts = counts_own g now book.history q (seat_at state q) new stands.counts entry (eq-eqb q q refl)
-              (stands.counts.numbered ∙ sym change.changes.objects) (stands.counts.stamped ∙ sym change.changes.sets) (change.left ∙ stands.counts.leaves)
+        (told_keeps heap state book q state.words new command reply rule here same_machine
+        (legal_more heap false book.history entry rule.heap_stands.legal accepts keeps)
+        record { controls = λ group below. refl; unkept = λ f part free within. refl }
+        (graph_replies g (after_reply g q command reply) q (rw grows only.changes) heap state.words book rule.heap_stands.ids rule.heap_stands.objects)
+        record { holding = stands.own.holding; stored = stands.own.stored; together = stands.own.together }
+        (rw grows record { registers = held; way = way })
+        (rw grows record {
+          list = list;
+          counts = counts_own g after book.history q (seat_at state q) new stands.told.counts entry (eq-eqb q q refl)
+              (stands.told.counts.numbered ∙ sym only.changes.objects) (stands.told.counts.stamped ∙ sym only.changes.sets) (only.left ∙ stands.told.counts.leaves)
               (omega (arith, no_part entry (λ e. e.given) nothing refl, no_part entry (λ e. e.born) nothing refl, no_part entry (λ e. e.taken) nothing refl));
-          began = began_told book.history entry q (book.begun q) (seat_at state q).place place answers stands.began;
-          gathers = gathers_stay heap book.owner q book.history (book.begun q) entry (seat_at state q).cursor (seat_at state q).tried (seat_at state q).given stands.began.earlier stands.gathers;
-        }
-        (λ r below apart other. other_told heap state.words book entry nothing change.changes.nodes r (seat_at state r) (of_other q r apart) (change.changes.others r apart) other))
+          began = began_told book.history entry q (book.begun q) (seat_at state q).place place answers stands.told.began;
+          gathers = gathers_stay heap book.owner q book.history (book.begun q) entry (seat_at state q).cursor (seat_at state q).tried (seat_at state q).given stands.told.began.earlier stands.told.gathers;
+        })
+        rule.heap_stands.cycle
+        (cycle_own heap state.words book.owner book.colour book.history entry (no_part entry (λ e. e.phases) nothing refl) q new cycle (no_part entry (λ e. e.answers) nothing refl) stays)
+        (λ r below apart. leaves_same heap state.words book.owner book.colour (phase book.history) r))

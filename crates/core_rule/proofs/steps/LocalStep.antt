@@ -61,7 +61,7 @@ local_reply_keeps heap state book q a now reply rule here machine rest told pres
     let seat : Seat = seat_at state q in
     let g : Graph = graph_of heap book.history in
     let stands = rule.seats_stand q here in
-    let counts = stands.counts in
+    let counts = stands.told.counts in
     let words : List ℕ = put heap state.words a (at heap state.words a) in
     let same : words ≡ state.words = put-at heap state.words a in
     reply_keeps heap state book q (put heap state.words a (at heap state.words a)) now seat.command reply rule here machine
@@ -86,5 +86,5 @@ local_reply_keeps heap state book q a now reply rule here machine rest told pres
     record { answered = tells.answered; left = tells.left; asked = tells.asked } (subst IsApart (sym tells.idle) tt) (ap (λ ws. at heap ws (Answer q)) same)
     (subst (BornColours book.owner book.colour q) (sym tells.answered) stands.cycle.births) stands.cycle)
     refl stays)
-    (λ r below apart. subst (λ ws. LeavesCycle heap state.words ws book.owner book.owner book.colour book.colour (phase book.history) r (seat_at state r)) (sym same)
-    (leaves_same heap state.words book.owner book.colour (phase book.history) r (seat_at state r)))
+    (λ r below apart. subst (λ ws. LeavesCycle heap state.words ws book.owner book.owner book.colour book.colour (phase book.history) r) (sym same)
+    (leaves_same heap state.words book.owner book.colour (phase book.history) r))

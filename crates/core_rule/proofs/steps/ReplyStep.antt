@@ -26,11 +26,12 @@ use Rattle.core_rule.specs.Book.{Book}
 use Rattle.core_rule.specs.Cycle.{HeapInCycle, SeatInCycle}
 use Rattle.core_rule.specs.Objects.{AreMade, Objects, cells_at}
 use Rattle.core_rule.specs.Registers as regs
-use Rattle.core_rule.specs.Rule.{Rule}
+use Rattle.core_rule.specs.Rule.{Rule, OwnStands, NamesStand, ToldStands}
 use Rattle.core_rule.proofs.steps.Assemble.{Keeps, seat_steps, fit_after}
 use Rattle.core_rule.proofs.hand.Bodies.{bare_hand}
 use Rattle.core_rule.proofs.words.ControlLemmas.{bits_same}
 use Rattle.core_rule.proofs.cycle.CycleFrames.{LeavesCycle, cycle_stays}
+use Rattle.core_rule.proofs.cycle.FieldFrames.{watched_born}
 use Rattle.core_rule.proofs.cycle.CycleHistory.{heap_cycle_more, cycle_other}
 use Rattle.core_rule.proofs.hand.EmptyHand.{nothing_together, none_stored, gathers_none, holding_as, bare_unborn}
 use Rattle.core_rule.proofs.graph.GraphSeats.{SeatChanges}
@@ -89,59 +90,70 @@ module _ (heap : Heap) (state : State) (book : Book) (q : ℕ) (words : List ℕ
   graph : graph_of heap later.history ≡ after
   graph = graph_after-more (opening heap) book.history entry
 
+  -- a reply is told, and what the seat has, names and is told of stands
+  pub told_keeps : IsLegal heap false later.history → SameUnkept heap book.owner state.words words → GraphReplies heap words book before after q
+      → OwnStands heap words book.owner q now → NamesStand after book.made book.owner book.fragments q now
+      → ToldStands heap after later.history book.made book.owner book.fragments (book.begun q) q now
+      → HeapInCycle heap words (phase book.history) book.owner book.colour book.fragments
+      → SeatInCycle heap words (phase later.history) (answered q later.history) (has_left q later.history) book.owner book.colour q now
+      → ((r : ℕ) → r < heap.seats → r ≢ q → LeavesCycle heap state.words words book.owner book.owner book.colour book.colour (phase book.history) r)
+      → Keeps heap (record state { words = words; seats = slice_set state.seats q now }) book book.begun (entry ∷ [])
+  told_keeps legal same grows own names told heap_cycle cycle leaves =
+      seat_steps heap state book q words now later (entry ∷ []) rule here machine refl refl
+      record {
+        control_words = bits_same heap state.words words book.owner same.controls rule.heap_stands.control_words;
+        owners = rule.heap_stands.owners;
+        ids = rw graph grows.ids;
+        objects = rw graph grows.objects;
+        used = said_used book.history q command reply heap book.owner rule.heap_stands.used;
+        cycle = heap_cycle_more heap words book.owner book.colour book.history entry refl book.fragments heap_cycle;
+        legal = legal;
+      }
+      record { fits = fit_after heap state book q rule here machine; own = own; names = rw graph names; told = rw graph told; cycle = cycle }
+      (λ r below apart other. seat_stays heap state.words words book entry r (seat_at state r) (of_other q r apart)
+      (rw graph (grows.others r apart))
+      (rw graph grows.lengths)
+      (stored_stays heap book.owner state.words words r (seat_at state r) same other.own.holding (stored_within heap (seat_at state r) (seat_at state r).place other.fits.at_place) other.own.stored)
+      (cycle_other heap words book.owner book.colour book.history entry refl r (seat_at state r)
+      (cycle_stays heap state.words words book.owner book.owner book.colour book.colour (phase book.history) (answered r book.history) (has_left r book.history) r (seat_at state r)
+      (leaves r below apart) (watched_born heap state book rule r below) other.cycle) (of_other q r apart))
+      other)
+
+  -- the seat stands idle then
   pub reply_keeps : made_by command reply ≡ 0 → IsAtRest seat → seat.mine ≡ filter (is_of q) book.history → IsLegal heap false later.history
       → SameUnkept heap book.owner state.words words → GraphReplies heap words book before after q → SeatReplies book after q seat now entry
       → HeapInCycle heap words (phase book.history) book.owner book.colour book.fragments
       → SeatInCycle heap words (phase later.history) (answered q later.history) (has_left q later.history) book.owner book.colour q now
-      → ((r : ℕ) → r < heap.seats → r ≢ q → LeavesCycle heap state.words words book.owner book.owner book.colour book.colour (phase book.history) r (seat_at state r))
+      → ((r : ℕ) → r < heap.seats → r ≢ q → LeavesCycle heap state.words words book.owner book.owner book.colour book.colour (phase book.history) r)
       → Keeps heap (record state { words = words; seats = slice_set state.seats q now }) book book.begun (entry ∷ [])
   reply_keeps none rest told legal same grows replies heap_cycle cycle leaves =
       let stands = rule.seats_stand q here in
-      let heap_stands = rule.heap_stands in
       let fits : Fits heap now = fit_after heap state book q rule here machine in
       let idle : IsAtRest now = rw replies.idle at fits.at_place in
       let own : length seat.reserve + spent_of q book.history ≡ taken_of q book.history
-      = bare_hand seat.reserve seat.hand seat.body (spent_of q book.history) (taken_of q book.history) rest.empty_hand rest.no_body stands.counts.unborn in
-      seat_steps heap state book q words now later (entry ∷ []) rule here machine refl refl
+      = bare_hand seat.reserve seat.hand seat.body (spent_of q book.history) (taken_of q book.history) rest.empty_hand rest.no_body stands.told.counts.unborn in
+      told_keeps legal same grows
       record {
-        table = machine.table;
-        control_words = bits_same heap state.words words book.owner same.controls heap_stands.control_words;
-        owners = heap_stands.owners;
-        ids = rw graph grows.ids;
-        objects = rw graph grows.objects;
-        used = said_used book.history q command reply heap book.owner heap_stands.used;
-        cycle = heap_cycle_more heap words book.owner book.colour book.history entry refl book.fragments heap_cycle;
-        legal = legal;
-      }
-      record {
-        fits = fits;
         holding = holding_as book.owner q seat.reserve seat.hand seat.body now.reserve now.hand now.body replies.reserve
-            (idle.empty_hand ∙ sym rest.empty_hand) (idle.no_body ∙ sym rest.no_body) stands.holding;
+            (idle.empty_hand ∙ sym rest.empty_hand) (idle.no_body ∙ sym rest.no_body) stands.own.holding;
         stored = none_stored heap words q now idle.none_stored;
-        registers = rw graph (λ i awake. replies.registers i);
+        together = nothing_together heap now.cursor now.tried now.hand now.body idle.empty_hand idle.no_body;
+      }
+      record { registers = λ i awake. replies.registers i; way = rw replies.idle tt }
+      record {
         list = record {
           awaited = [];
           own = append-nil now.mine ∙ replies.mine ∙ own_grows q book.history seat.mine entry (said_own book.history q command reply) told;
           awaits = rw replies.idle refl;
         };
-        way = rw replies.idle tt;
-        cycle = cycle;
-        together = nothing_together heap now.cursor now.tried now.hand now.body idle.empty_hand idle.no_body;
-        counts = rw graph record {
+        counts = record {
           numbered = replies.made;
           stamped = replies.sets;
           leaves = replies.left;
           unborn = bare_unborn seat.reserve now.reserve now.hand now.body (spent_of q later.history) (taken_of q later.history) replies.reserve idle.empty_hand idle.no_body
               (omega (arith, own, said_taken book.history q command reply none, said_spent book.history q command reply none));
         };
-        began = rw replies.idle (began_idle book.history entry q (book.begun q) seat.place stands.began);
+        began = rw replies.idle (began_idle book.history entry q (book.begun q) seat.place stands.told.began);
         gathers = gathers_none heap book.owner q (drop (book.begun q) later.history) now.cursor now.tried now.given idle.none_tried idle.none_given;
       }
-      (λ r below apart other. seat_stays heap state.words words book entry r (seat_at state r) (of_other q r apart)
-      (rw graph (grows.others r apart))
-      (rw graph grows.lengths)
-      (stored_stays heap book.owner state.words words r (seat_at state r) same other.holding (stored_within heap (seat_at state r) (seat_at state r).place other.fits.at_place) other.stored)
-      (cycle_other heap words book.owner book.colour book.history entry refl r (seat_at state r)
-      (cycle_stays heap state.words words book.owner book.owner book.colour book.colour (phase book.history) (answered r book.history) (has_left r book.history) r (seat_at state r)
-      (leaves r below apart) other.cycle) (of_other q r apart))
-      other)
+      heap_cycle cycle leaves

@@ -13,7 +13,6 @@ use Rattle.core_machine.specs.machine.Machine.{State, seat_at}
 use Rattle.core_machine.specs.table.Operation.{shade_bit}
 use Rattle.core_machine.specs.seat.Seat.{Seat}
 use Rattle.core_machine.specs.machine.Value.{IsMachine}
-use Rattle.core_machine.proofs.table_lemmas.Addresses.{length-put}
 use Rattle.core_rule.specs.Book.{Book, fragment_at}
 use Rattle.core_rule.specs.Counts.{OwnList}
 use Rattle.core_rule.specs.Cycle.{SeatInCycle}
@@ -26,6 +25,7 @@ use Rattle.core_rule.specs.Ways.{WayStands}
 use Rattle.core_rule.proofs.words.Addresses.{at-put_apart}
 use Rattle.core_rule.proofs.steps.Assemble.{Keeps, seat_steps, fit_after}
 use Rattle.core_rule.proofs.cycle.CycleFrames.{LeavesCycle, cycle_stays}
+use Rattle.core_rule.proofs.cycle.FieldFrames.{watched_born}
 use Rattle.core_rule.proofs.entries.InFlight.{began_on}
 use Rattle.core_rule.proofs.ways.KeptWords.{kept_within}
 use Rattle.core_rule.proofs.colours.LeadsFrames.{leads_control}
@@ -55,17 +55,17 @@ module _ (heap : Heap) (state : State) (book : Book) (q : ℕ) (rule : Rule heap
 
   -- another seat's answer stays
   pub answer_shaded : (r : ℕ) → r < heap.seats → at heap words_shaded (Answer r) ≡ at heap state.words (Answer r)
-  answer_shaded r less = at-put_apart heap state.words (Control (f / 16)) (Answer r) _ (λ e. omega (arith, e, less, rule.limits.seats_fit))
+  answer_shaded r less = at-put_apart heap state.words (Control (f / 16)) (Answer r) _ (λ e. omega (arith, e, less, rule.machine.limits.seats_fit))
 
   -- what a seat bears has the colour that it had
   pub borne_unshaded : (r x : ℕ) → book.owner x ≡ Bears r → with_mark book.colour f x ≡ book.colour x
   borne_unshaded r x borne = mark_away book.colour f x (λ same. bears_keeps_none r number 0 (sym borne ∙ ap book.owner same ∙ owned))
 
   -- what is needed of the others stays
-  others_left : (r : ℕ) → r < heap.seats → (seat : Seat) → LeavesCycle heap state.words words_shaded book.owner book.owner book.colour (with_mark book.colour f) (phase book.history) r seat
-  others_left r less seat = record {
+  others_left : (r : ℕ) → r < heap.seats → LeavesCycle heap state.words words_shaded book.owner book.owner book.colour (with_mark book.colour f) (phase book.history) r
+  others_left r less = record {
     answer = answer_shaded r less;
-    leads = λ making g leads. inl (leads_control heap state.words (f / 16) _ group_below _ _ g leads);
+    leads = λ making x part g born leads. inl (leads_control heap state.words (f / 16) _ group_below x part g leads);
     marks = mark_keeps book.colour f;
     births = λ x borne. (borne, borne_unshaded r x borne);
   }
@@ -85,8 +85,7 @@ module _ (heap : Heap) (state : State) (book : Book) (q : ℕ) (rule : Rule heap
       let old = rule.heap_stands in
       seat_steps heap state book q words_shaded new (record book { colour = with_mark book.colour f }) [] rule here machine (sym (append-nil book.history)) refl
       record {
-        table = length-put heap state.words (Control (f / 16)) _ ∙ old.table;
-        control_words = bits_shade heap state.words book.owner book.colour f old.table shade_within old.control_words;
+        control_words = bits_shade heap state.words book.owner book.colour f rule.machine.table shade_within old.control_words;
         owners = old.owners;
         ids = old.ids;
         objects = objects_control heap state.words (graph_of heap book.history) book.made book.owner book.fragments (f / 16) _ group_below old.objects;
@@ -94,35 +93,28 @@ module _ (heap : Heap) (state : State) (book : Book) (q : ℕ) (rule : Rule heap
         cycle = record {
           word = at-put_apart heap state.words (Control (f / 16)) Phase _ (λ e. omega (arith, e)) ∙ old.cycle.word;
           so_far = old.cycle.so_far;
-          marks = marks_shade heap state.words book.owner book.colour f old.table shade_within old.cycle.marks;
-          coloured = coloured_shade heap state.words book.owner book.colour f old.table shade_within book.fragments (phase book.history) number owned first runs old.cycle.coloured;
+          marks = marks_shade heap state.words book.owner book.colour f rule.machine.table shade_within old.cycle.marks;
+          coloured = coloured_shade heap state.words book.owner book.colour f rule.machine.table shade_within book.fragments (phase book.history) number owned first runs old.cycle.coloured;
         };
         legal = old.legal;
       }
       record {
         fits = fit_after heap state book q rule here machine;
-        holding = stands.holding;
-        stored = stored_control heap state.words q seat (f / 16) _ group_below stands.stored;
-        registers = held;
-        list = list;
-        way = way;
+        own = record { holding = stands.own.holding; stored = stored_control heap state.words q seat (f / 16) _ group_below stands.own.stored; together = stands.own.together };
+        names = record { registers = held; way = way };
+        told = record {
+          list = list;
+          counts = counts_same (graph_of heap book.history) book.history q seat new refl refl refl refl stands.told.counts;
+          began = began_on book.history q (book.begun q) seat.place place busy stands.told.began;
+          gathers = stands.told.gathers;
+        };
         cycle = cycle;
-        together = stands.together;
-        counts = counts_same (graph_of heap book.history) book.history q seat new refl refl refl refl stands.counts;
-        began = began_on book.history q (book.begun q) seat.place place busy stands.began;
-        gathers = stands.gathers;
       }
       (λ r less apart other. record {
         fits = other.fits;
-        holding = other.holding;
-        stored = stored_control heap state.words r (seat_at state r) (f / 16) _ group_below other.stored;
-        registers = other.registers;
-        list = other.list;
-        way = other.way;
+        own = record { holding = other.own.holding; stored = stored_control heap state.words r (seat_at state r) (f / 16) _ group_below other.own.stored; together = other.own.together };
+        names = other.names;
+        told = other.told;
         cycle = cycle_stays heap state.words words_shaded book.owner book.owner book.colour (with_mark book.colour f) (phase book.history) (answered r book.history) (has_left r book.history)
-            r (seat_at state r) (others_left r less (seat_at state r)) other.cycle;
-        together = other.together;
-        counts = other.counts;
-        began = other.began;
-        gathers = other.gathers;
+            r (seat_at state r) (others_left r less) (watched_born heap state book rule r less) other.cycle;
       })

@@ -13,15 +13,15 @@ use Rattle.core_machine.specs.declared.place.Polling.TheVariants.{Asking, Shadin
 use Rattle.core_machine.specs.declared.place.Reaching.TheVariants.{Opening, Walking, Getting, Naming, LoadingOld, ShadingOld, ShadingNew, Swapping}
 use Rattle.core_machine.specs.declared.collector.stage.Stage.{Stage}
 use Rattle.core_machine.specs.declared.collector.stage.Stage.TheVariants.{Looking, Advancing}
-use Rattle.core_machine.specs.collector.Collector.{turn_at, next_turn, MayTurn}
-use Rattle.core_machine.specs.machine.Machine.{State, seat_at, moved, shown, stepped, found_by, after, Begins, Can, turned}
+use Rattle.core_machine.specs.collector.Collector.{turn_at}
+use Rattle.core_machine.specs.machine.Machine.{State, seat_at, moved, shown, after, Begins, Can}
 use Rattle.core_machine.specs.Moves.{move_at, is_last_birth, last_birth_move, birth_move}
 use Rattle.core_machine.specs.machine.Value.{IsMachine}
 use Rattle.core_rule.specs.Book.{Book}
 use Rattle.core_rule.specs.Rule.{Rule}
 use Rattle.core_rule.proofs.steps.collector.AdvanceStep.{advance_keeps}
 use Rattle.core_rule.proofs.steps.handshake.AnswerStep.{answer_keeps}
-use Rattle.core_rule.proofs.steps.Assemble.{Keeps}
+use Rattle.core_rule.proofs.steps.Assemble.{Keeps, MoveKeeps}
 use Rattle.core_rule.proofs.steps.access.BeginOthers.{begin_others_keep}
 use Rattle.core_rule.proofs.entries.Begins.{begins}
 use Rattle.core_rule.proofs.steps.making.BeginStep.{begin_keeps}
@@ -40,10 +40,11 @@ use Rattle.core_rule.proofs.steps.access.OpenStep.{open_keeps}
 use Rattle.core_rule.proofs.steps.handshake.PollStep.{poll_keeps}
 use Rattle.core_rule.proofs.steps.making.RefusalStep.{refusal_keeps}
 use Rattle.core_rule.proofs.steps.handshake.RootStep.{root_keeps}
-use Rattle.core_rule.proofs.runs.Runs.{EachStepKeeps, EachBeginKeeps}
+use Rattle.core_rule.proofs.runs.Runs.{EachStepKeeps, EachBeginKeeps, EachTurnKeeps}
 use Rattle.core_rule.proofs.steps.access.ShadeNewStep.{shade_new_keeps}
 use Rattle.core_rule.proofs.steps.access.ShadeOldStep.{shade_old_keeps}
 use Rattle.core_rule.proofs.steps.making.StoreStep.{store_keeps}
+use Rattle.core_rule.proofs.steps.TurnSteps.{TurnKeeps}
 use Rattle.core_rule.proofs.steps.access.SwapStep.{swap_keeps}
 use Rattle.core_rule.proofs.steps.access.TellingStep.{telling_keeps}
 
@@ -60,10 +61,7 @@ module _ (heap : Heap) (state : State) (book : Book) (q : ℕ) (rule : Rule heap
       bearing (is_last_birth (seat_at state q)) refl machine
     where
       bearing : (last : Bool) → is_last_birth (seat_at state q) ≡ last
-          → IsMachine heap (stepped heap state q (if last then last_birth_move q (seat_at state q) else birth_move (seat_at state q)))
-          → Keeps heap (stepped heap state q (if last then last_birth_move q (seat_at state q) else birth_move (seat_at state q))) book book.begun
-          ((if last then last_birth_move q (seat_at state q) else birth_move (seat_at state q)).shows state.words
-          (found_by heap state (if last then last_birth_move q (seat_at state q) else birth_move (seat_at state q)).step))
+          → MoveKeeps heap state book q (if last then last_birth_move q (seat_at state q) else birth_move (seat_at state q))
       bearing true last whole = last_birth_keeps heap state book q rule here placed last whole
       bearing false more whole = birth_keeps heap state book q rule here placed more whole
   keeps_at places.Telling placed machine = telling_keeps heap state book q rule here placed machine
@@ -91,15 +89,12 @@ begins_at heap state book q (commands.New d fields) rule here can machine = begi
 begins_at heap state book q command rule here can machine = begin_others_keep heap state book q command rule here can.1 (λ made. made) machine
 
 pub each_begin_keeps : EachBeginKeeps
-each_begin_keeps heap state book q command rule can machine = begins_at heap state book q command rule (rw (← rule.all_seats) can.0) can machine
+each_begin_keeps heap state book q command rule can machine = begins_at heap state book q command rule (rw (← rule.machine.seated) can.0) can machine
 
 -- each turn of the collector keeps the rule
-pub each_turn_keeps : (heap : Heap) (state : State) (book : Book) → Rule heap state book → MayTurn state.collector state.collector.stage
-    → IsMachine heap (turned heap state (next_turn heap state.collector))
-    → Keeps heap (turned heap state (next_turn heap state.collector)) book book.begun (next_turn heap state.collector).adds
+pub each_turn_keeps : EachTurnKeeps
 each_turn_keeps heap state book rule may machine = at_stage state.collector.stage refl machine
   where
-    at_stage : (stage : Stage) → state.collector.stage ≡ stage → IsMachine heap (turned heap state (turn_at heap state.collector stage))
-        → Keeps heap (turned heap state (turn_at heap state.collector stage)) book book.begun (turn_at heap state.collector stage).adds
+    at_stage : (stage : Stage) → state.collector.stage ≡ stage → TurnKeeps heap state book (turn_at heap state.collector stage)
     at_stage Looking looking after = look_keeps heap state book rule looking after
     at_stage Advancing advancing after = advance_keeps heap state book rule advancing after

@@ -1,5 +1,5 @@
 -- A call that works on an object: what its seat knows of the graph.
-use Rattle.std.proofs.Common.{◌≡◌, ℕ, ◌+◌, ◌<◌, ◌≤◌, List, slice_index_or, ◌∙◌, subst, false}
+use Rattle.std.proofs.Common.{◌≡◌, ℕ, ◌<◌, List, slice_index_or, ◌∙◌, subst, false}
 use Rattle.heap_model.specs.declared.heap.Heap.{Heap}
 use Rattle.heap_model.specs.declared.id.Id.{Id}
 use Rattle.heap_model.specs.declared.id.Value.{Value}
@@ -8,7 +8,6 @@ use Rattle.heap_model.specs.account.Cycles.{graph_of}
 use Rattle.heap_model.specs.graph.Legal.{IsPresent}
 use Rattle.heap_model.specs.graph.Objects.{register}
 use Rattle.heap_model.specs.account.PhaseCounts.{phase}
-use Rattle.heap_model.specs.account.Space.{taken_of, spent_of}
 use Rattle.core_machine.specs.declared.place.Place.TheVariants as places
 use Rattle.core_machine.specs.declared.place.Reaching.{Reaching}
 use Rattle.core_machine.specs.declared.seat.register.Register.{Register}
@@ -23,7 +22,7 @@ use Rattle.core_rule.specs.Phases.{IsNear}
 use Rattle.core_rule.specs.Registers.{Holds, IsAwaited}
 use Rattle.core_rule.specs.Rule.{Rule}
 use Rattle.core_rule.specs.Ways.{OnWay}
-use Rattle.core_rule.proofs.entries.AtRest.{in_flight, spent_own, few_own}
+use Rattle.core_rule.proofs.entries.AtRest.{in_flight}
 
 -- the register holds the object of the graph's register
 held_object : (made : List Id) (owner : ℕ → Owner) (fragments : ℕ → List ℕ) (held : Register) (value : Value) (head : ℕ) (id : Id)
@@ -39,21 +38,15 @@ module _ (heap : Heap) (state : State) (book : Book) (q : ℕ) (rule : Rule heap
   stays = in_flight heap (seat_at state q) (rule.seats_stand q here).fits (λ idle. absurd (cc (place, idle)))
 
   pub is_present : IsPresent (graph_of heap book.history) q
-  is_present = (rule.seats_stand q here).counts.leaves ∙ stays
+  is_present = (rule.seats_stand q here).told.counts.leaves ∙ stays
 
   -- its last answer is to the phase, or to the one before it
   pub is_near : IsNear (phase book.history) (seat_at state q).answered
   is_near = (rule.seats_stand q here).cycle.answers_told.near stays
 
-  rest : IsAtRest (seat_at state q)
-  rest = rw place at (rule.seats_stand q here).fits.at_place
-
-  -- it spent no more than it took, and has little left
-  pub has_enough : spent_of q book.history ≤ taken_of q book.history
-  has_enough = spent_own heap state book q rule here rest
-
-  pub has_little : taken_of q book.history ≤ spent_of q book.history + 15
-  has_little = few_own heap state book q rule here rest
+  -- it has nothing at hand
+  pub at_rest : IsAtRest (seat_at state q)
+  at_rest = rw place at (rule.seats_stand q here).fits.at_place
 
   -- its way's object is that of the graph's register
   pub way_object : ((d r : ℕ) → ¬ IsAwaited (seat_at state q).place d r) → (number : ℕ) → OnWay book.made book.owner book.fragments (seat_at state q) number
@@ -62,4 +55,4 @@ module _ (heap : Heap) (state : State) (book : Book) (q : ℕ) (rule : Rule heap
       let seat : Seat = seat_at state q in
       let r : ℕ = object_of seat.command in
       held_object book.made book.owner book.fragments (slice_index_or seat.registers r registers.Nil) _ _ _ way.holds
-      ((rule.seats_stand q here).registers r (free (target_of seat.command) r))
+      ((rule.seats_stand q here).names.registers r (free (target_of seat.command) r))

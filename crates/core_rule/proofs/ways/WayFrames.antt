@@ -1,5 +1,5 @@
 -- A way goes on as before where its object does.
-use Rattle.std.proofs.Common.{◌≡◌, ℕ, ◌<◌, List, length, refl}
+use Rattle.std.proofs.Common.{◌≡◌, ℕ, ◌<◌, List, length}
 use Rattle.heap_model.specs.declared.graph.cell.Cell.{Cell}
 use Rattle.heap_model.specs.declared.id.Id.{Id}
 use Rattle.core_machine.specs.declared.place.Place.{Place}
@@ -10,7 +10,6 @@ use Rattle.core_rule.specs.Book.{id_at}
 use Rattle.core_rule.specs.Objects.{IsKept}
 use Rattle.core_rule.specs.Owners.{Owner}
 use Rattle.core_rule.specs.Ways.{LoadedKept, OnWay, Finds, WayStands}
-use Rattle.core_rule.proofs.objects.ObjectFrames.{SameKept}
 
 -- the object of this number is kept as before: under its id, in its fragments, with as many cells
 pub record ObjectStays (cells now_cells : ℕ → List Cell) (made now_made : List Id) (owner now_owner : ℕ → Owner) (fragments now_fragments : ℕ → List ℕ) (i : ℕ) : Type 0 where
@@ -55,10 +54,3 @@ module _ (cells now_cells : ℕ → List Cell) (made now_made : List Id) (owner 
   ways_stay seat (places.Reaching ShadingNew) way = (finds_stays seat way.0, λ some. loaded_stays seat (way.1 some))
   ways_stay seat (places.Reaching Swapping) way = (finds_stays seat way.0, λ some. loaded_stays seat (way.1 some))
   ways_stay seat _ way = way
-
--- a way stays where the same fragments are kept
-pub way_owners : (cells : ℕ → List Cell) (owner now : ℕ → Owner) → SameKept owner now → (made : List Id) (fragments : ℕ → List ℕ) (seat : Seat)
-    → WayStands cells made owner fragments seat seat.place → WayStands cells made now fragments seat seat.place
-way_owners cells owner now same made fragments seat way =
-    ways_stay cells cells made made owner now fragments fragments
-    (λ i below kept. record { below = below; kept = same.stays _ _ _ kept; id = refl; fragments_stay = refl; cells_stay = refl }) seat seat.place way

@@ -7,11 +7,11 @@ use Rattle.std.proofs.lemmas.Bool.Decides.{eqb_tells, leb_tells}
 use Rattle.std.proofs.lemmas.Nat.Bits.{bit_at-lt}
 use Rattle.core_machine.specs.table.Fragments.{tally, is_clear, clear_in, clear_among}
 use Rattle.core_machine.specs.machine.Sums.{sum_upto}
+use Rattle.core_machine.proofs.table_lemmas.Free.{sum_same}
 use Rattle.core_rule.specs.Gathers.{free_in}
 use Rattle.core_rule.specs.Owners.{Owner, taken_bit, free_bit}
 use Rattle.core_rule.proofs.owners.OwnerLemmas.{free_by_bit}
 use Rattle.core_rule.proofs.lists.Parts.{tally-filter_yes, tally-filter_no, tally-range, tally-range_below, tally-range_above, group_length}
-use Rattle.core_rule.proofs.lists.SumLemmas.{sum_same}
 
 filter_none : (p : ℕ → Bool) (f : ℕ) (xs : List ℕ) → tally f xs ≡ 0 → tally f (filter p xs) ≡ 0
 filter_none p f xs none = elim (cases_Bool (p f)) as (λ _. tally f (filter p xs) ≡ 0) [

@@ -37,9 +37,9 @@ begin_others_keep heap state book q command rule here may other machine =
     let g : Graph = graph_of heap book.history in
     let stands = rule.seats_stand q here in
     let rest : IsAtRest old = rw may.idle at stands.fits.at_place in
-    let awaits = rw may.idle at stands.list.awaits in
+    let awaits = rw may.idle at stands.told.list.awaits in
     let holds : (r : ℕ) → Holds book.made book.owner book.fragments (register_in old.registers r) (register g q r)
-    = λ r. stands.registers r (none_awaited old.place places.Idle (target_of old.command) r may.idle (λ none. none)) in
+    = λ r. stands.names.registers r (none_awaited old.place places.Idle (target_of old.command) r may.idle (λ none. none)) in
     let start : Starts g (cells_at g book.made) book.made book.owner book.fragments q seat next
     = starts_other g (cells_at g book.made) book.made book.owner book.fragments q heap seat command other may.served refl (λ r. (register g q r, holds r)) in
     let own = start.own in
@@ -49,25 +49,28 @@ begin_others_keep heap state book q command rule here may other machine =
     (heap_begins heap state.words book q rule.heap_stands)
     record {
       fits = fit_after heap state book q rule here machine;
-      holding = holding_as book.owner q old.reserve old.hand old.body next.reserve next.hand next.body own.reserve own.hand own.body stands.holding;
-      stored = none_stored heap state.words q next (same.stored ∙ rest.none_stored);
-      registers = λ r awake. rw same.registers (holds r);
-      list = record {
-        awaited = [];
-        own = append-nil next.mine ∙ same.mine ∙ all_told old.mine stands.list.awaited (filter (is_of q) book.history) stands.list.own awaits;
-        awaits = start.awaits;
+      own = record {
+        holding = holding_as book.owner q old.reserve old.hand old.body next.reserve next.hand next.body own.reserve own.hand own.body stands.own.holding;
+        stored = none_stored heap state.words q next (same.stored ∙ rest.none_stored);
+        together = nothing_together heap next.cursor next.tried next.hand next.body (own.hand ∙ rest.empty_hand) (own.body ∙ rest.no_body);
       };
-      way = start.way;
+      names = record { registers = λ r awake. rw same.registers (holds r); way = start.way };
+      told = record {
+        list = record {
+          awaited = [];
+          own = append-nil next.mine ∙ same.mine ∙ all_told old.mine stands.told.list.awaited (filter (is_of q) book.history) stands.told.list.own awaits;
+          awaits = start.awaits;
+        };
+        counts = record {
+          numbered = same.made ∙ stands.told.counts.numbered;
+          stamped = same.sets ∙ stands.told.counts.stamped;
+          leaves = stands.told.counts.leaves ∙ sym same.left;
+          unborn = rw (own.reserve, own.hand, own.body) stands.told.counts.unborn;
+        };
+        began = began_now heap state.words book q next.place;
+        gathers = gathers_none heap book.owner q (drop (begins q (length book.history) book.begun q) book.history) next.cursor next.tried next.given (own.tried ∙ rest.none_tried) (own.given ∙ rest.none_given);
+      };
       cycle = cycle_fresh heap state.words book.owner book.colour (phase book.history) (answered q book.history) (has_left q book.history) q old next
           record { answered = same.answered; left = same.left; asked = same.asked } start.fresh stands.cycle;
-      together = nothing_together heap next.cursor next.tried next.hand next.body (own.hand ∙ rest.empty_hand) (own.body ∙ rest.no_body);
-      counts = record {
-        numbered = same.made ∙ stands.counts.numbered;
-        stamped = same.sets ∙ stands.counts.stamped;
-        leaves = stands.counts.leaves ∙ sym same.left;
-        unborn = rw (own.reserve, own.hand, own.body) stands.counts.unborn;
-      };
-      began = began_now heap state.words book q next.place;
-      gathers = gathers_none heap book.owner q (drop (begins q (length book.history) book.begun q) book.history) next.cursor next.tried next.given (own.tried ∙ rest.none_tried) (own.given ∙ rest.none_given);
     }
     (λ r below apart other. other_begins heap state.words book q r (seat_at state r) apart other)

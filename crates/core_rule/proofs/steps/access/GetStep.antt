@@ -26,20 +26,21 @@ use Rattle.core_machine.specs.seat.Commands.{target_of, field_of}
 use Rattle.core_machine.specs.seat.FitsReaching.{Gets, IsGet}
 use Rattle.core_machine.specs.table.Layout.{at}
 use Rattle.core_machine.specs.table.Loaded.{head_in, id_in, stamp_in, plain_in}
-use Rattle.core_machine.specs.machine.Machine.{State, seat_at, stepped, found_by}
+use Rattle.core_machine.specs.machine.Machine.{State, seat_at}
 use Rattle.core_machine.specs.seat.Reaching.{row_of, part_of, got}
 use Rattle.core_machine.specs.seat.ReachingMoves.{get_move, field_part, got_adds, got_shows, said}
 use Rattle.core_machine.specs.seat.Registers.{value_of}
 use Rattle.core_machine.specs.seat.Seat.{Seat, with_entries}
 use Rattle.core_machine.specs.machine.Value.{IsMachine}
+use Rattle.core_rule.proofs.entries.AtRest.{spent_own, few_own}
 use Rattle.core_rule.specs.Book.{Book, fragment_at, id_at, number_of, head_of}
 use Rattle.core_rule.specs.Gathers.{IsAnswered}
 use Rattle.core_rule.specs.Objects.{NamesKept, cells_at, value_word}
 use Rattle.core_rule.specs.Registers.{Holds, IsAwaited}
 use Rattle.core_rule.specs.Rule.{Rule}
 use Rattle.core_rule.specs.Ways.{Finds}
-use Rattle.core_rule.proofs.steps.Assemble.{Keeps}
-use Rattle.core_rule.proofs.ways.AtObject.{is_present, has_enough, has_little, way_object}
+use Rattle.core_rule.proofs.steps.Assemble.{Keeps, StepKeeps}
+use Rattle.core_rule.proofs.ways.AtObject.{is_present, way_object, at_rest}
 use Rattle.core_rule.proofs.graph.GraphRegisters.{registers_length}
 use Rattle.core_rule.proofs.ways.KeptWords.{has_room, field_found, name_found}
 use Rattle.core_rule.proofs.steps.Loads.{went_cycle, went, loaded_state, load_tells}
@@ -61,7 +62,7 @@ module _ (heap : Heap) (state : State) (book : Book) (q : ℕ) (rule : Rule heap
   free d r awaited = subst (λ p. IsAwaited p d r) place awaited
 
   held : (r : ℕ) → Holds book.made book.owner book.fragments (slice_index_or (seat_at state q).registers r registers.Nil) (register (graph_of heap book.history) q r)
-  held r = (rule.seats_stand q here).registers r (free (target_of (seat_at state q).command) r)
+  held r = (rule.seats_stand q here).names.registers r (free (target_of (seat_at state q).command) r)
 
   present : (party (graph_of heap book.history) q).left ≡ false
   present = is_present heap state book q rule here Getting place
@@ -89,9 +90,9 @@ module _ (heap : Heap) (state : State) (book : Book) (q : ℕ) (rule : Rule heap
       load_tells heap state book q rule here (Word seat.reached (field_part seat)) (slice_set seat.registers (target_of seat.command) new) 0 0 0 places.Idle (entry ∷ []) machine
       seat.command reply refl (put g q (target_of seat.command) (value_of new)) (graph_got g q (value_of new) stamp seat.command a_get)
       (put_only g q (target_of seat.command) (value_of new) present) accepts
-      (keeps_got heap false book.history q (has_enough heap state book q rule here Getting place) (has_little heap state book q rule here Getting place) (value_of new) stamp seat.command a_get)
+      (keeps_got heap false book.history q (spent_own heap state book q rule here (at_rest heap state book q rule here Getting place)) (few_own heap state book q rule here (at_rest heap state book q rule here Getting place)) (value_of new) stamp seat.command a_get)
       (λ r unawaited. registers_filled book.made book.owner book.fragments g q (target_of seat.command) (value_of new) seat.registers new present in_seat in_graph holds (λ x apart. held x) r)
-      (list_more g book.made book.owner book.fragments q seat book.history busy stands.list (put g q (target_of seat.command) (value_of new)) _ _ (entry ∷ []) [] (entry ∷ []) refl refl
+      (list_more g book.made book.owner book.fragments q seat book.history busy stands.told.list (put g q (target_of seat.command) (value_of new)) _ _ (entry ∷ []) [] (entry ∷ []) refl refl
       (own_entries q book.history entry (eq-eqb q q refl)) refl)
       tt tt (no_leave_told q q seat.command reply (λ leaves. subst IsGet leaves a_get))
       (went_cycle heap state book q rule here (Word seat.reached (field_part seat)) (slice_set seat.registers (target_of seat.command) new) 0 0 0 places.Idle (entry ∷ []) machine tt)
@@ -114,20 +115,16 @@ module _ (heap : Heap) (state : State) (book : Book) (q : ℕ) (rule : Rule heap
       let entry : Entry = Said q seat.command reply in
       load_tells heap state book q rule here (Word seat.reached (field_part seat)) seat.registers seat.reached seat.links found (places.Reaching Naming) [] machine
       seat.command reply refl (put g q d value) (graph_got g q value (stamp_in found) seat.command a_get) (put_only g q d value present) accepts
-      (keeps_got heap false book.history q (has_enough heap state book q rule here Getting place) (has_little heap state book q rule here Getting place) value (stamp_in found) seat.command a_get)
+      (keeps_got heap false book.history q (spent_own heap state book q rule here (at_rest heap state book q rule here Getting place)) (few_own heap state book q rule here (at_rest heap state book q rule here Getting place)) value (stamp_in found) seat.command a_get)
       (λ r unawaited. subst (λ x. Holds book.made book.owner book.fragments (slice_index_or seat.registers r registers.Nil) x) (sym (put_rest g q d value present r unawaited)) (held r))
-      (list_more g book.made book.owner book.fragments q seat book.history busy stands.list (put g q d value) _ _ [] (entry ∷ []) (entry ∷ []) refl refl
+      (list_more g book.made book.owner book.fragments q seat book.history busy stands.told.list (put g q d value) _ _ [] (entry ∷ []) (entry ∷ []) refl refl
       (own_entries q book.history entry (eq-eqb q q refl))
       (record { id = id; kept = kept; loads = loads; held = put_target g q d value present in_graph; told = refl }))
       tt tt (no_leave_told q q seat.command reply (λ leaves. subst IsGet leaves a_get))
       (went_cycle heap state book q rule here (Word seat.reached (field_part seat)) seat.registers seat.reached seat.links found (places.Reaching Naming) [] machine tt)
 
 -- loading a field keeps the rule
-pub get_keeps : (heap : Heap) (state : State) (book : Book) (q : ℕ) → Rule heap state book → q < heap.seats
-    → (seat_at state q).place ≡ places.Reaching Getting
-    → IsMachine heap (stepped heap state q (get_move heap q (seat_at state q)))
-    → Keeps heap (stepped heap state q (get_move heap q (seat_at state q))) book book.begun
-    ((get_move heap q (seat_at state q)).shows state.words (found_by heap state (get_move heap q (seat_at state q)).step))
+pub get_keeps : StepKeeps (places.Reaching Getting) get_move
 get_keeps heap state book q rule here place machine =
     let seat : Seat = seat_at state q in
     let g : Graph = graph_of heap book.history in
@@ -140,17 +137,17 @@ get_keeps heap state book q rule here place machine =
     let bits = heap_stands.control_words in
     let fits : Gets seat × (seat.loaded ≡ 0) = rw place at stands.fits.way_at_place in
     let gets = fits.0 in
-    let finds : Finds (cells_at g book.made) book.made book.owner book.fragments seat = rw place at stands.way in
+    let finds : Finds (cells_at g book.made) book.made book.owner book.fragments seat = rw place at stands.names.way in
     let number : ℕ = finds.number in
     let way = finds.way in
     let cell : Cell = get_or (cells_at g book.made number) field unset in
     let there : slice_get (cells_at g book.made number) field ≡ Some cell = slice_get-get_or (cells_at g book.made number) field unset finds.within in
     let named = heap_stands.objects.named number field way.below way.kept cell there in
-    let room : HasRoom head cell.value = has_room heap words g book.made book.owner book.fragments rule.limits bits cell.value named.0 in
+    let room : HasRoom head cell.value = has_room heap words g book.made book.owner book.fragments rule.machine.limits bits cell.value named.0 in
     let arrived : row_of field - seat.links ≡ row_of field = omega (arith, gets.2) in
     let word : found ≡ value_word head cell.value cell.stamp
     = ap (λ f. at heap words (Word f (part_of field))) (way.here ∙ ap (fragment_at (book.fragments number)) arrived)
-    ∙ field_found heap words g book.made book.owner book.fragments rule.limits bits heap_stands.ids heap_stands.objects number way.below way.kept field cell there in
+    ∙ field_found heap words g book.made book.owner book.fragments rule.machine.limits bits heap_stands.ids heap_stands.objects number way.below way.kept field cell there in
     let stamp : stamp_in found ≡ cell.stamp = ap stamp_in word ∙ stamp_in-value head cell.value cell.stamp room named.1 in
     let plain : plain_in found ≡ plain_of cell.value = ap plain_in word ∙ plain_in-value head cell.value cell.stamp room named.1 in
     let loads : head_in found ≡ named_head head cell.value = ap head_in word ∙ head_in-value head cell.value cell.stamp room named.1 in
@@ -172,7 +169,7 @@ get_keeps heap state book q rule here place machine =
       | values.Object id ↦ λ e machine.
           let kept : NamesKept book.made book.owner book.fragments (values.Object id) = subst (NamesKept book.made book.owner book.fragments) e named.0 in
           let name : id_in (at heap words (Word (head id) 1)) ≡ id
-          = name_found heap words g book.made book.owner book.fragments rule.limits bits heap_stands.ids heap_stands.objects (number_of book.made id) kept.0 kept.1
+          = name_found heap words g book.made book.owner book.fragments rule.machine.limits bits heap_stands.ids heap_stands.objects (number_of book.made id) kept.0 kept.1
           ∙ id_at-number_of book.made id kept.0 in
           subst (λ x. Keeps heap (loaded_state heap state q (Word seat.reached (field_part seat)) (with_entries (got seat found (Some (head id))) [])) book book.begun (said q seat (Got (values.Object x) (stamp_in found)))) (sym name)
           (pending_keeps heap state book q rule here place gets.1 gets.0.in_range found id kept (loads ∙ ap (named_head head) e)

@@ -3,7 +3,6 @@ use Rattle.std.specs.Prelude.{unwrap_or}
 use Rattle.std.proofs.Common.{◌≡◌, ℕ, ◌<◌, List, [], ◌++◌, length, slice_set, Option, IsSome, refl, sym, ap, ◌∙◌, subst, arith}
 use Rattle.std.proofs.lemmas.List.{append-nil}
 use Rattle.heap_model.specs.declared.entry.Entry.{Entry}
-use Rattle.heap_model.specs.declared.heap.Heap.{Heap}
 use Rattle.heap_model.specs.declared.id.Id.{Id}
 use Rattle.heap_model.specs.declared.id.Value.TheVariants as values
 use Rattle.heap_model.specs.declared.reply.Reply.TheVariants.{Got}
@@ -18,15 +17,13 @@ use Rattle.core_machine.specs.seat.Commands.{target_of}
 use Rattle.core_machine.specs.seat.FitsReaching.{Gets}
 use Rattle.core_machine.specs.table.Layout.{at}
 use Rattle.core_machine.specs.table.Loaded.{head_in, id_in, stamp_in}
-use Rattle.core_machine.specs.machine.Machine.{State, seat_at, stepped, found_by}
+use Rattle.core_machine.specs.machine.Machine.{seat_at}
 use Rattle.core_machine.specs.seat.ReachingMoves.{name_move, loaded_head, said}
 use Rattle.core_machine.specs.seat.Seat.{Seat}
-use Rattle.core_machine.specs.machine.Value.{IsMachine}
-use Rattle.core_rule.specs.Book.{Book, number_of, head_of}
+use Rattle.core_rule.specs.Book.{number_of, head_of}
 use Rattle.core_rule.specs.Counts.{AwaitsName}
 use Rattle.core_rule.specs.Registers.{Registers, Holds}
-use Rattle.core_rule.specs.Rule.{Rule}
-use Rattle.core_rule.proofs.steps.Assemble.{Keeps}
+use Rattle.core_rule.proofs.steps.Assemble.{StepKeeps}
 use Rattle.core_rule.proofs.ways.KeptWords.{name_found}
 use Rattle.core_rule.proofs.steps.Loads.{went_cycle, load_goes}
 use Rattle.core_rule.proofs.graph.Numbering.{id_at-number_of}
@@ -34,11 +31,7 @@ use Rattle.core_rule.proofs.graph.ObjectReplies.{target_within}
 use Rattle.core_rule.proofs.graph.PutRegister.{registers_with}
 
 -- loading the name keeps the rule
-pub name_keeps : (heap : Heap) (state : State) (book : Book) (q : ℕ) → Rule heap state book → q < heap.seats
-    → (seat_at state q).place ≡ places.Reaching Naming
-    → IsMachine heap (stepped heap state q (name_move q (seat_at state q)))
-    → Keeps heap (stepped heap state q (name_move q (seat_at state q))) book book.begun
-    ((name_move q (seat_at state q)).shows state.words (found_by heap state (name_move q (seat_at state q)).step))
+pub name_keeps : StepKeeps (places.Reaching Naming) (λ heap. name_move)
 name_keeps heap state book q rule here place machine =
     let seat : Seat = seat_at state q in
     let g : Graph = graph_of heap book.history in
@@ -49,26 +42,26 @@ name_keeps heap state book q rule here place machine =
     let heap_stands = rule.heap_stands in
     let fits : Gets seat × IsSome (head_in seat.loaded) = rw place at stands.fits.way_at_place in
     let gets = fits.0 in
-    let awaits : AwaitsName g book.made book.owner book.fragments q seat stands.list.awaited = rw place at stands.list.awaits in
+    let awaits : AwaitsName g book.made book.owner book.fragments q seat stands.told.list.awaited = rw place at stands.told.list.awaits in
     let id : Id = awaits.id in
-    let before : Registers g book.made book.owner book.fragments q seat.registers (places.Reaching Naming) d = rw place at stands.registers in
+    let before : Registers g book.made book.owner book.fragments q seat.registers (places.Reaching Naming) d = rw place at stands.names.registers in
     let head : at_name ≡ head_of book.made book.fragments id = ap (λ (o : Option ℕ). unwrap_or o 0) awaits.loads in
     let name : id_in found ≡ id
     = ap (λ f. id_in (at heap state.words (Word f 1))) head
-    ∙ name_found heap state.words g book.made book.owner book.fragments rule.limits heap_stands.control_words heap_stands.ids heap_stands.objects (number_of book.made id) awaits.kept.0 awaits.kept.1
+    ∙ name_found heap state.words g book.made book.owner book.fragments rule.machine.limits heap_stands.control_words heap_stands.ids heap_stands.objects (number_of book.made id) awaits.kept.0 awaits.kept.1
     ∙ id_at-number_of book.made id awaits.kept.0 in
     let holds : Holds book.made book.owner book.fragments (registers.Object at_name (id_in found)) (register g q d)
     = subst (λ x. Holds book.made book.owner book.fragments (registers.Object at_name x) (register g q d)) (sym name) (awaits.held, awaits.kept, head) in
     let within : d < length seat.registers = omega (arith, stands.fits.registers_whole, target_within seat.command gets.1 gets.0.in_range) in
     let added : List Entry = said q seat (Got (values.Object (id_in found)) (stamp_in seat.loaded)) in
-    let told : stands.list.awaited ≡ added = awaits.told ∙ ap (λ x. said q seat (Got (values.Object x) (stamp_in seat.loaded))) (sym name) in
+    let told : stands.told.list.awaited ≡ added = awaits.told ∙ ap (λ x. said q seat (Got (values.Object x) (stamp_in seat.loaded))) (sym name) in
     load_goes heap state book q rule here (Word at_name 1) (slice_set seat.registers d (registers.Object at_name (id_in found))) 0 0 0 places.Idle added machine
     (λ r unawaited. registers_with book.made book.owner book.fragments g q d seat.registers (registers.Object at_name (id_in found)) within holds before r)
     (record {
       awaited = [];
-      own = append-nil (seat.mine ++ added) ∙ ap (λ (x : List Entry). seat.mine ++ x) (sym told) ∙ stands.list.own;
+      own = append-nil (seat.mine ++ added) ∙ ap (λ (x : List Entry). seat.mine ++ x) (sym told) ∙ stands.told.list.own;
       awaits = refl;
     })
     tt
-    (record { earlier = stands.began.earlier; unanswered = λ busy. absurd (busy tt) })
+    (record { earlier = stands.told.began.earlier; unanswered = λ busy. absurd (busy tt) })
     (went_cycle heap state book q rule here (Word at_name 1) (slice_set seat.registers d (registers.Object at_name (id_in found))) 0 0 0 places.Idle added machine tt)

@@ -1,6 +1,5 @@
 -- The load of the old value of a set keeps the rule.
-use Rattle.std.proofs.Common.{◌≡◌, ℕ, ◌<◌, true, [], ◌++◌, Option, Some, None, inl, refl, sym, ap, ◌∙◌}
-use Rattle.heap_model.specs.declared.heap.Heap.{Heap}
+use Rattle.std.proofs.Common.{◌≡◌, ℕ, true, [], ◌++◌, Option, Some, None, inl, refl, sym, ap, ◌∙◌}
 use Rattle.heap_model.specs.account.Cycles.{graph_of}
 use Rattle.heap_model.specs.graph.State.{State as Graph}
 use Rattle.core_machine.specs.declared.table.address.Address.TheVariants.{Word}
@@ -10,18 +9,16 @@ use Rattle.core_machine.specs.declared.place.Reaching.TheVariants.{LoadingOld, S
 use Rattle.core_machine.specs.seat.FitsReaching.{Sets}
 use Rattle.core_machine.specs.table.Layout.{at}
 use Rattle.core_machine.specs.table.Loaded.{head_in}
-use Rattle.core_machine.specs.machine.Machine.{State, seat_at, stepped, found_by}
+use Rattle.core_machine.specs.machine.Machine.{seat_at}
 use Rattle.core_machine.specs.seat.Reaching.{has_barrier, old_found}
 use Rattle.core_machine.specs.seat.ReachingMoves.{old_move, new_register, field_part}
 use Rattle.core_machine.specs.seat.Registers.{head_of}
 use Rattle.core_machine.specs.seat.Seat.{Seat, with_entries}
 use Rattle.core_machine.specs.machine.Value.{IsMachine}
-use Rattle.core_rule.specs.Book.{Book}
 use Rattle.core_rule.specs.Colours.{IsMarked, Leads}
 use Rattle.core_rule.specs.Objects.{cells_at}
-use Rattle.core_rule.specs.Rule.{Rule}
 use Rattle.core_rule.specs.Ways.{Finds}
-use Rattle.core_rule.proofs.steps.Assemble.{Keeps}
+use Rattle.core_rule.proofs.steps.Assemble.{Keeps, StepKeeps}
 use Rattle.core_rule.proofs.cycle.Barriers.{field_lead}
 use Rattle.core_rule.proofs.steps.BarrierSteps.{new_cases, loads_on}
 use Rattle.core_rule.proofs.ways.LoadedObjects.{loaded_kept}
@@ -30,17 +27,13 @@ use Rattle.core_rule.proofs.ways.OnwardWays.{finds_at, none_old}
 use Rattle.core_rule.proofs.lists.Options.{none_holds}
 
 -- loading the old value keeps the rule
-pub old_keeps : (heap : Heap) (state : State) (book : Book) (q : ℕ) → Rule heap state book → q < heap.seats
-    → (seat_at state q).place ≡ places.Reaching LoadingOld
-    → IsMachine heap (stepped heap state q (old_move (seat_at state q)))
-    → Keeps heap (stepped heap state q (old_move (seat_at state q))) book book.begun
-    ((old_move (seat_at state q)).shows state.words (found_by heap state (old_move (seat_at state q)).step))
+pub old_keeps : StepKeeps (places.Reaching LoadingOld) (λ heap q. old_move)
 old_keeps heap state book q rule here place machine =
     let seat : Seat = seat_at state q in
     let g : Graph = graph_of heap book.history in
     let old = rule.heap_stands in
     let fits : Sets seat × (has_barrier seat ≡ true) × (seat.loaded ≡ 0) = rw place at (rule.seats_stand q here).fits.way_at_place in
-    let finds : Finds (cells_at g book.made) book.made book.owner book.fragments seat = rw place at (rule.seats_stand q here).way in
+    let finds : Finds (cells_at g book.made) book.made book.owner book.fragments seat = rw place at (rule.seats_stand q here).names.way in
     let found : ℕ = at heap state.words (Word seat.reached (field_part seat)) in
     let new_head : Option ℕ = head_of (new_register seat) in
     let on = loads_on heap state book q rule here LoadingOld place (λ answered. answered) (λ d r awaited. awaited) found in
@@ -56,7 +49,7 @@ old_keeps heap state book q rule here place machine =
           (λ is_on. (none_holds (IsMarked book.colour) (head_in found) none, none_holds (IsMarked book.colour) new_head no_new)))
           (λ f some. on ShadingNew (λ s. refl) (at_next ShadingNew, unloaded ShadingNew none) (λ making x lead. absurd (unnamed (sym none ∙ leads x lead))) (none_holds (IsMarked book.colour) (head_in found) none))
       | Some f ↦ λ some.
-          let head = loaded_kept heap state.words g book.made book.owner book.fragments rule.limits old.control_words old.ids old.objects seat fits.0.2 finds f some in
+          let head = loaded_kept heap state.words g book.made book.owner book.fragments rule.machine.limits old.control_words old.ids old.objects seat fits.0.2 finds f some in
           on ShadingOld (λ s. refl) (at_next ShadingOld, record { number = head.number; below = head.below; kept = head.kept; loads = some ∙ ap Some head.is })
           (λ making x lead. inl (leads x lead)) tt
     ] in

@@ -12,7 +12,7 @@ use Rattle.core_machine.specs.seat.Commands.{target_of}
 use Rattle.core_machine.specs.seat.FitsReaching.{Walks}
 use Rattle.core_machine.specs.table.Layout.{at}
 use Rattle.core_machine.specs.table.Loaded.{link_in}
-use Rattle.core_machine.specs.machine.Machine.{State, seat_at, stepped, found_by}
+use Rattle.core_machine.specs.machine.Machine.{State, seat_at}
 use Rattle.core_machine.specs.seat.Reaching.{has_barrier, way_place, stepped_on, onward}
 use Rattle.core_machine.specs.seat.ReachingMoves.{walk_move}
 use Rattle.core_machine.specs.seat.Seat.{Seat, with_entries}
@@ -24,7 +24,7 @@ use Rattle.core_rule.specs.Objects.{cells_at}
 use Rattle.core_rule.specs.Registers.{IsAwaited}
 use Rattle.core_rule.specs.Rule.{Rule}
 use Rattle.core_rule.specs.Ways.{Finds}
-use Rattle.core_rule.proofs.steps.Assemble.{Keeps}
+use Rattle.core_rule.proofs.steps.Assemble.{Keeps, StepKeeps}
 use Rattle.core_rule.proofs.entries.InFlight.{began_on}
 use Rattle.core_rule.proofs.steps.Loads.{went_cycle, went, loaded_state, load_goes}
 use Rattle.core_rule.proofs.ways.OnwardWays.{way_unwatched, way_cases, onward_cases, way_stands, finds_at, finds_on}
@@ -51,11 +51,11 @@ module _ (heap : Heap) (state : State) (book : Book) (q : ℕ) (rule : Rule heap
       let stands = rule.seats_stand q here in
       let new : Seat = went seat seat.registers reached links seat.loaded (places.Reaching (way_place next)) [] in
       load_goes heap state book q rule here (Word seat.reached 0) seat.registers reached links seat.loaded (places.Reaching (way_place next)) [] machine
-      (λ r unawaited. stands.registers r (free (target_of seat.command) r))
-      (list_more g book.made book.owner book.fragments q seat book.history busy stands.list g book.history new [] [] [] refl refl (sym (append-nil (filter (is_of q) book.history)))
+      (λ r unawaited. stands.names.registers r (free (target_of seat.command) r))
+      (list_more g book.made book.owner book.fragments q seat book.history busy stands.told.list g book.history new [] [] [] refl refl (sym (append-nil (filter (is_of q) book.history)))
       (way_cases (λ place. Awaits g book.made book.owner book.fragments q new (places.Reaching place) []) next refl refl (λ on. refl) (λ off. refl)))
       (way_stands (cells_at g book.made) book.made book.owner book.fragments new next unloaded finds)
-      (began_on book.history q (book.begun q) seat.place (places.Reaching (way_place next)) busy stands.began)
+      (began_on book.history q (book.begun q) seat.place (places.Reaching (way_place next)) busy stands.told.began)
       (went_cycle heap state book q rule here (Word seat.reached 0) seat.registers reached links seat.loaded (places.Reaching (way_place next)) [] machine
       (subst (λ b. IsUnwatched b (way_place next)) same (way_unwatched next)))
 
@@ -71,18 +71,14 @@ module _ (heap : Heap) (state : State) (book : Book) (q : ℕ) (rule : Rule heap
       (λ arrived. goes_to seat.reached seat.links seat refl
       (finds_at (cells_at g book.made) book.made book.owner book.fragments seat seat.loaded (way_place seat) _ finds))
       (λ more. goes_to (link_in found_first) (seat.links - 1) (stepped_on seat found_first) refl
-      (finds_on heap state.words g book.made book.owner book.fragments rule.limits rule.heap_stands.control_words rule.heap_stands.ids rule.heap_stands.objects
+      (finds_on heap state.words g book.made book.owner book.fragments rule.machine.limits rule.heap_stands.control_words rule.heap_stands.ids rule.heap_stands.objects
       seat seat.loaded (way_place (stepped_on seat found_first)) _ more finds))
 
 -- walking a link keeps the rule
-pub walk_keeps : (heap : Heap) (state : State) (book : Book) (q : ℕ) → Rule heap state book → q < heap.seats
-    → (seat_at state q).place ≡ places.Reaching Walking
-    → IsMachine heap (stepped heap state q (walk_move (seat_at state q)))
-    → Keeps heap (stepped heap state q (walk_move (seat_at state q))) book book.begun
-    ((walk_move (seat_at state q)).shows state.words (found_by heap state (walk_move (seat_at state q)).step))
+pub walk_keeps : StepKeeps (places.Reaching Walking) (λ heap q. walk_move)
 walk_keeps heap state book q rule here place machine =
     let finds : Finds (cells_at (graph_of heap book.history) book.made) book.made book.owner book.fragments (seat_at state q)
-    = rw place at (rule.seats_stand q here).way in
+    = rw place at (rule.seats_stand q here).names.way in
     let walks : Walks (seat_at state q) = rw place at (rule.seats_stand q here).fits.way_at_place in
     onward_keeps heap state book q rule here (λ answered. subst IsAnswered place answered) (λ d r awaited. subst (λ p. IsAwaited p d r) place awaited)
     walks.none_loaded finds machine

@@ -23,19 +23,20 @@ use Rattle.core_machine.specs.seat.Commands.{target_of, field_of}
 use Rattle.core_machine.specs.seat.FitsReaching.{NamesObject, NamesField, Opens}
 use Rattle.core_machine.specs.table.Layout.{at}
 use Rattle.core_machine.specs.table.Loaded.{length_in}
-use Rattle.core_machine.specs.machine.Machine.{State, seat_at, stepped, found_by}
+use Rattle.core_machine.specs.machine.Machine.{State, seat_at}
 use Rattle.core_machine.specs.seat.Reaching.{row_of, meta_reply, met}
 use Rattle.core_machine.specs.seat.ReachingMoves.{open_move, said, said_some}
 use Rattle.core_machine.specs.seat.Seat.{Seat, with_entries}
 use Rattle.core_machine.specs.machine.Value.{IsMachine}
+use Rattle.core_rule.proofs.entries.AtRest.{spent_own, few_own}
 use Rattle.core_rule.specs.Book.{Book, id_at, fragment_at}
 use Rattle.core_rule.specs.Gathers.{IsAnswered}
 use Rattle.core_rule.specs.Objects.{cells_at}
 use Rattle.core_rule.specs.Registers.{IsAwaited}
 use Rattle.core_rule.specs.Rule.{Rule}
 use Rattle.core_rule.specs.Ways.{SetsOut}
-use Rattle.core_rule.proofs.steps.Assemble.{Keeps}
-use Rattle.core_rule.proofs.ways.AtObject.{is_present, has_enough, has_little, way_object}
+use Rattle.core_rule.proofs.steps.Assemble.{Keeps, StepKeeps}
+use Rattle.core_rule.proofs.ways.AtObject.{is_present, way_object, at_rest}
 use Rattle.core_rule.proofs.ways.KeptWords.{length_found}
 use Rattle.core_rule.proofs.steps.Loads.{went_cycle, went, loaded_state, load_tells}
 use Rattle.core_rule.proofs.graph.ObjectReplies.{IsLen, accepts_length, accepts_no_field, graph_length, graph_no_field, keeps_length, keeps_no_field}
@@ -81,25 +82,21 @@ module _ (heap : Heap) (state : State) (book : Book) (q : ℕ) (rule : Rule heap
       let entry : Entry = Said q seat.command reply in
       load_tells heap state book q rule here (Word seat.reached 0) seat.registers 0 0 0 places.Idle (entry ∷ []) machine seat.command reply nothing g stays (only_none g q)
       accepts keeps
-      (λ r unawaited. stands.registers r (free (target_of seat.command) r))
-      (list_more g book.made book.owner book.fragments q seat book.history busy stands.list g _ _ (entry ∷ []) [] (entry ∷ []) refl refl
+      (λ r unawaited. stands.names.registers r (free (target_of seat.command) r))
+      (list_more g book.made book.owner book.fragments q seat book.history busy stands.told.list g _ _ (entry ∷ []) [] (entry ∷ []) refl refl
       (own_entries q book.history entry (eq-eqb q q refl)) refl)
       tt tt stays_here
       (went_cycle heap state book q rule here (Word seat.reached 0) seat.registers 0 0 0 places.Idle (entry ∷ []) machine tt)
 
 -- loading the length keeps the rule
-pub open_keeps : (heap : Heap) (state : State) (book : Book) (q : ℕ) → Rule heap state book → q < heap.seats
-    → (seat_at state q).place ≡ places.Reaching Opening
-    → IsMachine heap (stepped heap state q (open_move q (seat_at state q)))
-    → Keeps heap (stepped heap state q (open_move q (seat_at state q))) book book.begun
-    ((open_move q (seat_at state q)).shows state.words (found_by heap state (open_move q (seat_at state q)).step))
+pub open_keeps : StepKeeps (places.Reaching Opening) (λ heap. open_move)
 open_keeps heap state book q rule here place machine =
     let seat : Seat = seat_at state q in
     let g : Graph = graph_of heap book.history in
     let stands = rule.seats_stand q here in
     let found : ℕ = at heap state.words (Word seat.reached 0) in
     let opens : Opens seat = rw place at stands.fits.way_at_place in
-    let out : SetsOut book.made book.owner book.fragments seat = rw place at stands.way in
+    let out : SetsOut book.made book.owner book.fragments seat = rw place at stands.names.way in
     let number : ℕ = out.number in
     let way = out.way in
     let id : Id = id_at book.made number in
@@ -107,12 +104,12 @@ open_keeps heap state book q rule here place machine =
     let at_head : seat.reached ≡ fragment_at (book.fragments number) 0 = way.here ∙ ap (fragment_at (book.fragments number)) none_walked in
     let size : length_in found ≡ length (cells_at g book.made number)
     = ap (λ f. length_in (at heap state.words (Word f 0))) at_head
-    ∙ length_found heap state.words g book.made book.owner book.fragments rule.limits rule.heap_stands.control_words rule.heap_stands.ids rule.heap_stands.objects number way.below way.kept in
+    ∙ length_found heap state.words g book.made book.owner book.fragments rule.machine.limits rule.heap_stands.control_words rule.heap_stands.ids rule.heap_stands.objects number way.below way.kept in
     let present = is_present heap state book q rule here Opening place in
     let made = rule.heap_stands.ids.in_graph number way.below in
     let held = way_object heap state book q rule here Opening place (free heap state book q rule here place) number way in
-    let enough = has_enough heap state book q rule here Opening place in
-    let little = has_little heap state book q rule here Opening place in
+    let enough = spent_own heap state book q rule here (at_rest heap state book q rule here Opening place) in
+    let little = few_own heap state book q rule here (at_rest heap state book q rule here Opening place) in
     let leaves_none = λ (reply : Reply). no_leave_told q q seat.command reply (λ leaves. subst NamesObject leaves opens.names) in
     meta_cases (λ reply. IsMachine heap (loaded_state heap state q (Word seat.reached 0) (with_entries (met seat found reply) (said_some q seat reply)))
     → Keeps heap (loaded_state heap state q (Word seat.reached 0) (with_entries (met seat found reply) (said_some q seat reply))) book book.begun (said_some q seat reply))

@@ -31,19 +31,17 @@ use Rattle.core_machine.specs.seat.Fits.{IsAtRest}
 use Rattle.core_machine.specs.seat.FitsReaching.{IsSet, Sets as FitsSets}
 use Rattle.core_machine.specs.table.Layout.{at, put}
 use Rattle.core_machine.specs.table.Loaded.{stamp_in}
-use Rattle.core_machine.specs.machine.Machine.{State, seat_at, stepped, found_by}
+use Rattle.core_machine.specs.machine.Machine.{seat_at}
 use Rattle.core_machine.specs.Move.{seat_after}
 use Rattle.core_machine.specs.seat.Reaching.{has_barrier, row_of}
 use Rattle.core_machine.specs.seat.ReachingMoves.{swap_move, field_part, new_word}
 use Rattle.core_machine.specs.seat.Registers.{register_in}
 use Rattle.core_machine.specs.seat.Seat.{Seat, HasNumber}
-use Rattle.core_machine.specs.machine.Value.{IsMachine}
-use Rattle.core_rule.specs.Book.{Book, fragment_at, id_at, head_of}
+use Rattle.core_rule.specs.Book.{fragment_at, id_at, head_of}
 use Rattle.core_rule.specs.Objects.{AreMade, NamesKept, Objects, cells_in, cells_at, value_word}
 use Rattle.core_rule.specs.Registers.{Holds}
-use Rattle.core_rule.specs.Rule.{Rule}
 use Rattle.core_rule.specs.Ways.{Finds, OldKept}
-use Rattle.core_rule.proofs.steps.Assemble.{Keeps}
+use Rattle.core_rule.proofs.steps.Assemble.{StepKeeps}
 use Rattle.core_rule.proofs.entries.AtRest.{in_flight, spent_own, few_own, none_awaited}
 use Rattle.core_rule.proofs.graph.CellSet.{Sets, sets_cell}
 use Rattle.core_rule.proofs.objects.CellWords.{stamp_of_value, register_is_value, register_names}
@@ -89,11 +87,7 @@ module _ (command : Command) (is : IsSet command) where
       command is
 
 -- the swap keeps the rule
-pub swap_keeps : (heap : Heap) (state : State) (book : Book) (q : ℕ) → Rule heap state book → q < heap.seats
-    → (seat_at state q).place ≡ places.Reaching Swapping
-    → IsMachine heap (stepped heap state q (swap_move q (seat_at state q)))
-    → Keeps heap (stepped heap state q (swap_move q (seat_at state q))) book book.begun
-    ((swap_move q (seat_at state q)).shows state.words (found_by heap state (swap_move q (seat_at state q)).step))
+pub swap_keeps : StepKeeps (places.Reaching Swapping) (λ heap. swap_move)
 swap_keeps heap state book q rule here place machine =
     let seat : Seat = seat_at state q in
     let g : Graph = graph_of heap book.history in
@@ -101,13 +95,13 @@ swap_keeps heap state book q rule here place machine =
     let rest : IsAtRest seat = rw place at stands.fits.at_place in
     let fits : FitsSets seat × (has_barrier seat ≡ false → seat.loaded ≡ 0) = rw place at stands.fits.way_at_place in
     let a_set : IsSet seat.command = fits.0.1 in
-    let way : Finds (cells_at g book.made) book.made book.owner book.fragments seat × OldKept book.made book.owner book.fragments seat = rw place at stands.way in
+    let way : Finds (cells_at g book.made) book.made book.owner book.fragments seat × OldKept book.made book.owner book.fragments seat = rw place at stands.names.way in
     let finds : Finds (cells_at g book.made) book.made book.owner book.fragments seat = way.0 in
     let busy : seat.place ≢ places.Idle = λ idle. absurd (cc (place, idle)) in
-    let present : (party g q).left ≡ false = stands.counts.leaves ∙ in_flight heap seat stands.fits busy in
-    let awaits = rw place at stands.list.awaits in
+    let present : (party g q).left ≡ false = stands.told.counts.leaves ∙ in_flight heap seat stands.fits busy in
+    let awaits = rw place at stands.told.list.awaits in
     let holds : (r : ℕ) → Holds book.made book.owner book.fragments (register_in seat.registers r) (register g q r)
-    = λ r. stands.registers r (none_awaited seat.place (places.Reaching Swapping) (target_of seat.command) r place (λ none. none)) in
+    = λ r. stands.names.registers r (none_awaited seat.place (places.Reaching Swapping) (target_of seat.command) r place (λ none. none)) in
     let n : ℕ = finds.number in
     let i : ℕ = field_of seat.command in
     let id : Id = id_at book.made n in
@@ -131,7 +125,7 @@ swap_keeps heap state book q rule here place machine =
     = set_graph seat.command a_set g q stamp ∙ ap (λ (x : Value). write (count_set g q) x i cell) refers in
     let sets : Sets g now q id i cell = subst (λ (x : Graph). Sets g x q id i cell) (sym grown) (sets_cell g q id i cell there.0 present there.1) in
     let numbered : seat.sets + 1 < 2 ^ 26 = set_numbered seat.command a_set seat.made seat.sets fits.0.0.numbered in
-    let few : (party g q).sets + 1 < 2 ^ 26 = omega (arith, numbered, stands.counts.stamped) in
+    let few : (party g q).sets + 1 < 2 ^ 26 = omega (arith, numbered, stands.told.counts.stamped) in
     let old_stamp : stamp ≡ old.stamp
     = ap (λ f. stamp_in (at heap state.words (Word f part))) arrived
     ∙ ap stamp_in (found_is heap state.words g now q book.made book.owner book.fragments n i cell word ids objects finds.way.below finds.way.kept sets finds.within old old_there)
@@ -139,13 +133,13 @@ swap_keeps heap state book q rule here place machine =
     let cells_there : slice_get there.0.cells i ≡ Some old = ap (λ (o : Option Node). slice_get (cells_in o) i) (sym there.1) ∙ old_there in
     let is_word : word ≡ value_word (head_of book.made book.fragments) cell.value cell.stamp
     = register_is_value book.made book.owner book.fragments (register_in seat.registers (source_of seat.command)) cell.value (stamp_of q (seat.sets + 1)) (holds (source_of seat.command))
-    ∙ ap (λ s. value_word (head_of book.made book.fragments) cell.value (stamp_of q (s + 1))) stands.counts.stamped in
-    let small : cell.stamp < 2 ^ 32 = omega (arith, few, here, rule.limits.seats_fit) in
+    ∙ ap (λ s. value_word (head_of book.made book.fragments) cell.value (stamp_of q (s + 1))) stands.told.counts.stamped in
+    let small : cell.stamp < 2 ^ 32 = omega (arith, few, here, rule.machine.limits.seats_fit) in
     let names : NamesKept book.made book.owner book.fragments cell.value × (cell.stamp < 2 ^ 32)
     = (register_names book.made book.owner book.fragments (register_in seat.registers (source_of seat.command)) cell.value (holds (source_of seat.command)), small) in
     let inside : fragment < 16 * heap.groups = subst (λ f. f < 16 * heap.groups) arrived stands.fits.reached_within in
     reply_keeps heap state book q (put heap state.words (Word seat.reached part) word) (seat_after (swap_move q seat) found) seat.command (replies.Was stamp) rule here machine
-    refl rest (all_told seat.mine stands.list.awaited (filter (is_of q) book.history) stands.list.own awaits)
+    refl rest (all_told seat.mine stands.told.list.awaited (filter (is_of q) book.history) stands.told.list.own awaits)
     (legal_more heap false book.history (entries.Said q seat.command (replies.Was stamp)) rule.heap_stands.legal
     (present, fits.0.0.in_range, set_says seat.command a_set g q id there.0 old stamp refers there.1 cells_there old_stamp few)
     (keeps_said heap false book.history q seat.command (replies.Was stamp) refl tt tt (set_shows seat.command a_set heap book.history q stamp)
@@ -156,7 +150,7 @@ swap_keeps heap state book q rule here place machine =
       ids = ids_set heap state.words g now q book.made book.owner book.fragments n i cell word ids objects finds.way.below finds.way.kept sets finds.within;
       objects = subst (λ f. Objects heap (put heap state.words (Word f part) word) now book.made book.owner book.fragments) (sym arrived)
           (objects_set heap state.words g now q book.made book.owner book.fragments n i cell word ids objects finds.way.below finds.way.kept sets finds.within
-          rule.heap_stands.table inside is_word names);
+          rule.machine.table inside is_word names);
       lengths = lengths_stay heap state.words g now q book.made book.owner book.fragments n i cell word ids objects finds.way.below finds.way.kept sets finds.within;
       others = sets.others;
     }
@@ -164,9 +158,9 @@ swap_keeps heap state book q rule here place machine =
       idle = refl;
       reserve = refl;
       mine = refl;
-      made = stands.counts.numbered ∙ sym sets.objects;
-      sets = ap (λ s. s + 1) stands.counts.stamped ∙ sym sets.sets;
-      left = sets.left ∙ stands.counts.leaves;
+      made = stands.told.counts.numbered ∙ sym sets.objects;
+      sets = ap (λ s. s + 1) stands.told.counts.stamped ∙ sym sets.sets;
+      left = sets.left ∙ stands.told.counts.leaves;
       registers = λ r. subst (λ (vs : List Value). Holds book.made book.owner book.fragments (register_in seat.registers r) (get_or vs r values.Nil)) (sym sets.registers) (holds r);
     }
     (heap_swapped heap state book q rule here place cell.value cell.stamp (holds (source_of seat.command)) names.0 small word is_word)

@@ -1,5 +1,5 @@
 -- The begin of the next phase, once all have answered, keeps the rule.
-use Rattle.std.proofs.Common.{◌≡◌, ℕ, ◌+◌, ◌<◌, false, List, [], ◌∷◌, length, refl, sym, ap, ◌∙◌, subst, arith}
+use Rattle.std.proofs.Common.{◌≡◌, ℕ, ◌+◌, ◌<◌, false, List, [], ◌∷◌, refl, sym, ap, ◌∙◌, subst, arith}
 use Rattle.std.proofs.lemmas.List.Elements.{filter-append}
 use Rattle.heap_model.specs.declared.entry.Entry.TheVariants.{Advance}
 use Rattle.heap_model.specs.declared.heap.Heap.{Heap}
@@ -11,10 +11,9 @@ use Rattle.heap_model.specs.graph.State.{State as Graph, opening}
 use Rattle.heap_model.proofs.Histories.{graph_after-more}
 use Rattle.core_machine.specs.declared.table.address.Address.TheVariants.{Answer, Phase}
 use Rattle.core_machine.specs.declared.collector.stage.Stage.TheVariants.{Advancing}
-use Rattle.core_machine.specs.collector.Collector.{advance_turn}
-use Rattle.core_machine.specs.table.Layout.{put, table_length}
-use Rattle.core_machine.specs.machine.Machine.{State, seat_at, turned}
-use Rattle.core_machine.specs.machine.Value.{IsMachine}
+use Rattle.core_machine.specs.collector.Collector.{advance_turn, collector_after}
+use Rattle.core_machine.specs.table.Layout.{put}
+use Rattle.core_machine.specs.machine.Machine.{State, seat_at}
 use Rattle.core_machine.proofs.table_lemmas.Addresses.{at-put_same}
 use Rattle.core_rule.specs.Book.{Book}
 use Rattle.core_rule.specs.Colours.{Leads}
@@ -22,7 +21,7 @@ use Rattle.core_rule.specs.Counts.{is_collectors}
 use Rattle.core_rule.specs.Cycle.{HeapInCycle}
 use Rattle.core_rule.specs.Rule.{Rule, HeapStands, SeatStands}
 use Rattle.core_rule.proofs.words.Addresses.{at-put_apart}
-use Rattle.core_rule.proofs.steps.Assemble.{Keeps}
+use Rattle.core_rule.proofs.steps.TurnSteps.{TurnKeeps, turn_steps}
 use Rattle.core_rule.proofs.cycle.CycleFrames.{cycle_told}
 use Rattle.core_rule.proofs.frames.EntryFrames.{fragments_phase, heap_past, seat_past}
 use Rattle.core_rule.proofs.colours.LeadsFrames.{leads_apart}
@@ -72,14 +71,14 @@ module _ (heap : Heap) (state : State) (book : Book) (rule : Rule heap state boo
   leads_on : (f part g : ℕ) → Leads heap words f part g → Leads heap state.words f part g
   leads_on f part g leads = leads_apart heap state.words Phase next f part g (λ e. omega (arith, e)) leads
 
-  heap_on : length words ≡ table_length heap → HeapStands heap words later
-  heap_on whole =
+  heap_on : HeapStands heap words later
+  heap_on =
       let cycle = rule.heap_stands.cycle in
-      heap_past heap state.words words (fragments_phase heap state.words next) book (Advance next) nodes whole record { taken = refl; given = refl; freed = refl }
+      heap_past heap state.words words (fragments_phase heap state.words next) book (Advance next) nodes record { taken = refl; given = refl; freed = refl }
       (legal_more heap false book.history (Advance next) rule.heap_stands.legal tt keeps)
       (subst (λ p. HeapInCycle heap words p book.owner book.colour book.fragments) (sym grown)
       record {
-        word = at-put_same heap state.words Phase next rule.heap_stands.table tt ∙ told;
+        word = at-put_same heap state.words Phase next rule.machine.table tt ∙ told;
         so_far = omega (arith, early);
         marks = marks_same heap state.words words book.colour (fragments_phase heap state.words next).controls cycle.marks;
         coloured = coloured_next heap state.words words book.owner book.colour book.fragments (phase book.history) early leads_on cycle.coloured;
@@ -95,24 +94,14 @@ module _ (heap : Heap) (state : State) (book : Book) (rule : Rule heap state boo
       (at-put_apart heap state.words Phase (Answer r) next (λ e. omega (arith, e))) leads_on stands.fits (all_answered r below) stands.cycle)) stands
 
   -- the begin of the next phase keeps the rule
-  pub advance_keeps : IsMachine heap (turned heap state (advance_turn state.collector))
-      → Keeps heap (turned heap state (advance_turn state.collector)) book book.begun (advance_turn state.collector).adds
-  advance_keeps machine = record {
-    now = later;
-    grown = refl;
-    calls = refl;
-    rule = record {
-      limits = rule.limits;
-      machine = machine;
-      all_seats = rule.all_seats;
-      heap_stands = heap_on machine.table;
-      seats_stand = seat_on;
-      collector_stands = record {
+  pub advance_keeps : TurnKeeps heap state book (advance_turn state.collector)
+  advance_keeps machine =
+      turn_steps heap state book words (collector_after (advance_turn state.collector) 0) later (Advance next ∷ []) rule machine refl heap_on
+      (λ r below stands. seat_on r below)
+      record {
         log = rw (filter-append is_collectors book.history (Advance next ∷ []), rule.collector_stands.log) refl;
         phase_told = told ∙ sym grown;
         looked = λ q none below present. absurd (omega (arith, none));
         advances = λ on. absurd (cc (on));
         goes_on = λ on. absurd (cc (on));
-      };
-    };
-  }
+      }

@@ -1,8 +1,7 @@
 -- The collector's look at a seat's answer keeps the rule.
 use Rattle.std.specs.Prelude.{if◌then◌else◌}
-use Rattle.std.proofs.Common.{◌≡◌, ℕ, suc, ◌+◌, ◌%◌, ◌<◌, ◌≤◌, Bool, true, false, List, [], ◌++◌, inl, inr, refl, sym, ◌∙◌, subst, arith}
+use Rattle.std.proofs.Common.{◌≡◌, ℕ, suc, ◌+◌, ◌%◌, ◌<◌, ◌≤◌, Bool, true, false, List, inl, inr, refl, sym, ◌∙◌, subst, arith}
 use Rattle.std.proofs.lemmas.Bool.Decides.{eqb_tells, leb_tells}
-use Rattle.std.proofs.lemmas.List.{append-nil}
 use Rattle.heap_words.specs.declared.phase.TheConstants.{LEFT}
 use Rattle.heap_model.specs.declared.entry.Entry.{Entry}
 use Rattle.heap_model.specs.declared.heap.Heap.{Heap}
@@ -12,13 +11,10 @@ use Rattle.core_machine.specs.declared.collector.stage.Stage.TheVariants.{Lookin
 use Rattle.core_machine.specs.collector.Collector.{Collector, has_answered, looked_all, looked_on, looked_at, look_turn}
 use Rattle.core_machine.specs.seat.Fits.{FitsStage}
 use Rattle.core_machine.specs.table.Layout.{at}
-use Rattle.core_machine.specs.machine.Machine.{State, seat_at, turned}
-use Rattle.core_machine.specs.machine.Value.{IsMachine}
-use Rattle.core_machine.proofs.table_lemmas.Addresses.{put-at}
-use Rattle.core_rule.specs.Book.{Book}
+use Rattle.core_machine.specs.machine.Machine.{seat_at}
 use Rattle.core_rule.specs.Phases.{CollectorStands}
-use Rattle.core_rule.specs.Rule.{Rule}
-use Rattle.core_rule.proofs.steps.Assemble.{Keeps, few_answers}
+use Rattle.core_rule.proofs.steps.Assemble.{few_answers}
+use Rattle.core_rule.proofs.steps.TurnSteps.{StageKeeps, load_turns}
 
 -- the word of a seat that hasn't left tells that it has answered the phase
 word_tells : (p answer : ℕ) → answer ≤ p → p ≤ 3 → has_answered p answer ≡ true → answer ≡ p
@@ -29,17 +25,6 @@ word_tells p answer near early seen = elim (eqb_tells answer p) [
     | inr neither ↦ absurd (cc (seen, other.0, neither.0))
   ]
 ]
-
--- the collector with an empty log added
-log_stays : (heap : Heap) (collector : Collector) (history : List Entry) → CollectorStands heap collector history
-    → CollectorStands heap (record collector { log = collector.log ++ [] }) history
-log_stays heap collector history stands = record {
-  log = append-nil collector.log ∙ stands.log;
-  phase_told = stands.phase_told;
-  looked = stands.looked;
-  advances = stands.advances;
-  goes_on = stands.goes_on;
-}
 
 module _ (heap : Heap) (collector : Collector) (history : List Entry) (stands : CollectorStands heap collector history) (looking : collector.stage ≡ Looking)
     (early : phase history ≤ 3) where
@@ -92,14 +77,8 @@ module _ (heap : Heap) (collector : Collector) (history : List Entry) (stands : 
       by true seen = on_seen (seen refl)
       by false seen = stands
 
--- the state after a turn of the collector
-abbrev after_turn : State → List ℕ → Collector → State
-after_turn state words collector = record state { words = words; collector = collector }
-
 -- a look at a seat's answer keeps the rule
-pub look_keeps : (heap : Heap) (state : State) (book : Book) → Rule heap state book → state.collector.stage ≡ Looking
-    → IsMachine heap (turned heap state (look_turn heap state.collector))
-    → Keeps heap (turned heap state (look_turn heap state.collector)) book book.begun (look_turn heap state.collector).adds
+pub look_keeps : StageKeeps Looking look_turn
 look_keeps heap state book rule looking machine =
     let collector : Collector = state.collector in
     let q : ℕ = collector.looked in
@@ -112,18 +91,4 @@ look_keeps heap state book rule looking machine =
     = λ seen present. word_tells (phase book.history) (answered q book.history) (few_answers heap state.words book q (seat_at state q) stands present) early
     (subst (λ w. has_answered (phase book.history) w ≡ true) (told.word ∙ rw (sym told.leaves ∙ present) (sym told.told))
     (subst (λ p. has_answered p found ≡ true) rule.collector_stands.phase_told seen)) in
-    let after : Collector = record (looked_at heap collector found) { log = (looked_at heap collector found).log ++ [] } in
-    subst (λ words. IsMachine heap (after_turn state words after) → Keeps heap (after_turn state words after) book book.begun []) (sym (put-at heap state.words (Answer q)))
-    (λ same. record {
-      now = book;
-      grown = sym (append-nil book.history);
-      calls = refl;
-      rule = record {
-        limits = rule.limits;
-        machine = same;
-        all_seats = rule.all_seats;
-        heap_stands = rule.heap_stands;
-        seats_stand = rule.seats_stand;
-        collector_stands = log_stays heap (looked_at heap collector found) book.history (look_seen heap collector book.history rule.collector_stands looking early found tells);
-      };
-    }) machine
+    load_turns heap state book (Answer q) (looked_at heap collector found) rule machine (look_seen heap collector book.history rule.collector_stands looking early found tells)

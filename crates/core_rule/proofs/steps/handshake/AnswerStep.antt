@@ -18,7 +18,7 @@ use Rattle.core_machine.specs.seat.AnsweringMoves.{answer_move}
 use Rattle.core_machine.specs.seat.Commands.{target_of}
 use Rattle.core_machine.specs.seat.Fits.{Fits, IsAtRest, Answers as IsAnswering}
 use Rattle.core_machine.specs.table.Layout.{at, put}
-use Rattle.core_machine.specs.machine.Machine.{State, seat_at, stepped, found_by}
+use Rattle.core_machine.specs.machine.Machine.{State, seat_at, stepped}
 use Rattle.core_machine.specs.Moves.{seat_after}
 use Rattle.core_machine.specs.seat.Polling.{roots}
 use Rattle.core_machine.specs.seat.Seat.{Seat}
@@ -31,9 +31,10 @@ use Rattle.core_rule.specs.Phases.{Asks, answer_word}
 use Rattle.core_rule.specs.Rule.{Rule, HeapStands, SeatStands}
 use Rattle.core_rule.proofs.entries.AnswerEntries.{graph_answer, graph_reply, phase_answer, accepts_reply, has_answered, keeps_answer, keeps_reply}
 use Rattle.core_rule.proofs.cycle.AnswerWords.{fragments_answer, heap_cycle_answer, leaves_answer}
-use Rattle.core_rule.proofs.steps.Assemble.{Keeps, seat_steps, fit_after}
+use Rattle.core_rule.proofs.steps.Assemble.{Keeps, seat_steps, fit_after, StepKeeps}
 use Rattle.core_rule.proofs.entries.AtRest.{in_flight, none_awaited, spent_own, few_own}
 use Rattle.core_rule.proofs.cycle.CycleFrames.{cycle_stays}
+use Rattle.core_rule.proofs.cycle.FieldFrames.{watched_born}
 use Rattle.core_rule.proofs.cycle.CycleHistory.{heap_cycle_more, cycle_other}
 use Rattle.core_rule.proofs.hand.EmptyHand.{none_stored, gathers_none}
 use Rattle.core_rule.proofs.frames.EntryFrames.{SameFragments, heap_past, seat_past}
@@ -99,10 +100,10 @@ module _ (heap : Heap) (state : State) (book : Book) (q : ℕ) (rule : Rule heap
   stays = in_flight heap seat stands.fits (λ idle. absurd (cc (place, idle)))
 
   present : (party g q).left ≡ false
-  present = stands.counts.leaves ∙ stays
+  present = stands.told.counts.leaves ∙ stays
 
   small : q < 16
-  small = omega (arith, here, rule.limits.seats_fit)
+  small = omega (arith, here, rule.machine.limits.seats_fit)
 
   own : is_of q first ≡ true
   own = eq-eqb q q refl
@@ -130,7 +131,7 @@ module _ (heap : Heap) (state : State) (book : Book) (q : ℕ) (rule : Rule heap
 
   heap_middle : HeapStands heap words middle
   heap_middle =
-      heap_past heap state.words words same book first nodes machine.table record { taken = refl; given = refl; freed = refl }
+      heap_past heap state.words words same book first nodes record { taken = refl; given = refl; freed = refl }
       (legal_more heap false book.history first rule.heap_stands.legal present (keeps_answer heap book q p seat.command polls asks.now next))
       (heap_cycle_more heap words book.owner book.colour book.history first refl book.fragments
       (heap_cycle_answer heap state.words q p small (phase book.history) book.owner book.colour book.fragments rule.heap_stands.cycle)) rule.heap_stands
@@ -146,42 +147,44 @@ module _ (heap : Heap) (state : State) (book : Book) (q : ℕ) (rule : Rule heap
       told = answered_stays middle.history second q refl ∙ has_answered heap book q p seat.command polls asks.now next;
       leaves = left_stays middle.history second q (no_leave_told q q seat.command (replies.Phase p) (λ leaves. absurd (cc (leaves, polls))))
           ∙ left_stays book.history first q refl ∙ stands.cycle.answers_told.leaves;
-      word = at-put_same heap state.words (Answer q) p rule.heap_stands.table small ∙ sym (ap (λ left. answer_word left p) stays);
+      word = at-put_same heap state.words (Answer q) p rule.machine.table small ∙ sym (ap (λ left. answer_word left p) stays);
       near = λ there. inl (asks.now ∙ sym (phase_stays middle.history second refl ∙ phase_answer heap book q p seat.command polls));
       loaded = omega arith;
     };
     answer = tt;
     flight = record { set = λ marking snapped. tt; shaded = λ marking. tt; roots = λ begins. tt };
     births = record {
-      dark = λ between f bears. absurd (bears_nothing book.owner q seat.reserve seat.hand seat.body rest.no_body stands.holding f bears);
-      light = λ apart f bears. absurd (bears_nothing book.owner q seat.reserve seat.hand seat.body rest.no_body stands.holding f bears);
+      dark = λ between f bears. absurd (bears_nothing book.owner q seat.reserve seat.hand seat.body rest.no_body stands.own.holding f bears);
+      light = λ apart f bears. absurd (bears_nothing book.owner q seat.reserve seat.hand seat.body rest.no_body stands.own.holding f bears);
     };
   }
 
   own_stands : SeatStands heap words later q now
   own_stands =
       let counts_middle : OwnCounts (graph_of heap middle.history) middle.history q seat
-      = counts_own g (graph_of heap middle.history) book.history q seat seat stands.counts first own
-      (rw graph stands.counts.numbered) (rw graph stands.counts.stamped) (rw graph stands.counts.leaves) (omega arith) in
+      = counts_own g (graph_of heap middle.history) book.history q seat seat stands.told.counts first own
+      (rw graph stands.told.counts.numbered) (rw graph stands.told.counts.stamped) (rw graph stands.told.counts.leaves) (omega arith) in
       record {
         fits = fits;
-        holding = stands.holding;
-        stored = none_stored heap words q now rest.none_stored;
-        registers = rw graph_later (λ i awake. stands.registers i (none_awaited seat.place (places.Polling Answering) (target_of seat.command) i place (λ none. none)));
-        list = record {
-          awaited = [];
-          own = append-nil now.mine ∙ sym (append_assoc seat.mine (first ∷ []) (second ∷ []))
-              ∙ own_grows q middle.history (seat.mine ++ first ∷ []) second own
-              (own_grows q book.history seat.mine first own (all_told seat.mine stands.list.awaited (filter (is_of q) book.history) stands.list.own (rw place at stands.list.awaits)));
-          awaits = refl;
+        own = record { holding = stands.own.holding; stored = none_stored heap words q now rest.none_stored; together = stands.own.together };
+        names = record {
+          registers = rw graph_later (λ i awake. stands.names.registers i (none_awaited seat.place (places.Polling Answering) (target_of seat.command) i place (λ none. none)));
+          way = tt;
         };
-        way = tt;
+        told = record {
+          list = record {
+            awaited = [];
+            own = append-nil now.mine ∙ sym (append_assoc seat.mine (first ∷ []) (second ∷ []))
+                ∙ own_grows q middle.history (seat.mine ++ first ∷ []) second own
+                (own_grows q book.history seat.mine first own (all_told seat.mine stands.told.list.awaited (filter (is_of q) book.history) stands.told.list.own (rw place at stands.told.list.awaits)));
+            awaits = refl;
+          };
+          counts = counts_own (graph_of heap middle.history) (graph_of heap later.history) middle.history q seat now counts_middle second own
+              (rw graph_then counts_middle.numbered) (rw graph_then counts_middle.stamped) (rw graph_then counts_middle.leaves) (omega arith);
+          began = began_idle middle.history second q (book.begun q) seat.place (began_past book.history first q (book.begun q) seat.place seat.place refl (λ busy. busy) stands.told.began);
+          gathers = gathers_none heap book.owner q (drop (book.begun q) later.history) now.cursor now.tried now.given rest.none_tried rest.none_given;
+        };
         cycle = own_cycle;
-        together = stands.together;
-        counts = counts_own (graph_of heap middle.history) (graph_of heap later.history) middle.history q seat now counts_middle second own
-            (rw graph_then counts_middle.numbered) (rw graph_then counts_middle.stamped) (rw graph_then counts_middle.leaves) (omega arith);
-        began = began_idle middle.history second q (book.begun q) seat.place (began_past book.history first q (book.begun q) seat.place seat.place refl (λ busy. busy) stands.began);
-        gathers = gathers_none heap book.owner q (drop (book.begun q) later.history) now.cursor now.tried now.given rest.none_tried rest.none_given;
       }
 
   other_stands : (r : ℕ) → r < heap.seats → r ≢ q → SeatStands heap state.words book r (seat_at state r) → SeatStands heap words later r (seat_at state r)
@@ -191,15 +194,11 @@ module _ (heap : Heap) (state : State) (book : Book) (q : ℕ) (rule : Rule heap
       (seat_past heap state.words words same book first nodes r (seat_at state r) away (ap (λ (x : Graph). party x r) graph)
       (cycle_other heap words book.owner book.colour book.history first refl r (seat_at state r)
       (cycle_stays heap state.words words book.owner book.owner book.colour book.colour (phase book.history) (answered r book.history) (has_left r book.history) r (seat_at state r)
-      (leaves_answer heap state.words q p small book.owner book.colour (phase book.history) r (seat_at state r) apart) other.cycle) away) other)
+      (leaves_answer heap state.words q p small book.owner book.colour (phase book.history) r apart) (watched_born heap state book rule r below) other.cycle) away) other)
 
   -- the answer keeps the rule
   answer_kept : Keeps heap (stepped heap state q (answer_move q seat)) book book.begun (first ∷ second ∷ [])
   answer_kept = seat_steps heap state book q words now later (first ∷ second ∷ []) rule here machine (append_assoc book.history (first ∷ []) (second ∷ [])) refl heap_later own_stands other_stands
 
-pub answer_keeps : (heap : Heap) (state : State) (book : Book) (q : ℕ) → Rule heap state book → q < heap.seats
-    → (seat_at state q).place ≡ places.Polling Answering
-    → IsMachine heap (stepped heap state q (answer_move q (seat_at state q)))
-    → Keeps heap (stepped heap state q (answer_move q (seat_at state q))) book book.begun
-    ((answer_move q (seat_at state q)).shows state.words (found_by heap state (answer_move q (seat_at state q)).step))
+pub answer_keeps : StepKeeps (places.Polling Answering) (λ heap. answer_move)
 answer_keeps heap state book q rule here place machine = answer_kept heap state book q rule here place machine

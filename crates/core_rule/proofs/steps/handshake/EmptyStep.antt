@@ -4,7 +4,6 @@ use Rattle.std.proofs.lemmas.Bool.{eq-eqb}
 use Rattle.heap_model.specs.declared.command.Command.TheVariants as commands
 use Rattle.heap_model.specs.declared.entry.Entry.{Entry}
 use Rattle.heap_model.specs.declared.entry.Entry.TheVariants as entries
-use Rattle.heap_model.specs.declared.heap.Heap.{Heap}
 use Rattle.heap_model.specs.account.Cycles.{graph_of}
 use Rattle.heap_model.specs.account.Effects.{is_of}
 use Rattle.heap_model.specs.graph.Objects.{party}
@@ -19,30 +18,25 @@ use Rattle.core_machine.specs.seat.AnsweringMoves.{empty_move}
 use Rattle.core_machine.specs.seat.Commands.{target_of}
 use Rattle.core_machine.specs.seat.Fits.{IsAtRest}
 use Rattle.core_machine.specs.table.Layout.{at}
-use Rattle.core_machine.specs.machine.Machine.{State, seat_at, stepped, found_by}
+use Rattle.core_machine.specs.machine.Machine.{seat_at}
 use Rattle.core_machine.specs.Moves.{seat_after}
 use Rattle.core_machine.specs.seat.Seat.{Seat}
-use Rattle.core_machine.specs.machine.Value.{IsMachine}
 use Rattle.core_rule.specs.Book.{Book}
 use Rattle.core_rule.specs.Gathers.{IsAnswered}
-use Rattle.core_rule.specs.Rule.{Rule}
-use Rattle.core_rule.proofs.steps.Assemble.{Keeps, seat_steps, fit_after}
+use Rattle.core_rule.proofs.frames.SeatFrames.{registers_owners}
+use Rattle.core_rule.proofs.steps.Assemble.{seat_steps, fit_after, StepKeeps}
 use Rattle.core_rule.proofs.entries.AtRest.{in_flight, own_reserve, none_awaited}
 use Rattle.core_rule.proofs.hand.EmptyHand.{nothing_together, gathers_none}
 use Rattle.core_rule.proofs.frames.GivingBack.{words_given, book_given, graph_given, kept_given, heap_given, cycle_given, other_given}
 use Rattle.core_rule.proofs.entries.InFlight.{began_past}
-use Rattle.core_rule.proofs.objects.ObjectFrames.{registers_owners}
+use Rattle.core_rule.proofs.objects.ObjectFrames.{}
 use Rattle.core_rule.proofs.entries.OwnEntries.{counts_own, own_grows}
 use Rattle.core_rule.proofs.hand.ReserveGiven.{reserve_held, reserve_once, holding_emptied, emptied_bits}
 use Rattle.core_rule.proofs.entries.SeatLists.{whole_list, all_told}
 use Rattle.core_rule.proofs.hand.StoredFrames.{stored_control}
 
 -- the give back keeps the rule
-pub empty_keeps : (heap : Heap) (state : State) (book : Book) (q : ℕ) → Rule heap state book → q < heap.seats
-    → (seat_at state q).place ≡ places.Leaving Emptying
-    → IsMachine heap (stepped heap state q (empty_move q (seat_at state q)))
-    → Keeps heap (stepped heap state q (empty_move q (seat_at state q))) book book.begun
-    ((empty_move q (seat_at state q)).shows state.words (found_by heap state (empty_move q (seat_at state q)).step))
+pub empty_keeps : StepKeeps (places.Leaving Emptying) (λ heap. empty_move)
 empty_keeps heap state book q rule here place machine =
     let seat : Seat = seat_at state q in
     let stands = rule.seats_stand q here in
@@ -53,34 +47,40 @@ empty_keeps heap state book q rule here place machine =
     let at_place : IsAtRest seat × (seat.command ≡ commands.Leave) × (0 < length seat.reserve) = rw place at stands.fits.at_place in
     let rest : IsAtRest seat = at_place.0 in
     let busy : seat.place ≢ places.Idle = λ idle. absurd (cc (place, idle)) in
-    let present : (party g q).left ≡ false = stands.counts.leaves ∙ in_flight heap seat stands.fits busy in
-    let awaits = rw place at stands.list.awaits in
-    let told : seat.mine ≡ filter (is_of q) book.history = all_told seat.mine stands.list.awaited (filter (is_of q) book.history) stands.list.own awaits in
+    let present : (party g q).left ≡ false = stands.told.counts.leaves ∙ in_flight heap seat stands.fits busy in
+    let awaits = rw place at stands.told.list.awaits in
+    let told : seat.mine ≡ filter (is_of q) book.history = all_told seat.mine stands.told.list.awaited (filter (is_of q) book.history) stands.told.list.own awaits in
     let below : seat.cursor < heap.groups = stands.fits.cursor_within in
-    let held = reserve_held book.owner q fs seat.hand seat.body stands.holding in
-    let once = reserve_once book.owner q fs seat.hand seat.body stands.holding in
+    let held = reserve_held book.owner q fs seat.hand seat.body stands.own.holding in
+    let once = reserve_once book.owner q fs seat.hand seat.body stands.own.holding in
     let graph = graph_given heap state book q rule here seat.cursor fs below held once in
     let kept = kept_given heap state book q rule here seat.cursor fs below held once in
     let later : Book = book_given heap state book q rule here seat.cursor fs below held once in
     let own : length fs + spent_of q book.history ≡ taken_of q book.history = own_reserve heap state book q rule here rest in
     seat_steps heap state book q (words_given heap state book q rule here seat.cursor fs below held once) now later (entry ∷ []) rule here machine refl refl
     (heap_given heap state book q rule here seat.cursor fs below held once
-    (emptied_bits book.owner q fs seat.hand seat.body stands.holding heap state.words seat.cursor rule.heap_stands.table below stands.fits.reserve_of_cursor rule.heap_stands.control_words)
+    (emptied_bits book.owner q fs seat.hand seat.body stands.own.holding heap state.words seat.cursor rule.machine.table below stands.fits.reserve_of_cursor rule.heap_stands.control_words)
     present at_place.2 (omega (arith, own)))
     record {
       fits = fit_after heap state book q rule here machine;
-      holding = holding_emptied book.owner q fs seat.hand seat.body stands.holding;
-      stored = stored_control heap state.words q seat seat.cursor _ below stands.stored;
-      registers = rw graph (λ r fresh. registers_owners book.owner later.owner kept book.made book.fragments g q seat.registers seat.place (target_of seat.command) stands.registers r
-          (none_awaited seat.place (places.Leaving Emptying) (target_of seat.command) r place (λ none. none)));
-      list = whole_list (graph_of heap later.history) later.history book.made later.owner book.fragments q now refl (own_grows q book.history seat.mine entry (eq-eqb q q refl) told);
-      way = tt;
+      own = record {
+        holding = holding_emptied book.owner q fs seat.hand seat.body stands.own.holding;
+        stored = stored_control heap state.words q seat seat.cursor _ below stands.own.stored;
+        together = nothing_together heap seat.cursor seat.tried seat.hand seat.body rest.empty_hand rest.no_body;
+      };
+      names = record {
+        registers = rw graph (λ r fresh. registers_owners book.owner later.owner kept book.made book.fragments g q seat.registers seat.place (target_of seat.command) stands.names.registers r
+            (none_awaited seat.place (places.Leaving Emptying) (target_of seat.command) r place (λ none. none)));
+        way = tt;
+      };
+      told = record {
+        list = whole_list (graph_of heap later.history) later.history book.made later.owner book.fragments q now refl (own_grows q book.history seat.mine entry (eq-eqb q q refl) told);
+        counts = rw graph (counts_own g g book.history q seat now stands.told.counts entry (eq-eqb q q refl)
+            stands.told.counts.numbered stands.told.counts.stamped stands.told.counts.leaves (omega arith));
+        began = began_past book.history entry q (book.begun q) seat.place (places.Leaving Parting) refl (λ still. unanswered seat.place place) stands.told.began;
+        gathers = gathers_none heap later.owner q (drop (book.begun q) later.history) seat.cursor seat.tried seat.given rest.none_tried rest.none_given;
+      };
       cycle = cycle_given heap state book q rule here seat.cursor fs below held once now record { answered = refl; left = refl; asked = refl } tt;
-      together = nothing_together heap seat.cursor seat.tried seat.hand seat.body rest.empty_hand rest.no_body;
-      counts = rw graph (counts_own g g book.history q seat now stands.counts entry (eq-eqb q q refl)
-          stands.counts.numbered stands.counts.stamped stands.counts.leaves (omega arith));
-      began = began_past book.history entry q (book.begun q) seat.place (places.Leaving Parting) refl (λ still. unanswered seat.place place) stands.began;
-      gathers = gathers_none heap later.owner q (drop (book.begun q) later.history) seat.cursor seat.tried seat.given rest.none_tried rest.none_given;
     }
     (other_given heap state book q rule here seat.cursor fs below held once)
   where

@@ -5,7 +5,6 @@ use Rattle.heap_words.specs.declared.phase.TheConstants.{LEFT}
 use Rattle.heap_model.specs.declared.command.Command.TheVariants as commands
 use Rattle.heap_model.specs.declared.entry.Entry.{Entry}
 use Rattle.heap_model.specs.declared.entry.Entry.TheVariants as entries
-use Rattle.heap_model.specs.declared.heap.Heap.{Heap}
 use Rattle.heap_model.specs.declared.id.Value.{Value}
 use Rattle.heap_model.specs.declared.id.Value.TheVariants as values
 use Rattle.heap_model.specs.declared.reply.Reply.TheVariants as replies
@@ -26,17 +25,14 @@ use Rattle.core_machine.specs.declared.seat.register.Register.TheVariants as reg
 use Rattle.core_machine.specs.seat.AnsweringMoves.{leave_move}
 use Rattle.core_machine.specs.seat.Fits.{IsAtRest}
 use Rattle.core_machine.specs.table.Layout.{at, put}
-use Rattle.core_machine.specs.machine.Machine.{State, seat_at, stepped, found_by}
+use Rattle.core_machine.specs.machine.Machine.{seat_at}
 use Rattle.core_machine.specs.Moves.{seat_after}
 use Rattle.core_machine.specs.seat.Seat.{Seat}
-use Rattle.core_machine.specs.machine.Value.{IsMachine}
 use Rattle.core_machine.proofs.table_lemmas.Addresses.{at-put_same}
-use Rattle.core_rule.specs.Book.{Book}
 use Rattle.core_rule.specs.Objects.{Objects}
 use Rattle.core_rule.specs.Registers as regs
-use Rattle.core_rule.specs.Rule.{Rule}
 use Rattle.core_rule.proofs.cycle.AnswerWords.{fragments_answer, heap_cycle_answer, leaves_answer}
-use Rattle.core_rule.proofs.steps.Assemble.{Keeps}
+use Rattle.core_rule.proofs.steps.Assemble.{StepKeeps}
 use Rattle.core_rule.proofs.entries.AtRest.{in_flight, own_reserve, spent_own}
 use Rattle.core_rule.proofs.frames.EntryFrames.{SameFragments}
 use Rattle.core_rule.proofs.graph.GraphSeats.{SeatChanges, party_is, one_changes}
@@ -57,11 +53,7 @@ abbrev gone : Graph → ℕ → Party
 gone g q = record (party g q) { registers = replicate 16 values.Nil; left = true }
 
 -- a leave keeps the rule
-pub leave_keeps : (heap : Heap) (state : State) (book : Book) (q : ℕ) → Rule heap state book → q < heap.seats
-    → (seat_at state q).place ≡ places.Leaving Parting
-    → IsMachine heap (stepped heap state q (leave_move q (seat_at state q)))
-    → Keeps heap (stepped heap state q (leave_move q (seat_at state q))) book book.begun
-    ((leave_move q (seat_at state q)).shows state.words (found_by heap state (leave_move q (seat_at state q)).step))
+pub leave_keeps : StepKeeps (places.Leaving Parting) (λ heap. leave_move)
 leave_keeps heap state book q rule here place machine =
     let seat : Seat = seat_at state q in
     let g : Graph = graph_of heap book.history in
@@ -69,9 +61,9 @@ leave_keeps heap state book q rule here place machine =
     let stands = rule.seats_stand q here in
     let at_place : IsAtRest seat × (seat.command ≡ commands.Leave) × (seat.reserve ≡ []) = rw place at stands.fits.at_place in
     let busy : seat.place ≢ places.Idle = λ idle. absurd (cc (place, idle)) in
-    let present : (party g q).left ≡ false = stands.counts.leaves ∙ in_flight heap seat stands.fits busy in
-    let awaits = rw place at stands.list.awaits in
-    let small : q < 16 = omega (arith, here, rule.limits.seats_fit) in
+    let present : (party g q).left ≡ false = stands.told.counts.leaves ∙ in_flight heap seat stands.fits busy in
+    let awaits = rw place at stands.told.list.awaits in
+    let small : q < 16 = omega (arith, here, rule.machine.limits.seats_fit) in
     let now : Graph = after_reply g q seat.command replies.Done in
     let grown : now ≡ leave g q = ap (λ c. after_reply g q c replies.Done) at_place.1 in
     let changes : SeatChanges g now q = rw grown (one_changes g q (gone g q) present refl refl) in
@@ -84,7 +76,7 @@ leave_keeps heap state book q rule here place machine =
     let leaves : is_leave_of q left ≡ true = ap (λ c. is_leave_of q (entries.Said q c replies.Done)) at_place.1 ∙ eq-eqb q q refl in
     let told = stands.cycle.answers_told in
     reply_keeps heap state book q words (seat_after (leave_move q seat) (at heap state.words (Answer q))) seat.command replies.Done rule here machine
-    refl at_place.0 (all_told seat.mine stands.list.awaited (filter (is_of q) book.history) stands.list.own awaits)
+    refl at_place.0 (all_told seat.mine stands.told.list.awaited (filter (is_of q) book.history) stands.told.list.own awaits)
     (legal_more heap false book.history (entries.Said q seat.command replies.Done) rule.heap_stands.legal
     (present, subst IsCommand (sym at_place.1) tt, subst (λ c. Says g q c replies.Done) (sym at_place.1) refl)
     (keeps_said heap false book.history q seat.command replies.Done refl tt tt (subst (λ c. ShowsPhases heap false book.history q c replies.Done) (sym at_place.1) tt)
@@ -95,8 +87,8 @@ leave_keeps heap state book q rule here place machine =
       idle = refl;
       reserve = refl;
       mine = refl;
-      made = stands.counts.numbered ∙ sym changes.objects;
-      sets = stands.counts.stamped ∙ sym changes.sets;
+      made = stands.told.counts.numbered ∙ sym changes.objects;
+      sets = stands.told.counts.stamped ∙ sym changes.sets;
       left = ap (λ (p : Party). p.left) party_now;
       registers = λ i. all_holds i (ap (λ (p : Party). get_or p.registers i values.Nil) party_now ∙ all_nil values.Nil 16 i);
     }
@@ -105,7 +97,7 @@ leave_keeps heap state book q rule here place machine =
       answers_told = record {
         told = answered_stays book.history left q refl ∙ told.told;
         leaves = left_once book.history left q leaves;
-        word = at-put_same heap state.words (Answer q) LEFT rule.heap_stands.table small;
+        word = at-put_same heap state.words (Answer q) LEFT rule.machine.table small;
         near = λ present. absurd (cc present);
         loaded = omega (arith, told.loaded, phase_stays book.history left refl);
       };
@@ -113,7 +105,7 @@ leave_keeps heap state book q rule here place machine =
       flight = record { set = λ marking snapped. tt; shaded = λ marking. tt; roots = λ begins. tt };
       births = stands.cycle.births;
     }
-    (λ r below apart. leaves_answer heap state.words q LEFT small book.owner book.colour (phase book.history) r (seat_at state r) apart)
+    (λ r below apart. leaves_answer heap state.words q LEFT small book.owner book.colour (phase book.history) r apart)
   where
     all_holds : (i : ℕ) {value : Value} → value ≡ values.Nil → regs.Holds book.made book.owner book.fragments (get_or (replicate 16 registers.Nil) i registers.Nil) value
     all_holds i {value} is = subst (λ h. regs.Holds book.made book.owner book.fragments h value) (sym (all_nil registers.Nil 16 i)) is

@@ -19,7 +19,7 @@ use Rattle.core_machine.specs.seat.AnsweringMoves.{poll_move}
 use Rattle.core_machine.specs.seat.Commands.{target_of}
 use Rattle.core_machine.specs.seat.Fits.{IsAtRest, IsSilent}
 use Rattle.core_machine.specs.table.Layout.{at, put}
-use Rattle.core_machine.specs.machine.Machine.{State, seat_at, stepped, found_by}
+use Rattle.core_machine.specs.machine.Machine.{State, seat_at}
 use Rattle.core_machine.specs.seat.Polling.{roots, shades_on}
 use Rattle.core_machine.specs.seat.Seat.{Seat, with_entries}
 use Rattle.core_machine.specs.machine.Value.{IsMachine}
@@ -28,7 +28,7 @@ use Rattle.core_rule.specs.Book.{Book}
 use Rattle.core_rule.specs.Cycle.{SeatInCycle}
 use Rattle.core_rule.specs.Phases.{Asks, PollingStands}
 use Rattle.core_rule.specs.Rule.{Rule, SeatStands}
-use Rattle.core_rule.proofs.steps.Assemble.{Keeps, seat_steps, fit_after}
+use Rattle.core_rule.proofs.steps.Assemble.{Keeps, seat_steps, fit_after, StepKeeps}
 use Rattle.core_rule.proofs.cycle.Roots.{roots_marked}
 use Rattle.core_rule.proofs.entries.AtRest.{in_flight, none_awaited}
 use Rattle.core_rule.proofs.entries.InFlight.{began_on}
@@ -81,10 +81,10 @@ module _ (heap : Heap) (state : State) (book : Book) (q : ℕ) (rule : Rule heap
   is_phase = rule.heap_stands.cycle.word
 
   mine_told : seat.mine ≡ filter (is_of q) book.history
-  mine_told = all_told seat.mine stands.list.awaited (filter (is_of q) book.history) stands.list.own (rw place at stands.list.awaits)
+  mine_told = all_told seat.mine stands.told.list.awaited (filter (is_of q) book.history) stands.told.list.own (rw place at stands.told.list.awaits)
 
   holds : HoldAll heap book.history g q book.made book.owner book.fragments g seat.registers
-  holds i = stands.registers i (none_awaited seat.place (places.Polling Asking) (target_of seat.command) i place (λ none. none))
+  holds i = stands.names.registers i (none_awaited seat.place (places.Polling Asking) (target_of seat.command) i place (λ none. none))
 
   -- the seat has answered the phase
   poll_tells : found ≡ seat.answered → IsMachine heap (polls heap state q true) → Keeps heap (polls heap state q true) book book.begun (entries.Said q seat.command (replies.Phase found) ∷ [])
@@ -96,7 +96,7 @@ module _ (heap : Heap) (state : State) (book : Book) (q : ℕ) (rule : Rule heap
         only = only_none g q;
         registers = holds;
       } in
-      local_reply_keeps heap state book q Phase (polled q seat found true) (replies.Phase found) rule here machine rest mine_told (stands.counts.leaves ∙ stays)
+      local_reply_keeps heap state book q Phase (polled q seat found true) (replies.Phase found) rule here machine rest mine_told (stands.told.counts.leaves ∙ stays)
       (subst IsCommand (sym asks.1) tt)
       (subst (λ c. IsLocalReply heap book.history g q book.made book.owner book.fragments c (replies.Phase found) seat.registers) (sym asks.1) local)
       (no_leave_told q q seat.command (replies.Phase found) (λ leaves. absurd (cc (leaves, asks.1))))
@@ -130,25 +130,20 @@ module _ (heap : Heap) (state : State) (book : Book) (q : ℕ) (rule : Rule heap
       (λ same. seat_steps heap state book q state.words next book [] rule here same (sym (append-nil book.history)) refl rule.heap_stands
       record {
         fits = fit_after heap state book q rule here same;
-        holding = stands.holding;
-        stored = stands.stored;
-        registers = λ i awake. holds i;
-        list = record { awaited = []; own = append-nil next.mine ∙ append-nil seat.mine ∙ mine_told; awaits = refl };
-        way = tt;
+        own = record { holding = stands.own.holding; stored = stands.own.stored; together = stands.own.together };
+        names = record { registers = λ i awake. holds i; way = tt };
+        told = record {
+          list = record { awaited = []; own = append-nil next.mine ∙ append-nil seat.mine ∙ mine_told; awaits = refl };
+          counts = counts_same g book.history q seat next refl refl refl refl stands.told.counts;
+          began = began_on book.history q (book.begun q) seat.place next.place (rw place (λ answered. answered)) stands.told.began;
+          gathers = stands.told.gathers;
+        };
         cycle = own_cycle apart;
-        together = stands.together;
-        counts = counts_same g book.history q seat next refl refl refl refl stands.counts;
-        began = began_on book.history q (book.begun q) seat.place next.place (rw place (λ answered. answered)) stands.began;
-        gathers = stands.gathers;
       }
       (λ r below apart other. other)) machine
 
 -- a poll's load keeps the rule
-pub poll_keeps : (heap : Heap) (state : State) (book : Book) (q : ℕ) → Rule heap state book → q < heap.seats
-    → (seat_at state q).place ≡ places.Polling Asking
-    → IsMachine heap (stepped heap state q (poll_move q (seat_at state q)))
-    → Keeps heap (stepped heap state q (poll_move q (seat_at state q))) book book.begun
-    ((poll_move q (seat_at state q)).shows state.words (found_by heap state (poll_move q (seat_at state q)).step))
+pub poll_keeps : StepKeeps (places.Polling Asking) (λ heap. poll_move)
 poll_keeps heap state book q rule here place machine =
     let found : ℕ = at heap state.words Phase in
     elim (eqb_tells found (seat_at state q).answered) [

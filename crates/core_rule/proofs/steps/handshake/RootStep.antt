@@ -2,7 +2,6 @@
 use Rattle.std.proofs.Common.{◌≡◌, ℕ, ◌+◌, ◌%◌, ◌<◌, ◌==◌, if◌then◌else◌, Bool, true, false, List, [], length, filter, slice_index_or, refl, sym, ap, subst, arith, nat_lt}
 use Rattle.std.proofs.lemmas.Bool.{cond_both, eqb-true}
 use Rattle.std.proofs.lemmas.List.{append-nil}
-use Rattle.heap_model.specs.declared.heap.Heap.{Heap}
 use Rattle.heap_model.specs.account.Cycles.{graph_of}
 use Rattle.heap_model.specs.account.Effects.{is_of}
 use Rattle.heap_model.specs.graph.Objects.{register}
@@ -13,18 +12,15 @@ use Rattle.core_machine.specs.declared.place.Polling.TheVariants.{Shading, Answe
 use Rattle.core_machine.specs.seat.AnsweringMoves.{root_move}
 use Rattle.core_machine.specs.seat.Commands.{target_of}
 use Rattle.core_machine.specs.seat.Fits.{Answers as FitsAnswers}
-use Rattle.core_machine.specs.machine.Machine.{State, seat_at, stepped, found_by}
+use Rattle.core_machine.specs.machine.Machine.{seat_at}
 use Rattle.core_machine.specs.seat.Polling.{roots, answer_place}
 use Rattle.core_machine.specs.seat.Registers.{heads, register_in}
 use Rattle.core_machine.specs.seat.Seat.{Seat}
-use Rattle.core_machine.specs.machine.Value.{IsMachine}
-use Rattle.core_rule.specs.Book.{Book}
 use Rattle.core_rule.specs.Flight.{RootsStand, WhilePolling}
 use Rattle.core_rule.specs.Gathers.{IsAnswered}
 use Rattle.core_rule.specs.Phases.{Asks, PollingStands, AnswerStands}
 use Rattle.core_rule.specs.Registers.{IsAwaited, Holds}
-use Rattle.core_rule.specs.Rule.{Rule}
-use Rattle.core_rule.proofs.steps.Assemble.{Keeps}
+use Rattle.core_rule.proofs.steps.Assemble.{StepKeeps}
 use Rattle.core_rule.proofs.cycle.CycleFrames.{cycle_by_flight}
 use Rattle.core_rule.proofs.colours.Births.{births_stay}
 use Rattle.core_rule.proofs.cycle.Roots.{FrontMarked, front_more, roots_all, roots_marked}
@@ -43,11 +39,7 @@ roots_third true all n less = refl
 roots_third false all n less = absurd (omega (arith, less))
 
 -- shading a root keeps the rule
-pub root_keeps : (heap : Heap) (state : State) (book : Book) (q : ℕ) → Rule heap state book → q < heap.seats
-    → (seat_at state q).place ≡ places.Polling Shading
-    → IsMachine heap (stepped heap state q (root_move (seat_at state q)))
-    → Keeps heap (stepped heap state q (root_move (seat_at state q))) book book.begun
-    ((root_move (seat_at state q)).shows state.words (found_by heap state (root_move (seat_at state q)).step))
+pub root_keeps : StepKeeps (places.Polling Shading) (λ heap q. root_move)
 root_keeps heap state book q rule here place machine =
     let seat : Seat = seat_at state q in
     let g : Graph = graph_of heap book.history in
@@ -61,7 +53,7 @@ root_keeps heap state book q rule here place machine =
     let f : ℕ = slice_index_or (roots seat) seat.shaded 0 in
     let busy : ¬ IsAnswered seat.place = λ done. subst IsAnswered place done in
     let held : (r : ℕ) → Holds book.made book.owner book.fragments (register_in seat.registers r) (register g q r)
-    = λ r. stands.registers r (λ awaited. subst (λ x. IsAwaited x (target_of seat.command) r) place awaited) in
+    = λ r. stands.names.registers r (λ awaited. subst (λ x. IsAwaited x (target_of seat.command) r) place awaited) in
     let head : KeptHead book.made book.owner book.fragments f
     = subst (λ (fs : List ℕ). KeptHead book.made book.owner book.fragments (slice_index_or fs seat.shaded 0)) (sym all)
     (heads_kept book.made book.owner book.fragments seat.registers (λ r. register g q r) held seat.shaded (subst (λ (fs : List ℕ). seat.shaded < length fs) all fits.1)) in
@@ -71,7 +63,7 @@ root_keeps heap state book q rule here place machine =
     shade_keeps heap state book q rule here f head.number head.kept head.is (seat.shaded + 1) (places.Polling (answer_place (record seat { shaded = seat.shaded + 1 })))
     (λ rests. omega (arith, rests, asks.now, is_third)) machine
     (λ r unawaited. held r)
-    (list_more g book.made book.owner book.fragments q seat book.history busy stands.list g book.history new [] [] [] refl refl (sym (append-nil (filter (is_of q) book.history))) refl)
+    (list_more g book.made book.owner book.fragments q seat book.history busy stands.told.list g book.history new [] [] [] refl refl (sym (append-nil (filter (is_of q) book.history))) refl)
     tt busy
     (cycle_by_flight heap state.words (words_shaded heap state book q rule here f head.number head.kept head.is) book.owner book.owner book.colour (with_mark book.colour f) p
     (answered q book.history) (has_left q book.history) q seat new

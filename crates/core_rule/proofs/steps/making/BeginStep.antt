@@ -41,26 +41,32 @@ begin_keeps heap state book q command rule here may a_record machine =
     (heap_begins heap state.words book q rule.heap_stands)
     record {
       fits = fit_after heap state book q rule here machine;
-      holding = holding_goes_on heap book.owner q seat rest.no_body stands.holding;
-      stored = λ u below. absurd (none_below u next.stored (same.stored ∙ rest.none_stored) below);
-      registers = rw same.registers (λ r fresh. stands.registers r (λ awaited. idle_awaits (target_of (seat_at state q).command) r may.idle awaited));
-      list = list_of_making (graph_of heap book.history) book.history book.made book.owner book.fragments q next stays.making stays.placed
-          (same.mine ∙ idle_list (graph_of heap book.history) book.history book.made book.owner book.fragments q (seat_at state q) may.idle stands.list);
-      way = rw stays.placed tt;
+      own = record {
+        holding = holding_goes_on heap book.owner q seat rest.no_body stands.own.holding;
+        stored = λ u below. absurd (none_below u next.stored (same.stored ∙ rest.none_stored) below);
+        together = together_goes_on heap seat rest.no_body stands.fits.cursor_within stands.fits.reserve_of_cursor
+            (nothing_together heap seat.cursor seat.tried seat.hand seat.body rest.empty_hand rest.no_body);
+      };
+      names = record {
+        registers = rw same.registers (λ r fresh. stands.names.registers r (λ awaited. idle_awaits (target_of (seat_at state q).command) r may.idle awaited));
+        way = rw stays.placed tt;
+      };
+      told = record {
+        list = list_of_making (graph_of heap book.history) book.history book.made book.owner book.fragments q next stays.making stays.placed
+            (same.mine ∙ idle_list (graph_of heap book.history) book.history book.made book.owner book.fragments q (seat_at state q) may.idle stands.told.list);
+        counts = record {
+          numbered = same.made ∙ stands.told.counts.numbered;
+          stamped = same.sets ∙ stands.told.counts.stamped;
+          leaves = stands.told.counts.leaves ∙ sym same.left;
+          unborn = omega (arith, length_goes_on heap seat rest.no_body, stands.told.counts.unborn);
+        };
+        began = began_now heap state.words book q next.place;
+        gathers = gathers_goes_on heap book.owner q (drop (begins q (length book.history) book.begun q) book.history) seat rest.none_given
+            (started (seat_at state q).tried (seat_at state q).given rest.none_tried rest.none_given
+            (nothing_tried heap book.owner q (drop (begins q (length book.history) book.begun q) book.history) seat.cursor));
+      };
       cycle = cycle_goes_on heap state.words state.words book.owner book.owner book.colour (phase book.history) (answered q book.history) (has_left q book.history) q (seat_at state q) next
           record { answered = same.answered; left = same.left; asked = same.asked } (rw stays.placed tt) refl (λ f borne. borne) stands.cycle;
-      together = together_goes_on heap seat rest.no_body stands.fits.cursor_within stands.fits.reserve_of_cursor
-          (nothing_together heap seat.cursor seat.tried seat.hand seat.body rest.empty_hand rest.no_body);
-      counts = record {
-        numbered = same.made ∙ stands.counts.numbered;
-        stamped = same.sets ∙ stands.counts.stamped;
-        leaves = stands.counts.leaves ∙ sym same.left;
-        unborn = omega (arith, length_goes_on heap seat rest.no_body, stands.counts.unborn);
-      };
-      began = began_now heap state.words book q next.place;
-      gathers = gathers_goes_on heap book.owner q (drop (begins q (length book.history) book.begun q) book.history) seat rest.none_given
-          (started (seat_at state q).tried (seat_at state q).given rest.none_tried rest.none_given
-          (nothing_tried heap book.owner q (drop (begins q (length book.history) book.begun q) book.history) seat.cursor));
     }
     (λ r below apart other. other_begins heap state.words book q r (seat_at state r) apart other)
   where

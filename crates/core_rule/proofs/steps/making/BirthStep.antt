@@ -10,19 +10,18 @@ use Rattle.core_machine.specs.declared.place.Place.TheVariants as places
 use Rattle.core_machine.specs.seat.Commands.{target_of}
 use Rattle.core_machine.specs.table.Fragments.{part_in, part_out, mask}
 use Rattle.core_machine.specs.table.Layout.{at, put}
-use Rattle.core_machine.specs.machine.Machine.{State, seat_at, stepped, found_by}
+use Rattle.core_machine.specs.machine.Machine.{State, seat_at}
 use Rattle.core_machine.specs.seat.Making.{last_group}
 use Rattle.core_machine.specs.Moves.{birth_move, bears_black, is_last_birth, seat_after}
 use Rattle.core_machine.specs.table.Operation.{birth_bits}
 use Rattle.core_machine.specs.seat.Seat.{Seat}
-use Rattle.core_machine.specs.machine.Value.{IsMachine}
-use Rattle.core_machine.proofs.table_lemmas.Addresses.{length-put}
 use Rattle.core_rule.specs.Book.{Book, Colour, White, fragment_at}
 use Rattle.core_rule.specs.Colours.{IsMarked}
-use Rattle.core_rule.specs.Objects.{cells_at}
 use Rattle.core_rule.specs.Owners.{Owner, Bears, born_bit, handed}
 use Rattle.core_rule.specs.Rule.{Rule}
-use Rattle.core_rule.proofs.steps.Assemble.{fit_after, Keeps, seat_steps}
+use Rattle.core_rule.proofs.cycle.FieldFrames.{watched_born}
+use Rattle.core_rule.proofs.frames.SeatFrames.{same_party, told_nothing, kept_owners, seat_left, registers_owners}
+use Rattle.core_rule.proofs.steps.Assemble.{fit_after, seat_steps, MoveKeeps}
 use Rattle.core_rule.proofs.colours.Births.{birth_colour, births_are, are_births}
 use Rattle.core_rule.proofs.colours.BirthColours.{painted_cases}
 use Rattle.core_rule.proofs.cycle.BirthCycle.{words_born, colours_born, group_born, some_born, marks_born, heap_born}
@@ -32,23 +31,18 @@ use Rattle.core_rule.proofs.words.ControlSteps.{birth_bits_after}
 use Rattle.core_rule.proofs.counts.CountMoves.{birth_used, birth_frees}
 use Rattle.core_rule.proofs.gather.GatherMoves.{gathers_same}
 use Rattle.core_rule.proofs.owners.Handed.{gains}
-use Rattle.core_rule.proofs.hand.HandMoves.{hand_held, hand_once, part_held, part_once, holding_bears, holding_born, held_within}
+use Rattle.core_rule.proofs.hand.HandMoves.{hand_held, hand_once, part_held, part_once, holding_bears, hand_born, held_within}
 use Rattle.core_rule.proofs.cycle.MakingCycle.{answer_after_control, cycle_control, born_more, born_others}
-use Rattle.core_rule.proofs.objects.ObjectFrames.{bears_keeps_none, holds_keeps_none, objects_control, objects_owners, registers_owners, part_kept}
+use Rattle.core_rule.proofs.objects.ObjectFrames.{bears_keeps_none, holds_keeps_none, objects_control, objects_owners, part_kept}
 use Rattle.core_rule.proofs.entries.OwnEntries.{counts_same}
 use Rattle.core_rule.proofs.owners.OwnerFrames.{owners_handed}
-use Rattle.core_rule.proofs.entries.SeatLists.{making_list, list_of_making, list_owners}
+use Rattle.core_rule.proofs.entries.SeatLists.{making_list, list_of_making}
 use Rattle.core_rule.proofs.hand.StoredFrames.{stored_control}
 use Rattle.core_rule.proofs.cycle.Unwatched.{cycle_apart}
-use Rattle.core_rule.proofs.ways.WayFrames.{way_owners}
 
 -- a birth keeps the rule
 pub birth_keeps : (heap : Heap) (state : State) (book : Book) (q : ℕ) → Rule heap state book → q < heap.seats
-    → (seat_at state q).place ≡ places.Making Bearing
-    → is_last_birth (seat_at state q) ≡ false
-    → IsMachine heap (stepped heap state q (birth_move (seat_at state q)))
-    → Keeps heap (stepped heap state q (birth_move (seat_at state q))) book book.begun
-    ((birth_move (seat_at state q)).shows state.words (found_by heap state (birth_move (seat_at state q)).step))
+    → (seat_at state q).place ≡ places.Making Bearing → is_last_birth (seat_at state q) ≡ false → MoveKeeps heap state book q (birth_move (seat_at state q))
 birth_keeps heap state book q rule here place more machine =
     let seat : Seat = seat_at state q in
     let stands = rule.seats_stand q here in
@@ -60,8 +54,8 @@ birth_keeps heap state book q rule here place more machine =
     let owner : ℕ → Owner = handed (Bears q) book.owner part in
     let below = group_born heap state book q rule here place in
     let some = some_born heap state book q rule here place in
-    let held = part_held book.owner q seat.reserve seat.hand seat.body stands.holding g in
-    let once = part_once book.owner q seat.reserve seat.hand seat.body stands.holding g in
+    let held = part_held book.owner q seat.reserve seat.hand seat.body stands.own.holding g in
+    let once = part_once book.owner q seat.reserve seat.hand seat.body stands.own.holding g in
     let inside = held_within heap state.words book.owner heap_stands.control_words q part held in
     let kept = part_kept book.owner q part (Bears q) (bears_keeps_none q) held in
     let frees = birth_frees heap book.owner book.history q part once inside heap_stands.used held in
@@ -72,9 +66,8 @@ birth_keeps heap state book q rule here place more machine =
     seat_steps heap state book q words (seat_after (birth_move seat) found) (record book { owner = owner; colour = colour }) []
     rule here machine (sym (append-nil book.history)) refl
     record {
-      table = length-put heap state.words (Control g) word ∙ heap_stands.table;
-      control_words = birth_bits_after heap state.words book.owner g heap_stands.table below heap_stands.control_words seat.hand q
-          (hand_once book.owner q seat.reserve seat.hand seat.body stands.holding) (hand_held book.owner q seat.reserve seat.hand seat.body stands.holding) (bears_black seat);
+      control_words = birth_bits_after heap state.words book.owner g rule.machine.table below heap_stands.control_words seat.hand q
+          (hand_once book.owner q seat.reserve seat.hand seat.body stands.own.holding) (hand_held book.owner q seat.reserve seat.hand seat.body stands.own.holding) (bears_black seat);
       owners = owners_handed heap.seats book.owner heap_stands.owners (Bears q) part here kept;
       ids = heap_stands.ids;
       objects = objects_owners book.owner owner kept book.made book.fragments heap (put heap state.words (Control g) word) (graph_of heap book.history)
@@ -88,33 +81,36 @@ birth_keeps heap state book q rule here place more machine =
     }
     record {
       fits = fit_after heap state book q rule here machine;
-      holding = holding_bears book.owner q seat.reserve seat.hand seat.body stands.holding g some;
-      stored = stored_control heap state.words q seat g word below stands.stored;
-      registers = registers_owners book.owner owner kept book.made book.fragments (graph_of heap book.history) q seat.registers seat.place (target_of seat.command) stands.registers;
-      list = list_of_making (graph_of heap book.history) book.history book.made owner book.fragments q (seat_after (birth_move seat) found) Bearing place
-          (append-nil seat.mine ∙ making_list (graph_of heap book.history) book.history book.made book.owner book.fragments q seat Bearing place stands.list);
-      way = rw place tt;
+      own = record {
+        holding = holding_bears book.owner q seat.reserve seat.hand seat.body stands.own.holding g some;
+        stored = stored_control heap state.words q seat g word below stands.own.stored;
+        together = together_bears heap seat.cursor seat.tried seat.hand seat.body stands.fits.hand_within some stands.own.together;
+      };
+      names = record {
+        registers = registers_owners book.owner owner kept book.made book.fragments (graph_of heap book.history) q seat.registers seat.place (target_of seat.command) stands.names.registers;
+        way = rw place tt;
+      };
+      told = record {
+        list = list_of_making (graph_of heap book.history) book.history book.made owner book.fragments q (seat_after (birth_move seat) found) Bearing place
+            (append-nil seat.mine ∙ making_list (graph_of heap book.history) book.history book.made book.owner book.fragments q seat Bearing place stands.told.list);
+        counts = counts_same (graph_of heap book.history) book.history q seat (seat_after (birth_move seat) found) refl refl refl
+            (rw (whole_full (part_out g seat.hand) seat.hand seat.body some) refl) stands.told.counts;
+        began = stands.told.began;
+        gathers = gathers_same heap book.owner owner q (drop (book.begun q) book.history) seat.cursor seat.tried seat.given frees stands.told.gathers;
+      };
       cycle = cycle_apart heap state.words words book.owner owner book.colour colour (phase book.history) (answered q book.history) (has_left q book.history) q
           seat (seat_after (birth_move seat) found) record { answered = refl; left = refl; asked = refl } (rw place tt)
-          (answer_after_control heap state.words word g q (omega (arith, here, rule.limits.seats_fit)))
+          (answer_after_control heap state.words word g q (omega (arith, here, rule.machine.limits.seats_fit)))
           (are_births owner colour q seat (born_more book.owner book.colour part q black (births_are book.owner book.colour q seat stands.cycle.births))) stands.cycle;
-      together = together_bears heap seat.cursor seat.tried seat.hand seat.body stands.fits.hand_within some stands.together;
-      counts = counts_same (graph_of heap book.history) book.history q seat (seat_after (birth_move seat) found) refl refl refl
-          (rw (whole_full (part_out g seat.hand) seat.hand seat.body some) refl) stands.counts;
-      began = stands.began;
-      gathers = gathers_same heap book.owner owner q (drop (book.begun q) book.history) seat.cursor seat.tried seat.given frees stands.gathers;
     }
-    (λ r under apart other. record {
-      fits = other.fits;
-      holding = holding_born book.owner r (seat_at state r).reserve (seat_at state r).hand (seat_at state r).body other.holding part q apart held;
-      stored = stored_control heap state.words r (seat_at state r) g word below other.stored;
-      registers = registers_owners book.owner owner kept book.made book.fragments (graph_of heap book.history) r (seat_at state r).registers (seat_at state r).place (target_of (seat_at state r).command) other.registers;
-      list = list_owners (graph_of heap book.history) book.owner owner kept book.made book.fragments r (seat_at state r) book.history book.history refl other.list;
-      way = way_owners (cells_at (graph_of heap book.history) book.made) book.owner owner kept book.made book.fragments (seat_at state r) other.way;
+    (λ r under apart other. seat_left heap state.words words book (record book { owner = owner; colour = colour }) r (seat_at state r) record {
+      calls = refl;
+      party = same_party (graph_of heap book.history) (graph_of heap book.history) r refl;
+      told = told_nothing r book.history;
+      kept = kept_owners (graph_of heap book.history) book.made book.owner owner book.fragments kept;
+      hand = hand_born book.owner r q part apart held;
+      stored = stored_control heap state.words r (seat_at state r) g word below other.own.stored;
+      gathers = gathers_same heap book.owner owner r (drop (book.begun r) book.history) (seat_at state r).cursor (seat_at state r).tried (seat_at state r).given frees other.told.gathers;
       cycle = cycle_control heap state.words book.owner owner book.colour colour (phase book.history) (answered r book.history) (has_left r book.history) r (seat_at state r) g word below
-          (omega (arith, under, rule.limits.seats_fit)) marks (born_others book.owner book.colour part q black r apart) other.cycle;
-      together = other.together;
-      counts = other.counts;
-      began = other.began;
-      gathers = gathers_same heap book.owner owner r (drop (book.begun r) book.history) (seat_at state r).cursor (seat_at state r).tried (seat_at state r).given frees other.gathers;
-    })
+          (omega (arith, under, rule.machine.limits.seats_fit)) marks (born_others book.owner book.colour part q black r apart) (watched_born heap state book rule r under) other.cycle;
+    } other)

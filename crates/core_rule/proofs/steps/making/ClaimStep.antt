@@ -2,10 +2,10 @@
 use Rattle.std.specs.Int.{bit_at}
 use Rattle.std.proofs.Common.{◌≡◌, ◌≢◌, ℕ, ◌+◌, ◌*◌, ◌/◌, ◌%◌, ◌<◌, ◌≤◌, List, [], ◌++◌, length, drop, bit_or, refl, sym, ap, ◌∙◌, subst, arith}
 use Rattle.std.proofs.lemmas.List.{length-append}
-use Rattle.std.proofs.Math.Nat.{mod-lt}
 use Rattle.heap_model.specs.declared.entry.Entry.{Entry}
 use Rattle.heap_model.specs.declared.heap.Heap.{Heap}
 use Rattle.heap_model.specs.account.Cycles.{graph_of}
+use Rattle.heap_model.specs.graph.Objects.{party}
 use Rattle.heap_model.specs.account.PhaseCounts.{phase, answered, has_left}
 use Rattle.heap_model.specs.graph.State.{State as Graph}
 use Rattle.core_machine.specs.declared.table.address.Address.TheVariants.{Control}
@@ -15,24 +15,22 @@ use Rattle.core_machine.specs.seat.Commands.{target_of}
 use Rattle.core_machine.specs.seat.Fits.{Gathers}
 use Rattle.core_machine.specs.table.Fragments.{clear_in, tally}
 use Rattle.core_machine.specs.table.Layout.{at, put, table_length}
-use Rattle.core_machine.specs.machine.Machine.{State, seat_at, stepped, found_by}
+use Rattle.core_machine.specs.machine.Machine.{seat_at}
 use Rattle.core_machine.specs.seat.Making.{next_group}
 use Rattle.core_machine.specs.Moves.{claim_move, takes_some, seat_after}
 use Rattle.core_machine.specs.table.Operation.{all_taken}
 use Rattle.core_machine.specs.seat.Seat.{Seat}
-use Rattle.core_machine.specs.machine.Value.{IsMachine}
-use Rattle.core_machine.proofs.table_lemmas.Addresses.{length-put}
 use Rattle.core_machine.proofs.table_lemmas.Owned.{clear_in-group}
-use Rattle.core_rule.specs.Book.{Book}
+use Rattle.core_machine.proofs.seat_lemmas.FittingMaking.{next_within}
 use Rattle.core_rule.specs.ControlWords.{Bits}
 use Rattle.core_rule.specs.Counts.{AreUsed}
 use Rattle.core_rule.specs.Gathers.{GathersRight}
 use Rattle.core_rule.specs.Holding.{whole_hand}
-use Rattle.core_rule.specs.Objects.{cells_at}
 use Rattle.core_rule.specs.Owners.{Owner, Free, Holds, Bears, Keeps as KeepsPart, free_bit, born_bit, handed}
-use Rattle.core_rule.specs.Rule.{Rule}
 use Rattle.core_rule.specs.Together.{AreTogether}
-use Rattle.core_rule.proofs.steps.Assemble.{fit_after, present_at, Keeps, seat_steps}
+use Rattle.core_rule.proofs.cycle.FieldFrames.{watched_born}
+use Rattle.core_rule.proofs.frames.SeatFrames.{same_party, kept_owners, seat_left, registers_owners}
+use Rattle.core_rule.proofs.steps.Assemble.{fit_after, present_at, seat_steps, StepKeeps}
 use Rattle.core_rule.proofs.colours.BirthColours.{marks_claim}
 use Rattle.core_rule.proofs.hand.Bodies.{whole_empty}
 use Rattle.core_rule.proofs.hand.ClaimOrder.{together_goes_on, together_claims}
@@ -42,18 +40,14 @@ use Rattle.core_rule.proofs.words.ControlLemmas.{found_taken}
 use Rattle.core_rule.proofs.words.ControlSteps.{claim_bits, clear_is_free}
 use Rattle.core_rule.proofs.counts.CountMoves.{claim_frees}
 use Rattle.core_rule.proofs.hand.GoesOn.{holding_goes_on, length_goes_on, gathers_goes_on, same_goes_on}
-use Rattle.core_rule.proofs.hand.HandMoves.{holding_claims, holding_claimed}
+use Rattle.core_rule.proofs.hand.HandMoves.{holding_claims, hand_claimed}
 use Rattle.core_rule.proofs.entries.InFlight.{awaits_none, is_busy}
 use Rattle.core_rule.proofs.cycle.MakingCycle.{answer_after_control, cycle_control, cycle_goes_on, heap_hands, borne_before}
-use Rattle.core_rule.proofs.objects.ObjectFrames.{handed_kept, holds_keeps_none, objects_control, objects_owners, registers_owners}
+use Rattle.core_rule.proofs.objects.ObjectFrames.{handed_kept, holds_keeps_none, objects_control, objects_owners}
 use Rattle.core_rule.proofs.owners.OwnerFrames.{owners_handed}
 use Rattle.core_rule.proofs.owners.OwnerLemmas.{free_by_bit}
-use Rattle.core_rule.proofs.entries.SeatLists.{making_list, list_of_making, list_owners}
+use Rattle.core_rule.proofs.entries.SeatLists.{making_list, list_of_making}
 use Rattle.core_rule.proofs.hand.StoredFrames.{stored_control}
-use Rattle.core_rule.proofs.ways.WayFrames.{way_owners}
-
-next_within : (heap : Heap) (seat : Seat) → seat.cursor < heap.groups → next_group heap seat < heap.groups
-next_within heap seat within = mod-lt (seat.cursor + seat.tried) (omega (arith, within))
 
 module _ (heap : Heap) (words : List ℕ) (owner : ℕ → Owner) (g : ℕ) (whole : length words ≡ table_length heap) (below : g < heap.groups) (bits : Bits heap words owner) where
   abbrev clear : List ℕ
@@ -88,11 +82,7 @@ holds_bears_none : {q r : ℕ} → Holds q ≢ Bears r
 holds_bears_none e = cc
 
 -- a claim keeps the rule
-pub claim_keeps : (heap : Heap) (state : State) (book : Book) (q : ℕ) → Rule heap state book → q < heap.seats
-    → (seat_at state q).place ≡ places.Making Gathering
-    → IsMachine heap (stepped heap state q (claim_move heap q (seat_at state q)))
-    → Keeps heap (stepped heap state q (claim_move heap q (seat_at state q))) book book.begun
-    ((claim_move heap q (seat_at state q)).shows state.words (found_by heap state (claim_move heap q (seat_at state q)).step))
+pub claim_keeps : StepKeeps (places.Making Gathering) claim_move
 claim_keeps heap state book q rule here place machine =
     let seat : Seat = seat_at state q in
     let stands = rule.seats_stand q here in
@@ -111,20 +101,19 @@ claim_keeps heap state book q rule here place machine =
     let gathers : Gathers heap seat = rw place at stands.fits.at_place in
     let below = next_within heap seat stands.fits.cursor_within in
     let once : (f : ℕ) → tally f fs ≤ 1 = λ f. clear_once g found f in
-    let inside = clear_within heap state.words book.owner g heap_stands.table below heap_stands.control_words in
-    let free = clear_is_free heap state.words book.owner g heap_stands.table below heap_stands.control_words in
+    let inside = clear_within heap state.words book.owner g rule.machine.table below heap_stands.control_words in
+    let free = clear_is_free heap state.words book.owner g rule.machine.table below heap_stands.control_words in
     let kept = handed_kept (Holds q) book.owner fs (holds_keeps_none q) (λ f i k there. free_kept book.owner f i k (free f there)) in
     let stays = same_goes_on heap mid in
     let same = stays.same in
     let present = present_at heap state book q Gathering rule here place in
-    let list = making_list g_of book.history book.made book.owner book.fragments q seat Gathering place stands.list in
+    let list = making_list g_of book.history book.made book.owner book.fragments q seat Gathering place stands.told.list in
     let tells = told heap state book q fs rule here (is_busy Gathering seat.place place) present gathers.none_given once inside free
-    (none_free heap state.words book.owner g heap_stands.table below heap_stands.control_words q book.history heap_stands.used) in
+    (none_free heap state.words book.owner g rule.machine.table below heap_stands.control_words q book.history heap_stands.used) in
     seat_steps heap state book q words next (record book { history = history; owner = owner }) added
     rule here machine refl tells.log
     record {
-      table = length-put heap state.words (Control g) word ∙ heap_stands.table;
-      control_words = claim_bits heap state.words book.owner g heap_stands.table below heap_stands.control_words q;
+      control_words = claim_bits heap state.words book.owner g rule.machine.table below heap_stands.control_words q;
       owners = owners_handed heap.seats book.owner heap_stands.owners (Holds q) fs here kept;
       ids = rw tells.graph heap_stands.ids;
       objects = rw tells.graph (objects_owners book.owner owner kept book.made book.fragments heap words g_of
@@ -132,43 +121,46 @@ claim_keeps heap state book q rule here place machine =
       used = tells.used;
       legal = tells.legal;
       cycle = tells.phases words owner book.colour book.fragments (heap_hands heap state.words book.owner book.colour book.fragments (phase book.history) g word (Holds q) fs below
-          refl (λ f there. ap born_bit (free f there)) kept (marks_claim heap state.words book.colour g heap_stands.table below heap_stands.cycle.marks) heap_stands.cycle);
+          refl (λ f there. ap born_bit (free f there)) kept (marks_claim heap state.words book.colour g rule.machine.table below heap_stands.cycle.marks) heap_stands.cycle);
     }
     record {
       fits = fit_after heap state book q rule here machine;
-      holding = holding_goes_on heap owner q mid gathers.no_body
-          (holding_claims book.owner q seat.reserve seat.hand seat.body stands.holding fs once free gathers.no_body);
-      stored = λ u less. absurd (none_below u next.stored seat.stored same.stored gathers.none_stored less);
-      registers = rw (tells.graph, same.registers) (λ r fresh. registers_owners book.owner owner kept book.made book.fragments g_of q seat.registers seat.place (target_of seat.command) stands.registers r (awaits_none Gathering seat.place (target_of seat.command) r place));
-      counts = rw tells.graph (tells.counts next same.made same.sets same.left
-          (length_goes_on heap mid gathers.no_body ∙ more_in_hand seat.reserve seat.hand seat.body fs gathers.no_body));
-      list = list_of_making (graph_of heap history) history book.made owner book.fragments q next stays.making stays.placed (ap (λ m. m ++ added) same.mine ∙ tells.own seat.mine list);
-      way = rw stays.placed tt;
+      own = record {
+        holding = holding_goes_on heap owner q mid gathers.no_body
+            (holding_claims book.owner q seat.reserve seat.hand seat.body stands.own.holding fs once free gathers.no_body);
+        stored = λ u less. absurd (none_below u next.stored seat.stored same.stored gathers.none_stored less);
+        together = together_goes_on heap mid gathers.no_body stands.fits.cursor_within stands.fits.reserve_of_cursor
+            (subst (λ b. AreTogether heap seat.cursor (seat.tried + 1) (seat.hand ++ fs) b) (sym gathers.no_body)
+            (together_claims heap seat.cursor seat.tried seat.hand fs stands.fits.cursor_within gathers.groups_left (clear_in-group g found)
+            (subst (λ b. AreTogether heap seat.cursor seat.tried seat.hand b) gathers.no_body stands.own.together)));
+      };
+      names = record {
+        registers = rw (tells.graph, same.registers) (λ r fresh. registers_owners book.owner owner kept book.made book.fragments g_of q seat.registers seat.place (target_of seat.command) stands.names.registers r (awaits_none Gathering seat.place (target_of seat.command) r place));
+        way = rw stays.placed tt;
+      };
+      told = record {
+        list = list_of_making (graph_of heap history) history book.made owner book.fragments q next stays.making stays.placed (ap (λ m. m ++ added) same.mine ∙ tells.own seat.mine list);
+        counts = rw tells.graph (tells.counts next same.made same.sets same.left
+            (length_goes_on heap mid gathers.no_body ∙ more_in_hand seat.reserve seat.hand seat.body fs gathers.no_body));
+        began = tells.began next.place;
+        gathers = gathers_goes_on heap owner q (drop (book.begun q) history) mid gathers.none_given
+            (subst (λ n. GathersRight heap owner q (drop (book.begun q) history) seat.cursor (seat.tried + 1) n) (sym gathers.none_given) tells.gathers);
+      };
       cycle = tells.cycles words owner book.colour q next
           (cycle_goes_on heap state.words words book.owner owner book.colour (phase book.history) (answered q book.history) (has_left q book.history) q seat next
           record { answered = same.answered; left = same.left; asked = same.asked } (rw stays.placed tt)
-          (answer_after_control heap state.words word g q (omega (arith, here, rule.limits.seats_fit)))
+          (answer_after_control heap state.words word g q (omega (arith, here, rule.machine.limits.seats_fit)))
           (λ f. borne_before (Holds q) book.owner fs q f holds_bears_none) stands.cycle);
-      together = together_goes_on heap mid gathers.no_body stands.fits.cursor_within stands.fits.reserve_of_cursor
-          (subst (λ b. AreTogether heap seat.cursor (seat.tried + 1) (seat.hand ++ fs) b) (sym gathers.no_body)
-          (together_claims heap seat.cursor seat.tried seat.hand fs stands.fits.cursor_within gathers.groups_left (clear_in-group g found)
-          (subst (λ b. AreTogether heap seat.cursor seat.tried seat.hand b) gathers.no_body stands.together)));
-      began = tells.began next.place;
-      gathers = gathers_goes_on heap owner q (drop (book.begun q) history) mid gathers.none_given
-          (subst (λ n. GathersRight heap owner q (drop (book.begun q) history) seat.cursor (seat.tried + 1) n) (sym gathers.none_given) tells.gathers);
     }
-    (λ r under apart other. record {
-      fits = other.fits;
-      holding = holding_claimed book.owner r (seat_at state r).reserve (seat_at state r).hand (seat_at state r).body other.holding fs once free q apart;
-      stored = stored_control heap state.words r (seat_at state r) g word below other.stored;
-      registers = rw tells.graph (registers_owners book.owner owner kept book.made book.fragments g_of r (seat_at state r).registers (seat_at state r).place (target_of (seat_at state r).command) other.registers);
-      list = rw tells.graph (list_owners g_of book.owner owner kept book.made book.fragments r (seat_at state r) book.history history (tells.others_own r apart) other.list);
-      way = rw tells.graph (way_owners (cells_at g_of book.made) book.owner owner kept book.made book.fragments (seat_at state r) other.way);
+    (λ r under apart other. seat_left heap state.words words book (record book { history = history; owner = owner }) r (seat_at state r) record {
+      calls = refl;
+      party = same_party g_of (graph_of heap history) r (ap (λ (x : Graph). party x r) tells.graph);
+      told = tells.others r apart;
+      kept = rw tells.graph (kept_owners g_of book.made book.owner owner book.fragments kept);
+      hand = hand_claimed book.owner r q fs apart free;
+      stored = stored_control heap state.words r (seat_at state r) g word below other.own.stored;
+      gathers = tells.other_gathers r under apart;
       cycle = tells.cycles words owner book.colour r (seat_at state r)
           (cycle_control heap state.words book.owner owner book.colour book.colour (phase book.history) (answered r book.history) (has_left r book.history) r (seat_at state r) g word below
-          (omega (arith, under, rule.limits.seats_fit)) (λ f marked. marked) (λ f borne. (borne_before (Holds q) book.owner fs r f holds_bears_none borne, refl)) other.cycle);
-      together = other.together;
-      counts = rw tells.graph (tells.other_counts r under apart);
-      began = tells.other_began r under apart;
-      gathers = tells.other_gathers r under apart;
-    })
+          (omega (arith, under, rule.machine.limits.seats_fit)) (λ f marked. marked) (λ f borne. (borne_before (Holds q) book.owner fs r f holds_bears_none borne, refl)) (watched_born heap state book rule r under) other.cycle);
+    } other)

@@ -3,7 +3,6 @@ use Rattle.std.proofs.Common.{◌≡◌, ℕ, ◌+◌, ◌<◌, ◌≤◌, List,
 use Rattle.std.proofs.lemmas.Bool.{eq-eqb}
 use Rattle.heap_model.specs.declared.entry.Entry.{Entry}
 use Rattle.heap_model.specs.declared.entry.Entry.TheVariants as entries
-use Rattle.heap_model.specs.declared.heap.Heap.{Heap}
 use Rattle.heap_model.specs.account.Cycles.{graph_of}
 use Rattle.heap_model.specs.account.Space.{taken_of, spent_of}
 use Rattle.heap_model.specs.graph.State.{State as Graph}
@@ -14,15 +13,14 @@ use Rattle.core_machine.specs.seat.Commands.{target_of}
 use Rattle.core_machine.specs.seat.Fits.{Refuses}
 use Rattle.core_machine.specs.table.Fragments.{part_in, part_out}
 use Rattle.core_machine.specs.table.Layout.{at}
-use Rattle.core_machine.specs.machine.Machine.{State, seat_at, stepped, found_by}
+use Rattle.core_machine.specs.machine.Machine.{seat_at}
 use Rattle.core_machine.specs.seat.Making.{first_group, returning}
 use Rattle.core_machine.specs.Moves.{give_back_move, seat_after}
 use Rattle.core_machine.specs.seat.Seat.{Seat}
-use Rattle.core_machine.specs.machine.Value.{IsMachine}
 use Rattle.core_rule.specs.Book.{Book}
 use Rattle.core_rule.specs.Holding.{whole_hand}
-use Rattle.core_rule.specs.Rule.{Rule}
-use Rattle.core_rule.proofs.steps.Assemble.{fit_after, present_at, Keeps, seat_steps}
+use Rattle.core_rule.proofs.frames.SeatFrames.{registers_owners}
+use Rattle.core_rule.proofs.steps.Assemble.{fit_after, present_at, seat_steps, StepKeeps}
 use Rattle.core_rule.proofs.hand.Bodies.{whole_empty}
 use Rattle.core_rule.proofs.hand.ClaimOrder.{together_gives}
 use Rattle.core_rule.proofs.words.ControlSteps.{give_back_bits}
@@ -31,7 +29,7 @@ use Rattle.core_rule.proofs.frames.GivingBack.{words_given, book_given, graph_gi
 use Rattle.core_rule.proofs.hand.HandMoves.{hand_held, hand_once, part_held, part_once, held_within, holding_gives}
 use Rattle.core_rule.proofs.entries.InFlight.{awaits_none, tried_within, began_past, is_busy}
 use Rattle.core_rule.proofs.hand.MakingSeats.{first_within}
-use Rattle.core_rule.proofs.objects.ObjectFrames.{registers_owners}
+use Rattle.core_rule.proofs.objects.ObjectFrames.{}
 use Rattle.core_rule.proofs.entries.OwnEntries.{own_grows, counts_own}
 use Rattle.core_rule.proofs.lists.Parts.{parts_length, first_some}
 use Rattle.core_rule.proofs.entries.SeatLists.{making_list, whole_list}
@@ -46,11 +44,7 @@ gives_own : (reserve hand body : List ℕ) (g spent taken : ℕ) → body ≡ []
 gives_own reserve hand body g spent taken none own = omega (arith, own, left_of_hand reserve hand body g none)
 
 -- a give back keeps the rule
-pub give_back_keeps : (heap : Heap) (state : State) (book : Book) (q : ℕ) → Rule heap state book → q < heap.seats
-    → (seat_at state q).place ≡ places.Making Returning
-    → IsMachine heap (stepped heap state q (give_back_move q (seat_at state q)))
-    → Keeps heap (stepped heap state q (give_back_move q (seat_at state q))) book book.begun
-    ((give_back_move q (seat_at state q)).shows state.words (found_by heap state (give_back_move q (seat_at state q)).step))
+pub give_back_keeps : StepKeeps (places.Making Returning) (λ heap. give_back_move)
 give_back_keeps heap state book q rule here place machine =
     let seat : Seat = seat_at state q in
     let stands = rule.seats_stand q here in
@@ -63,33 +57,39 @@ give_back_keeps heap state book q rule here place machine =
     let refuses = at_place.0 in
     let below = first_within heap seat stands.fits at_place.1 in
     let some = first_some seat.hand at_place.1 in
-    let held = part_held book.owner q seat.reserve seat.hand seat.body stands.holding g in
-    let once = part_once book.owner q seat.reserve seat.hand seat.body stands.holding g in
+    let held = part_held book.owner q seat.reserve seat.hand seat.body stands.own.holding g in
+    let once = part_once book.owner q seat.reserve seat.hand seat.body stands.own.holding g in
     let present = present_at heap state book q Returning rule here place in
-    let list = making_list before book.history book.made book.owner book.fragments q seat Returning place stands.list in
+    let list = making_list before book.history book.made book.owner book.fragments q seat Returning place stands.told.list in
     let graph = graph_given heap state book q rule here g part below held once in
     let kept = kept_given heap state book q rule here g part below held once in
     let later : Book = book_given heap state book q rule here g part below held once in
     seat_steps heap state book q (words_given heap state book q rule here g part below held once) now later (entry ∷ []) rule here machine refl refl
     (heap_given heap state book q rule here g part below held once
-    (give_back_bits heap state.words book.owner g rule.heap_stands.table below rule.heap_stands.control_words seat.hand q
-    (hand_once book.owner q seat.reserve seat.hand seat.body stands.holding) (hand_held book.owner q seat.reserve seat.hand seat.body stands.holding))
-    present some (gives_own seat.reserve seat.hand seat.body g (spent_of q book.history) (taken_of q book.history) refuses.no_body stands.counts.unborn))
+    (give_back_bits heap state.words book.owner g rule.machine.table below rule.heap_stands.control_words seat.hand q
+    (hand_once book.owner q seat.reserve seat.hand seat.body stands.own.holding) (hand_held book.owner q seat.reserve seat.hand seat.body stands.own.holding))
+    present some (gives_own seat.reserve seat.hand seat.body g (spent_of q book.history) (taken_of q book.history) refuses.no_body stands.told.counts.unborn))
     record {
       fits = fit_after heap state book q rule here machine;
-      holding = holding_gives book.owner q seat.reserve seat.hand seat.body stands.holding g refuses.no_body;
-      stored = stored_control heap state.words q seat g _ below stands.stored;
-      registers = rw graph (λ r fresh. registers_owners book.owner later.owner kept book.made book.fragments before q seat.registers seat.place (target_of seat.command) stands.registers r
-          (awaits_none Returning seat.place (target_of seat.command) r place));
-      list = whole_list (graph_of heap later.history) later.history book.made later.owner book.fragments q now refl (own_grows q book.history seat.mine entry (eq-eqb q q refl) list);
-      way = tt;
+      own = record {
+        holding = holding_gives book.owner q seat.reserve seat.hand seat.body stands.own.holding g refuses.no_body;
+        stored = stored_control heap state.words q seat g _ below stands.own.stored;
+        together = together_gives heap seat.cursor seat.tried g seat.hand seat.body refuses.no_body stands.own.together;
+      };
+      names = record {
+        registers = rw graph (λ r fresh. registers_owners book.owner later.owner kept book.made book.fragments before q seat.registers seat.place (target_of seat.command) stands.names.registers r
+            (awaits_none Returning seat.place (target_of seat.command) r place));
+        way = tt;
+      };
+      told = record {
+        list = whole_list (graph_of heap later.history) later.history book.made later.owner book.fragments q now refl (own_grows q book.history seat.mine entry (eq-eqb q q refl) list);
+        counts = rw graph (counts_own before before book.history q seat now stands.told.counts entry (eq-eqb q q refl)
+            stands.told.counts.numbered stands.told.counts.stamped stands.told.counts.leaves (omega (arith, left_of_hand seat.reserve seat.hand seat.body g refuses.no_body)));
+        began = began_past book.history entry q (book.begun q) seat.place (places.Making (returning (part_out g seat.hand))) refl (λ still. is_busy Returning seat.place place) stands.told.began;
+        gathers = own_gives heap book.owner book.history q part once (held_within heap state.words book.owner rule.heap_stands.control_words q part held) rule.heap_stands.used
+            (book.begun q) stands.told.began.earlier seat.cursor seat.tried seat.given held
+            stands.fits.cursor_within (tried_within heap seat seat.place stands.fits.at_place) stands.told.gathers;
+      };
       cycle = cycle_given heap state book q rule here g part below held once now record { answered = refl; left = refl; asked = refl } tt;
-      together = together_gives heap seat.cursor seat.tried g seat.hand seat.body refuses.no_body stands.together;
-      counts = rw graph (counts_own before before book.history q seat now stands.counts entry (eq-eqb q q refl)
-          stands.counts.numbered stands.counts.stamped stands.counts.leaves (omega (arith, left_of_hand seat.reserve seat.hand seat.body g refuses.no_body)));
-      began = began_past book.history entry q (book.begun q) seat.place (places.Making (returning (part_out g seat.hand))) refl (λ still. is_busy Returning seat.place place) stands.began;
-      gathers = own_gives heap book.owner book.history q part once (held_within heap state.words book.owner rule.heap_stands.control_words q part held) rule.heap_stands.used
-          (book.begun q) stands.began.earlier seat.cursor seat.tried seat.given held
-          stands.fits.cursor_within (tried_within heap seat seat.place stands.fits.at_place) stands.gathers;
     }
     (other_given heap state book q rule here g part below held once)

@@ -15,18 +15,17 @@ use Rattle.core_machine.specs.seat.Commands.{target_of, fields_of, IsRecord}
 use Rattle.core_machine.specs.seat.Fits.{HasBody}
 use Rattle.core_machine.specs.table.Fragments.{mask, tally}
 use Rattle.core_machine.specs.table.Layout.{at}
-use Rattle.core_machine.specs.machine.Machine.{State, seat_at, stepped, found_by}
+use Rattle.core_machine.specs.machine.Machine.{State, seat_at}
 use Rattle.core_machine.specs.seat.Making.{last_group, next_id, newborn_word}
 use Rattle.core_machine.specs.Moves.{bears_black, last_birth_move, last_part, made_entry, seat_after, is_last_birth}
 use Rattle.core_machine.specs.table.Operation.{birth_bits}
 use Rattle.core_machine.specs.seat.Seat.{Seat}
-use Rattle.core_machine.specs.machine.Value.{IsMachine}
-use Rattle.core_machine.proofs.table_lemmas.Addresses.{length-put}
 use Rattle.core_rule.specs.Book.{Book}
 use Rattle.core_rule.specs.Gathers.{GathersRight}
-use Rattle.core_rule.specs.Objects.{AreMade, cells_at}
+use Rattle.core_rule.specs.Objects.{AreMade}
 use Rattle.core_rule.specs.Rule.{Rule}
-use Rattle.core_rule.proofs.steps.Assemble.{fit_after, present_at, Keeps, seat_steps}
+use Rattle.core_rule.proofs.cycle.FieldFrames.{watched_born}
+use Rattle.core_rule.proofs.steps.Assemble.{fit_after, present_at, seat_steps, MoveKeeps}
 use Rattle.core_rule.proofs.colours.Births.{birth_colour, AreBorne, births_are, are_births}
 use Rattle.core_rule.proofs.colours.BirthColours.{painted}
 use Rattle.core_rule.proofs.cycle.BirthCycle.{words_born, group_born, some_born, marks_born, heap_born}
@@ -35,30 +34,29 @@ use Rattle.core_rule.proofs.counts.CountMoves.{used_same}
 use Rattle.core_rule.proofs.cycle.CycleHistory.{heap_cycle_more, cycle_own, cycle_other}
 use Rattle.core_rule.proofs.hand.EmptyHand.{nothing_together}
 use Rattle.core_rule.proofs.gather.GatherMoves.{nothing_tried, gathers_same}
-use Rattle.core_rule.proofs.graph.GraphGrowth.{register_other, party_other}
+use Rattle.core_rule.proofs.graph.GraphGrowth.{party_other}
 use Rattle.core_rule.proofs.graph.GraphRegisters.{registers_length}
 use Rattle.core_rule.proofs.graph.IdsGrowth.{OneMore, ids_grown, number_new}
 use Rattle.core_rule.proofs.entries.InFlight.{awaits_none, began_idle}
 use Rattle.core_rule.proofs.owners.Keeping.{kept_by, with_object}
 use Rattle.core_rule.proofs.owners.KeptOwners.{kept_free, kept_taken, kept_holding, kept_others, kept_bits}
-use Rattle.core_rule.proofs.objects.LastBirth.{one_more, all_stored, registers_own, registers_others}
+use Rattle.core_rule.proofs.objects.LastBirth.{one_more, all_stored, registers_own}
 use Rattle.core_rule.proofs.colours.LastColours.{kept_bears, kept_own, kept_borne, kept_first}
 use Rattle.core_rule.proofs.entries.MadeEntry.{graph_grown, used_made, counts_made, made_legal}
 use Rattle.core_rule.proofs.cycle.MakingCycle.{answer_after_control, cycle_control}
 use Rattle.core_rule.proofs.objects.NamesGrowth.{names_grown, object_grows, old_apart}
 use Rattle.core_rule.proofs.objects.ObjectFrames.{objects_control}
 use Rattle.core_rule.proofs.objects.ObjectsGrowth.{NewBody, objects_grown}
-use Rattle.core_rule.proofs.entries.Others.{own-other, began_stays, gathers_stay, of_other}
+use Rattle.core_rule.proofs.entries.Others.{gathers_stay, of_other}
 use Rattle.core_rule.proofs.entries.OwnEntries.{own_grows}
 use Rattle.core_rule.proofs.owners.OwnerFrames.{owners_kept}
 use Rattle.core_rule.proofs.owners.OwnerLemmas.{own_keeps_none}
 use Rattle.core_rule.proofs.entries.PhaseEntries.{no_leave_told}
 use Rattle.core_rule.proofs.entries.RecordCommands.{need_made, ranges_made}
-use Rattle.core_rule.proofs.frames.SeatFrames.{counts_stay, same_party}
-use Rattle.core_rule.proofs.entries.SeatLists.{making_list, whole_list, list_stays}
+use Rattle.core_rule.proofs.frames.SeatFrames.{same_party, told_other, seat_left}
+use Rattle.core_rule.proofs.entries.SeatLists.{making_list, whole_list}
 use Rattle.core_rule.proofs.hand.StoredFrames.{stored_control}
 use Rattle.core_rule.proofs.cycle.Unwatched.{cycle_apart}
-use Rattle.core_rule.proofs.ways.WayFrames.{ways_stay}
 
 -- the book after it: the object keeps its fragments, and has a number
 abbrev book_born : Book → ℕ → Seat → Book
@@ -72,11 +70,7 @@ book_born book q seat = record book {
 
 -- the last birth keeps the rule
 pub last_birth_keeps : (heap : Heap) (state : State) (book : Book) (q : ℕ) → Rule heap state book → q < heap.seats
-    → (seat_at state q).place ≡ places.Making Bearing
-    → is_last_birth (seat_at state q) ≡ true
-    → IsMachine heap (stepped heap state q (last_birth_move q (seat_at state q)))
-    → Keeps heap (stepped heap state q (last_birth_move q (seat_at state q))) book book.begun
-    ((last_birth_move q (seat_at state q)).shows state.words (found_by heap state (last_birth_move q (seat_at state q)).step))
+    → (seat_at state q).place ≡ places.Making Bearing → is_last_birth (seat_at state q) ≡ true → MoveKeeps heap state book q (last_birth_move q (seat_at state q))
 last_birth_keeps heap state book q rule here place last machine =
     let seat : Seat = seat_at state q in
     let body : List ℕ = seat.body in
@@ -89,7 +83,7 @@ last_birth_keeps heap state book q rule here place last machine =
     let now : Book = book_born book q seat in
     let stands = rule.seats_stand q here in
     let present = present_at heap state book q Bearing rule here place in
-    let list = making_list (graph_of heap book.history) book.history book.made book.owner book.fragments q seat Bearing place stands.list in
+    let list = making_list (graph_of heap book.history) book.history book.made book.owner book.fragments q seat Bearing place stands.told.list in
     let at_place : HasBody seat × (0 < length seat.hand) × (length seat.hand ≤ length body) × (seat.stored ≡ 4 * length body) = rw place at stands.fits.at_place in
     let has = at_place.0 in
     let below = group_born heap state book q rule here place in
@@ -101,10 +95,10 @@ last_birth_keeps heap state book q rule here place last machine =
     let grown : Graph = add g q d (fresh false fields) in
     let graph : graph_of heap now.history ≡ grown = graph_grown heap book.history q seat has.makes.a_record in
     let ids : AreMade g book.made = rule.heap_stands.ids in
-    let more : OneMore g grown id (fresh false fields) = one_more g q d (fresh false fields) seat.made present stands.counts.numbered in
-    let once = body_once book.owner q seat.reserve seat.hand body stands.holding some in
-    let unkept = λ (f i k : ℕ) (there : 1 ≤ tally f body). own_keeps_none q i k (book.owner f) (body_own book.owner q seat.reserve seat.hand body stands.holding f there) in
-    let stored = all_stored heap state.words body (newborn_word q seat) seat.stored at_place.3 stands.stored in
+    let more : OneMore g grown id (fresh false fields) = one_more g q d (fresh false fields) seat.made present stands.told.counts.numbered in
+    let once = body_once book.owner q seat.reserve seat.hand body stands.own.holding some in
+    let unkept = λ (f i k : ℕ) (there : 1 ≤ tally f body). own_keeps_none q i k (book.owner f) (body_own book.owner q seat.reserve seat.hand body stands.own.holding f there) in
+    let stored = all_stored heap state.words body (newborn_word q seat) seat.stored at_place.3 stands.own.stored in
     let new : NewBody heap state.words book.owner id fields body = record {
       sized = (ranges.2, ranges.3);
       whole = has.whole ∙ need_made seat.command has.makes.a_record;
@@ -117,66 +111,66 @@ last_birth_keeps heap state book q rule here place last machine =
     let marks = marks_born heap state book q rule here place in
     seat_steps heap state book q words (seat_after (last_birth_move q seat) found) now (entry ∷ []) rule here machine refl refl
     record {
-      table = length-put heap state.words (Control group) word ∙ rule.heap_stands.table;
-      control_words = kept_bits heap state.words book.owner q seat.reserve seat.hand body group (length book.made) (bears_black seat) rule.heap_stands.table below
-          rule.heap_stands.control_words stands.holding some last;
+      control_words = kept_bits heap state.words book.owner q seat.reserve seat.hand body group (length book.made) (bears_black seat) rule.machine.table below
+          rule.heap_stands.control_words stands.own.holding some last;
       owners = owners_kept heap.seats book.owner rule.heap_stands.owners (length book.made) body unkept;
-      ids = rw graph (ids_grown g grown book.made id (fresh false fields) ids more (omega (arith, here, rule.limits.seats_fit), omega (arith, has.makes.numbered)));
+      ids = rw graph (ids_grown g grown book.made id (fresh false fields) ids more (omega (arith, here, rule.machine.limits.seats_fit), omega (arith, has.makes.numbered)));
       objects = rw graph (objects_control heap state.words grown now.made now.owner now.fragments group word below
           (objects_grown heap state.words g grown book.made id book.owner book.fragments fields body ids more new rule.heap_stands.objects));
       used = used_made heap now.owner book.history q seat (used_same heap book.owner now.owner book.history
-          (kept_taken book.owner q seat.reserve seat.hand body stands.holding some (length book.made)) rule.heap_stands.used);
-      legal = made_legal g book.history q seat stands.counts has.whole some present heap refl has.makes.a_record has.makes.in_range stands.fits.small_reserve rule.heap_stands.legal;
+          (kept_taken book.owner q seat.reserve seat.hand body stands.own.holding some (length book.made)) rule.heap_stands.used);
+      legal = made_legal g book.history q seat stands.told.counts has.whole some present heap refl has.makes.a_record has.makes.in_range stands.fits.small_reserve rule.heap_stands.legal;
       cycle = heap_cycle_more heap words now.owner now.colour book.history entry refl now.fragments
           (heap_born heap state book q rule here place now.owner now.fragments
-          (kept_bears book.owner book.colour q seat.reserve seat.hand body stands.holding some group (length book.made) last black births)
-          (kept_first book.owner book.colour q seat.reserve seat.hand body stands.holding some group (length book.made) last black births
+          (kept_bears book.owner book.colour q seat.reserve seat.hand body stands.own.holding some group (length book.made) last black births)
+          (kept_first book.owner book.colour q seat.reserve seat.hand body stands.own.holding some group (length book.made) last black births
           heap state.words book.fragments (phase book.history) rule.heap_stands.cycle.coloured marks (λ f i k keeps. old_apart book.made i (rule.heap_stands.objects.back f i k keeps).0)));
     }
     record {
       fits = fit_after heap state book q rule here machine;
-      holding = kept_holding book.owner q seat.reserve seat.hand body stands.holding some (length book.made);
-      stored = λ u none. absurd (omega (arith, none));
-      registers = rw graph (λ r still. registers_own g q d (fresh false fields) present book.made id book.owner book.fragments body unkept once some
-          (number_new g grown book.made id (fresh false fields) ids more) seat.registers (omega (arith, stands.fits.registers_whole, ranges.1))
-          (omega (arith, registers_length heap book.history q present, ranges.1)) (ap (Made q) stands.counts.numbered)
-          (λ i. stands.registers i (awaits_none Bearing seat.place d i place)) r);
-      list = whole_list (graph_of heap now.history) now.history now.made now.owner now.fragments q (seat_after (last_birth_move q seat) found) refl
-          (own_grows q book.history seat.mine entry (eq-eqb q q refl) list);
-      way = tt;
+      own = record {
+        holding = kept_holding book.owner q seat.reserve seat.hand body stands.own.holding some (length book.made);
+        stored = λ u none. absurd (omega (arith, none));
+        together = nothing_together heap seat.cursor seat.tried [] [] refl refl;
+      };
+      names = record {
+        registers = rw graph (λ r still. registers_own g q d (fresh false fields) present book.made id book.owner book.fragments body unkept once some
+            (number_new g grown book.made id (fresh false fields) ids more) seat.registers (omega (arith, stands.fits.registers_whole, ranges.1))
+            (omega (arith, registers_length heap book.history q present, ranges.1)) (ap (Made q) stands.told.counts.numbered)
+            (λ i. stands.names.registers i (awaits_none Bearing seat.place d i place)) r);
+        way = tt;
+      };
+      told = record {
+        list = whole_list (graph_of heap now.history) now.history now.made now.owner now.fragments q (seat_after (last_birth_move q seat) found) refl
+            (own_grows q book.history seat.mine entry (eq-eqb q q refl) list);
+        counts = rw graph (counts_made g book.history q seat stands.told.counts has.whole some present d (fresh false fields) found);
+        began = began_idle book.history entry q (book.begun q) seat.place stands.told.began;
+        gathers = subst (λ n. GathersRight heap now.owner q (drop (book.begun q) now.history) seat.cursor n seat.given) (sym has.none_tried)
+            (subst (λ n. GathersRight heap now.owner q (drop (book.begun q) now.history) seat.cursor 0 n) (sym has.none_given)
+            (nothing_tried heap now.owner q (drop (book.begun q) now.history) seat.cursor));
+      };
       cycle = cycle_own heap words now.owner now.colour book.history entry refl q (seat_after (last_birth_move q seat) found)
           (cycle_apart heap state.words words book.owner now.owner book.colour now.colour (phase book.history) (answered q book.history) (has_left q book.history) q
           seat (seat_after (last_birth_move q seat) found) record { answered = refl; left = refl; asked = refl } tt
-          (answer_after_control heap state.words word group q (omega (arith, here, rule.limits.seats_fit)))
-          (are_births now.owner now.colour q seat (kept_own book.owner book.colour q seat.reserve seat.hand body stands.holding some group (length book.made) last black births)) stands.cycle)
+          (answer_after_control heap state.words word group q (omega (arith, here, rule.machine.limits.seats_fit)))
+          (are_births now.owner now.colour q seat (kept_own book.owner book.colour q seat.reserve seat.hand body stands.own.holding some group (length book.made) last black births)) stands.cycle)
           refl (no_leave_told q q seat.command _ (λ leaves. subst IsRecord leaves has.makes.a_record));
-      together = nothing_together heap seat.cursor seat.tried [] [] refl refl;
-      counts = rw graph (counts_made g book.history q seat stands.counts has.whole some present d (fresh false fields) found);
-      began = began_idle book.history entry q (book.begun q) seat.place stands.began;
-      gathers = subst (λ n. GathersRight heap now.owner q (drop (book.begun q) now.history) seat.cursor n seat.given) (sym has.none_tried)
-          (subst (λ n. GathersRight heap now.owner q (drop (book.begun q) now.history) seat.cursor 0 n) (sym has.none_given)
-          (nothing_tried heap now.owner q (drop (book.begun q) now.history) seat.cursor));
     }
-    (λ r less apart other. record {
-      fits = other.fits;
-      holding = kept_others book.owner q seat.reserve seat.hand body stands.holding some (length book.made) r
-          (seat_at state r).reserve (seat_at state r).hand (seat_at state r).body apart other.holding;
-      stored = stored_control heap state.words r (seat_at state r) group word below other.stored;
-      registers = rw graph (registers_others g q d (fresh false fields) present book.made id book.owner book.fragments body unkept r (seat_at state r).registers
-          (seat_at state r).place (target_of (seat_at state r).command) apart other.registers);
-      list = rw graph (list_stays g grown book.made now.made book.owner now.owner book.fragments now.fragments r (seat_at state r)
-          (names_grown book.made id book.owner book.fragments body unkept) (λ i. register_other g q d (fresh false fields) present r i apart) book.history now.history
-          (own-other r book.history entry (of_other q r apart)) other.list);
-      way = rw graph (ways_stay (cells_at g book.made) (cells_at grown now.made) book.made now.made book.owner now.owner book.fragments now.fragments
-          (object_grows g grown book.made id book.owner book.fragments (fresh false fields) body unkept ids more) (seat_at state r) (seat_at state r).place other.way);
+    (λ r less apart other. seat_left heap state.words words book now r (seat_at state r) record {
+      calls = refl;
+      party = rw graph (same_party g grown r (party_other g q d (fresh false fields) present r apart));
+      told = told_other r book.history entry (of_other q r apart);
+      kept = rw graph record {
+        names = names_grown book.made id book.owner book.fragments body unkept;
+        objects = object_grows g grown book.made id book.owner book.fragments (fresh false fields) body unkept ids more;
+      };
+      hand = kept_others book.owner q seat.reserve seat.hand body stands.own.holding some (length book.made) r apart;
+      stored = stored_control heap state.words r (seat_at state r) group word below other.own.stored;
+      gathers = gathers_stay heap now.owner r book.history (book.begun r) entry (seat_at state r).cursor (seat_at state r).tried (seat_at state r).given other.told.began.earlier
+          (gathers_same heap book.owner now.owner r (drop (book.begun r) book.history) (seat_at state r).cursor (seat_at state r).tried (seat_at state r).given
+          (kept_free book.owner q seat.reserve seat.hand body stands.own.holding some (length book.made)) other.told.gathers);
       cycle = cycle_other heap words now.owner now.colour book.history entry refl r (seat_at state r)
           (cycle_control heap state.words book.owner now.owner book.colour now.colour (phase book.history) (answered r book.history) (has_left r book.history) r (seat_at state r) group word below
-          (omega (arith, less, rule.limits.seats_fit)) marks
-          (kept_borne book.owner book.colour q seat.reserve seat.hand body stands.holding some group (length book.made) last black births r) other.cycle) (of_other q r apart);
-      together = other.together;
-      counts = rw graph (counts_stay g grown r (same_party g grown r (party_other g q d (fresh false fields) present r apart)) book.history entry (seat_at state r) (of_other q r apart) other.counts);
-      began = began_stays book.history entry r (book.begun r) (seat_at state r).place (of_other q r apart) other.began;
-      gathers = gathers_stay heap now.owner r book.history (book.begun r) entry (seat_at state r).cursor (seat_at state r).tried (seat_at state r).given other.began.earlier
-          (gathers_same heap book.owner now.owner r (drop (book.begun r) book.history) (seat_at state r).cursor (seat_at state r).tried (seat_at state r).given
-          (kept_free book.owner q seat.reserve seat.hand body stands.holding some (length book.made)) other.gathers);
-    })
+          (omega (arith, less, rule.machine.limits.seats_fit)) marks
+          (kept_borne book.owner book.colour q seat.reserve seat.hand body stands.own.holding some group (length book.made) last black births r) (watched_born heap state book rule r less) other.cycle) (of_other q r apart);
+    } other)

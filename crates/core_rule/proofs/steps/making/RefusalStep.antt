@@ -1,8 +1,7 @@
 -- Telling a refusal keeps the rule.
-use Rattle.std.proofs.Common.{◌≡◌, ℕ, ◌+◌, ◌<◌, false, List, [], ◌∷◌, ◌++◌, length, drop, slice_set, refl, sym, ◌∙◌, subst, arith, ap}
+use Rattle.std.proofs.Common.{◌≡◌, ◌+◌, ◌<◌, false, List, [], ◌∷◌, ◌++◌, length, drop, slice_set, refl, sym, ◌∙◌, subst, arith, ap}
 use Rattle.std.proofs.lemmas.Bool.{eq-eqb}
 use Rattle.heap_model.specs.declared.entry.Entry.{Entry}
-use Rattle.heap_model.specs.declared.heap.Heap.{Heap}
 use Rattle.heap_model.specs.account.Cycles.{graph_of}
 use Rattle.heap_model.specs.graph.Objects.{party}
 use Rattle.heap_model.specs.account.PhaseCounts.{phase, answered, has_left}
@@ -16,15 +15,13 @@ use Rattle.core_machine.specs.declared.place.Place.TheVariants as places
 use Rattle.core_machine.specs.seat.Commands.{target_of, IsRecord}
 use Rattle.core_machine.specs.seat.Fits.{Refuses}
 use Rattle.core_machine.specs.table.Layout.{at}
-use Rattle.core_machine.specs.machine.Machine.{State, seat_at, stepped, found_by}
+use Rattle.core_machine.specs.machine.Machine.{seat_at}
 use Rattle.core_machine.specs.Moves.{refusal_move, full_entry, seat_after}
 use Rattle.core_machine.specs.seat.Seat.{Seat, need}
 use Rattle.core_machine.specs.machine.Value.{IsMachine}
 use Rattle.core_machine.proofs.table_lemmas.Addresses.{put-at}
-use Rattle.core_rule.specs.Book.{Book}
 use Rattle.core_rule.specs.Gathers.{GathersRight}
-use Rattle.core_rule.specs.Rule.{Rule}
-use Rattle.core_rule.proofs.steps.Assemble.{fit_after, present_at, Keeps, seat_steps}
+use Rattle.core_rule.proofs.steps.Assemble.{fit_after, present_at, Keeps, seat_steps, StepKeeps}
 use Rattle.core_rule.proofs.hand.Bodies.{bare_hand}
 use Rattle.core_rule.proofs.cycle.CycleHistory.{heap_cycle_more, cycle_own, cycle_other}
 use Rattle.core_rule.proofs.hand.EmptyHand.{nothing_together}
@@ -42,11 +39,7 @@ use Rattle.core_rule.proofs.graph.SameNodes.{nodes_same}
 use Rattle.core_rule.proofs.entries.SeatLists.{making_list, whole_list}
 
 -- a refusal that is told keeps the rule
-pub refusal_keeps : (heap : Heap) (state : State) (book : Book) (q : ℕ) → Rule heap state book → q < heap.seats
-    → (seat_at state q).place ≡ places.Making Refusing
-    → IsMachine heap (stepped heap state q (refusal_move q (seat_at state q)))
-    → Keeps heap (stepped heap state q (refusal_move q (seat_at state q))) book book.begun
-    ((refusal_move q (seat_at state q)).shows state.words (found_by heap state (refusal_move q (seat_at state q)).step))
+pub refusal_keeps : StepKeeps (places.Making Refusing) (λ heap. refusal_move)
 refusal_keeps heap state book q rule here place machine =
     let seat : Seat = seat_at state q in
     let entry : Entry = full_entry q seat in
@@ -60,12 +53,12 @@ refusal_keeps heap state book q rule here place machine =
     = graph_after-more (opening heap) book.history entry ∙ graph_full seat.command refuses.makes.a_record g q (need seat) (length seat.reserve + seat.given) in
     let nodes = nodes_same g (graph_of heap history) graph in
     let own : length seat.reserve + spent_of q book.history ≡ taken_of q book.history
-    = bare_hand seat.reserve seat.hand seat.body (spent_of q book.history) (taken_of q book.history) at_place.1 refuses.no_body stands.counts.unborn in
+    = bare_hand seat.reserve seat.hand seat.body (spent_of q book.history) (taken_of q book.history) at_place.1 refuses.no_body stands.told.counts.unborn in
     let finds : FindsSpace heap false book.history q (length seat.reserve + seat.given)
     = finds_in_run heap book.owner book.history q (book.begun q) seat.cursor seat.given (length seat.reserve) fits.cursor_within
-    rule.heap_stands.used own (stands.began.unanswered (is_busy Refusing seat.place place)) (subst (λ n. GathersRight heap book.owner q (drop (book.begun q) book.history) seat.cursor n seat.given) refuses.all_tried stands.gathers) in
+    rule.heap_stands.used own (stands.told.began.unanswered (is_busy Refusing seat.place place)) (subst (λ n. GathersRight heap book.owner q (drop (book.begun q) book.history) seat.cursor n seat.given) refuses.all_tried stands.told.gathers) in
     let present = present_at heap state book q Refusing rule here place in
-    let list = making_list g book.history book.made book.owner book.fragments q seat Refusing place stands.list in
+    let list = making_list g book.history book.made book.owner book.fragments q seat Refusing place stands.told.list in
     let whole : IsMachine heap (record state { words = state.words; seats = slice_set state.seats q (seat_after (refusal_move q seat) (at heap state.words Phase)) })
     = subst (λ words. IsMachine heap (record state { words = words; seats = slice_set state.seats q (seat_after (refusal_move q seat) (at heap state.words Phase)) })) (put-at heap state.words Phase) machine in
     let less : length seat.reserve + seat.given < need seat = omega (arith, refuses.too_few) in
@@ -77,24 +70,23 @@ refusal_keeps heap state book q rule here place machine =
     (sym (put-at heap state.words Phase))
     (seat_steps heap state book q state.words (seat_after (refusal_move q seat) (at heap state.words Phase)) (record book { history = history }) (entry ∷ [])
     rule here whole refl refl
-    (heap_past heap state.words state.words (fragments_same heap state.words) book entry nodes rule.heap_stands.table record { taken = refl; given = refl; freed = refl } legal
+    (heap_past heap state.words state.words (fragments_same heap state.words) book entry nodes record { taken = refl; given = refl; freed = refl } legal
     (heap_cycle_more heap state.words book.owner book.colour book.history entry refl book.fragments rule.heap_stands.cycle) rule.heap_stands)
     record {
       fits = fit_after heap state book q rule here whole;
-      holding = stands.holding;
-      stored = stands.stored;
-      registers = rw graph (λ r fresh. stands.registers r (awaits_none Refusing seat.place (target_of seat.command) r place));
-      list = whole_list (graph_of heap history) history book.made book.owner book.fragments q (seat_after (refusal_move q seat) (at heap state.words Phase)) refl (own_grows q book.history seat.mine entry (eq-eqb q q refl) list);
-      way = tt;
+      own = record { holding = stands.own.holding; stored = stands.own.stored; together = nothing_together heap seat.cursor 0 seat.hand seat.body at_place.1 refuses.no_body };
+      names = record { registers = rw graph (λ r fresh. stands.names.registers r (awaits_none Refusing seat.place (target_of seat.command) r place)); way = tt };
+      told = record {
+        list = whole_list (graph_of heap history) history book.made book.owner book.fragments q (seat_after (refusal_move q seat) (at heap state.words Phase)) refl (own_grows q book.history seat.mine entry (eq-eqb q q refl) list);
+        counts = rw graph (counts_own g g book.history q seat (seat_after (refusal_move q seat) (at heap state.words Phase)) stands.told.counts entry (eq-eqb q q refl)
+            stands.told.counts.numbered stands.told.counts.stamped stands.told.counts.leaves (omega arith));
+        began = began_idle book.history entry q (book.begun q) seat.place stands.told.began;
+        gathers = nothing_tried heap book.owner q (drop (book.begun q) history) seat.cursor;
+      };
       cycle = cycle_own heap state.words book.owner book.colour book.history entry refl q (seat_after (refusal_move q seat) (at heap state.words Phase))
           (cycle_goes_on heap state.words state.words book.owner book.owner book.colour (phase book.history) (answered q book.history) (has_left q book.history) q seat
           (seat_after (refusal_move q seat) (at heap state.words Phase)) record { answered = refl; left = refl; asked = refl } tt
           refl (λ f borne. borne) stands.cycle) refl (no_leave_told q q seat.command _ (λ leaves. subst IsRecord leaves refuses.makes.a_record));
-      together = nothing_together heap seat.cursor 0 seat.hand seat.body at_place.1 refuses.no_body;
-      counts = rw graph (counts_own g g book.history q seat (seat_after (refusal_move q seat) (at heap state.words Phase)) stands.counts entry (eq-eqb q q refl)
-          stands.counts.numbered stands.counts.stamped stands.counts.leaves (omega arith));
-      began = began_idle book.history entry q (book.begun q) seat.place stands.began;
-      gathers = nothing_tried heap book.owner q (drop (book.begun q) history) seat.cursor;
     }
     (λ r below apart other. seat_past heap state.words state.words (fragments_same heap state.words) book entry nodes r (seat_at state r) (of_other q r apart) (ap (λ (x : Graph). party x r) graph)
     (cycle_other heap state.words book.owner book.colour book.history entry refl r (seat_at state r) other.cycle (of_other q r apart)) other))

@@ -1,7 +1,6 @@
 -- A store into a seat's new object keeps the rule.
 use Rattle.std.proofs.Common.{◌≡◌, ℕ, ◌*◌, ◌/◌, ◌%◌, ◌<◌, ◌≤◌, List, [], length, refl, sym, ap, ◌∙◌, subst, arith}
 use Rattle.std.proofs.lemmas.List.{append-nil}
-use Rattle.heap_model.specs.declared.heap.Heap.{Heap}
 use Rattle.heap_model.specs.account.Cycles.{graph_of}
 use Rattle.heap_model.specs.account.PhaseCounts.{phase, answered, has_left}
 use Rattle.core_machine.specs.declared.table.address.Address.TheVariants.{Answer, Word}
@@ -11,19 +10,17 @@ use Rattle.core_machine.specs.seat.Commands.{target_of}
 use Rattle.core_machine.specs.seat.Fits.{HasBody}
 use Rattle.core_machine.specs.table.Fragments.{tally}
 use Rattle.core_machine.specs.table.Layout.{at, put}
-use Rattle.core_machine.specs.machine.Machine.{State, seat_at, stepped, found_by}
+use Rattle.core_machine.specs.machine.Machine.{seat_at}
 use Rattle.core_machine.specs.seat.Making.{newborn_word}
 use Rattle.core_machine.specs.Moves.{store_move, seat_after}
 use Rattle.core_machine.specs.seat.Seat.{Seat}
-use Rattle.core_machine.specs.machine.Value.{IsMachine}
-use Rattle.core_machine.proofs.table_lemmas.Addresses.{length-put}
-use Rattle.core_rule.specs.Book.{Book, fragment_at}
+use Rattle.core_rule.specs.Book.{fragment_at}
 use Rattle.core_rule.specs.Owners.{born_bit}
-use Rattle.core_rule.specs.Rule.{Rule}
 use Rattle.core_rule.proofs.words.Addresses.{at-put_apart}
-use Rattle.core_rule.proofs.steps.Assemble.{fit_after, Keeps, seat_steps}
+use Rattle.core_rule.proofs.steps.Assemble.{fit_after, seat_steps, StepKeeps}
 use Rattle.core_rule.proofs.hand.Bodies.{body_once, body_at-own}
-use Rattle.core_rule.proofs.cycle.FieldFrames.{cycle_store, heap_store, watched_kept}
+use Rattle.core_rule.proofs.cycle.CycleFrames.{cycle_stays}
+use Rattle.core_rule.proofs.cycle.FieldFrames.{leaves_store, watched_born, heap_store}
 use Rattle.core_rule.proofs.hand.HandMoves.{hand_held}
 use Rattle.core_rule.proofs.entries.InFlight.{awaits_none, stored_within, began_on, is_busy}
 use Rattle.core_rule.proofs.cycle.MakingCycle.{cycle_goes_on}
@@ -36,11 +33,7 @@ use Rattle.core_rule.proofs.hand.StoredFrames.{stored_store}
 use Rattle.core_rule.proofs.hand.StoreLemmas.{bits_store, store_next}
 
 -- a store keeps the rule
-pub store_keeps : (heap : Heap) (state : State) (book : Book) (q : ℕ) → Rule heap state book → q < heap.seats
-    → (seat_at state q).place ≡ places.Making Storing
-    → IsMachine heap (stepped heap state q (store_move q (seat_at state q)))
-    → Keeps heap (stepped heap state q (store_move q (seat_at state q))) book book.begun
-    ((store_move q (seat_at state q)).shows state.words (found_by heap state (store_move q (seat_at state q)).step))
+pub store_keeps : StepKeeps (places.Making Storing) (λ heap. store_move)
 store_keeps heap state book q rule here place machine =
     let seat : Seat = seat_at state q in
     let f : ℕ = fragment_at seat.body (seat.stored / 4) in
@@ -52,13 +45,12 @@ store_keeps heap state book q rule here place machine =
     let at_place : HasBody seat × (seat.hand ≡ seat.body) × (seat.stored < 4 * length seat.body) = rw place at stands.fits.at_place in
     let row : seat.stored / 4 < length seat.body = omega (arith, at_place.2) in
     let fits_part : part < 4 = omega arith in
-    let own : IsOwn q (book.owner f) = body_at-own book.owner q seat.reserve seat.hand seat.body stands.holding (seat.stored / 4) row in
+    let own : IsOwn q (book.owner f) = body_at-own book.owner q seat.reserve seat.hand seat.body stands.own.holding (seat.stored / 4) row in
     let in_hand : 1 ≤ tally f seat.hand = subst (λ fs. 1 ≤ tally f fs) (sym at_place.1) (tally_at seat.body (seat.stored / 4) row) in
-    let unborn : born_bit (book.owner f) ≡ 0 = ap born_bit (hand_held book.owner q seat.reserve seat.hand seat.body stands.holding f in_hand) in
-    let once = body_once book.owner q seat.reserve seat.hand seat.body stands.holding (omega (arith, row)) in
+    let unborn : born_bit (book.owner f) ≡ 0 = ap born_bit (hand_held book.owner q seat.reserve seat.hand seat.body stands.own.holding f in_hand) in
+    let once = body_once book.owner q seat.reserve seat.hand seat.body stands.own.holding (omega (arith, row)) in
     seat_steps heap state book q words (seat_after (store_move q seat) found) book [] rule here machine (sym (append-nil book.history)) refl
     record {
-      table = length-put heap state.words (Word f part) word ∙ rule.heap_stands.table;
       control_words = bits_store heap state.words book.owner f part word rule.heap_stands.control_words;
       owners = rule.heap_stands.owners;
       ids = rule.heap_stands.ids;
@@ -66,38 +58,38 @@ store_keeps heap state book q rule here place machine =
           (λ i k. own_keeps_none q i k (book.owner f) own) rule.heap_stands.objects;
       used = rule.heap_stands.used;
       legal = rule.heap_stands.legal;
-      cycle = heap_store heap state.words book.owner book.colour book.fragments (phase book.history) f part word fits_part unborn rule.heap_stands.cycle;
+      cycle = heap_store heap state.words book.owner book.colour (phase book.history) f part word fits_part unborn book.fragments rule.heap_stands.cycle;
     }
     record {
       fits = fit_after heap state book q rule here machine;
-      holding = stands.holding;
-      stored = store_next heap seat.body (newborn_word q seat) state.words seat.stored once stands.fits.body_within at_place.2 rule.heap_stands.table stands.stored;
-      registers = λ r fresh. stands.registers r (awaits_none Storing seat.place (target_of seat.command) r place);
-      list = whole_list (graph_of heap book.history) book.history book.made book.owner book.fragments q (seat_after (store_move q seat) found) refl
-          (append-nil seat.mine ∙ making_list (graph_of heap book.history) book.history book.made book.owner book.fragments q seat Storing place stands.list);
-      way = tt;
+      own = record {
+        holding = stands.own.holding;
+        stored = store_next heap seat.body (newborn_word q seat) state.words seat.stored once stands.fits.body_within at_place.2 rule.machine.table stands.own.stored;
+        together = stands.own.together;
+      };
+      names = record { registers = λ r fresh. stands.names.registers r (awaits_none Storing seat.place (target_of seat.command) r place); way = tt };
+      told = record {
+        list = whole_list (graph_of heap book.history) book.history book.made book.owner book.fragments q (seat_after (store_move q seat) found) refl
+            (append-nil seat.mine ∙ making_list (graph_of heap book.history) book.history book.made book.owner book.fragments q seat Storing place stands.told.list);
+        counts = counts_same (graph_of heap book.history) book.history q seat (seat_after (store_move q seat) found) refl refl refl refl stands.told.counts;
+        began = began_on book.history q (book.begun q) seat.place (seat_after (store_move q seat) found).place (is_busy Storing seat.place place) stands.told.began;
+        gathers = stands.told.gathers;
+      };
       cycle = cycle_goes_on heap state.words words book.owner book.owner book.colour (phase book.history) (answered q book.history) (has_left q book.history) q seat
           (seat_after (store_move q seat) found) record { answered = refl; left = refl; asked = refl } tt
-          (at-put_apart heap state.words (Word f part) (Answer q) word (λ e. omega (arith, e, here, rule.limits.seats_fit))) (λ x borne. borne) stands.cycle;
-      together = stands.together;
-      counts = counts_same (graph_of heap book.history) book.history q seat (seat_after (store_move q seat) found) refl refl refl refl stands.counts;
-      began = began_on book.history q (book.begun q) seat.place (seat_after (store_move q seat) found).place (is_busy Storing seat.place place) stands.began;
-      gathers = stands.gathers;
+          (at-put_apart heap state.words (Word f part) (Answer q) word (λ e. omega (arith, e, here, rule.machine.limits.seats_fit))) (λ x borne. borne) stands.cycle;
     }
     (λ r below apart other. record {
       fits = other.fits;
-      holding = other.holding;
-      stored = stored_store heap state.words book.owner r (seat_at state r) f part word other.holding
-          (stored_within heap (seat_at state r) (seat_at state r).place other.fits.at_place) fits_part (λ o. apart (own_not_others r q (book.owner f) o own)) other.stored;
-      registers = other.registers;
-      list = other.list;
-      way = other.way;
-      cycle = cycle_store heap state.words book.owner book.colour (phase book.history) (answered r book.history) (has_left r book.history) r (seat_at state r) q f part word
-          (omega (arith, below, rule.limits.seats_fit)) fits_part own
-          (λ reaching is watches. watched_kept heap state.words (graph_of heap book.history) book.made book.owner book.fragments rule.limits rule.heap_stands.control_words rule.heap_stands.ids
-          rule.heap_stands.objects (seat_at state r) (seat_at state r).place reaching is watches other.way) other.cycle;
-      together = other.together;
-      counts = other.counts;
-      began = other.began;
-      gathers = other.gathers;
+      own = record {
+        holding = other.own.holding;
+        stored = stored_store heap state.words book.owner r (seat_at state r) f part word other.own.holding
+            (stored_within heap (seat_at state r) (seat_at state r).place other.fits.at_place) fits_part (λ o. apart (own_not_others r q (book.owner f) o own)) other.own.stored;
+        together = other.own.together;
+      };
+      names = other.names;
+      told = other.told;
+      cycle = cycle_stays heap state.words words book.owner book.owner book.colour book.colour (phase book.history) (answered r book.history) (has_left r book.history) r (seat_at state r)
+          (leaves_store heap state.words book.owner book.colour (phase book.history) f part word fits_part unborn r (omega (arith, below, rule.machine.limits.seats_fit)))
+          (watched_born heap state book rule r below) other.cycle;
     })

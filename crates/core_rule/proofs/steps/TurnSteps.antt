@@ -1,0 +1,61 @@
+-- A turn of the collector keeps the rule, where the heap, each seat and the collector stand after it.
+use Rattle.std.proofs.Common.{◌≡◌, ℕ, ◌<◌, List, [], ◌++◌, refl, sym, subst}
+use Rattle.std.proofs.lemmas.List.{append-nil}
+use Rattle.heap_model.specs.declared.entry.Entry.{Entry}
+use Rattle.heap_model.specs.declared.heap.Heap.{Heap}
+use Rattle.core_machine.specs.declared.table.address.Address.{Address}
+use Rattle.core_machine.specs.declared.collector.stage.Stage.{Stage}
+use Rattle.core_machine.specs.collector.Collector.{Collector, Turn}
+use Rattle.core_machine.specs.table.Layout.{at, put}
+use Rattle.core_machine.specs.machine.Machine.{State, seat_at, turned}
+use Rattle.core_machine.specs.machine.Value.{IsMachine}
+use Rattle.core_machine.proofs.table_lemmas.Addresses.{put-at}
+use Rattle.core_rule.specs.Book.{Book}
+use Rattle.core_rule.specs.Phases.{CollectorStands}
+use Rattle.core_rule.specs.Rule.{Rule, HeapStands, SeatStands}
+use Rattle.core_rule.proofs.steps.Assemble.{Keeps}
+
+-- a turn of the collector keeps the rule
+abbrev pub TurnKeeps : Heap → State → Book → Turn → Type 0
+TurnKeeps heap state book turn = IsMachine heap (turned heap state turn) → Keeps heap (turned heap state turn) book book.begun turn.adds
+
+-- so does the turn that is due at this stage
+abbrev pub StageKeeps : Stage → (Heap → Collector → Turn) → Type 0
+StageKeeps stage turn = (heap : Heap) (state : State) (book : Book) → Rule heap state book → state.collector.stage ≡ stage → TurnKeeps heap state book (turn heap state.collector)
+
+-- the state after a turn
+abbrev pub after_turn : State → List ℕ → Collector → State
+after_turn state words collector = record state { words = words; collector = collector }
+
+-- the rule after a turn
+pub turn_steps : (heap : Heap) (state : State) (book : Book) (words : List ℕ) (collector : Collector) (now : Book) (added : List Entry)
+    → Rule heap state book → IsMachine heap (after_turn state words collector) → now.history ≡ book.history ++ added
+    → HeapStands heap words now
+    → ((r : ℕ) → r < heap.seats → SeatStands heap state.words book r (seat_at state r) → SeatStands heap words now r (seat_at state r))
+    → CollectorStands heap collector now.history
+    → Keeps heap (after_turn state words collector) book now.begun added
+turn_steps heap state book words collector now added rule machine grown heap_after seats collector_after = record {
+  now = now;
+  grown = grown;
+  calls = refl;
+  rule = record {
+    machine = machine;
+    heap_stands = heap_after;
+    seats_stand = λ r below. seats r below (rule.seats_stand r below);
+    collector_stands = collector_after;
+  };
+}
+
+-- the collector with no entry added
+abbrev pub quiet : Collector → Collector
+quiet collector = record collector { log = collector.log ++ [] }
+
+-- the rule after a load of the collector that leaves the book
+pub load_turns : (heap : Heap) (state : State) (book : Book) (a : Address) (collector : Collector) → Rule heap state book
+    → IsMachine heap (after_turn state (put heap state.words a (at heap state.words a)) (quiet collector))
+    → CollectorStands heap collector book.history
+    → Keeps heap (after_turn state (put heap state.words a (at heap state.words a)) (quiet collector)) book book.begun []
+load_turns heap state book a collector rule machine stands =
+    subst (λ words. IsMachine heap (after_turn state words (quiet collector)) → Keeps heap (after_turn state words (quiet collector)) book book.begun []) (sym (put-at heap state.words a))
+    (λ same. turn_steps heap state book state.words (quiet collector) book [] rule same (sym (append-nil book.history)) rule.heap_stands (λ r below seat_stands. seat_stands)
+    (subst (λ log. CollectorStands heap (record collector { log = log }) book.history) (sym (append-nil collector.log)) stands)) machine
