@@ -52,18 +52,17 @@ pub record Coloured (heap : Heap) (words : List ℕ) (owner : ℕ → Owner) (co
   pub black : IsBetween black_births sweep phase → (f part g : ℕ) → colour f ≡ Black → Leads heap words f part g → IsMarked colour g
   pub first : IsBetween barriers sweep phase → (f i k : ℕ) → owner f ≡ Keeps i k → IsMarked colour f → IsMarked colour (fragment_at (fragments i) 0)
 
--- what the seat has borne of the object that it makes: black from its answer to a cycle's phase of black births on, up to that to its sweep, and
--- else white
+-- what the seat has borne of the object that it makes is black while its last answer is to a phase from black births up to the sweep, and else white
 pub record BornColours (owner : ℕ → Owner) (colour : ℕ → Colour) (q answer : ℕ) : Type 0 where
   pub dark : IsBetween black_births sweep answer → (f : ℕ) → owner f ≡ Bears q → colour f ≡ Black
   pub light : ¬ IsBetween black_births sweep answer → (f : ℕ) → owner f ≡ Bears q → colour f ≡ White
 
--- its marked and its scanned bit are those of the colour
+-- the fragment's marked and scanned bits are those of the colour
 pub record HasColour (heap : Heap) (words : List ℕ) (f : ℕ) (c : Colour) : Type 0 where
   pub marked : bit_at (control_of heap words f) (32 + f % 16) ≡ marked_bit c
   pub scanned : bit_at (control_of heap words f) (48 + f % 16) ≡ scanned_bit c
 
--- and the colour is that of a birth of a seat with this last answer
+-- they are those of what a seat with this last answer bears
 pub record HasBirthColour (heap : Heap) (words : List ℕ) (f answer : ℕ) : Type 0 where
   pub dark : IsBetween black_births sweep answer → HasColour heap words f Black
   pub light : ¬ IsBetween black_births sweep answer → HasColour heap words f White

@@ -28,8 +28,8 @@ FieldStands heap words colour seat ShadingNew = Watches heap words colour seat.r
 FieldStands heap words colour seat Swapping = Watches heap words colour seat.reached (field_part seat) None
 FieldStands heap words colour seat _ = Unit {0}
 
--- the old value of a set is marked once it was shaded; at the swap so is the new one, from the seat's answer to a cycle's phase of barriers on, up to that
--- to its sweep
+-- the old value of a set is marked once it was shaded; and at the swap so is the new one, while the seat's last answer is to a phase from barriers up to
+-- the sweep
 abbrev pub ShadedStands : (ℕ → Colour) → Seat → Reaching → Type 0
 ShadedStands colour seat ShadingNew = IfSome (head_in seat.loaded) (IsMarked colour)
 ShadedStands colour seat Swapping = IsBetween barriers sweep seat.answered
