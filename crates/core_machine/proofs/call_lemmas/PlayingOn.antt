@@ -29,7 +29,7 @@ use Rattle.core_machine.specs.table.Layout.{at, put, InTable}
 use Rattle.core_machine.specs.table.Operation.{address_of, written}
 use Rattle.core_machine.specs.table.Loaded.{head_in, id_in, stamp_in}
 use Rattle.core_machine.specs.seat.Registers.{register_in, head_of}
-use Rattle.core_machine.specs.seat.Reaching.{has_barrier, reaching, closed, field_place, way_place, stepped_on, onward, meta_reply, met, got, new_place, old_done, old_found}
+use Rattle.core_machine.specs.seat.Reaching.{reaching, closed, field_place, way_place, stepped_on, onward, meta_reply, met, got, new_place, old_done, old_found}
 use Rattle.core_machine.specs.seat.ReachingMoves.{said_some, got_adds, got_shows}
 use Rattle.core_machine.specs.seat.AnsweringMoves.{poll_move}
 use Rattle.core_machine.specs.seat.Telling.{local_reply, local_registers, told}
@@ -42,6 +42,7 @@ use Rattle.core_machine.specs.seat.Fits.{FitsPlace, FitsWay, FitsAnswer, FitsPol
 use Rattle.core_machine.specs.machine.Value.{IsMachine}
 use Rattle.core_machine.proofs.table_lemmas.Addresses.{put-at}
 use Rattle.core_machine.proofs.table_lemmas.Bits.{bool_tells}
+use Rattle.core_machine.proofs.seat_lemmas.FieldPlaces.{field_cases}
 use Rattle.core_machine.proofs.call_lemmas.Playing.{stage_making}
 use Rattle.core_machine.proofs.call_lemmas.Stages.{ComesDue, Answered, Untouched, Prepares, ReachingStage, PollingStage, Stage}
 use Rattle.core_machine.proofs.machine_lemmas.Runs.{seat_at-set}
@@ -125,9 +126,7 @@ module _ (heap : Heap) (old : State) (number : ℕ) (command : Command) (now : S
 
   -- the way goes on
   field_stage : (now' : State) (told : List Entry) (seat s : Seat) (c : Command) → told ≡ [] → ReachingStage old now' number command told s (field_place seat c)
-  field_stage now' told seat s (commands.Get d r i) none = none
-  field_stage now' told seat s _ none =
-      elim (bool_tells (has_barrier seat)) as (λ _. ReachingStage old now' number command told s (cond (has_barrier seat) LoadingOld Swapping)) [ inl on ↦ rw on none | inr off ↦ rw off none ]
+  field_stage now' told seat s c none = field_cases (ReachingStage old now' number command told s) seat c none (λ on. none) (λ off. none)
 
   way_stage : (now' : State) (told : List Entry) (seat s : Seat) → told ≡ [] → ReachingStage old now' number command told s (way_place seat)
   way_stage now' told seat s empty =

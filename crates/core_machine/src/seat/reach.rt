@@ -22,7 +22,7 @@ fn new_place(register: &Register) -> Reaching
 {
     match register {
         Register::Object { .. } => Reaching::ShadingNew,
-        _ => Reaching::Swapping,
+        Register::Nil | Register::Number(_) => Reaching::Swapping,
     }
 }
 

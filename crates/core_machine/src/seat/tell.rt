@@ -29,7 +29,14 @@ impl SeatParty {
                 let b = self.registers[b as usize].value();
                 answer(a == b)
             },
-            _ => Reply::NoObject,
+            Command::Get { .. }
+            | Command::Set { .. }
+            | Command::Len { .. }
+            | Command::New { .. }
+            | Command::Array { .. }
+            | Command::Poll
+            | Command::Collect
+            | Command::Leave => Reply::NoObject,
         }
     }
 
@@ -43,7 +50,15 @@ impl SeatParty {
             Command::Num { d, n } => self.registers[d as usize] = Register::Number(n),
             Command::Nil { d } => self.registers[d as usize] = Register::Nil,
             Command::Copy { d, r } => self.registers[d as usize] = self.registers[r as usize],
-            _ => (),
+            Command::Same { .. }
+            | Command::Get { .. }
+            | Command::Set { .. }
+            | Command::Len { .. }
+            | Command::New { .. }
+            | Command::Array { .. }
+            | Command::Poll
+            | Command::Collect
+            | Command::Leave => (),
         }
     }
 
