@@ -14,7 +14,7 @@ use Rattle.core_machine.specs.declared.seat.register.Register.TheVariants.{Nil, 
 use Rattle.core_machine.specs.seat.Commands.{target_of, source_of, field_of}
 use Rattle.core_machine.specs.table.Loaded.{link_in, length_in, plain_in}
 use Rattle.core_machine.specs.seat.Registers.{register_in, head_of}
-use Rattle.core_machine.specs.seat.Seat.{Seat}
+use Rattle.core_machine.specs.seat.Seat.{Seat, over}
 
 -- the row in which a field stands: 0 is the object's first fragment, 1 its second
 abbrev pub row_of : ℕ → ℕ
@@ -33,13 +33,9 @@ has_barrier seat =
 abbrev pub reaching : Seat → Reaching → Seat
 reaching seat place = record seat { place = places.Reaching place }
 
--- the call is over
-abbrev pub closed : Seat → Seat
-closed seat = record seat { reached = 0; links = 0; loaded = 0; place = places.Idle }
-
 -- the register has another value, and the call is over
 abbrev pub filled : Seat → Register → Seat
-filled seat register = closed (record seat { registers = slice_set seat.registers (target_of seat.command) register })
+filled seat register = over (record seat { registers = slice_set seat.registers (target_of seat.command) register })
 
 -- the way begins at the object's first fragment; without an object the reply is told at once
 abbrev pub opened : Seat → Register → Seat
@@ -98,7 +94,7 @@ meta_reply commands.Leave found = None
 -- the meta was found
 abbrev pub met : Seat → ℕ → Option Reply → Seat
 met seat found None = onward seat found
-met seat found (Some reply) = closed seat
+met seat found (Some reply) = over seat
 
 -- a get's field was found: a number or nil stands in the register, a reference waits for its object's name
 abbrev pub got : Seat → ℕ → Option ℕ → Seat
@@ -125,4 +121,4 @@ old_found seat (Some head) = reaching seat ShadingOld
 
 -- the field has its new word
 abbrev pub swapped : Seat → Seat
-swapped seat = record (closed seat) { sets = seat.sets + 1 }
+swapped seat = over (record seat { sets = seat.sets + 1 })

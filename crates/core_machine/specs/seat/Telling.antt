@@ -4,11 +4,10 @@ use Rattle.heap_model.specs.declared.command.Command.{Command}
 use Rattle.heap_model.specs.declared.command.Command.TheVariants.{New, Array, Get, Set, Num, Nil, Copy, Same, Len, Poll, Collect, Leave}
 use Rattle.heap_model.specs.declared.reply.Reply.{Reply}
 use Rattle.heap_model.specs.declared.reply.Reply.TheVariants.{Done, Yes, No, NoObject}
-use Rattle.core_machine.specs.declared.place.Place.TheVariants.{Idle}
 use Rattle.core_machine.specs.declared.seat.register.Register.{Register}
 use Rattle.core_machine.specs.declared.seat.register.Register.TheVariants as held
 use Rattle.core_machine.specs.seat.Registers.{register_in, value_of, is_same_value}
-use Rattle.core_machine.specs.seat.Seat.{Seat}
+use Rattle.core_machine.specs.seat.Seat.{Seat, over}
 
 -- yes or no
 abbrev pub answer_of : Bool → Reply
@@ -46,4 +45,4 @@ local_registers registers Leave = registers
 
 -- the reply was told
 abbrev pub told : Seat → Seat
-told seat = record seat { registers = local_registers seat.registers seat.command; place = Idle }
+told seat = over (record seat { registers = local_registers seat.registers seat.command })

@@ -4,7 +4,6 @@ ghost use Rattle.core_machine.specs.seat.Telling.{local_reply as local_reply_of,
 ghost use Rattle.core_machine.specs.seat.AnsweringMoves.{telling_move};
 ghost use Rattle.core_machine.specs.Moves.{seat_after};
 
-use crate::place::Place;
 use crate::seat::SeatParty;
 use crate::seat::register::Register;
 use heap_model::{Command, Reply};
@@ -71,7 +70,6 @@ impl SeatParty {
     {
         let reply = self.local_reply();
         self.change_register();
-        self.place = Place::Idle;
-        self.say(number, reply);
+        self.reply(number, reply);
     }
 }

@@ -2,7 +2,7 @@ ghost use Rattle.std.specs.Prelude.{◌≡◌, ◌+◌, ◌*◌, ◌<◌, ◌≤
 ghost use Rattle.heap_model.specs.Limits.{last_index, register_count};
 ghost use Rattle.core_machine.specs.seat.Commands.{field_of};
 ghost use Rattle.core_machine.specs.table.Loaded.{lead_of};
-ghost use Rattle.core_machine.specs.seat.Reaching.{row_of, part_of, has_barrier as has_barrier_of, field_place as field_place_of, way_place as way_place_of, opened, onward, closed, field_reply as field_reply_of, meta_reply as meta_reply_of};
+ghost use Rattle.core_machine.specs.seat.Reaching.{row_of, part_of, has_barrier as has_barrier_of, field_place as field_place_of, way_place as way_place_of, opened, onward, field_reply as field_reply_of, meta_reply as meta_reply_of};
 ghost use Rattle.core_machine.specs.seat.ReachingMoves.{open_move, field_part as field_part_of};
 ghost use Rattle.core_machine.specs.seat.Registers.{register_in};
 ghost use Rattle.core_machine.specs.Moves.{seat_after};
@@ -139,17 +139,6 @@ impl SeatParty {
         self.place = Place::Reaching(self.way_place());
     }
 
-    /// The call is over.
-    pub(crate) fn close(&mut self)
-        ensures seat { self.new.seat ≡ closed self.old.seat }
-        ensures spare { self.new.spare ≡ self.old.spare }
-    {
-        self.reached = 0;
-        self.links = 0;
-        self.loaded = 0;
-        self.place = Place::Idle;
-    }
-
     /// Learns the object's meta.
     pub(crate) fn learn_meta(&mut self, number: u8, found: u64)
         requires leads { IfSome (lead_of 0 found) (λ fragment. fragment < 2 ^ 16) }
@@ -161,7 +150,6 @@ impl SeatParty {
             self.learn_link(found);
             return;
         };
-        self.close();
-        self.say(number, reply);
+        self.reply(number, reply);
     }
 }

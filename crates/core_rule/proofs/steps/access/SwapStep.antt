@@ -173,7 +173,7 @@ swap_keeps heap state book q rule here place machine =
     (cycle_own heap (put heap state.words (Word seat.reached part) word) book.owner book.colour book.history (entries.Said q seat.command (replies.Was stamp)) refl q
     (seat_after (swap_move q seat) found)
     (cycle_apart heap state.words (put heap state.words (Word seat.reached part) word) book.owner book.owner book.colour book.colour (phase book.history) (answered q book.history) (has_left q book.history)
-    q seat (seat_after (swap_move q seat) found) record { answered = refl; left = refl; asked = refl } tt silent.none_shaded
+    q seat (seat_after (swap_move q seat) found) record { answered = refl; left = refl; asked = sym silent.none_asked } tt refl
     (answer_swapped heap state book q rule here place cell.value cell.stamp (holds (source_of seat.command)) names.0 small word is_word q here) stands.cycle.births stands.cycle)
     refl (no_leave_told q q seat.command (replies.Was stamp) (λ leaves. subst IsSet leaves a_set)))
     (leaves_swapped heap state book q rule here place cell.value cell.stamp (holds (source_of seat.command)) names.0 small word is_word)

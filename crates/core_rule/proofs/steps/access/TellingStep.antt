@@ -1,5 +1,5 @@
 -- Telling the reply of a call that looks at no word keeps the rule.
-use Rattle.std.proofs.Common.{◌≡◌, ◌≢◌, ℕ, ◌<◌, false, filter, refl, ◌∙◌, subst}
+use Rattle.std.proofs.Common.{◌≡◌, ◌≢◌, ℕ, ◌<◌, false, filter, refl, ◌∙◌, subst, sym}
 use Rattle.heap_model.specs.declared.heap.Heap.{Heap}
 use Rattle.heap_model.specs.Command.{IsCommand}
 use Rattle.heap_model.specs.Cycles.{graph_of}
@@ -46,4 +46,4 @@ telling_keeps heap state book q rule here place machine =
     (local_replies heap book.history g q book.made book.owner book.fragments seat.registers present stands.fits.registers_whole (registers_length heap book.history q present)
     (λ i. stands.registers i (none_awaited seat.place places.Telling (target_of seat.command) i place (λ none. none))) seat.command at_place.1 at_place.2)
     (no_leave_told q q seat.command (local_reply seat.registers seat.command) (λ leaves. subst (IsLocal seat.registers) leaves at_place.2))
-    record { idle = refl; reserve = refl; mine = refl; answered = refl; asked = refl; shaded = silent.none_shaded; made = refl; sets = refl; left = refl }
+    record { idle = refl; reserve = refl; mine = refl; answered = refl; asked = sym silent.none_asked; shaded = refl; made = refl; sets = refl; left = refl }

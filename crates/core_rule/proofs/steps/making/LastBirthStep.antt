@@ -12,7 +12,7 @@ use Rattle.core_machine.specs.declared.table.address.Address.TheVariants.{Contro
 use Rattle.core_machine.specs.declared.place.Making.TheVariants.{Bearing}
 use Rattle.core_machine.specs.declared.place.Place.TheVariants as places
 use Rattle.core_machine.specs.seat.Commands.{target_of, fields_of, IsRecord}
-use Rattle.core_machine.specs.seat.Fits.{HasBody}
+use Rattle.core_machine.specs.seat.Fits.{HasBody, IsSilent}
 use Rattle.core_machine.specs.table.Fragments.{mask, tally}
 use Rattle.core_machine.specs.table.Layout.{at}
 use Rattle.core_machine.specs.machine.Machine.{State, seat_at, stepped, found_by}
@@ -24,7 +24,6 @@ use Rattle.core_machine.specs.machine.Value.{IsMachine}
 use Rattle.core_machine.proofs.table_lemmas.Addresses.{length-put}
 use Rattle.core_rule.specs.Book.{Book}
 use Rattle.core_rule.specs.Colours.{birth_colour}
-use Rattle.core_rule.specs.Gathers.{GathersRight}
 use Rattle.core_rule.specs.Objects.{AreMade, cells_at}
 use Rattle.core_rule.specs.Rule.{Rule}
 use Rattle.core_rule.proofs.steps.Assemble.{fit_after, present_at, Keeps, seat_steps}
@@ -45,7 +44,6 @@ use Rattle.core_rule.proofs.objects.LastBirth.{one_more, all_stored, registers_o
 use Rattle.core_rule.proofs.colours.LastColours.{kept_bears, kept_own, kept_borne, kept_first}
 use Rattle.core_rule.proofs.entries.MadeEntry.{graph_grown, used_made, counts_made, made_legal}
 use Rattle.core_rule.proofs.cycle.MakingCycle.{answer_after_control, cycle_control}
-use Rattle.core_rule.proofs.hand.MakingSeats.{none_shaded}
 use Rattle.core_rule.proofs.objects.NamesGrowth.{names_grown, object_grows, old_apart}
 use Rattle.core_rule.proofs.objects.ObjectFrames.{objects_control}
 use Rattle.core_rule.proofs.objects.ObjectsGrowth.{NewBody, objects_grown}
@@ -93,6 +91,7 @@ last_birth_keeps heap state book q rule here place last machine =
     let list = making_list (graph_of heap book.history) book.history book.made book.owner book.fragments q seat Bearing place stands.list in
     let at_place : HasBody seat × (0 < length seat.hand) × (length seat.hand ≤ length body) × (seat.stored ≡ 4 * length body) = rw place at stands.fits.at_place in
     let has = at_place.0 in
+    let silent : IsSilent seat = rw place at stands.fits.answer_at_place in
     let below = group_born heap state book q rule here place in
     let some = some_born heap state book q rule here place in
     let d : ℕ = target_of seat.command in
@@ -146,16 +145,14 @@ last_birth_keeps heap state book q rule here place last machine =
       way = tt;
       cycle = cycle_own heap words now.owner now.colour book.history entry refl q (seat_after (last_birth_move q seat) found)
           (cycle_apart heap state.words words book.owner now.owner book.colour now.colour (phase book.history) (answered q book.history) (has_left q book.history) q
-          seat (seat_after (last_birth_move q seat) found) record { answered = refl; left = refl; asked = refl } tt (none_shaded heap seat Bearing stands.fits place)
+          seat (seat_after (last_birth_move q seat) found) record { answered = refl; left = refl; asked = sym silent.none_asked } tt refl
           (answer_after_control heap state.words word group q (omega (arith, here, rule.limits.seats_fit)))
           (kept_own book.owner book.colour q seat.reserve seat.hand body stands.holding some group (length book.made) last black stands.cycle.births) stands.cycle)
           refl (no_leave_told q q seat.command _ (λ leaves. subst IsRecord leaves has.makes.a_record));
-      together = nothing_together heap seat.cursor seat.tried [] [] refl refl;
+      together = nothing_together heap seat.cursor 0 [] [] refl refl;
       counts = rw graph (counts_made g book.history q seat stands.counts has.whole some present d (fresh false fields) found);
       began = began_idle book.history entry q (book.begun q) seat.place stands.began;
-      gathers = subst (λ n. GathersRight heap now.owner q (drop (book.begun q) now.history) seat.cursor n seat.given) (sym has.none_tried)
-          (subst (λ n. GathersRight heap now.owner q (drop (book.begun q) now.history) seat.cursor 0 n) (sym has.none_given)
-          (nothing_tried heap now.owner q (drop (book.begun q) now.history) seat.cursor));
+      gathers = nothing_tried heap now.owner q (drop (book.begun q) now.history) seat.cursor;
     }
     (λ r less apart other. record {
       fits = other.fits;
