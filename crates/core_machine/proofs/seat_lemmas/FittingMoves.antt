@@ -16,10 +16,10 @@ use Rattle.core_machine.specs.declared.seat.register.Register.TheVariants.{Objec
 use Rattle.core_machine.specs.table.Layout.{InTable}
 use Rattle.core_machine.specs.table.Loaded.{head_in, id_in, FoundWithin}
 use Rattle.core_machine.specs.table.Operation.{address_of}
-use Rattle.core_machine.specs.seat.Seat.{Seat}
+use Rattle.core_machine.specs.seat.Seat.{Seat, over}
 use Rattle.core_machine.specs.seat.Commands.{field_of, source_of}
 use Rattle.core_machine.specs.seat.Registers.{register_in}
-use Rattle.core_machine.specs.seat.Making.{claimed, given_back, told_full, stored_more, born, made_last}
+use Rattle.core_machine.specs.seat.Making.{claimed, given_back, stored_more, born, made_last}
 use Rattle.core_machine.specs.seat.Reaching.{part_of, onward, meta_reply, met, got, named, old_done, old_found, reaching, swapped}
 use Rattle.core_machine.specs.seat.Telling.{told}
 use Rattle.core_machine.specs.seat.Polling.{phase_found, shaded_more, answer_stored, emptied, parted}
@@ -27,10 +27,10 @@ use Rattle.core_machine.specs.seat.ReachingMoves.{loaded_head}
 use Rattle.core_machine.specs.Moves.{move_at, making_move, reaching_move, polling_move, leaving_move, next_move, seat_moved, seat_after, bearing_move, is_last_birth}
 use Rattle.core_machine.specs.seat.FitsReaching.{HasNoWay, FitsReaching}
 use Rattle.core_machine.specs.seat.Fits.{HasNoAnswer, HasBody, FitsMaking, FitsPlace, FitsWay, FitsAnswer, FitsPolling, IsAtRest, Fits}
-use Rattle.core_machine.proofs.seat_lemmas.Aside.{IsAside, gone_aside, aside_making, present_busy}
+use Rattle.core_machine.proofs.seat_lemmas.Aside.{IsAside, gone_aside, fits_over, aside_making, present_busy}
 use Rattle.core_machine.proofs.table_lemmas.Bits.{bool_tells}
 use Rattle.core_machine.proofs.seat_lemmas.FittingEntries.{fits_entries}
-use Rattle.core_machine.proofs.seat_lemmas.FittingMaking.{fits_claimed, fits_given_back, fits_told, fits_stored, fits_born, fits_made, next_within}
+use Rattle.core_machine.proofs.seat_lemmas.FittingMaking.{fits_claimed, fits_given_back, fits_stored, fits_born, fits_made, next_within}
 use Rattle.core_machine.proofs.seat_lemmas.FittingReaching.{Rests, fits_reaching, fits_closed, fits_filled, fits_onward, fits_met, fits_got, fits_old_done, fits_old_found}
 use Rattle.core_machine.proofs.seat_lemmas.FittingAnswers.{fits_local, fits_phase, fits_shaded, fits_stored_answer, fits_emptied, fits_parted, register_fits}
 use Rattle.core_machine.proofs.table_lemmas.Owned.{group_within}
@@ -49,7 +49,8 @@ fits_making : (heap : Heap) (number : ℕ) (seat : Seat) (found : ℕ) (place : 
     → seat.place ≡ places.Making place → Fits heap (seat_after (making_move heap number seat place) found)
 fits_making heap number seat found Gathering fits aside is here = fits_entries heap (claimed heap seat found) _ (fits_claimed heap seat found fits aside is)
 fits_making heap number seat found Returning fits aside is here = fits_entries heap (given_back seat) _ (fits_given_back heap seat fits aside is.0)
-fits_making heap number seat found Refusing fits aside is here = fits_entries heap (told_full seat) _ (fits_told heap seat fits aside is.0 is.1)
+fits_making heap number seat found Refusing fits aside is here = fits_entries heap (over seat) _
+    (fits_over heap seat fits.registers_whole fits.registers_fit fits.cursor_within fits.small_reserve fits.reserve_of_cursor (gone_aside aside.present))
 fits_making heap number seat found Storing fits aside is here = fits_entries heap (stored_more seat) [] (fits_stored heap seat fits aside is.0 is.1 is.2)
 fits_making heap number seat found Bearing fits aside is here = fits_bearing heap number seat found fits aside is.0 is.2 is.3 here
 
@@ -79,7 +80,7 @@ fits_polled : (heap : Heap) (number : ℕ) (seat : Seat) (found : ℕ) (place : 
     → seat.left ≡ false → found < 2 ^ 64 → FitsPolling seat place → Fits heap (seat_after (polling_move number seat place) found)
 fits_polled heap number seat found Asking fits rest nowhere present small is =
     fits_entries heap (phase_found seat found) _
-    (fits_phase heap seat found (record { fits = fits; rest = rest; nowhere = nowhere; present = present; polls = is.1 }) small is.0.none_asked is.0.none_shaded)
+    (fits_phase heap seat found (record { fits = fits; rest = rest; nowhere = nowhere; present = present; polls = is.1 }) small is.0.none_shaded)
 fits_polled heap number seat found Shading fits rest nowhere present small is =
     fits_entries heap (shaded_more seat) []
     (fits_shaded heap seat (record { fits = fits; rest = rest; nowhere = nowhere; present = present; polls = is.0.polls }) is.0.anew is.1)
@@ -90,7 +91,7 @@ fits_polled heap number seat found Answering fits rest nowhere present small is 
 fits_left : (heap : Heap) (number : ℕ) (seat : Seat) (found : ℕ) (place : Leaving) → Fits heap seat → IsAside heap seat
     → FitsPlace heap seat (places.Leaving place) → Fits heap (seat_after (leaving_move number seat place) found)
 fits_left heap number seat found Emptying fits aside is = fits_entries heap (emptied seat) _ (fits_emptied heap seat fits aside is.0 is.1)
-fits_left heap number seat found Parting fits aside is = fits_entries heap (parted seat) _ (fits_parted heap seat fits aside is.0 is.2)
+fits_left heap number seat found Parting fits aside is = fits_entries heap (parted seat) _ (fits_parted heap seat fits is.2)
 
 -- at a place where nothing is reached, loaded or about to be answered
 aside_at : (heap : Heap) (seat : Seat) (place : Place) → Fits heap seat → seat.place ≡ place → (place ≡ places.Idle → ⊥)
@@ -112,7 +113,7 @@ fits_moved_at heap number seat found places.Idle fits is way answer here small l
 fits_moved_at heap number seat found (places.Making place) fits is way answer here small led =
     fits_making heap number seat found place fits (aside_making heap seat place fits here) is here
 fits_moved_at heap number seat found places.Telling fits is way answer here small led =
-    fits_entries heap (told seat) _ (fits_local heap seat fits (aside_at heap seat places.Telling fits here (λ e. cc) way answer) is.0 is.1)
+    fits_entries heap (told seat) _ (fits_local heap seat fits (present_busy heap seat places.Telling fits here (λ e. cc)) is.1)
 fits_moved_at heap number seat found (places.Reaching place) fits is way answer here small led =
     fits_reached heap number seat found place (record { fits = fits; rest = is; silent = answer; present = present_busy heap seat (places.Reaching place) fits here (λ e. cc) }) way led
 fits_moved_at heap number seat found (places.Polling place) fits is way answer here small led =

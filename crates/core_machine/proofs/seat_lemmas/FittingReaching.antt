@@ -19,11 +19,11 @@ use Rattle.core_machine.specs.declared.seat.register.Register.{Register}
 use Rattle.core_machine.specs.seat.Commands.{target_of, source_of, field_of}
 use Rattle.core_machine.specs.table.Loaded.{head_in, lead_of, link_in, plain_in, plain_register, IsWithinHeap}
 use Rattle.core_machine.specs.seat.Registers.{register_in, head_of}
-use Rattle.core_machine.specs.seat.Seat.{Seat}
-use Rattle.core_machine.specs.seat.Reaching.{row_of, has_barrier, reaching, closed, filled, field_place, way_place, onward, meta_reply, met, got, new_place, old_done, old_found}
+use Rattle.core_machine.specs.seat.Seat.{Seat, over}
+use Rattle.core_machine.specs.seat.Reaching.{row_of, has_barrier, reaching, filled, field_place, way_place, onward, meta_reply, met, got, new_place, old_done, old_found}
 use Rattle.core_machine.specs.seat.FitsReaching.{IsGet, IsSet, NamesObject, NamesField, WorksOnObject, Opens, Gets, Sets, FitsReaching}
 use Rattle.core_machine.specs.seat.Fits.{FitsRegister, IsAtRest, IsSilent, Fits}
-use Rattle.core_machine.proofs.seat_lemmas.Aside.{gone_aside}
+use Rattle.core_machine.proofs.seat_lemmas.Aside.{gone_aside, fits_over}
 use Rattle.core_machine.proofs.table_lemmas.Bits.{bool_tells}
 
 -- what a call that makes nothing leaves alone
@@ -59,25 +59,10 @@ fits_reaching heap seat reached links loaded place rests within led way =
 
 -- the call is over, with these registers and so many sets
 pub fits_closed : (heap : Heap) (seat : Seat) (registers : List Register) (sets : ℕ) → Rests heap seat → length registers ≡ 16
-    → All (FitsRegister heap) registers → Fits heap (record (closed seat) { registers = registers; sets = sets })
+    → All (FitsRegister heap) registers → Fits heap (over (record seat { registers = registers; sets = sets }))
 fits_closed heap seat registers sets rests whole fit =
     let fits = rests.fits in
-    record {
-      registers_whole = whole;
-      registers_fit = fit;
-      cursor_within = fits.cursor_within;
-      small_reserve = fits.small_reserve;
-      reserve_of_cursor = fits.reserve_of_cursor;
-      hand_within = fits.hand_within;
-      body_within = fits.body_within;
-      reached_within = omega (arith, fits.cursor_within);
-      loaded_within = tt;
-      asked_small = fits.asked_small;
-      at_place = rests.rest;
-      way_at_place = record { none_reached = refl; no_links = refl; none_loaded = refl };
-      answer_at_place = rests.silent;
-      gone = gone_aside rests.present;
-    }
+    fits_over heap (record seat { registers = registers; sets = sets }) whole fit fits.cursor_within fits.small_reserve fits.reserve_of_cursor (gone_aside rests.present)
 
 -- a register got another value, and the call is over
 pub fits_filled : (heap : Heap) (seat : Seat) (register : Register) → Rests heap seat → FitsRegister heap register → Fits heap (filled seat register)

@@ -27,12 +27,20 @@ FitsPlace heap seat (places.Leaving place) = IsAtRest seat × (seat.command ≡ 
 -- what was reached and loaded there
 abbrev pub FitsWay : Seat → Place → Type 0
 FitsWay seat (places.Reaching place) = FitsReaching seat place
-FitsWay seat _ = IsNowhere seat
+FitsWay seat places.Idle = IsNowhere seat
+FitsWay seat (places.Making place) = IsNowhere seat
+FitsWay seat places.Telling = IsNowhere seat
+FitsWay seat (places.Polling place) = IsNowhere seat
+FitsWay seat (places.Leaving place) = IsNowhere seat
 
 -- which phase is about to be answered there
 abbrev pub FitsAnswer : Seat → Place → Type 0
 FitsAnswer seat (places.Polling place) = FitsPolling seat place
-FitsAnswer seat _ = IsSilent seat
+FitsAnswer seat places.Idle = IsSilent seat
+FitsAnswer seat (places.Making place) = IsSilent seat
+FitsAnswer seat places.Telling = IsSilent seat
+FitsAnswer seat (places.Reaching place) = IsSilent seat
+FitsAnswer seat (places.Leaving place) = IsSilent seat
 
 -- a register's number is within the limit, and its object's first fragment is one of the heap's
 abbrev pub FitsRegister : Heap → Register → Type 0

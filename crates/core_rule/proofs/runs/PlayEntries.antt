@@ -102,7 +102,9 @@ field_plain false = tt
 
 meta_plain : (command : Command) (found : ℕ) → IfSome (meta_reply command found) IsPlainReply
 meta_plain (commands.Len r) found = tt
-meta_plain _ found = field_plain _
+meta_plain (commands.Get d r i) found = field_plain _
+meta_plain (commands.Set r i v) found = field_plain _
+meta_plain _ found = tt
 
 refusal : (heap : Heap) (state : State) (book : Book) (q : ℕ) → Rule heap state book → q < heap.seats → (seat_at state q).place ≡ places.Making Refusing
     → list_all (is_of q) (drop (book.begun q) book.history) ≡ true → AddsPlay heap book.history q (full_entry q (seat_at state q) ∷ [])
