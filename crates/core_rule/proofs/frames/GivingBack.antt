@@ -120,5 +120,5 @@ module _ (heap : Heap) (state : State) (book : Book) (q : ℕ) (rule : Rule heap
         counts = rw graph_given (counts_stay before before r (same_party before before r refl) book.history entry seat away other.counts);
         began = began_stays book.history entry r (book.begun r) seat.place away other.began;
         gathers = other_gives heap book.owner book.history q fs once inside rule.heap_stands.used (book.begun r) other.began.earlier seat.cursor seat.tried seat.given held
-            other.fits.cursor_within (tried_within heap seat seat.place other.fits.at_place) r apart other.gathers;
+            other.fits.own.cursor_within (tried_within heap seat seat.place other.fits.at_place) r apart other.gathers;
       }

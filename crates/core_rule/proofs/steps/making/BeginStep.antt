@@ -50,7 +50,7 @@ begin_keeps heap state book q command rule here may a_record machine =
       way = rw stays.placed tt;
       cycle = cycle_goes_on heap state.words state.words book.owner book.owner book.colour (phase book.history) (answered q book.history) (has_left q book.history) q (seat_at state q) next
           record { answered = same.answered; left = same.left; asked = same.asked } (rw stays.placed tt) (same.shaded ∙ silent.none_shaded) refl (λ f borne. borne) stands.cycle;
-      together = together_goes_on heap seat rest.no_body stands.fits.cursor_within stands.fits.reserve_of_cursor
+      together = together_goes_on heap seat rest.no_body stands.fits.own.cursor_within stands.fits.own.reserve_of_cursor
           (nothing_together heap seat.cursor seat.tried seat.hand seat.body rest.empty_hand rest.no_body);
       counts = record {
         numbered = same.made ∙ stands.counts.numbered;

@@ -98,7 +98,7 @@ birth_keeps heap state book q rule here place more machine =
           seat (seat_after (birth_move seat) found) record { answered = refl; left = refl; asked = refl } (rw place tt) (none_shaded heap seat Bearing stands.fits place)
           (answer_after_control heap state.words word g q (omega (arith, here, rule.limits.seats_fit)))
           (born_more book.owner book.colour part q black stands.cycle.births) stands.cycle;
-      together = together_bears heap seat.cursor seat.tried seat.hand seat.body stands.fits.hand_within some stands.together;
+      together = together_bears heap seat.cursor seat.tried seat.hand seat.body stands.fits.hand.hand_within some stands.together;
       counts = counts_same (graph_of heap book.history) book.history q seat (seat_after (birth_move seat) found) refl refl refl
           (rw (whole_full (part_out g seat.hand) seat.hand seat.body some) refl) stands.counts;
       began = stands.began;

@@ -72,7 +72,7 @@ store_keeps heap state book q rule here place machine =
     record {
       fits = fit_after heap state book q rule here machine;
       holding = stands.holding;
-      stored = store_next heap seat.body (newborn_word q seat) state.words seat.stored once stands.fits.body_within at_place.2 rule.heap_stands.table stands.stored;
+      stored = store_next heap seat.body (newborn_word q seat) state.words seat.stored once stands.fits.hand.body_within at_place.2 rule.heap_stands.table stands.stored;
       registers = λ r fresh. stands.registers r (awaits_none Storing seat.place (target_of seat.command) r place);
       list = whole_list (graph_of heap book.history) book.history book.made book.owner book.fragments q (seat_after (store_move q seat) found) refl
           (append-nil seat.mine ∙ making_list (graph_of heap book.history) book.history book.made book.owner book.fragments q seat Storing place stands.list);
