@@ -42,9 +42,9 @@ present_busy heap seat place fits here busy = by seat.left (λ gone. busy (sym h
 -- while an object is made
 pub aside_making : (heap : Heap) (seat : Seat) (place : Making) → Fits heap seat → seat.place ≡ places.Making place → IsAside heap seat
 aside_making heap seat place fits here = record {
-  registers_fit = fits.registers_fit;
-  reached_within = fits.reached_within;
-  loaded_within = fits.loaded_within;
+  registers_fit = fits.own.registers_fit;
+  reached_within = fits.way.reached_within;
+  loaded_within = fits.way.loaded_within;
   asked_small = fits.asked_small;
   nowhere = subst (FitsWay seat) here fits.way_at_place;
   silent = subst (FitsAnswer seat) here fits.answer_at_place;
@@ -54,9 +54,9 @@ aside_making heap seat place fits here = record {
 -- while no call is in flight
 pub aside_idle : (heap : Heap) (seat : Seat) → Fits heap seat → seat.place ≡ places.Idle → seat.left ≡ false → IsAside heap seat
 aside_idle heap seat fits here present = record {
-  registers_fit = fits.registers_fit;
-  reached_within = fits.reached_within;
-  loaded_within = fits.loaded_within;
+  registers_fit = fits.own.registers_fit;
+  reached_within = fits.way.reached_within;
+  loaded_within = fits.way.loaded_within;
   asked_small = fits.asked_small;
   nowhere = subst (FitsWay seat) here fits.way_at_place;
   silent = subst (FitsAnswer seat) here fits.answer_at_place;
@@ -71,15 +71,12 @@ pub fits_hand : (heap : Heap) (seat : Seat) (hand : List ℕ) (stored tried give
     → FitsPlace heap (with_hand seat hand stored tried given place) place → FitsWay (with_hand seat hand stored tried given place) place
     → FitsAnswer (with_hand seat hand stored tried given place) place → Fits heap (with_hand seat hand stored tried given place)
 fits_hand heap seat hand stored tried given place fits aside within at_place way answer = record {
-  registers_whole = fits.registers_whole;
-  registers_fit = aside.registers_fit;
-  cursor_within = fits.cursor_within;
-  small_reserve = fits.small_reserve;
-  reserve_of_cursor = fits.reserve_of_cursor;
-  hand_within = within;
-  body_within = fits.body_within;
-  reached_within = aside.reached_within;
-  loaded_within = aside.loaded_within;
+  own = fits.own;
+  hand = record {
+    hand_within = within;
+    body_within = fits.hand.body_within;
+  };
+  way = fits.way;
   asked_small = aside.asked_small;
   at_place = at_place;
   way_at_place = way;
@@ -91,15 +88,21 @@ fits_hand heap seat hand stored tried given place fits aside within at_place way
 pub fits_over : (heap : Heap) (seat : Seat) → length seat.registers ≡ 16 → All (FitsRegister heap) seat.registers → seat.cursor < heap.groups → length seat.reserve ≤ 15
     → All (λ fragment. fragment / 16 ≡ seat.cursor) seat.reserve → (seat.left ≡ true → seat.reserve ≡ []) → Fits heap (over seat)
 fits_over heap seat whole fit cursor small of_cursor gone = record {
-  registers_whole = whole;
-  registers_fit = fit;
-  cursor_within = cursor;
-  small_reserve = small;
-  reserve_of_cursor = of_cursor;
-  hand_within = All-nil (λ fragment. fragment < 16 * heap.groups);
-  body_within = All-nil (λ fragment. fragment < 16 * heap.groups);
-  reached_within = omega (arith, cursor);
-  loaded_within = tt;
+  own = record {
+    registers_whole = whole;
+    registers_fit = fit;
+    cursor_within = cursor;
+    small_reserve = small;
+    reserve_of_cursor = of_cursor;
+  };
+  hand = record {
+    hand_within = All-nil (λ fragment. fragment < 16 * heap.groups);
+    body_within = All-nil (λ fragment. fragment < 16 * heap.groups);
+  };
+  way = record {
+    reached_within = omega (arith, cursor);
+    loaded_within = tt;
+  };
   asked_small = omega arith;
   at_place = record { empty_hand = refl; no_body = refl; none_stored = refl; none_tried = refl; none_given = refl };
   way_at_place = record { none_reached = refl; no_links = refl; none_loaded = refl };

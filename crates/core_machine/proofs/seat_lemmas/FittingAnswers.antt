@@ -44,8 +44,8 @@ local_whole registers _ = refl
 -- the reply of a local command was told
 pub fits_local : (heap : Heap) (seat : Seat) → Fits heap seat → seat.left ≡ false → IsCommand seat.command → Fits heap (told seat)
 fits_local heap seat fits present range =
-    fits_over heap (record seat { registers = local_registers seat.registers seat.command }) (local_whole seat.registers seat.command ∙ fits.registers_whole)
-    (local_fit heap seat.registers seat.command range fits.registers_fit) fits.cursor_within fits.small_reserve fits.reserve_of_cursor (gone_aside present)
+    fits_over heap (record seat { registers = local_registers seat.registers seat.command }) (local_whole seat.registers seat.command ∙ fits.own.registers_whole)
+    (local_fit heap seat.registers seat.command range fits.own.registers_fit) fits.own.cursor_within fits.own.small_reserve fits.own.reserve_of_cursor (gone_aside present)
 
 -- a call that answers the phase leaves these alone
 pub record Polls (heap : Heap) (seat : Seat) : Type 0 where
@@ -65,15 +65,9 @@ fits_answering : (heap : Heap) (seat : Seat) (answered asked shaded : ℕ) (plac
 fits_answering heap seat answered asked shaded place polls small at_place way answer =
     let fits = polls.fits in
     record {
-      registers_whole = fits.registers_whole;
-      registers_fit = fits.registers_fit;
-      cursor_within = fits.cursor_within;
-      small_reserve = fits.small_reserve;
-      reserve_of_cursor = fits.reserve_of_cursor;
-      hand_within = fits.hand_within;
-      body_within = fits.body_within;
-      reached_within = fits.reached_within;
-      loaded_within = fits.loaded_within;
+      own = fits.own;
+      hand = fits.hand;
+      way = fits.way;
       asked_small = small;
       at_place = at_place;
       way_at_place = way;
@@ -100,7 +94,7 @@ fits_polling heap seat asked shaded polls small anew few =
 fits_answered : (heap : Heap) (seat : Seat) (answered : ℕ) → Polls heap seat → Fits heap (over (record seat { answered = answered }))
 fits_answered heap seat answered polls =
     let fits = polls.fits in
-    fits_over heap (record seat { answered = answered }) fits.registers_whole fits.registers_fit fits.cursor_within fits.small_reserve fits.reserve_of_cursor (gone_aside polls.present)
+    fits_over heap (record seat { answered = answered }) fits.own.registers_whole fits.own.registers_fit fits.own.cursor_within fits.own.small_reserve fits.own.reserve_of_cursor (gone_aside polls.present)
 
 -- the phase was found
 pub fits_phase : (heap : Heap) (seat : Seat) (found : ℕ) → Polls heap seat → found < 2 ^ 64 → seat.shaded ≡ 0 → Fits heap (phase_found seat found)
@@ -121,15 +115,15 @@ fits_stored_answer heap seat polls = fits_answered heap seat seat.asked polls
 -- the reserve was given back
 pub fits_emptied : (heap : Heap) (seat : Seat) → Fits heap seat → IsAside heap seat → IsAtRest seat → seat.command ≡ commands.Leave → Fits heap (emptied seat)
 fits_emptied heap seat fits aside rest leaves = record {
-  registers_whole = fits.registers_whole;
-  registers_fit = fits.registers_fit;
-  cursor_within = fits.cursor_within;
-  small_reserve = omega arith;
-  reserve_of_cursor = All-nil (λ fragment. fragment / 16 ≡ seat.cursor);
-  hand_within = fits.hand_within;
-  body_within = fits.body_within;
-  reached_within = aside.reached_within;
-  loaded_within = aside.loaded_within;
+  own = record {
+    registers_whole = fits.own.registers_whole;
+    registers_fit = fits.own.registers_fit;
+    cursor_within = fits.own.cursor_within;
+    small_reserve = omega arith;
+    reserve_of_cursor = All-nil (λ fragment. fragment / 16 ≡ seat.cursor);
+  };
+  hand = fits.hand;
+  way = fits.way;
   asked_small = aside.asked_small;
   at_place = (rest, leaves, refl);
   way_at_place = aside.nowhere;
@@ -144,5 +138,5 @@ nils_fit heap n = All-replicate (FitsRegister heap) n Nil tt
 -- the seat has left
 pub fits_parted : (heap : Heap) (seat : Seat) → Fits heap seat → seat.reserve ≡ [] → Fits heap (parted seat)
 fits_parted heap seat fits empty =
-    fits_over heap (record seat { registers = replicate 16 Nil; left = true }) (length-replicate 16 Nil) (nils_fit heap 16) fits.cursor_within fits.small_reserve fits.reserve_of_cursor
+    fits_over heap (record seat { registers = replicate 16 Nil; left = true }) (length-replicate 16 Nil) (nils_fit heap 16) fits.own.cursor_within fits.own.small_reserve fits.own.reserve_of_cursor
     (λ left. empty)

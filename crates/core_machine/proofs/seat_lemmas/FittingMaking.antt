@@ -30,18 +30,18 @@ pub fits_begun_new : (heap : Heap) (seat : Seat) (d fields : ℕ) → Fits heap 
 fits_begun_new heap seat d fields fits may =
     let rest : IsAtRest seat = subst (FitsPlace heap seat) may.idle fits.at_place in
     fits_goes_on heap (record seat { command = New d fields }) record {
-      registers_whole = fits.registers_whole;
-      cursor_within = fits.cursor_within;
-      small_reserve = fits.small_reserve;
-      reserve_of_cursor = fits.reserve_of_cursor;
-      hand_within = fits.hand_within;
+      registers_whole = fits.own.registers_whole;
+      cursor_within = fits.own.cursor_within;
+      small_reserve = fits.own.small_reserve;
+      reserve_of_cursor = fits.own.reserve_of_cursor;
+      hand_within = fits.hand.hand_within;
       makes = record { a_record = tt; in_range = may.in_range; numbered = may.numbered };
       no_body = rest.no_body;
       none_stored = rest.none_stored;
       none_given = rest.none_given;
       tried_within = omega (arith, rest.none_tried);
-      few = rw rest.empty_hand (omega (arith, fits.small_reserve));
-      rest_of_last = rw (rest.none_tried, rest.empty_hand, append-nil seat.reserve) (All-drop (λ fragment. fragment / 16 ≡ seat.cursor) (need_of (New d fields)) seat.reserve fits.reserve_of_cursor);
+      few = rw rest.empty_hand (omega (arith, fits.own.small_reserve));
+      rest_of_last = rw (rest.none_tried, rest.empty_hand, append-nil seat.reserve) (All-drop (λ fragment. fragment / 16 ≡ seat.cursor) (need_of (New d fields)) seat.reserve fits.own.reserve_of_cursor);
       aside = aside_idle heap seat fits may.idle may.present;
     }
 
@@ -67,12 +67,12 @@ fits_claimed heap seat found fits aside is =
     let last : seat.cursor + (seat.tried + 1) - 1 ≡ seat.cursor + seat.tried = omega arith in
     let made_one : eqb (seat.tried + 1) 0 ≡ false = grind arith in
     fits_goes_on heap (record seat { hand = seat.hand ++ clear_in group found; tried = seat.tried + 1 }) record {
-      registers_whole = fits.registers_whole;
-      cursor_within = fits.cursor_within;
-      small_reserve = fits.small_reserve;
-      reserve_of_cursor = fits.reserve_of_cursor;
-      hand_within = All-append (λ fragment. fragment < 16 * heap.groups) seat.hand (clear_in group found) fits.hand_within
-          (within_group heap group (clear_in group found) (next_within heap seat fits.cursor_within) (clear_in-group group found));
+      registers_whole = fits.own.registers_whole;
+      cursor_within = fits.own.cursor_within;
+      small_reserve = fits.own.small_reserve;
+      reserve_of_cursor = fits.own.reserve_of_cursor;
+      hand_within = All-append (λ fragment. fragment < 16 * heap.groups) seat.hand (clear_in group found) fits.hand.hand_within
+          (within_group heap group (clear_in group found) (next_within heap seat fits.own.cursor_within) (clear_in-group group found));
       makes = is.makes;
       no_body = is.no_body;
       none_stored = is.none_stored;
@@ -89,7 +89,7 @@ fits_given_back heap seat fits aside is =
     let group = first_group seat.hand in
     let both = length-filter_both (in_group group) (out_of_group group) (λ fragment. refl) seat.hand in
     fits_hand heap seat (part_out group seat.hand) seat.stored seat.tried (seat.given + length (part_in group seat.hand)) (places.Making (returning (part_out group seat.hand))) fits aside
-    (All-filter (out_of_group group) (λ fragment. fragment < 16 * heap.groups) seat.hand fits.hand_within)
+    (All-filter (out_of_group group) (λ fragment. fragment < 16 * heap.groups) seat.hand fits.hand.hand_within)
     (fits_returning heap (given_back seat) (part_out group seat.hand)
     (record { makes = is.makes; no_body = is.no_body; none_stored = is.none_stored; all_tried = is.all_tried; too_few = omega (arith, is.too_few) }) refl)
     aside.nowhere aside.silent
@@ -108,7 +108,7 @@ fits_storing heap seat is whole within =
 pub fits_stored : (heap : Heap) (seat : Seat) → Fits heap seat → IsAside heap seat → HasBody seat → seat.hand ≡ seat.body → seat.stored < 4 * length seat.body
     → Fits heap (stored_more seat)
 fits_stored heap seat fits aside is whole within =
-    fits_hand heap seat seat.hand (seat.stored + 1) seat.tried seat.given (places.Making (storing (seat.stored + 1) seat.body)) fits aside fits.hand_within
+    fits_hand heap seat seat.hand (seat.stored + 1) seat.tried seat.given (places.Making (storing (seat.stored + 1) seat.body)) fits aside fits.hand.hand_within
     (fits_storing heap (stored_more seat) (record { makes = is.makes; whole = is.whole; none_tried = is.none_tried; none_given = is.none_given }) whole (omega arith))
     aside.nowhere aside.silent
 
@@ -128,7 +128,7 @@ fits_born heap seat fits aside is within stored place more =
     let group = last_group seat.hand in
     let fewer = length-filter_le (out_of_group group) seat.hand in
     fits_hand heap seat (part_out group seat.hand) seat.stored seat.tried seat.given seat.place fits aside
-    (All-filter (out_of_group group) (λ fragment. fragment < 16 * heap.groups) seat.hand fits.hand_within)
+    (All-filter (out_of_group group) (λ fragment. fragment < 16 * heap.groups) seat.hand fits.hand.hand_within)
     (rw place (record { makes = is.makes; whole = is.whole; none_tried = is.none_tried; none_given = is.none_given }, some_out group seat.hand more, omega arith, stored))
     (rw place aside.nowhere) (rw place aside.silent)
 
@@ -136,8 +136,8 @@ fits_born heap seat fits aside is within stored place more =
 pub fits_made : (heap : Heap) (number : ℕ) (seat : Seat) → Fits heap seat → IsAside heap seat → HasBody seat → Fits heap (made_last number seat)
 fits_made heap number seat fits aside is =
     let some = need_of_record seat.command is.makes.a_record is.makes.in_range in
-    let head = fits.body_within 0 0 (omega (arith, is.whole)) in
+    let head = fits.hand.body_within 0 0 (omega (arith, is.whole)) in
     fits_over heap (record seat { registers = set seat.registers (target_of seat.command) (Object (get_or seat.body 0 0) (next_id number seat)); made = seat.made + 1 })
-    (length-set seat.registers _ _ ∙ fits.registers_whole)
-    (All-set (FitsRegister heap) seat.registers (target_of seat.command) (Object (get_or seat.body 0 0) (next_id number seat)) head fits.registers_fit)
-    fits.cursor_within fits.small_reserve fits.reserve_of_cursor (gone_aside aside.present)
+    (length-set seat.registers _ _ ∙ fits.own.registers_whole)
+    (All-set (FitsRegister heap) seat.registers (target_of seat.command) (Object (get_or seat.body 0 0) (next_id number seat)) head fits.own.registers_fit)
+    fits.own.cursor_within fits.own.small_reserve fits.own.reserve_of_cursor (gone_aside aside.present)

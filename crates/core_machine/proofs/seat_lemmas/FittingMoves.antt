@@ -50,7 +50,7 @@ fits_making : (heap : Heap) (number : ℕ) (seat : Seat) (found : ℕ) (place : 
 fits_making heap number seat found Gathering fits aside is here = fits_entries heap (claimed heap seat found) _ (fits_claimed heap seat found fits aside is)
 fits_making heap number seat found Returning fits aside is here = fits_entries heap (given_back seat) _ (fits_given_back heap seat fits aside is.0)
 fits_making heap number seat found Refusing fits aside is here = fits_entries heap (over seat) _
-    (fits_over heap seat fits.registers_whole fits.registers_fit fits.cursor_within fits.small_reserve fits.reserve_of_cursor (gone_aside aside.present))
+    (fits_over heap seat fits.own.registers_whole fits.own.registers_fit fits.own.cursor_within fits.own.small_reserve fits.own.reserve_of_cursor (gone_aside aside.present))
 fits_making heap number seat found Storing fits aside is here = fits_entries heap (stored_more seat) [] (fits_stored heap seat fits aside is.0 is.1 is.2)
 fits_making heap number seat found Bearing fits aside is here = fits_bearing heap number seat found fits aside is.0 is.2 is.3 here
 
@@ -64,17 +64,17 @@ fits_reached heap number seat found Getting rests is led =
     fits_entries heap (got seat found (head_in found)) _ (fits_got heap seat found (head_in found) rests is.0 refl (head_leads heap (field_of seat.command) found led))
 fits_reached heap number seat found Naming rests is led =
     fits_entries heap (named seat (loaded_head seat) (id_in found)) _
-    (fits_filled heap seat (Object (loaded_head seat) (id_in found)) rests (some_within heap (head_in seat.loaded) is.1 rests.fits.loaded_within))
+    (fits_filled heap seat (Object (loaded_head seat) (id_in found)) rests (some_within heap (head_in seat.loaded) is.1 rests.fits.way.loaded_within))
 fits_reached heap number seat found LoadingOld rests is led =
     fits_entries heap (old_found (record seat { loaded = found }) (head_in found)) []
     (fits_old_found heap seat found (head_in found) rests is.0 is.1 refl (head_leads heap (field_of seat.command) found led))
 fits_reached heap number seat found ShadingOld rests is led =
-    fits_entries heap (old_done seat) [] (fits_old_done heap seat seat.loaded rests is.0 is.1 rests.fits.loaded_within)
+    fits_entries heap (old_done seat) [] (fits_old_done heap seat seat.loaded rests is.0 is.1 rests.fits.way.loaded_within)
 fits_reached heap number seat found ShadingNew rests is led =
     fits_entries heap (reaching seat Swapping) []
-    (fits_reaching heap seat seat.reached seat.links seat.loaded Swapping rests rests.fits.reached_within rests.fits.loaded_within (is.0, λ off. gone_aside off is.1))
+    (fits_reaching heap seat seat.reached seat.links seat.loaded Swapping rests rests.fits.way.reached_within rests.fits.way.loaded_within (is.0, λ off. gone_aside off is.1))
 fits_reached heap number seat found Swapping rests is led =
-    fits_entries heap (swapped seat) _ (fits_closed heap seat seat.registers (seat.sets + 1) rests rests.fits.registers_whole rests.fits.registers_fit)
+    fits_entries heap (swapped seat) _ (fits_closed heap seat seat.registers (seat.sets + 1) rests rests.fits.own.registers_whole rests.fits.own.registers_fit)
 
 fits_polled : (heap : Heap) (number : ℕ) (seat : Seat) (found : ℕ) (place : Polling) → Fits heap seat → IsAtRest seat → HasNoWay seat.reached seat.links seat.loaded
     → seat.left ≡ false → found < 2 ^ 64 → FitsPolling seat place → Fits heap (seat_after (polling_move number seat place) found)
@@ -97,9 +97,9 @@ fits_left heap number seat found Parting fits aside is = fits_entries heap (part
 aside_at : (heap : Heap) (seat : Seat) (place : Place) → Fits heap seat → seat.place ≡ place → (place ≡ places.Idle → ⊥)
     → HasNoWay seat.reached seat.links seat.loaded → HasNoAnswer seat.asked seat.shaded → IsAside heap seat
 aside_at heap seat place fits here busy nowhere silent = record {
-  registers_fit = fits.registers_fit;
-  reached_within = fits.reached_within;
-  loaded_within = fits.loaded_within;
+  registers_fit = fits.own.registers_fit;
+  reached_within = fits.way.reached_within;
+  loaded_within = fits.way.loaded_within;
   asked_small = fits.asked_small;
   nowhere = nowhere;
   silent = silent;
@@ -129,16 +129,16 @@ fits_moved heap number seat found fits small led =
 
 bearing_in_table : (heap : Heap) (number : ℕ) (seat : Seat) → Fits heap seat → 0 < length seat.hand → InTable heap (address_of (bearing_move number seat).step)
 bearing_in_table heap number seat fits some =
-    let last = group_within heap seat.hand (length seat.hand - 1) (omega arith) fits.hand_within in
+    let last = group_within heap seat.hand (length seat.hand - 1) (omega arith) fits.hand.hand_within in
     elim (bool_tells (is_last_birth seat)) as (λ _. InTable heap (address_of (bearing_move number seat).step)) [ inl all ↦ rw all last | inr more ↦ rw more last ]
 
 making_in_table : (heap : Heap) (number : ℕ) (seat : Seat) (place : Making) → Fits heap seat → FitsMaking heap seat place
     → InTable heap (address_of (making_move heap number seat place).step)
-making_in_table heap number seat Gathering fits is = next_within heap seat fits.cursor_within
-making_in_table heap number seat Returning fits is = group_within heap seat.hand 0 is.1 fits.hand_within
+making_in_table heap number seat Gathering fits is = next_within heap seat fits.own.cursor_within
+making_in_table heap number seat Returning fits is = group_within heap seat.hand 0 is.1 fits.hand.hand_within
 making_in_table heap number seat Refusing fits is = tt
 making_in_table heap number seat Storing fits is =
-    let one = fits.body_within (seat.stored / 4) 0 (omega (arith, is.2)) in (one, omega arith)
+    let one = fits.hand.body_within (seat.stored / 4) 0 (omega (arith, is.2)) in (one, omega arith)
 making_in_table heap number seat Bearing fits is = bearing_in_table heap number seat fits is.1
 
 -- a field stands in a word of its fragment
@@ -147,16 +147,16 @@ part_small i = omega arith
 
 reaching_in_table : (heap : Heap) (number : ℕ) (seat : Seat) (place : Reaching) → Fits heap seat → FitsReaching seat place
     → InTable heap (address_of (reaching_move heap number seat place).step)
-reaching_in_table heap number seat Opening fits is = (fits.reached_within, omega arith)
-reaching_in_table heap number seat Walking fits is = (fits.reached_within, omega arith)
-reaching_in_table heap number seat Getting fits is = (fits.reached_within, part_small (field_of seat.command))
-reaching_in_table heap number seat Naming fits is = (some_within heap (head_in seat.loaded) is.1 fits.loaded_within, omega arith)
-reaching_in_table heap number seat LoadingOld fits is = (fits.reached_within, part_small (field_of seat.command))
+reaching_in_table heap number seat Opening fits is = (fits.way.reached_within, omega arith)
+reaching_in_table heap number seat Walking fits is = (fits.way.reached_within, omega arith)
+reaching_in_table heap number seat Getting fits is = (fits.way.reached_within, part_small (field_of seat.command))
+reaching_in_table heap number seat Naming fits is = (some_within heap (head_in seat.loaded) is.1 fits.way.loaded_within, omega arith)
+reaching_in_table heap number seat LoadingOld fits is = (fits.way.reached_within, part_small (field_of seat.command))
 reaching_in_table heap number seat ShadingOld fits is =
-    let one = some_within heap (head_in seat.loaded) is.2 fits.loaded_within in omega arith
+    let one = some_within heap (head_in seat.loaded) is.2 fits.way.loaded_within in omega arith
 reaching_in_table heap number seat ShadingNew fits is =
-    let one = head_within heap (register_in seat.registers (source_of seat.command)) is.2 (register_fits heap seat.registers (source_of seat.command) fits.registers_fit) in omega arith
-reaching_in_table heap number seat Swapping fits is = (fits.reached_within, part_small (field_of seat.command))
+    let one = head_within heap (register_in seat.registers (source_of seat.command)) is.2 (register_fits heap seat.registers (source_of seat.command) fits.own.registers_fit) in omega arith
+reaching_in_table heap number seat Swapping fits is = (fits.way.reached_within, part_small (field_of seat.command))
 
 polling_in_table : (heap : Heap) (number : ℕ) (seat : Seat) (place : Polling) → number < 16 → Fits heap seat → FitsPolling seat place
     → InTable heap (address_of (polling_move number seat place).step)
@@ -167,7 +167,7 @@ polling_in_table heap number seat Answering small fits is = small
 
 leaving_in_table : (heap : Heap) (number : ℕ) (seat : Seat) (place : Leaving) → number < 16 → Fits heap seat
     → InTable heap (address_of (leaving_move number seat place).step)
-leaving_in_table heap number seat Emptying small fits = fits.cursor_within
+leaving_in_table heap number seat Emptying small fits = fits.own.cursor_within
 leaving_in_table heap number seat Parting small fits = small
 
 move_in_table_at : (heap : Heap) (number : ℕ) (seat : Seat) (place : Place) → number < 16 → Fits heap seat → FitsPlace heap seat place → FitsWay seat place → FitsAnswer seat place

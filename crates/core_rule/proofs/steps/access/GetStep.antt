@@ -71,7 +71,7 @@ module _ (heap : Heap) (state : State) (book : Book) (q : ℕ) (rule : Rule heap
   in_graph = omega (arith, registers_length heap book.history q present, target_within (seat_at state q).command a_get ranges)
 
   in_seat : target_of (seat_at state q).command < length (seat_at state q).registers
-  in_seat = omega (arith, (rule.seats_stand q here).fits.registers_whole, target_within (seat_at state q).command a_get ranges)
+  in_seat = omega (arith, (rule.seats_stand q here).fits.own.registers_whole, target_within (seat_at state q).command a_get ranges)
 
   -- a number or nil stands in the register
   filled_keeps : (new : Register) (stamp : ℕ) → Holds book.made book.owner book.fragments new (value_of new)

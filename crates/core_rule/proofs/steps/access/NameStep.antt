@@ -52,7 +52,7 @@ name_keeps heap state book q rule here place machine =
     ∙ id_at-number_of book.made id awaits.kept.0 in
     let holds : Holds book.made book.owner book.fragments (registers.Object at_name (id_in found)) (register g q d)
     = subst (λ x. Holds book.made book.owner book.fragments (registers.Object at_name x) (register g q d)) (sym name) (awaits.held, awaits.kept, head) in
-    let within : d < length seat.registers = omega (arith, stands.fits.registers_whole, target_within seat.command gets.1 gets.0.in_range) in
+    let within : d < length seat.registers = omega (arith, stands.fits.own.registers_whole, target_within seat.command gets.1 gets.0.in_range) in
     let added : List Entry = said q seat (Got (values.Object (id_in found)) (stamp_in seat.loaded)) in
     let told : stands.told.list.awaited ≡ added = awaits.told ∙ ap (λ x. said q seat (Got (values.Object x) (stamp_in seat.loaded))) (sym name) in
     over_went heap state book q (Word at_name 1) (slice_set seat.registers d (registers.Object at_name (id_in found))) added [] (rw place at stands.fits.at_place) (rw place at stands.fits.answer_at_place) (λ machine.

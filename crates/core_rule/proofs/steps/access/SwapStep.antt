@@ -138,7 +138,7 @@ swap_keeps heap state book q rule here place machine =
     let small : cell.stamp < 2 ^ 32 = omega (arith, few, here, rule.machine.limits.seats_fit) in
     let names : NamesKept book.made book.owner book.fragments cell.value × (cell.stamp < 2 ^ 32)
     = (register_names book.made book.owner book.fragments (register_in seat.registers (source_of seat.command)) cell.value (holds (source_of seat.command)), small) in
-    let inside : fragment < 16 * heap.groups = subst (λ f. f < 16 * heap.groups) arrived stands.fits.reached_within in
+    let inside : fragment < 16 * heap.groups = subst (λ f. f < 16 * heap.groups) arrived stands.fits.way.reached_within in
     reply_keeps heap state book q (put heap state.words (Word seat.reached part) word) (seat_after (swap_move q seat) found) seat.command (replies.Was stamp) rule here machine
     refl rest (all_told seat.mine stands.told.list.awaited (filter (is_of q) book.history) stands.told.list.own awaits)
     (legal_more heap false book.history (entries.Said q seat.command (replies.Was stamp)) rule.heap_stands.legal

@@ -35,7 +35,7 @@ telling_keeps heap state book q rule here place machine =
     let silent : IsSilent seat = rw place at stands.fits.answer_at_place in
     local_reply_keeps heap state book q Phase (seat_after (telling_move q seat) (at heap state.words Phase)) (local_reply seat.registers seat.command) rule here machine
     at_place.0 (all_told seat.mine stands.told.list.awaited (filter (is_of q) book.history) stands.told.list.own awaits) present at_place.1
-    (local_replies heap book.history g q book.made book.owner book.fragments seat.registers present stands.fits.registers_whole (registers_length heap book.history q present)
+    (local_replies heap book.history g q book.made book.owner book.fragments seat.registers present stands.fits.own.registers_whole (registers_length heap book.history q present)
     (λ i. stands.names.registers i (none_awaited seat.place places.Telling (target_of seat.command) i place (λ none. none))) seat.command at_place.1 at_place.2)
     (no_leave_told q q seat.command (local_reply seat.registers seat.command) (λ leaves. subst (IsLocal seat.registers) leaves at_place.2))
     record { idle = refl; reserve = refl; mine = refl; answered = refl; asked = sym silent.none_asked; made = refl; sets = refl; left = refl }

@@ -119,7 +119,7 @@ last_birth_keeps heap state book q rule here place last machine =
           (objects_grown heap state.words g grown book.made id book.owner book.fragments fields body ids more new rule.heap_stands.objects));
       used = used_made heap now.owner book.history q seat (used_same heap book.owner now.owner book.history
           (kept_taken book.owner q seat.reserve seat.hand body stands.own.holding some (length book.made)) rule.heap_stands.used);
-      legal = made_legal g book.history q seat stands.told.counts has.whole some present heap refl has.makes.a_record has.makes.in_range stands.fits.small_reserve rule.heap_stands.legal;
+      legal = made_legal g book.history q seat stands.told.counts has.whole some present heap refl has.makes.a_record has.makes.in_range stands.fits.own.small_reserve rule.heap_stands.legal;
       cycle = heap_cycle_more heap words now.owner now.colour book.history entry refl now.fragments
           (heap_born heap state book q rule here place now.owner now.fragments
           (kept_bears book.owner book.colour q seat.reserve seat.hand body stands.own.holding some group (length book.made) last black births)
@@ -135,7 +135,7 @@ last_birth_keeps heap state book q rule here place last machine =
       };
       names = record {
         registers = rw graph (λ r still. registers_own g q d (fresh false fields) present book.made id book.owner book.fragments body unkept once some
-            (number_new g grown book.made id (fresh false fields) ids more) seat.registers (omega (arith, stands.fits.registers_whole, ranges.1))
+            (number_new g grown book.made id (fresh false fields) ids more) seat.registers (omega (arith, stands.fits.own.registers_whole, ranges.1))
             (omega (arith, registers_length heap book.history q present, ranges.1)) (ap (Made q) stands.told.counts.numbered)
             (λ i. stands.names.registers i (awaits_none Bearing seat.place d i place)) r);
         way = tt;

@@ -56,7 +56,7 @@ refusal_keeps heap state book q rule here place machine =
     let own : length seat.reserve + spent_of q book.history ≡ taken_of q book.history
     = bare_hand seat.reserve seat.hand seat.body (spent_of q book.history) (taken_of q book.history) at_place.1 refuses.no_body stands.told.counts.unborn in
     let finds : FindsSpace heap false book.history q (length seat.reserve + seat.given)
-    = finds_in_run heap book.owner book.history q (book.begun q) seat.cursor seat.given (length seat.reserve) fits.cursor_within
+    = finds_in_run heap book.owner book.history q (book.begun q) seat.cursor seat.given (length seat.reserve) fits.own.cursor_within
     rule.heap_stands.used own (stands.told.began.unanswered (is_busy Refusing seat.place place)) (subst (λ n. GathersRight heap book.owner q (drop (book.begun q) book.history) seat.cursor n seat.given) refuses.all_tried stands.told.gathers) in
     let present = present_at heap state book q Refusing rule here place in
     let list = making_list g book.history book.made book.owner book.fragments q seat Refusing place stands.told.list in
@@ -66,7 +66,7 @@ refusal_keeps heap state book q rule here place machine =
     let legal = legal_more heap false book.history entry rule.heap_stands.legal
     (accepts_full seat.command refuses.makes.a_record g q (need seat) (length seat.reserve + seat.given) refuses.makes.in_range present)
     (full_keeps seat.command refuses.makes.a_record heap false book.history q (length seat.reserve + seat.given)
-    (omega (arith, own)) (omega (arith, own, fits.small_reserve)) less finds) in
+    (omega (arith, own)) (omega (arith, own, fits.own.small_reserve)) less finds) in
     subst (λ words. Keeps heap (record state { words = words; seats = slice_set state.seats q (seat_after (refusal_move q seat) (at heap state.words Phase)) }) book book.begun (entry ∷ []))
     (sym (put-at heap state.words Phase))
     (seat_steps heap state book q state.words (seat_after (refusal_move q seat) (at heap state.words Phase)) (record book { history = history }) (entry ∷ [])
