@@ -1,5 +1,6 @@
 -- A seat's own data fit together, whatever move it makes.
 pub mod Aside
+pub mod FieldPlaces
 pub mod Fitting
 pub mod FittingAnswers
 pub mod FittingBegins

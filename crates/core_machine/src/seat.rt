@@ -1,7 +1,6 @@
 ghost use Rattle.std.specs.Prelude.{◌≡◌, ◌+◌, ◌-◌, ◌<◌, ◌≤◌, ◌∷◌, [], OnOk, OnErr};
 ghost use Rattle.heap_model.specs.Heap.{IsHeap};
-ghost use Rattle.core_machine.specs.seat.Seat.{with_entries};
-ghost use Rattle.core_machine.specs.seat.ReachingMoves.{said};
+ghost use Rattle.core_machine.specs.seat.Seat.{with_entries, over, replied};
 ghost use Rattle.core_machine.specs.machine.Opening.{opening_seat};
 
 use crate::place::Place;
@@ -153,12 +152,31 @@ impl SeatParty {
         }
     }
 
-    /// Adds the reply to the call, for which there is room.
-    pub(crate) fn say(&mut self, number: u8, reply: Reply)
+    /// The call is over, and nothing of it is left.
+    fn finish(&mut self)
+        ensures seat { self.new.seat ≡ over self.old.seat }
+        ensures spare { self.new.spare ≡ self.old.spare }
+    {
+        self.hand.clear();
+        self.body.clear();
+        self.stored = 0;
+        self.tried = 0;
+        self.given = 0;
+        self.place = Place::Idle;
+        self.reached = 0;
+        self.links = 0;
+        self.loaded = 0;
+        self.asked = 0;
+        self.shaded = 0;
+    }
+
+    /// Ends the call with this reply, for which there is room.
+    pub(crate) fn reply(&mut self, number: u8, reply: Reply)
         requires { 0 < self.old.spare }
-        ensures seat { self.new.seat ≡ with_entries self.old.seat (said number self.old.seat reply) }
+        ensures seat { self.new.seat ≡ replied number self.old.seat reply }
         ensures spare { self.old.spare ≤ self.new.spare + 1 }
     {
+        self.finish();
         self.note(Entry::Said {
             seat: number,
             command: self.command,

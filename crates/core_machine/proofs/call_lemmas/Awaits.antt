@@ -1,10 +1,9 @@
 -- Each move leaves the seat's own list and the entry that is still awaited as the history grows.
-use Rattle.std.proofs.Common.{◌≡◌, ℕ, ◌+◌, cond, List, [], ◌++◌, Option, Some, None, inl, inr, refl, append-nil}
+use Rattle.std.proofs.Common.{◌≡◌, ℕ, ◌+◌, List, [], ◌++◌, Option, Some, None, inl, inr, refl, append-nil}
 use Rattle.std.specs.Prelude.{IfSome}
 use Rattle.std.proofs.lemmas.Bool.Decides.{eqb_tells}
 use Rattle.heap_model.specs.declared.heap.Heap.{Heap}
 use Rattle.heap_model.specs.declared.command.Command.{Command}
-use Rattle.heap_model.specs.declared.command.Command.TheVariants as commands
 use Rattle.heap_model.specs.declared.entry.Entry.{Entry}
 use Rattle.heap_model.specs.declared.reply.Reply.{Reply}
 use Rattle.core_machine.specs.declared.table.address.Address.TheVariants.{Word}
@@ -24,7 +23,7 @@ use Rattle.core_machine.specs.table.Fragments.{clear_in}
 use Rattle.core_machine.specs.table.Loaded.{head_in}
 use Rattle.core_machine.specs.seat.Registers.{register_in, head_of}
 use Rattle.core_machine.specs.seat.Making.{goes_on, next_group}
-use Rattle.core_machine.specs.seat.Reaching.{has_barrier, reaching, field_place, way_place, stepped_on, onward, meta_reply, met, got, new_place, old_done, old_found}
+use Rattle.core_machine.specs.seat.Reaching.{reaching, field_place, way_place, stepped_on, onward, meta_reply, met, got, new_place, old_done, old_found}
 use Rattle.core_machine.specs.seat.ReachingMoves.{said_some, field_part, got_adds, got_shows, get_move}
 use Rattle.core_machine.specs.seat.AnsweringMoves.{poll_move}
 use Rattle.core_machine.specs.seat.Polling.{phase_found}
@@ -33,6 +32,7 @@ use Rattle.core_machine.specs.Moves.{Move, move_at, making_move, telling_move, r
 use Rattle.core_machine.specs.machine.Machine.{State, found_by, stepped}
 use Rattle.core_machine.proofs.table_lemmas.Addresses.{put-at}
 use Rattle.core_machine.proofs.table_lemmas.Bits.{bool_tells}
+use Rattle.core_machine.proofs.seat_lemmas.FieldPlaces.{field_cases}
 use Rattle.core_machine.proofs.seat_lemmas.Fitting.{goes_on_cases}
 
 -- the seat's entries are left to what the move adds, and with what is awaited they are the history's
@@ -51,9 +51,7 @@ goes_on_awaits heap words number seat more =
 
 -- no way awaits a name
 field_awaits : (heap : Heap) (words : List ℕ) (number : ℕ) (seat s : Seat) (command : Command) → awaited_at heap words number s (places.Reaching (field_place seat command)) ≡ []
-field_awaits heap words number seat s (commands.Get d r i) = refl
-field_awaits heap words number seat s _ =
-    elim (bool_tells (has_barrier seat)) as (λ _. awaited_at heap words number s (places.Reaching (cond (has_barrier seat) LoadingOld Swapping)) ≡ []) [ inl on ↦ rw on refl | inr off ↦ rw off refl ]
+field_awaits heap words number seat s command = field_cases (λ p. awaited_at heap words number s (places.Reaching p) ≡ []) seat command refl (λ on. refl) (λ off. refl)
 
 way_awaits : (heap : Heap) (words : List ℕ) (number : ℕ) (seat s : Seat) → awaited_at heap words number s (places.Reaching (way_place seat)) ≡ []
 way_awaits heap words number seat s =

@@ -1,5 +1,5 @@
 -- Each move leaves fewer steps, and adds no more entries than were owed.
-use Rattle.std.proofs.Common.{suc, ◌≡◌, ℕ, ◌+◌, ◌-◌, ◌<◌, ◌≤◌, [], length, inl, inr, refl, arith, cond, Option, Some, None, ◌⊎◌}
+use Rattle.std.proofs.Common.{suc, ◌≡◌, ℕ, ◌+◌, ◌-◌, ◌<◌, ◌≤◌, [], length, inl, inr, refl, arith, Option, Some, None, ◌⊎◌}
 use Rattle.std.specs.Prelude.{IfSome}
 use Rattle.std.proofs.lemmas.Bool.Decides.{eqb_tells, leb_tells}
 use Rattle.heap_model.specs.declared.heap.Heap.{Heap}
@@ -11,12 +11,11 @@ use Rattle.core_machine.specs.declared.place.Polling.{Polling}
 use Rattle.core_machine.specs.declared.place.Polling.TheVariants.{Asking, Shading, Answering}
 use Rattle.core_machine.specs.declared.place.Leaving.TheVariants.{Emptying, Parting}
 use Rattle.heap_model.specs.declared.command.Command.{Command}
-use Rattle.heap_model.specs.declared.command.Command.TheVariants.{Get}
 use Rattle.heap_model.specs.declared.reply.Reply.{Reply}
 use Rattle.core_machine.specs.seat.Commands.{source_of}
 use Rattle.core_machine.specs.table.Loaded.{head_in}
 use Rattle.core_machine.specs.seat.Registers.{register_in, head_of}
-use Rattle.core_machine.specs.seat.Reaching.{has_barrier, reaching, field_place, way_place, stepped_on, onward, meta_reply, met, got, new_place, old_done, old_found}
+use Rattle.core_machine.specs.seat.Reaching.{reaching, field_place, way_place, stepped_on, onward, meta_reply, met, got, new_place, old_done, old_found}
 use Rattle.core_machine.specs.seat.Polling.{roots, shades_on}
 use Rattle.core_machine.specs.seat.ReachingMoves.{said_some, got_adds}
 use Rattle.core_machine.specs.seat.AnsweringMoves.{poll_move}
@@ -25,7 +24,7 @@ use Rattle.core_machine.proofs.table_lemmas.WithinHeap.{few_roots}
 use Rattle.core_machine.specs.seat.Seat.{Seat, with_entries}
 use Rattle.core_machine.specs.Moves.{move_at, reaching_move, polling_move, next_move, seat_after}
 use Rattle.core_machine.specs.seat.Fits.{FitsPlace, FitsWay, FitsPolling, FitsAnswer, Fits}
-use Rattle.core_machine.proofs.table_lemmas.Bits.{bool_tells}
+use Rattle.core_machine.proofs.seat_lemmas.FieldPlaces.{field_cases}
 use Rattle.core_machine.proofs.call_lemmas.Owes.{owes_at, reaching_steps, polling_steps, steps_at}
 pub use Rattle.core_machine.proofs.call_lemmas.Owes.{owes, steps_left, Nears}
 use Rattle.core_machine.proofs.call_lemmas.OwingMaking.{nears_making}
@@ -33,8 +32,7 @@ pub use Rattle.core_machine.proofs.call_lemmas.OwingMaking.{out_shorter}
 
 -- few steps are left where the field was reached
 field_few : (links : ℕ) (seat : Seat) (command : Command) → reaching_steps links (field_place seat command) ≤ 4
-field_few links seat (Get d r i) = omega arith
-field_few links seat _ = elim (bool_tells (has_barrier seat)) as (λ _. reaching_steps links (cond (has_barrier seat) LoadingOld Swapping) ≤ 4) [ inl on ↦ rw on (omega arith) | inr off ↦ rw off (omega arith) ]
+field_few links seat command = field_cases (λ p. reaching_steps links p ≤ 4) seat command (omega arith) (λ on. omega arith) (λ off. omega arith)
 
 way_few : (seat : Seat) → reaching_steps seat.links (way_place seat) ≤ seat.links + 4
 way_few seat =

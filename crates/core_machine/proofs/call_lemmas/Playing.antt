@@ -122,12 +122,12 @@ module _ (heap : Heap) (old : State) (number : ℕ) (command : Command) where
       let rest : IsAtRest seat = subst (FitsPlace heap seat) idle fits.at_place in
       let begun_ = goes_on heap (record seat { command = command }) in
       subst (λ (s : Seat). Stage heap old now number command [] s begun_.place) (with_entries-nil begun_)
-      (stage_goes_on now [] [] (record seat { command = command }) refl rest.none_given fits.cursor_within (record {
+      (stage_goes_on now [] [] (record seat { command = command }) refl rest.none_given fits.own.cursor_within (record {
         own = record { registers_stay = refl; reserve_stays = refl; cursor_stays = refl; made_stays = refl };
         free = rw (same, rest.empty_hand) (omega arith);
         passed = λ i below. absurd (omega (arith, rest.none_tried));
         claims = rw (same, rest.empty_hand) (claims_none heap old.words);
-        takes = rw rest.empty_hand (taken_none number (length seat.reserve) (need_of command) fits.small_reserve);
+        takes = rw rest.empty_hand (taken_none number (length seat.reserve) (need_of command) fits.own.small_reserve);
       }))
 
   module _ (now : State) (told : List Entry) (machine : IsMachine heap now) (within : number < length now.seats)
@@ -147,13 +147,13 @@ module _ (heap : Heap) (old : State) (number : ℕ) (command : Command) where
         let fits = machine.fit number within in
         let group = next_group heap seat in
         let n = at heap now.words (Control group) in
-        let there : group < heap.groups = omega (arith, fits.cursor_within) in
+        let there : group < heap.groups = omega (arith, fits.own.cursor_within) in
         let got = clear_in group n in
         let after_ = put heap now.words (Control group) (bit_or n all_taken) in
         let freed = free-claimed heap now.words group machine.table there in
         let lacks : (part_in group seat.hand ≡ []) ⊎ (got ≡ []) = elim (while.claims.controls group there) [ inl untouched ↦ inl untouched.0 | inr claimed ↦ inr claimed.1 ] in
         stage_goes_on (stepped heap now number (claim_move heap number seat)) _ (takes_some number (length got))
-        (record seat { hand = seat.hand ++ got; tried = seat.tried + 1 }) same is.none_given fits.cursor_within (record {
+        (record seat { hand = seat.hand ++ got; tried = seat.tried + 1 }) same is.none_given fits.own.cursor_within (record {
           own = record { registers_stay = while.own.registers_stay; reserve_stays = while.own.reserve_stays; cursor_stays = while.own.cursor_stays; made_stays = while.own.made_stays };
           free = omega (arith, freed, while.free, length-append seat.hand got);
           passed = λ i below. passed_more heap now.words seat.cursor seat.tried i machine.table there below while.passed;
@@ -168,7 +168,7 @@ module _ (heap : Heap) (old : State) (number : ℕ) (command : Command) where
         let seat = the_seat in
         let fits = machine.fit number within in
         let group = first_group seat.hand in
-        let there : group < heap.groups = group_within heap seat.hand 0 some fits.hand_within in
+        let there : group < heap.groups = group_within heap seat.hand 0 some fits.hand.hand_within in
         let both = length-filter_both (in_group group) (out_of_group group) (λ f. refl) seat.hand in
         let fewer = out_shorter group seat.hand 0 some refl in
         let less = claims_less heap old.words now.words seat.hand group machine.table there (omega arith) while.claims in

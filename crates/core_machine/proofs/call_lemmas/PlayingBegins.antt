@@ -1,5 +1,5 @@
 -- A call that is made by itself, at its begin.
-use Rattle.std.proofs.Common.{◌≡◌, ℕ, [], refl, subst}
+use Rattle.std.proofs.Common.{◌≡◌, ℕ, [], refl}
 use Rattle.heap_model.specs.declared.heap.Heap.{Heap}
 use Rattle.heap_model.specs.declared.command.Command.{Command}
 use Rattle.heap_model.specs.declared.command.Command.TheVariants as commands
@@ -11,15 +11,16 @@ use Rattle.core_machine.specs.seat.Registers.{register_in}
 use Rattle.core_machine.specs.seat.Reaching.{opened}
 use Rattle.core_machine.specs.seat.Seat.{Seat}
 use Rattle.core_machine.specs.machine.Machine.{State, seat_at, begun}
-use Rattle.core_machine.specs.seat.Fits.{FitsWay, Fits}
+use Rattle.core_machine.specs.seat.Fits.{Fits}
 use Rattle.core_machine.proofs.call_lemmas.Playing.{stage_begun_new}
+use Rattle.core_machine.proofs.seat_lemmas.Aside.{over_idle}
 use Rattle.core_machine.proofs.call_lemmas.Stages.{Untouched, Stage}
 
 module _ (heap : Heap) (old : State) (number : ℕ) (now : State) (fits : Fits heap (seat_at old number)) (idle : (seat_at old number).place ≡ places.Idle) (same : now.words ≡ old.words) where
   -- a seat that has begun a call and made no step
   untouched : (seat : Seat) → seat ≡ record (seat_at old number) { command = seat.command; reached = seat.reached; links = seat.links; place = seat.place; mine = seat.mine }
       → Untouched old now number [] seat
-  untouched seat is = record { idle = idle; nowhere = subst (FitsWay (seat_at old number)) idle fits.way_at_place; words_stay = same; seat_stays = is; none_told = refl }
+  untouched seat is = record { resting = over_idle heap (seat_at old number) fits idle; words_stay = same; seat_stays = is; none_told = refl }
 
   opened_stage : (command : Command) (register : Register)
       → Stage heap old now number command [] (opened (record (seat_at old number) { command = command }) register) (opened (record (seat_at old number) { command = command }) register).place

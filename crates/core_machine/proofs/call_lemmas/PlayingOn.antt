@@ -29,19 +29,20 @@ use Rattle.core_machine.specs.table.Layout.{at, put, InTable}
 use Rattle.core_machine.specs.table.Operation.{address_of, written}
 use Rattle.core_machine.specs.table.Loaded.{head_in, id_in, stamp_in}
 use Rattle.core_machine.specs.seat.Registers.{register_in, head_of}
-use Rattle.core_machine.specs.seat.Reaching.{has_barrier, reaching, closed, field_place, way_place, stepped_on, onward, meta_reply, met, got, new_place, old_done, old_found}
+use Rattle.core_machine.specs.seat.Reaching.{reaching, field_place, way_place, stepped_on, onward, meta_reply, met, got, new_place, old_done, old_found}
 use Rattle.core_machine.specs.seat.ReachingMoves.{said_some, got_adds, got_shows}
 use Rattle.core_machine.specs.seat.AnsweringMoves.{poll_move}
 use Rattle.core_machine.specs.seat.Telling.{local_reply, local_registers, told}
 use Rattle.core_machine.specs.seat.Polling.{roots, shades_on}
-use Rattle.core_machine.specs.seat.Seat.{Seat, with_entries}
+use Rattle.core_machine.specs.seat.Seat.{Seat, with_entries, over}
 use Rattle.core_machine.specs.Moves.{Move, move_at, telling_move, reaching_move, polling_move, leaving_move, next_move, seat_after}
 use Rattle.core_machine.specs.machine.Machine.{State, seat_at, found_by, stepped}
-use Rattle.core_machine.specs.seat.FitsReaching.{NamesObject, IsNowhere, FitsReaching}
+use Rattle.core_machine.specs.seat.FitsReaching.{NamesObject, FitsReaching}
 use Rattle.core_machine.specs.seat.Fits.{FitsPlace, FitsWay, FitsAnswer, FitsPolling}
 use Rattle.core_machine.specs.machine.Value.{IsMachine}
 use Rattle.core_machine.proofs.table_lemmas.Addresses.{put-at}
 use Rattle.core_machine.proofs.table_lemmas.Bits.{bool_tells}
+use Rattle.core_machine.proofs.seat_lemmas.FieldPlaces.{field_cases}
 use Rattle.core_machine.proofs.call_lemmas.Playing.{stage_making}
 use Rattle.core_machine.proofs.call_lemmas.Stages.{ComesDue, Answered, Untouched, Prepares, ReachingStage, PollingStage, Stage}
 use Rattle.core_machine.proofs.machine_lemmas.Runs.{seat_at-set}
@@ -82,12 +83,10 @@ module _ (heap : Heap) (old : State) (number : ℕ) (command : Command) (now : S
 
   -- a seat that was left alone, and then has an entry more
   left_alone : (seat : Seat) (more : List Entry) → Untouched old now number told_ seat
-      → with_entries (closed seat) more ≡ record (seat_at old number) { command = seat.command; mine = seat.mine ++ more }
+      → with_entries (over seat) more ≡ record (seat_at old number) { command = seat.command; mine = seat.mine ++ more }
   left_alone seat more is =
-      let o = seat_at old number in
-      let by : with_entries (closed seat) more ≡ record o { command = seat.command; reached = 0; links = 0; loaded = 0; place = places.Idle; mine = seat.mine ++ more }
-      = ap (λ (s : Seat). record (closed s) { command = seat.command; mine = seat.mine ++ more }) is.seat_stays in
-      by ∙ rw (is.idle, is.nowhere.none_reached, is.nowhere.no_links, is.nowhere.none_loaded) refl
+      ap (λ (s : Seat). record (over s) { command = seat.command; mine = seat.mine ++ more }) is.seat_stays
+      ∙ ap (λ (s : Seat). record s { command = seat.command; mine = seat.mine ++ more }) is.resting
 
   -- the state after the seat's last step, where its word was loaded
   leaves_all : (seat : Seat) (move : Move) → seat_at now number ≡ seat → Untouched old now number told_ seat → put heap now.words (address_of move.step) (written move.step (found_by heap now move.step)) ≡ now.words
@@ -102,13 +101,10 @@ module _ (heap : Heap) (old : State) (number : ℕ) (command : Command) (now : S
             (next ∙ ap (λ (c : Command). record (seat_at old number) { command = c; mine = last.mine }) (sym same));
       }
 
-  -- a seat with the same registers, that reached and loaded nothing
-  told_alone : (seat : Seat) (registers : List Register) (more : List Entry) → IsNowhere seat → registers ≡ seat.registers → Untouched old now number told_ seat
-      → record seat { registers = registers; place = places.Idle; mine = seat.mine ++ more } ≡ record (seat_at old number) { command = seat.command; mine = seat.mine ++ more }
-  told_alone seat registers more nowhere same is =
-      let by : record seat { registers = registers; place = places.Idle; mine = seat.mine ++ more } ≡ with_entries (closed seat) more
-      = rw (same, nowhere.none_reached, nowhere.no_links, nowhere.none_loaded) refl in
-      by ∙ left_alone seat more is
+  -- a seat with the same registers
+  told_alone : (seat : Seat) (registers : List Register) (more : List Entry) → registers ≡ seat.registers → Untouched old now number told_ seat
+      → with_entries (over (record seat { registers = registers })) more ≡ record (seat_at old number) { command = seat.command; mine = seat.mine ++ more }
+  told_alone seat registers more same is = ap (λ (r : List Register). with_entries (over (record seat { registers = r })) more) same ∙ left_alone seat more is
 
   stage_telling : FitsPlace heap the_seat places.Telling → FitsWay the_seat places.Telling → the_seat.command ≡ command → Untouched old now number told_ the_seat
       → Leads (telling_move number the_seat)
@@ -117,7 +113,7 @@ module _ (heap : Heap) (old : State) (number : ℕ) (command : Command) (now : S
       let reply = local_reply seat.registers seat.command in
       ended_alone (stepped heap now number (telling_move number seat)) seat reply same (local_alone seat.registers seat.command fits.2) (λ refusal.
       leaves_all seat (telling_move number seat) refl is (put-at heap now.words Phase)
-      (told_alone seat (local_registers seat.registers seat.command) (Said number seat.command reply ∷ []) way (local_refused seat.registers seat.command refusal) is) refl) is.none_told
+      (told_alone seat (local_registers seat.registers seat.command) (Said number seat.command reply ∷ []) (local_refused seat.registers seat.command refusal) is) refl) is.none_told
 
   -- nothing was told, and nothing more is
   none_more : told_ ≡ [] → told_ ++ [] ≡ []
@@ -125,9 +121,7 @@ module _ (heap : Heap) (old : State) (number : ℕ) (command : Command) (now : S
 
   -- the way goes on
   field_stage : (now' : State) (told : List Entry) (seat s : Seat) (c : Command) → told ≡ [] → ReachingStage old now' number command told s (field_place seat c)
-  field_stage now' told seat s (commands.Get d r i) none = none
-  field_stage now' told seat s _ none =
-      elim (bool_tells (has_barrier seat)) as (λ _. ReachingStage old now' number command told s (cond (has_barrier seat) LoadingOld Swapping)) [ inl on ↦ rw on none | inr off ↦ rw off none ]
+  field_stage now' told seat s c none = field_cases (ReachingStage old now' number command told s) seat c none (λ on. none) (λ off. none)
 
   way_stage : (now' : State) (told : List Entry) (seat s : Seat) → told ≡ [] → ReachingStage old now' number command told s (way_place seat)
   way_stage now' told seat s empty =
@@ -250,8 +244,8 @@ module _ (heap : Heap) (old : State) (number : ℕ) (command : Command) (now : S
 
       by : (known : Bool) → (known ≡ true → found ≡ the_seat.answered) → Stage heap old (stepped heap now number (poll_move number the_seat)) number command
           (told_ ++ cond known (Said number the_seat.command (replies.Phase found) ∷ []) [])
-          (with_entries (cond known (record the_seat { place = places.Idle }) (shades_on (record the_seat { asked = found }))) (cond known (Said number the_seat.command (replies.Phase found) ∷ []) []))
-          (with_entries (cond known (record the_seat { place = places.Idle }) (shades_on (record the_seat { asked = found }))) (cond known (Said number the_seat.command (replies.Phase found) ∷ []) [])).place
+          (with_entries (cond known (over the_seat) (shades_on (record the_seat { asked = found }))) (cond known (Said number the_seat.command (replies.Phase found) ∷ []) []))
+          (with_entries (cond known (over the_seat) (shades_on (record the_seat { asked = found }))) (cond known (Said number the_seat.command (replies.Phase found) ∷ []) [])).place
       by true same =
           ended (stepped heap now number (poll_move number the_seat)) the_seat (replies.Phase found) stage.0 (poll_makes_none is.1) (λ refusal. absurd refusal)
           (λ not_leave. poll_comes found told_ (sym stage.0 ∙ is.1) (λ near. inl (same refl ∙ stays, stage.1.none_told)))

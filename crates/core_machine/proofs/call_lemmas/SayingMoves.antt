@@ -22,7 +22,7 @@ use Rattle.core_machine.specs.seat.Registers.{register_in}
 use Rattle.core_machine.specs.seat.Reaching.{opened}
 use Rattle.core_machine.specs.seat.Polling.{leaving, shades_on, phase_found}
 use Rattle.core_machine.specs.seat.AnsweringMoves.{poll_adds}
-use Rattle.core_machine.specs.seat.Seat.{Seat, with_entries}
+use Rattle.core_machine.specs.seat.Seat.{Seat, with_entries, replied}
 use Rattle.core_machine.specs.Moves.{move_at, next_move, polling_move, leaving_move}
 use Rattle.core_machine.specs.machine.Machine.{begun}
 use Rattle.core_machine.proofs.seat_lemmas.Fitting.{goes_on_cases}
@@ -33,7 +33,7 @@ module _ (old : Seat) (number : ℕ) (command : Command) where
   says_polling : (words : List ℕ) (seat : Seat) (told : List Entry) (place : Polling) → IsGoing old number command seat told × (command ≢ commands.Leave) → Leads old number command seat told words (polling_move number seat place)
   says_polling words seat told Asking is found =
       elim (eqb_tells found seat.answered) as (λ _. Says old number command (with_entries (phase_found seat found) (poll_adds number seat found)) (told ++ poll_adds number seat found) (phase_found seat found).place) [
-        | inl known ↦ rw known.0 (ends old number command seat (with_entries (record seat { place = places.Idle }) (Said number seat.command (replies.Phase found) ∷ [])) told [] (replies.Phase found) is (omega arith) (omega arith) refl tt)
+        | inl known ↦ rw known.0 (ends old number command seat (replied number seat (replies.Phase found)) told [] (replies.Phase found) is (omega arith) (omega arith) refl tt)
         | inr new ↦ rw new.0 (on old number command seat (with_entries (shades_on (record seat { asked = found })) []) told [] is.0 refl refl refl refl tt, is.1)
       ]
   says_polling words seat told Shading is found = (on old number command seat _ told [] is.0 refl refl refl refl tt, is.1)

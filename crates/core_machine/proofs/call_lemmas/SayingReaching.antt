@@ -1,5 +1,5 @@
 -- What a call has told that reads or writes an object.
-use Rattle.std.proofs.Common.{◌≢◌, ℕ, cond, List, [], ◌++◌, Option, Some, None, inl, inr, refl, sym, subst, append-nil, arith}
+use Rattle.std.proofs.Common.{◌≢◌, ℕ, List, [], ◌++◌, Option, Some, None, inl, inr, refl, sym, subst, append-nil, arith}
 use Rattle.std.proofs.lemmas.Bool.Decides.{eqb_tells}
 use Rattle.heap_model.specs.declared.heap.Heap.{Heap}
 use Rattle.heap_model.specs.declared.command.Command.{Command}
@@ -12,19 +12,17 @@ use Rattle.core_machine.specs.declared.place.Reaching.TheVariants.{Opening, Walk
 use Rattle.core_machine.specs.seat.Commands.{source_of}
 use Rattle.core_machine.specs.table.Loaded.{head_in}
 use Rattle.core_machine.specs.seat.Registers.{register_in, head_of}
-use Rattle.core_machine.specs.seat.Reaching.{has_barrier, reaching, field_place, way_place, stepped_on, onward, meta_reply, met, got, new_place, old_done, old_found}
+use Rattle.core_machine.specs.seat.Reaching.{reaching, field_place, way_place, stepped_on, onward, meta_reply, met, got, new_place, old_done, old_found}
 use Rattle.core_machine.specs.seat.ReachingMoves.{said_some, got_adds, got_shows}
 use Rattle.core_machine.specs.seat.Seat.{Seat, with_entries}
 use Rattle.core_machine.specs.Moves.{reaching_move}
-use Rattle.core_machine.proofs.table_lemmas.Bits.{bool_tells}
+use Rattle.core_machine.proofs.seat_lemmas.FieldPlaces.{field_cases}
 use Rattle.core_machine.proofs.call_lemmas.Saying.{IsGoing, HasReplied, Says, Leads, on, replies_, ends}
 
 module _ (old : Seat) (number : ℕ) (command : Command) where
   -- the way goes on
   field_says : (seat next : Seat) (told : List Entry) (c : Command) → IsGoing old number command next told × (command ≢ commands.Leave) → Says old number command next told (places.Reaching (field_place seat c))
-  field_says seat next told (commands.Get d r i) is = is
-  field_says seat next told _ is =
-      elim (bool_tells (has_barrier seat)) as (λ _. Says old number command next told (places.Reaching (cond (has_barrier seat) LoadingOld Swapping))) [ inl barrier ↦ rw barrier is | inr off ↦ rw off is ]
+  field_says seat next told c is = field_cases (λ p. Says old number command next told (places.Reaching p)) seat c is (λ on. is) (λ off. is)
 
   way_says : (seat next : Seat) (told : List Entry) → IsGoing old number command next told × (command ≢ commands.Leave) → Says old number command next told (places.Reaching (way_place seat))
   way_says seat next told is =

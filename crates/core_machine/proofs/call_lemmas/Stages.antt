@@ -17,7 +17,7 @@ use Rattle.core_machine.specs.declared.place.Making.TheVariants.{Gathering, Retu
 use Rattle.core_machine.specs.table.Fragments.{clear_in}
 use Rattle.core_machine.specs.table.Layout.{at}
 use Rattle.core_machine.specs.seat.Making.{next_id}
-use Rattle.core_machine.specs.seat.Seat.{Seat}
+use Rattle.core_machine.specs.seat.Seat.{Seat, over}
 use Rattle.core_machine.specs.machine.Machine.{State, seat_at}
 use Rattle.heap_model.specs.declared.id.Value.{Value}
 use Rattle.core_machine.specs.declared.place.Reaching.{Reaching}
@@ -25,7 +25,6 @@ use Rattle.core_machine.specs.declared.place.Reaching.TheVariants.{Opening, Nami
 use Rattle.core_machine.specs.declared.place.Polling.{Polling}
 use Rattle.core_machine.specs.declared.place.Polling.TheVariants.{Asking, Shading, Answering}
 use Rattle.core_machine.specs.seat.Commands.{IsRecord}
-use Rattle.core_machine.specs.seat.FitsReaching.{IsNowhere}
 use Rattle.core_machine.specs.machine.Calls.{IsNear, free_fragments, within_reach, KeepsOwn, AnswersNew, IsPlaceRefusal, LeavesAll}
 use Rattle.core_machine.proofs.call_lemmas.Claiming.{HasTaken, GivesBackAll}
 use Rattle.core_machine.proofs.call_lemmas.Restoring.{Claims}
@@ -68,8 +67,7 @@ pub record Answered (heap : Heap) (old new : State) (number : ℕ) (command : Co
 
 -- while nothing was changed or told, but for the call itself
 pub record Untouched (old now : State) (number : ℕ) (told : List Entry) (seat : Seat) : Type 0 where
-  pub idle : (seat_at old number).place ≡ places.Idle
-  pub nowhere : IsNowhere (seat_at old number)
+  pub resting : over (seat_at old number) ≡ seat_at old number
   pub words_stay : now.words ≡ old.words
   pub seat_stays : seat ≡ record (seat_at old number) { command = seat.command; reached = seat.reached; links = seat.links; place = seat.place; mine = seat.mine }
   pub none_told : told ≡ []

@@ -153,15 +153,21 @@ opening_registers heap some = All-cons (FitsRegister heap) (Object 0 Board) (rep
 -- a seat's data fit together at the opening
 pub fits_open : (heap : Heap) (number : ℕ) → IsHeap heap → Fits heap (opening_seat heap number)
 fits_open heap number limits = record {
-  registers_whole = refl;
-  registers_fit = opening_registers heap limits.some_group;
-  cursor_within = omega (arith, limits.some_group);
-  small_reserve = omega arith;
-  reserve_of_cursor = All-nil (λ fragment. fragment / 16 ≡ number % heap.groups);
-  hand_within = All-nil (λ fragment. fragment < 16 * heap.groups);
-  body_within = All-nil (λ fragment. fragment < 16 * heap.groups);
-  reached_within = omega (arith, limits.some_group);
-  loaded_within = tt;
+  own = record {
+    registers_whole = refl;
+    registers_fit = opening_registers heap limits.some_group;
+    cursor_within = omega (arith, limits.some_group);
+    small_reserve = omega arith;
+    reserve_of_cursor = All-nil (λ fragment. fragment / 16 ≡ number % heap.groups);
+  };
+  hand = record {
+    hand_within = All-nil (λ fragment. fragment < 16 * heap.groups);
+    body_within = All-nil (λ fragment. fragment < 16 * heap.groups);
+  };
+  way = record {
+    reached_within = omega (arith, limits.some_group);
+    loaded_within = tt;
+  };
   asked_small = omega arith;
   at_place = record { empty_hand = refl; no_body = refl; none_stored = refl; none_tried = refl; none_given = refl };
   way_at_place = record { none_reached = refl; no_links = refl; none_loaded = refl };

@@ -1,15 +1,16 @@
 -- What making an object leaves alone.
-use Rattle.std.proofs.Common.{◌≡◌, ℕ, ◌*◌, ◌^◌, ◌<◌, Bool, true, false, List, refl, subst, sym, ◌∙◌}
+use Rattle.std.proofs.Common.{◌≡◌, ℕ, ◌*◌, ◌/◌, ◌^◌, ◌<◌, ◌≤◌, Bool, true, false, List, [], length, refl, subst, sym, ◌∙◌, arith}
 use Rattle.std.specs.List.{All}
+use Rattle.std.proofs.lemmas.List.Elements.{All-nil}
 use Rattle.heap_model.specs.declared.heap.Heap.{Heap}
 use Rattle.core_machine.specs.declared.place.Place.{Place}
 use Rattle.core_machine.specs.declared.place.Place.TheVariants as places
 use Rattle.core_machine.specs.declared.place.Making.{Making}
 use Rattle.core_machine.specs.declared.seat.register.Register.{Register}
 use Rattle.core_machine.specs.table.Loaded.{head_in, IsWithinHeap}
-use Rattle.core_machine.specs.seat.Seat.{Seat}
-use Rattle.core_machine.specs.seat.FitsReaching.{HasNoWay}
-use Rattle.core_machine.specs.seat.Fits.{FitsRegister, FitsWay, FitsAnswer, HasNoAnswer, Fits, FitsPlace, AreFragments}
+use Rattle.core_machine.specs.seat.Seat.{Seat, over}
+use Rattle.core_machine.specs.seat.FitsReaching.{HasNoWay, IsNowhere}
+use Rattle.core_machine.specs.seat.Fits.{FitsRegister, FitsWay, FitsAnswer, HasNoAnswer, IsAtRest, IsSilent, Fits, FitsPlace, AreFragments}
 
 -- the registers fit, nothing is reached, loaded or about to be answered, and the seat hasn't left
 pub record StandsAside (heap : Heap) (registers : List Register) (reached links loaded asked shaded : ℕ) (left : Bool) : Type 0 where
@@ -41,9 +42,9 @@ present_busy heap seat place fits here busy = by seat.left (λ gone. busy (sym h
 -- while an object is made
 pub aside_making : (heap : Heap) (seat : Seat) (place : Making) → Fits heap seat → seat.place ≡ places.Making place → IsAside heap seat
 aside_making heap seat place fits here = record {
-  registers_fit = fits.registers_fit;
-  reached_within = fits.reached_within;
-  loaded_within = fits.loaded_within;
+  registers_fit = fits.own.registers_fit;
+  reached_within = fits.way.reached_within;
+  loaded_within = fits.way.loaded_within;
   asked_small = fits.asked_small;
   nowhere = subst (FitsWay seat) here fits.way_at_place;
   silent = subst (FitsAnswer seat) here fits.answer_at_place;
@@ -53,9 +54,9 @@ aside_making heap seat place fits here = record {
 -- while no call is in flight
 pub aside_idle : (heap : Heap) (seat : Seat) → Fits heap seat → seat.place ≡ places.Idle → seat.left ≡ false → IsAside heap seat
 aside_idle heap seat fits here present = record {
-  registers_fit = fits.registers_fit;
-  reached_within = fits.reached_within;
-  loaded_within = fits.loaded_within;
+  registers_fit = fits.own.registers_fit;
+  reached_within = fits.way.reached_within;
+  loaded_within = fits.way.loaded_within;
   asked_small = fits.asked_small;
   nowhere = subst (FitsWay seat) here fits.way_at_place;
   silent = subst (FitsAnswer seat) here fits.answer_at_place;
@@ -70,18 +71,60 @@ pub fits_hand : (heap : Heap) (seat : Seat) (hand : List ℕ) (stored tried give
     → FitsPlace heap (with_hand seat hand stored tried given place) place → FitsWay (with_hand seat hand stored tried given place) place
     → FitsAnswer (with_hand seat hand stored tried given place) place → Fits heap (with_hand seat hand stored tried given place)
 fits_hand heap seat hand stored tried given place fits aside within at_place way answer = record {
-  registers_whole = fits.registers_whole;
-  registers_fit = aside.registers_fit;
-  cursor_within = fits.cursor_within;
-  small_reserve = fits.small_reserve;
-  reserve_of_cursor = fits.reserve_of_cursor;
-  hand_within = within;
-  body_within = fits.body_within;
-  reached_within = aside.reached_within;
-  loaded_within = aside.loaded_within;
+  own = fits.own;
+  hand = record {
+    hand_within = within;
+    body_within = fits.hand.body_within;
+  };
+  way = fits.way;
   asked_small = aside.asked_small;
   at_place = at_place;
   way_at_place = way;
   answer_at_place = answer;
   gone = gone_aside aside.present;
 }
+
+-- the call is over: of the seat's own data its registers, its reserve and its cursor matter alone
+pub fits_over : (heap : Heap) (seat : Seat) → length seat.registers ≡ 16 → All (FitsRegister heap) seat.registers → seat.cursor < heap.groups → length seat.reserve ≤ 15
+    → All (λ fragment. fragment / 16 ≡ seat.cursor) seat.reserve → (seat.left ≡ true → seat.reserve ≡ []) → Fits heap (over seat)
+fits_over heap seat whole fit cursor small of_cursor gone = record {
+  own = record {
+    registers_whole = whole;
+    registers_fit = fit;
+    cursor_within = cursor;
+    small_reserve = small;
+    reserve_of_cursor = of_cursor;
+  };
+  hand = record {
+    hand_within = All-nil (λ fragment. fragment < 16 * heap.groups);
+    body_within = All-nil (λ fragment. fragment < 16 * heap.groups);
+  };
+  way = record {
+    reached_within = omega (arith, cursor);
+    loaded_within = tt;
+  };
+  asked_small = omega arith;
+  at_place = record { empty_hand = refl; no_body = refl; none_stored = refl; none_tried = refl; none_given = refl };
+  way_at_place = record { none_reached = refl; no_links = refl; none_loaded = refl };
+  answer_at_place = record { none_asked = refl; none_shaded = refl };
+  gone = λ left. record { idle = refl; no_reserve = gone left };
+}
+
+rest_over : (seat : Seat) → seat.place ≡ places.Idle → IsAtRest seat → IsNowhere seat → IsSilent seat
+    → over seat ≡ record seat { hand = seat.hand; body = seat.body; stored = seat.stored; tried = seat.tried; given = seat.given; place = seat.place; reached = seat.reached; links = seat.links; loaded = seat.loaded; asked = seat.asked; shaded = seat.shaded }
+rest_over seat here rest nowhere silent =
+    rw (here, rest.empty_hand, rest.no_body, rest.none_stored, rest.none_tried, rest.none_given, nowhere.none_reached, nowhere.no_links, nowhere.none_loaded, silent.none_asked, silent.none_shaded) refl
+
+-- a seat without a call in flight has nothing of one
+pub over_idle : (heap : Heap) (seat : Seat) → Fits heap seat → seat.place ≡ places.Idle → over seat ≡ seat
+over_idle heap seat fits here =
+    let rest : IsAtRest seat = subst (FitsPlace heap seat) here fits.at_place in
+    let nowhere : IsNowhere seat = subst (FitsWay seat) here fits.way_at_place in
+    let silent : IsSilent seat = subst (FitsAnswer seat) here fits.answer_at_place in
+    rest_over seat here rest nowhere silent
+
+-- a seat that makes nothing and answers no phase has its way alone of a call
+pub over_way : (seat : Seat) → IsAtRest seat → IsSilent seat → over seat ≡ record seat { reached = 0; links = 0; loaded = 0; place = places.Idle }
+over_way seat rest silent = by where
+  by : over seat ≡ record seat { hand = seat.hand; body = seat.body; stored = seat.stored; tried = seat.tried; given = seat.given; reached = 0; links = 0; loaded = 0; place = places.Idle; asked = seat.asked; shaded = seat.shaded }
+  by = rw (rest.empty_hand, rest.no_body, rest.none_stored, rest.none_tried, rest.none_given, silent.none_asked, silent.none_shaded) refl

@@ -72,15 +72,21 @@ fits_settled heap seat is enough =
     let long = length-append seat.reserve seat.hand in
     let whole : length (take (need seat) (gathered seat)) ≡ need seat = omega (arith, length-take (need seat) (gathered seat)) in
     record {
-      registers_whole = is.registers_whole;
-      cursor_within = last_claimed_within heap seat is.cursor_within;
-      small_reserve = omega (arith, length-drop (need seat) (gathered seat), is.few);
-      reserve_of_cursor = is.rest_of_last;
-      hand_within = used;
-      body_within = used;
-      registers_fit = is.aside.registers_fit;
-      reached_within = is.aside.reached_within;
-      loaded_within = is.aside.loaded_within;
+      own = record {
+        registers_whole = is.registers_whole;
+        registers_fit = is.aside.registers_fit;
+        cursor_within = last_claimed_within heap seat is.cursor_within;
+        small_reserve = omega (arith, length-drop (need seat) (gathered seat), is.few);
+        reserve_of_cursor = is.rest_of_last;
+      };
+      hand = record {
+        hand_within = used;
+        body_within = used;
+      };
+      way = record {
+        reached_within = is.aside.reached_within;
+        loaded_within = is.aside.loaded_within;
+      };
       asked_small = is.aside.asked_small;
       way_at_place = is.aside.nowhere;
       answer_at_place = is.aside.silent;
@@ -98,15 +104,21 @@ fits_returning heap seat (fragment ∷ more) refuses is = (refuses, rw is (omega
 fits_gathered : (heap : Heap) (seat : Seat) (place : Making) → IsGathered heap seat → FitsMaking heap (record seat { place = places.Making place }) place
     → Fits heap (record seat { place = places.Making place })
 fits_gathered heap seat place is at_place = record {
-  registers_whole = is.registers_whole;
-  registers_fit = is.aside.registers_fit;
-  cursor_within = is.cursor_within;
-  small_reserve = is.small_reserve;
-  reserve_of_cursor = is.reserve_of_cursor;
-  hand_within = is.hand_within;
-  body_within = rw is.no_body (All-nil (λ fragment. fragment < 16 * heap.groups));
-  reached_within = is.aside.reached_within;
-  loaded_within = is.aside.loaded_within;
+  own = record {
+    registers_whole = is.registers_whole;
+    registers_fit = is.aside.registers_fit;
+    cursor_within = is.cursor_within;
+    small_reserve = is.small_reserve;
+    reserve_of_cursor = is.reserve_of_cursor;
+  };
+  hand = record {
+    hand_within = is.hand_within;
+    body_within = rw is.no_body (All-nil (λ fragment. fragment < 16 * heap.groups));
+  };
+  way = record {
+    reached_within = is.aside.reached_within;
+    loaded_within = is.aside.loaded_within;
+  };
   asked_small = is.aside.asked_small;
   at_place = at_place;
   way_at_place = is.aside.nowhere;

@@ -1,5 +1,5 @@
 -- A seat's own data go on fitting together in the calls that look at the phase, answer it, or leave.
-use Rattle.std.proofs.Common.{suc, ◌≡◌, ◌≢◌, ℕ, ◌+◌, ◌/◌, ◌^◌, ◌<◌, ◌≤◌, Bool, true, false, List, [], length, replicate, inl, inr, refl, subst, sym, ◌∙◌, arith}
+use Rattle.std.proofs.Common.{suc, ◌≡◌, ◌≢◌, ℕ, ◌+◌, ◌/◌, ◌^◌, ◌<◌, ◌≤◌, true, false, List, [], length, replicate, inl, inr, refl, subst, sym, ◌∙◌, arith}
 use Rattle.std.specs.List.{All}
 use Rattle.std.proofs.lemmas.Bool.Decides.{eqb_tells, leb_tells}
 use Rattle.std.proofs.lemmas.List.{length-set, get_or_past, length-replicate}
@@ -8,16 +8,15 @@ use Rattle.heap_model.specs.declared.heap.Heap.{Heap}
 use Rattle.heap_model.specs.declared.command.Command.{Command}
 use Rattle.heap_model.specs.declared.command.Command.TheVariants as commands
 use Rattle.heap_model.specs.Command.{IsCommand}
-use Rattle.core_machine.specs.declared.place.Place.TheVariants as places
 use Rattle.core_machine.specs.declared.seat.register.Register.{Register}
 use Rattle.core_machine.specs.declared.seat.register.Register.TheVariants.{Nil, Number}
 use Rattle.core_machine.specs.seat.Registers.{register_in}
-use Rattle.core_machine.specs.seat.Seat.{Seat}
+use Rattle.core_machine.specs.seat.Seat.{Seat, over}
 use Rattle.core_machine.specs.seat.Telling.{local_registers, told}
 use Rattle.core_machine.specs.seat.Polling.{roots, shades_on, phase_found, shaded_more, answer_stored, emptied, parted}
 use Rattle.core_machine.specs.seat.FitsReaching.{HasNoWay}
-use Rattle.core_machine.specs.seat.Fits.{FitsRegister, FitsAnswer, IsAtRest, IsGone, Fits, FitsPlace, FitsWay}
-use Rattle.core_machine.proofs.seat_lemmas.Aside.{IsAside, gone_aside}
+use Rattle.core_machine.specs.seat.Fits.{FitsRegister, FitsAnswer, IsAtRest, Fits, FitsPlace, FitsWay}
+use Rattle.core_machine.proofs.seat_lemmas.Aside.{IsAside, gone_aside, fits_over}
 use Rattle.core_machine.specs.declared.place.Place.{Place}
 
 -- one of the registers
@@ -42,34 +41,11 @@ local_whole registers (commands.Nil d) = length-set registers d Nil
 local_whole registers (commands.Copy d r) = length-set registers d (register_in registers r)
 local_whole registers _ = refl
 
--- the seat after a call that leaves these registers
-abbrev over : Seat → List Register → Bool → Seat
-over seat registers left = record seat { registers = registers; left = left; place = places.Idle }
-
-fits_over : (heap : Heap) (seat : Seat) (registers : List Register) (left : Bool) → Fits heap seat → IsAside heap seat → IsAtRest seat → length registers ≡ 16
-    → All (FitsRegister heap) registers → (left ≡ true → IsGone (over seat registers left)) → Fits heap (over seat registers left)
-fits_over heap seat registers left fits aside rest whole fit gone = record {
-  registers_whole = whole;
-  registers_fit = fit;
-  cursor_within = fits.cursor_within;
-  small_reserve = fits.small_reserve;
-  reserve_of_cursor = fits.reserve_of_cursor;
-  hand_within = fits.hand_within;
-  body_within = fits.body_within;
-  reached_within = aside.reached_within;
-  loaded_within = aside.loaded_within;
-  asked_small = aside.asked_small;
-  at_place = rest;
-  way_at_place = aside.nowhere;
-  answer_at_place = aside.silent;
-  gone = gone;
-}
-
 -- the reply of a local command was told
-pub fits_local : (heap : Heap) (seat : Seat) → Fits heap seat → IsAside heap seat → IsAtRest seat → IsCommand seat.command → Fits heap (told seat)
-fits_local heap seat fits aside rest range =
-    fits_over heap seat (local_registers seat.registers seat.command) seat.left fits aside rest (local_whole seat.registers seat.command ∙ fits.registers_whole)
-    (local_fit heap seat.registers seat.command range fits.registers_fit) (gone_aside aside.present)
+pub fits_local : (heap : Heap) (seat : Seat) → Fits heap seat → seat.left ≡ false → IsCommand seat.command → Fits heap (told seat)
+fits_local heap seat fits present range =
+    fits_over heap (record seat { registers = local_registers seat.registers seat.command }) (local_whole seat.registers seat.command ∙ fits.own.registers_whole)
+    (local_fit heap seat.registers seat.command range fits.own.registers_fit) fits.own.cursor_within fits.own.small_reserve fits.own.reserve_of_cursor (gone_aside present)
 
 -- a call that answers the phase leaves these alone
 pub record Polls (heap : Heap) (seat : Seat) : Type 0 where
@@ -89,15 +65,9 @@ fits_answering : (heap : Heap) (seat : Seat) (answered asked shaded : ℕ) (plac
 fits_answering heap seat answered asked shaded place polls small at_place way answer =
     let fits = polls.fits in
     record {
-      registers_whole = fits.registers_whole;
-      registers_fit = fits.registers_fit;
-      cursor_within = fits.cursor_within;
-      small_reserve = fits.small_reserve;
-      reserve_of_cursor = fits.reserve_of_cursor;
-      hand_within = fits.hand_within;
-      body_within = fits.body_within;
-      reached_within = fits.reached_within;
-      loaded_within = fits.loaded_within;
+      own = fits.own;
+      hand = fits.hand;
+      way = fits.way;
       asked_small = small;
       at_place = at_place;
       way_at_place = way;
@@ -120,17 +90,17 @@ fits_polling heap seat asked shaded polls small anew few =
       | inr all ↦ rw all.0 (record { polls = polls.polls; anew = anew }, omega (arith, all.1, few))
     ]
 
--- no call is in flight, with these answers
-fits_answered : (heap : Heap) (seat : Seat) (answered : ℕ) → Polls heap seat
-    → Fits heap (record seat { answered = answered; asked = 0; shaded = 0; place = places.Idle })
+-- no call is in flight, with this answer
+fits_answered : (heap : Heap) (seat : Seat) (answered : ℕ) → Polls heap seat → Fits heap (over (record seat { answered = answered }))
 fits_answered heap seat answered polls =
-    fits_answering heap seat answered 0 0 places.Idle polls (omega arith) polls.rest polls.nowhere record { none_asked = refl; none_shaded = refl }
+    let fits = polls.fits in
+    fits_over heap (record seat { answered = answered }) fits.own.registers_whole fits.own.registers_fit fits.own.cursor_within fits.own.small_reserve fits.own.reserve_of_cursor (gone_aside polls.present)
 
 -- the phase was found
-pub fits_phase : (heap : Heap) (seat : Seat) (found : ℕ) → Polls heap seat → found < 2 ^ 64 → seat.asked ≡ 0 → seat.shaded ≡ 0 → Fits heap (phase_found seat found)
-fits_phase heap seat found polls small none no_shade =
+pub fits_phase : (heap : Heap) (seat : Seat) (found : ℕ) → Polls heap seat → found < 2 ^ 64 → seat.shaded ≡ 0 → Fits heap (phase_found seat found)
+fits_phase heap seat found polls small no_shade =
     elim (eqb_tells found seat.answered) as (λ _. Fits heap (phase_found seat found)) [
-      | inl same ↦ rw (same.0, none, no_shade) (fits_answered heap seat seat.answered polls)
+      | inl same ↦ rw same.0 (fits_answered heap seat seat.answered polls)
       | inr new ↦ rw new.0 (fits_polling heap seat found seat.shaded polls small new.1 (omega (arith, no_shade)))
     ]
 
@@ -145,15 +115,15 @@ fits_stored_answer heap seat polls = fits_answered heap seat seat.asked polls
 -- the reserve was given back
 pub fits_emptied : (heap : Heap) (seat : Seat) → Fits heap seat → IsAside heap seat → IsAtRest seat → seat.command ≡ commands.Leave → Fits heap (emptied seat)
 fits_emptied heap seat fits aside rest leaves = record {
-  registers_whole = fits.registers_whole;
-  registers_fit = fits.registers_fit;
-  cursor_within = fits.cursor_within;
-  small_reserve = omega arith;
-  reserve_of_cursor = All-nil (λ fragment. fragment / 16 ≡ seat.cursor);
-  hand_within = fits.hand_within;
-  body_within = fits.body_within;
-  reached_within = aside.reached_within;
-  loaded_within = aside.loaded_within;
+  own = record {
+    registers_whole = fits.own.registers_whole;
+    registers_fit = fits.own.registers_fit;
+    cursor_within = fits.own.cursor_within;
+    small_reserve = omega arith;
+    reserve_of_cursor = All-nil (λ fragment. fragment / 16 ≡ seat.cursor);
+  };
+  hand = fits.hand;
+  way = fits.way;
   asked_small = aside.asked_small;
   at_place = (rest, leaves, refl);
   way_at_place = aside.nowhere;
@@ -166,6 +136,7 @@ nils_fit : (heap : Heap) (n : ℕ) → All (FitsRegister heap) (replicate n Nil)
 nils_fit heap n = All-replicate (FitsRegister heap) n Nil tt
 
 -- the seat has left
-pub fits_parted : (heap : Heap) (seat : Seat) → Fits heap seat → IsAside heap seat → IsAtRest seat → seat.reserve ≡ [] → Fits heap (parted seat)
-fits_parted heap seat fits aside rest empty =
-    fits_over heap seat (replicate 16 Nil) true fits aside rest (length-replicate 16 Nil) (nils_fit heap 16) (λ left. record { idle = refl; no_reserve = empty })
+pub fits_parted : (heap : Heap) (seat : Seat) → Fits heap seat → seat.reserve ≡ [] → Fits heap (parted seat)
+fits_parted heap seat fits empty =
+    fits_over heap (record seat { registers = replicate 16 Nil; left = true }) (length-replicate 16 Nil) (nils_fit heap 16) fits.own.cursor_within fits.own.small_reserve fits.own.reserve_of_cursor
+    (λ left. empty)

@@ -34,15 +34,9 @@ module _ (heap : Heap) (seat : Seat) (command : Command) (fits : Fits heap seat)
       → FitsWay (record seat { command = command; place = place }) place → FitsAnswer (record seat { command = command; place = place }) place
       → Fits heap (record seat { command = command; place = place })
   fits_resting place hand way answer = record {
-    registers_whole = fits.registers_whole;
-    registers_fit = fits.registers_fit;
-    cursor_within = fits.cursor_within;
-    small_reserve = fits.small_reserve;
-    reserve_of_cursor = fits.reserve_of_cursor;
-    hand_within = fits.hand_within;
-    body_within = fits.body_within;
-    reached_within = fits.reached_within;
-    loaded_within = fits.loaded_within;
+    own = fits.own;
+    hand = fits.hand;
+    way = fits.way;
     asked_small = fits.asked_small;
     at_place = hand;
     way_at_place = way;
@@ -73,15 +67,12 @@ module _ (heap : Heap) (seat : Seat) (command : Command) (fits : Fits heap seat)
   fits_opened Nil names is = fits_telling (local_none seat.registers command names (ap head_of is))
   fits_opened (Number n) names is = fits_telling (local_none seat.registers command names (ap head_of is))
   fits_opened (Object head id) names is = record {
-    registers_whole = fits.registers_whole;
-    registers_fit = fits.registers_fit;
-    cursor_within = fits.cursor_within;
-    small_reserve = fits.small_reserve;
-    reserve_of_cursor = fits.reserve_of_cursor;
-    hand_within = fits.hand_within;
-    body_within = fits.body_within;
-    reached_within = subst (FitsRegister heap) is (register_fits heap seat.registers (object_of command) fits.registers_fit);
-    loaded_within = fits.loaded_within;
+    own = fits.own;
+    hand = fits.hand;
+    way = record {
+      reached_within = subst (FitsRegister heap) is (register_fits heap seat.registers (object_of command) fits.own.registers_fit);
+      loaded_within = fits.way.loaded_within;
+    };
     asked_small = fits.asked_small;
     at_place = rest;
     way_at_place = record {

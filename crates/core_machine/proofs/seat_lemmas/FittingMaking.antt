@@ -1,10 +1,10 @@
 -- Each move leaves a seat whose data fit together, and touches a word of the table.
-use Rattle.std.proofs.Common.{◌≡◌, ℕ, ◌+◌, ◌-◌, ◌*◌, ◌/◌, ◌<◌, ◌≤◌, false, eqb, List, [], ◌∷◌, ◌++◌, length, drop, get_or, inl, inr, refl, subst, sym, ap, ◌∙◌, length-append, append_assoc, append-nil, arith}
+use Rattle.std.proofs.Common.{◌≡◌, ℕ, ◌+◌, ◌-◌, ◌*◌, ◌/◌, ◌<◌, ◌≤◌, false, eqb, List, [], ◌∷◌, ◌++◌, length, set, drop, get_or, inl, inr, refl, subst, sym, ap, ◌∙◌, length-append, append_assoc, append-nil, arith}
 use Rattle.std.specs.List.{All, list_all}
 use Rattle.std.proofs.lemmas.Bool.Decides.{eqb_tells}
 use Rattle.std.proofs.lemmas.List.{length-set}
 use Rattle.std.proofs.lemmas.List.Filters.{length-filter_both}
-use Rattle.std.proofs.lemmas.List.Elements.{All-append, All-drop, All-filter, All-nil, All-set}
+use Rattle.std.proofs.lemmas.List.Elements.{All-append, All-drop, All-filter, All-set}
 use Rattle.std.proofs.Math.Seq.{drop-append-add}
 use Rattle.heap_model.specs.declared.heap.Heap.{Heap}
 use Rattle.heap_model.specs.declared.command.Command.TheVariants.{New}
@@ -15,11 +15,11 @@ use Rattle.core_machine.specs.declared.seat.register.Register.TheVariants.{Objec
 use Rattle.core_machine.specs.seat.Commands.{target_of}
 use Rattle.core_machine.specs.table.Fragments.{clear_in, part_out, in_group, out_of_group, part_in}
 use Rattle.core_machine.specs.seat.Seat.{Seat, need}
-use Rattle.core_machine.specs.seat.Making.{claimed, next_group, first_group, last_group, given_back, told_full, stored_more, storing, born, made_last, next_id, returning}
+use Rattle.core_machine.specs.seat.Making.{claimed, next_group, first_group, last_group, given_back, stored_more, storing, born, made_last, next_id, returning}
 use Rattle.core_machine.specs.Moves.{is_last_birth}
 use Rattle.core_machine.specs.machine.Machine.{MayBegin, begun}
 use Rattle.core_machine.specs.seat.Fits.{FitsRegister, IsAtRest, Gathers, Refuses, HasBody, FitsMaking, FitsPlace, Fits}
-use Rattle.core_machine.proofs.seat_lemmas.Aside.{IsAside, gone_aside, aside_idle, fits_hand}
+use Rattle.core_machine.proofs.seat_lemmas.Aside.{IsAside, gone_aside, aside_idle, fits_hand, fits_over}
 use Rattle.core_machine.proofs.table_lemmas.Clear.{length-clear_among}
 use Rattle.core_machine.proofs.table_lemmas.Filters.{length-filter_le}
 use Rattle.core_machine.proofs.table_lemmas.Owned.{clear_in-group, within_group}
@@ -30,18 +30,18 @@ pub fits_begun_new : (heap : Heap) (seat : Seat) (d fields : ℕ) → Fits heap 
 fits_begun_new heap seat d fields fits may =
     let rest : IsAtRest seat = subst (FitsPlace heap seat) may.idle fits.at_place in
     fits_goes_on heap (record seat { command = New d fields }) record {
-      registers_whole = fits.registers_whole;
-      cursor_within = fits.cursor_within;
-      small_reserve = fits.small_reserve;
-      reserve_of_cursor = fits.reserve_of_cursor;
-      hand_within = fits.hand_within;
+      registers_whole = fits.own.registers_whole;
+      cursor_within = fits.own.cursor_within;
+      small_reserve = fits.own.small_reserve;
+      reserve_of_cursor = fits.own.reserve_of_cursor;
+      hand_within = fits.hand.hand_within;
       makes = record { a_record = tt; in_range = may.in_range; numbered = may.numbered };
       no_body = rest.no_body;
       none_stored = rest.none_stored;
       none_given = rest.none_given;
       tried_within = omega (arith, rest.none_tried);
-      few = rw rest.empty_hand (omega (arith, fits.small_reserve));
-      rest_of_last = rw (rest.none_tried, rest.empty_hand, append-nil seat.reserve) (All-drop (λ fragment. fragment / 16 ≡ seat.cursor) (need_of (New d fields)) seat.reserve fits.reserve_of_cursor);
+      few = rw rest.empty_hand (omega (arith, fits.own.small_reserve));
+      rest_of_last = rw (rest.none_tried, rest.empty_hand, append-nil seat.reserve) (All-drop (λ fragment. fragment / 16 ≡ seat.cursor) (need_of (New d fields)) seat.reserve fits.own.reserve_of_cursor);
       aside = aside_idle heap seat fits may.idle may.present;
     }
 
@@ -67,12 +67,12 @@ fits_claimed heap seat found fits aside is =
     let last : seat.cursor + (seat.tried + 1) - 1 ≡ seat.cursor + seat.tried = omega arith in
     let made_one : eqb (seat.tried + 1) 0 ≡ false = grind arith in
     fits_goes_on heap (record seat { hand = seat.hand ++ clear_in group found; tried = seat.tried + 1 }) record {
-      registers_whole = fits.registers_whole;
-      cursor_within = fits.cursor_within;
-      small_reserve = fits.small_reserve;
-      reserve_of_cursor = fits.reserve_of_cursor;
-      hand_within = All-append (λ fragment. fragment < 16 * heap.groups) seat.hand (clear_in group found) fits.hand_within
-          (within_group heap group (clear_in group found) (next_within heap seat fits.cursor_within) (clear_in-group group found));
+      registers_whole = fits.own.registers_whole;
+      cursor_within = fits.own.cursor_within;
+      small_reserve = fits.own.small_reserve;
+      reserve_of_cursor = fits.own.reserve_of_cursor;
+      hand_within = All-append (λ fragment. fragment < 16 * heap.groups) seat.hand (clear_in group found) fits.hand.hand_within
+          (within_group heap group (clear_in group found) (next_within heap seat fits.own.cursor_within) (clear_in-group group found));
       makes = is.makes;
       no_body = is.no_body;
       none_stored = is.none_stored;
@@ -89,15 +89,10 @@ fits_given_back heap seat fits aside is =
     let group = first_group seat.hand in
     let both = length-filter_both (in_group group) (out_of_group group) (λ fragment. refl) seat.hand in
     fits_hand heap seat (part_out group seat.hand) seat.stored seat.tried (seat.given + length (part_in group seat.hand)) (places.Making (returning (part_out group seat.hand))) fits aside
-    (All-filter (out_of_group group) (λ fragment. fragment < 16 * heap.groups) seat.hand fits.hand_within)
+    (All-filter (out_of_group group) (λ fragment. fragment < 16 * heap.groups) seat.hand fits.hand.hand_within)
     (fits_returning heap (given_back seat) (part_out group seat.hand)
     (record { makes = is.makes; no_body = is.no_body; none_stored = is.none_stored; all_tried = is.all_tried; too_few = omega (arith, is.too_few) }) refl)
     aside.nowhere aside.silent
-
--- the refusal was told
-pub fits_told : (heap : Heap) (seat : Seat) → Fits heap seat → IsAside heap seat → Refuses heap seat → seat.hand ≡ [] → Fits heap (told_full seat)
-fits_told heap seat fits aside is empty = fits_hand heap seat seat.hand seat.stored 0 0 places.Idle fits aside fits.hand_within
-    (record { empty_hand = empty; no_body = is.no_body; none_stored = is.none_stored; none_tried = refl; none_given = refl }) aside.nowhere aside.silent
 
 fits_storing : (heap : Heap) (seat : Seat) → HasBody seat → seat.hand ≡ seat.body → seat.stored ≤ 4 * length seat.body
     → FitsMaking heap seat (storing seat.stored seat.body)
@@ -113,7 +108,7 @@ fits_storing heap seat is whole within =
 pub fits_stored : (heap : Heap) (seat : Seat) → Fits heap seat → IsAside heap seat → HasBody seat → seat.hand ≡ seat.body → seat.stored < 4 * length seat.body
     → Fits heap (stored_more seat)
 fits_stored heap seat fits aside is whole within =
-    fits_hand heap seat seat.hand (seat.stored + 1) seat.tried seat.given (places.Making (storing (seat.stored + 1) seat.body)) fits aside fits.hand_within
+    fits_hand heap seat seat.hand (seat.stored + 1) seat.tried seat.given (places.Making (storing (seat.stored + 1) seat.body)) fits aside fits.hand.hand_within
     (fits_storing heap (stored_more seat) (record { makes = is.makes; whole = is.whole; none_tried = is.none_tried; none_given = is.none_given }) whole (omega arith))
     aside.nowhere aside.silent
 
@@ -133,7 +128,7 @@ fits_born heap seat fits aside is within stored place more =
     let group = last_group seat.hand in
     let fewer = length-filter_le (out_of_group group) seat.hand in
     fits_hand heap seat (part_out group seat.hand) seat.stored seat.tried seat.given seat.place fits aside
-    (All-filter (out_of_group group) (λ fragment. fragment < 16 * heap.groups) seat.hand fits.hand_within)
+    (All-filter (out_of_group group) (λ fragment. fragment < 16 * heap.groups) seat.hand fits.hand.hand_within)
     (rw place (record { makes = is.makes; whole = is.whole; none_tried = is.none_tried; none_given = is.none_given }, some_out group seat.hand more, omega arith, stored))
     (rw place aside.nowhere) (rw place aside.silent)
 
@@ -141,20 +136,8 @@ fits_born heap seat fits aside is within stored place more =
 pub fits_made : (heap : Heap) (number : ℕ) (seat : Seat) → Fits heap seat → IsAside heap seat → HasBody seat → Fits heap (made_last number seat)
 fits_made heap number seat fits aside is =
     let some = need_of_record seat.command is.makes.a_record is.makes.in_range in
-    let head = fits.body_within 0 0 (omega (arith, is.whole)) in
-    record {
-      registers_whole = length-set seat.registers _ _ ∙ fits.registers_whole;
-      registers_fit = All-set (FitsRegister heap) seat.registers (target_of seat.command) (Object (get_or seat.body 0 0) (next_id number seat)) head fits.registers_fit;
-      cursor_within = fits.cursor_within;
-      small_reserve = fits.small_reserve;
-      reserve_of_cursor = fits.reserve_of_cursor;
-      hand_within = All-nil (λ fragment. fragment < 16 * heap.groups);
-      body_within = All-nil (λ fragment. fragment < 16 * heap.groups);
-      reached_within = aside.reached_within;
-      loaded_within = aside.loaded_within;
-      asked_small = aside.asked_small;
-      at_place = record { empty_hand = refl; no_body = refl; none_stored = refl; none_tried = is.none_tried; none_given = is.none_given };
-      way_at_place = aside.nowhere;
-      answer_at_place = aside.silent;
-      gone = gone_aside aside.present;
-    }
+    let head = fits.hand.body_within 0 0 (omega (arith, is.whole)) in
+    fits_over heap (record seat { registers = set seat.registers (target_of seat.command) (Object (get_or seat.body 0 0) (next_id number seat)); made = seat.made + 1 })
+    (length-set seat.registers _ _ ∙ fits.own.registers_whole)
+    (All-set (FitsRegister heap) seat.registers (target_of seat.command) (Object (get_or seat.body 0 0) (next_id number seat)) head fits.own.registers_fit)
+    fits.own.cursor_within fits.own.small_reserve fits.own.reserve_of_cursor (gone_aside aside.present)

@@ -16,10 +16,10 @@ use Rattle.core_machine.specs.declared.seat.register.Register.TheVariants.{Objec
 use Rattle.core_machine.specs.table.Layout.{InTable}
 use Rattle.core_machine.specs.table.Loaded.{head_in, id_in, FoundWithin}
 use Rattle.core_machine.specs.table.Operation.{address_of}
-use Rattle.core_machine.specs.seat.Seat.{Seat}
+use Rattle.core_machine.specs.seat.Seat.{Seat, over}
 use Rattle.core_machine.specs.seat.Commands.{field_of, source_of}
 use Rattle.core_machine.specs.seat.Registers.{register_in}
-use Rattle.core_machine.specs.seat.Making.{claimed, given_back, told_full, stored_more, born, made_last}
+use Rattle.core_machine.specs.seat.Making.{claimed, given_back, stored_more, born, made_last}
 use Rattle.core_machine.specs.seat.Reaching.{part_of, onward, meta_reply, met, got, named, old_done, old_found, reaching, swapped}
 use Rattle.core_machine.specs.seat.Telling.{told}
 use Rattle.core_machine.specs.seat.Polling.{phase_found, shaded_more, answer_stored, emptied, parted}
@@ -27,10 +27,10 @@ use Rattle.core_machine.specs.seat.ReachingMoves.{loaded_head}
 use Rattle.core_machine.specs.Moves.{move_at, making_move, reaching_move, polling_move, leaving_move, next_move, seat_moved, seat_after, bearing_move, is_last_birth}
 use Rattle.core_machine.specs.seat.FitsReaching.{HasNoWay, FitsReaching}
 use Rattle.core_machine.specs.seat.Fits.{HasNoAnswer, HasBody, FitsMaking, FitsPlace, FitsWay, FitsAnswer, FitsPolling, IsAtRest, Fits}
-use Rattle.core_machine.proofs.seat_lemmas.Aside.{IsAside, gone_aside, aside_making, present_busy}
+use Rattle.core_machine.proofs.seat_lemmas.Aside.{IsAside, gone_aside, fits_over, aside_making, present_busy}
 use Rattle.core_machine.proofs.table_lemmas.Bits.{bool_tells}
 use Rattle.core_machine.proofs.seat_lemmas.FittingEntries.{fits_entries}
-use Rattle.core_machine.proofs.seat_lemmas.FittingMaking.{fits_claimed, fits_given_back, fits_told, fits_stored, fits_born, fits_made, next_within}
+use Rattle.core_machine.proofs.seat_lemmas.FittingMaking.{fits_claimed, fits_given_back, fits_stored, fits_born, fits_made, next_within}
 use Rattle.core_machine.proofs.seat_lemmas.FittingReaching.{Rests, fits_reaching, fits_closed, fits_filled, fits_onward, fits_met, fits_got, fits_old_done, fits_old_found}
 use Rattle.core_machine.proofs.seat_lemmas.FittingAnswers.{fits_local, fits_phase, fits_shaded, fits_stored_answer, fits_emptied, fits_parted, register_fits}
 use Rattle.core_machine.proofs.table_lemmas.Owned.{group_within}
@@ -49,7 +49,8 @@ fits_making : (heap : Heap) (number : ℕ) (seat : Seat) (found : ℕ) (place : 
     → seat.place ≡ places.Making place → Fits heap (seat_after (making_move heap number seat place) found)
 fits_making heap number seat found Gathering fits aside is here = fits_entries heap (claimed heap seat found) _ (fits_claimed heap seat found fits aside is)
 fits_making heap number seat found Returning fits aside is here = fits_entries heap (given_back seat) _ (fits_given_back heap seat fits aside is.0)
-fits_making heap number seat found Refusing fits aside is here = fits_entries heap (told_full seat) _ (fits_told heap seat fits aside is.0 is.1)
+fits_making heap number seat found Refusing fits aside is here = fits_entries heap (over seat) _
+    (fits_over heap seat fits.own.registers_whole fits.own.registers_fit fits.own.cursor_within fits.own.small_reserve fits.own.reserve_of_cursor (gone_aside aside.present))
 fits_making heap number seat found Storing fits aside is here = fits_entries heap (stored_more seat) [] (fits_stored heap seat fits aside is.0 is.1 is.2)
 fits_making heap number seat found Bearing fits aside is here = fits_bearing heap number seat found fits aside is.0 is.2 is.3 here
 
@@ -63,23 +64,23 @@ fits_reached heap number seat found Getting rests is led =
     fits_entries heap (got seat found (head_in found)) _ (fits_got heap seat found (head_in found) rests is.0 refl (head_leads heap (field_of seat.command) found led))
 fits_reached heap number seat found Naming rests is led =
     fits_entries heap (named seat (loaded_head seat) (id_in found)) _
-    (fits_filled heap seat (Object (loaded_head seat) (id_in found)) rests (some_within heap (head_in seat.loaded) is.1 rests.fits.loaded_within))
+    (fits_filled heap seat (Object (loaded_head seat) (id_in found)) rests (some_within heap (head_in seat.loaded) is.1 rests.fits.way.loaded_within))
 fits_reached heap number seat found LoadingOld rests is led =
     fits_entries heap (old_found (record seat { loaded = found }) (head_in found)) []
     (fits_old_found heap seat found (head_in found) rests is.0 is.1 refl (head_leads heap (field_of seat.command) found led))
 fits_reached heap number seat found ShadingOld rests is led =
-    fits_entries heap (old_done seat) [] (fits_old_done heap seat seat.loaded rests is.0 is.1 rests.fits.loaded_within)
+    fits_entries heap (old_done seat) [] (fits_old_done heap seat seat.loaded rests is.0 is.1 rests.fits.way.loaded_within)
 fits_reached heap number seat found ShadingNew rests is led =
     fits_entries heap (reaching seat Swapping) []
-    (fits_reaching heap seat seat.reached seat.links seat.loaded Swapping rests rests.fits.reached_within rests.fits.loaded_within (is.0, λ off. gone_aside off is.1))
+    (fits_reaching heap seat seat.reached seat.links seat.loaded Swapping rests rests.fits.way.reached_within rests.fits.way.loaded_within (is.0, λ off. gone_aside off is.1))
 fits_reached heap number seat found Swapping rests is led =
-    fits_entries heap (swapped seat) _ (fits_closed heap seat seat.registers (seat.sets + 1) rests rests.fits.registers_whole rests.fits.registers_fit)
+    fits_entries heap (swapped seat) _ (fits_closed heap seat seat.registers (seat.sets + 1) rests rests.fits.own.registers_whole rests.fits.own.registers_fit)
 
 fits_polled : (heap : Heap) (number : ℕ) (seat : Seat) (found : ℕ) (place : Polling) → Fits heap seat → IsAtRest seat → HasNoWay seat.reached seat.links seat.loaded
     → seat.left ≡ false → found < 2 ^ 64 → FitsPolling seat place → Fits heap (seat_after (polling_move number seat place) found)
 fits_polled heap number seat found Asking fits rest nowhere present small is =
     fits_entries heap (phase_found seat found) _
-    (fits_phase heap seat found (record { fits = fits; rest = rest; nowhere = nowhere; present = present; polls = is.1 }) small is.0.none_asked is.0.none_shaded)
+    (fits_phase heap seat found (record { fits = fits; rest = rest; nowhere = nowhere; present = present; polls = is.1 }) small is.0.none_shaded)
 fits_polled heap number seat found Shading fits rest nowhere present small is =
     fits_entries heap (shaded_more seat) []
     (fits_shaded heap seat (record { fits = fits; rest = rest; nowhere = nowhere; present = present; polls = is.0.polls }) is.0.anew is.1)
@@ -90,15 +91,15 @@ fits_polled heap number seat found Answering fits rest nowhere present small is 
 fits_left : (heap : Heap) (number : ℕ) (seat : Seat) (found : ℕ) (place : Leaving) → Fits heap seat → IsAside heap seat
     → FitsPlace heap seat (places.Leaving place) → Fits heap (seat_after (leaving_move number seat place) found)
 fits_left heap number seat found Emptying fits aside is = fits_entries heap (emptied seat) _ (fits_emptied heap seat fits aside is.0 is.1)
-fits_left heap number seat found Parting fits aside is = fits_entries heap (parted seat) _ (fits_parted heap seat fits aside is.0 is.2)
+fits_left heap number seat found Parting fits aside is = fits_entries heap (parted seat) _ (fits_parted heap seat fits is.2)
 
 -- at a place where nothing is reached, loaded or about to be answered
 aside_at : (heap : Heap) (seat : Seat) (place : Place) → Fits heap seat → seat.place ≡ place → (place ≡ places.Idle → ⊥)
     → HasNoWay seat.reached seat.links seat.loaded → HasNoAnswer seat.asked seat.shaded → IsAside heap seat
 aside_at heap seat place fits here busy nowhere silent = record {
-  registers_fit = fits.registers_fit;
-  reached_within = fits.reached_within;
-  loaded_within = fits.loaded_within;
+  registers_fit = fits.own.registers_fit;
+  reached_within = fits.way.reached_within;
+  loaded_within = fits.way.loaded_within;
   asked_small = fits.asked_small;
   nowhere = nowhere;
   silent = silent;
@@ -112,7 +113,7 @@ fits_moved_at heap number seat found places.Idle fits is way answer here small l
 fits_moved_at heap number seat found (places.Making place) fits is way answer here small led =
     fits_making heap number seat found place fits (aside_making heap seat place fits here) is here
 fits_moved_at heap number seat found places.Telling fits is way answer here small led =
-    fits_entries heap (told seat) _ (fits_local heap seat fits (aside_at heap seat places.Telling fits here (λ e. cc) way answer) is.0 is.1)
+    fits_entries heap (told seat) _ (fits_local heap seat fits (present_busy heap seat places.Telling fits here (λ e. cc)) is.1)
 fits_moved_at heap number seat found (places.Reaching place) fits is way answer here small led =
     fits_reached heap number seat found place (record { fits = fits; rest = is; silent = answer; present = present_busy heap seat (places.Reaching place) fits here (λ e. cc) }) way led
 fits_moved_at heap number seat found (places.Polling place) fits is way answer here small led =
@@ -128,16 +129,16 @@ fits_moved heap number seat found fits small led =
 
 bearing_in_table : (heap : Heap) (number : ℕ) (seat : Seat) → Fits heap seat → 0 < length seat.hand → InTable heap (address_of (bearing_move number seat).step)
 bearing_in_table heap number seat fits some =
-    let last = group_within heap seat.hand (length seat.hand - 1) (omega arith) fits.hand_within in
+    let last = group_within heap seat.hand (length seat.hand - 1) (omega arith) fits.hand.hand_within in
     elim (bool_tells (is_last_birth seat)) as (λ _. InTable heap (address_of (bearing_move number seat).step)) [ inl all ↦ rw all last | inr more ↦ rw more last ]
 
 making_in_table : (heap : Heap) (number : ℕ) (seat : Seat) (place : Making) → Fits heap seat → FitsMaking heap seat place
     → InTable heap (address_of (making_move heap number seat place).step)
-making_in_table heap number seat Gathering fits is = next_within heap seat fits.cursor_within
-making_in_table heap number seat Returning fits is = group_within heap seat.hand 0 is.1 fits.hand_within
+making_in_table heap number seat Gathering fits is = next_within heap seat fits.own.cursor_within
+making_in_table heap number seat Returning fits is = group_within heap seat.hand 0 is.1 fits.hand.hand_within
 making_in_table heap number seat Refusing fits is = tt
 making_in_table heap number seat Storing fits is =
-    let one = fits.body_within (seat.stored / 4) 0 (omega (arith, is.2)) in (one, omega arith)
+    let one = fits.hand.body_within (seat.stored / 4) 0 (omega (arith, is.2)) in (one, omega arith)
 making_in_table heap number seat Bearing fits is = bearing_in_table heap number seat fits is.1
 
 -- a field stands in a word of its fragment
@@ -146,16 +147,16 @@ part_small i = omega arith
 
 reaching_in_table : (heap : Heap) (number : ℕ) (seat : Seat) (place : Reaching) → Fits heap seat → FitsReaching seat place
     → InTable heap (address_of (reaching_move heap number seat place).step)
-reaching_in_table heap number seat Opening fits is = (fits.reached_within, omega arith)
-reaching_in_table heap number seat Walking fits is = (fits.reached_within, omega arith)
-reaching_in_table heap number seat Getting fits is = (fits.reached_within, part_small (field_of seat.command))
-reaching_in_table heap number seat Naming fits is = (some_within heap (head_in seat.loaded) is.1 fits.loaded_within, omega arith)
-reaching_in_table heap number seat LoadingOld fits is = (fits.reached_within, part_small (field_of seat.command))
+reaching_in_table heap number seat Opening fits is = (fits.way.reached_within, omega arith)
+reaching_in_table heap number seat Walking fits is = (fits.way.reached_within, omega arith)
+reaching_in_table heap number seat Getting fits is = (fits.way.reached_within, part_small (field_of seat.command))
+reaching_in_table heap number seat Naming fits is = (some_within heap (head_in seat.loaded) is.1 fits.way.loaded_within, omega arith)
+reaching_in_table heap number seat LoadingOld fits is = (fits.way.reached_within, part_small (field_of seat.command))
 reaching_in_table heap number seat ShadingOld fits is =
-    let one = some_within heap (head_in seat.loaded) is.2 fits.loaded_within in omega arith
+    let one = some_within heap (head_in seat.loaded) is.2 fits.way.loaded_within in omega arith
 reaching_in_table heap number seat ShadingNew fits is =
-    let one = head_within heap (register_in seat.registers (source_of seat.command)) is.2 (register_fits heap seat.registers (source_of seat.command) fits.registers_fit) in omega arith
-reaching_in_table heap number seat Swapping fits is = (fits.reached_within, part_small (field_of seat.command))
+    let one = head_within heap (register_in seat.registers (source_of seat.command)) is.2 (register_fits heap seat.registers (source_of seat.command) fits.own.registers_fit) in omega arith
+reaching_in_table heap number seat Swapping fits is = (fits.way.reached_within, part_small (field_of seat.command))
 
 polling_in_table : (heap : Heap) (number : ℕ) (seat : Seat) (place : Polling) → number < 16 → Fits heap seat → FitsPolling seat place
     → InTable heap (address_of (polling_move number seat place).step)
@@ -166,7 +167,7 @@ polling_in_table heap number seat Answering small fits is = small
 
 leaving_in_table : (heap : Heap) (number : ℕ) (seat : Seat) (place : Leaving) → number < 16 → Fits heap seat
     → InTable heap (address_of (leaving_move number seat place).step)
-leaving_in_table heap number seat Emptying small fits = fits.cursor_within
+leaving_in_table heap number seat Emptying small fits = fits.own.cursor_within
 leaving_in_table heap number seat Parting small fits = small
 
 move_in_table_at : (heap : Heap) (number : ℕ) (seat : Seat) (place : Place) → number < 16 → Fits heap seat → FitsPlace heap seat place → FitsWay seat place → FitsAnswer seat place

@@ -19,11 +19,11 @@ use Rattle.core_machine.specs.declared.seat.register.Register.{Register}
 use Rattle.core_machine.specs.seat.Commands.{target_of, source_of, field_of}
 use Rattle.core_machine.specs.table.Loaded.{head_in, lead_of, link_in, plain_in, plain_register, IsWithinHeap}
 use Rattle.core_machine.specs.seat.Registers.{register_in, head_of}
-use Rattle.core_machine.specs.seat.Seat.{Seat}
-use Rattle.core_machine.specs.seat.Reaching.{row_of, has_barrier, reaching, closed, filled, field_place, way_place, onward, meta_reply, met, got, new_place, old_done, old_found}
+use Rattle.core_machine.specs.seat.Seat.{Seat, over}
+use Rattle.core_machine.specs.seat.Reaching.{row_of, has_barrier, reaching, filled, field_place, way_place, onward, meta_reply, met, got, new_place, old_done, old_found}
 use Rattle.core_machine.specs.seat.FitsReaching.{IsGet, IsSet, NamesObject, NamesField, WorksOnObject, Opens, Gets, Sets, FitsReaching}
 use Rattle.core_machine.specs.seat.Fits.{FitsRegister, IsAtRest, IsSilent, Fits}
-use Rattle.core_machine.proofs.seat_lemmas.Aside.{gone_aside}
+use Rattle.core_machine.proofs.seat_lemmas.Aside.{gone_aside, fits_over}
 use Rattle.core_machine.proofs.table_lemmas.Bits.{bool_tells}
 
 -- what a call that makes nothing leaves alone
@@ -41,15 +41,12 @@ pub fits_reaching : (heap : Heap) (seat : Seat) (reached links loaded : ℕ) (pl
 fits_reaching heap seat reached links loaded place rests within led way =
     let fits = rests.fits in
     record {
-      registers_whole = fits.registers_whole;
-      registers_fit = fits.registers_fit;
-      cursor_within = fits.cursor_within;
-      small_reserve = fits.small_reserve;
-      reserve_of_cursor = fits.reserve_of_cursor;
-      hand_within = fits.hand_within;
-      body_within = fits.body_within;
-      reached_within = within;
-      loaded_within = led;
+      own = fits.own;
+      hand = fits.hand;
+      way = record {
+        reached_within = within;
+        loaded_within = led;
+      };
       asked_small = fits.asked_small;
       at_place = rests.rest;
       way_at_place = way;
@@ -59,32 +56,17 @@ fits_reaching heap seat reached links loaded place rests within led way =
 
 -- the call is over, with these registers and so many sets
 pub fits_closed : (heap : Heap) (seat : Seat) (registers : List Register) (sets : ℕ) → Rests heap seat → length registers ≡ 16
-    → All (FitsRegister heap) registers → Fits heap (record (closed seat) { registers = registers; sets = sets })
+    → All (FitsRegister heap) registers → Fits heap (over (record seat { registers = registers; sets = sets }))
 fits_closed heap seat registers sets rests whole fit =
     let fits = rests.fits in
-    record {
-      registers_whole = whole;
-      registers_fit = fit;
-      cursor_within = fits.cursor_within;
-      small_reserve = fits.small_reserve;
-      reserve_of_cursor = fits.reserve_of_cursor;
-      hand_within = fits.hand_within;
-      body_within = fits.body_within;
-      reached_within = omega (arith, fits.cursor_within);
-      loaded_within = tt;
-      asked_small = fits.asked_small;
-      at_place = rests.rest;
-      way_at_place = record { none_reached = refl; no_links = refl; none_loaded = refl };
-      answer_at_place = rests.silent;
-      gone = gone_aside rests.present;
-    }
+    fits_over heap (record seat { registers = registers; sets = sets }) whole fit fits.own.cursor_within fits.own.small_reserve fits.own.reserve_of_cursor (gone_aside rests.present)
 
 -- a register got another value, and the call is over
 pub fits_filled : (heap : Heap) (seat : Seat) (register : Register) → Rests heap seat → FitsRegister heap register → Fits heap (filled seat register)
 fits_filled heap seat register rests fit =
     fits_closed heap seat (set seat.registers (target_of seat.command) register) seat.sets rests
-    (length-set seat.registers (target_of seat.command) register ∙ rests.fits.registers_whole)
-    (All-set (FitsRegister heap) seat.registers (target_of seat.command) register fit rests.fits.registers_fit)
+    (length-set seat.registers (target_of seat.command) register ∙ rests.fits.own.registers_whole)
+    (All-set (FitsRegister heap) seat.registers (target_of seat.command) register fit rests.fits.own.registers_fit)
 
 -- a link that leads within the heap, or to fragment 0 where there is none
 unwrap_within : (heap : Heap) (fragment : Option ℕ) → 0 < heap.groups → IsWithinHeap heap fragment → unwrap_or fragment 0 < 16 * heap.groups
@@ -108,9 +90,9 @@ way_fits : (heap : Heap) (seat : Seat) (reached links : ℕ) → Rests heap seat
     → Fits heap (reaching (record seat { reached = reached; links = links }) (way_place (record seat { reached = reached; links = links })))
 way_fits heap seat reached links rests works names empty within fewer =
     elim (eqb_tells links 0) as (λ _. Fits heap (reaching (record seat { reached = reached; links = links }) (way_place (record seat { reached = reached; links = links })))) [
-      | inl none ↦ rw none.0 (fits_reaching heap seat reached links seat.loaded (field_place seat seat.command) rests within rests.fits.loaded_within
+      | inl none ↦ rw none.0 (fits_reaching heap seat reached links seat.loaded (field_place seat seat.command) rests within rests.fits.way.loaded_within
           (field_fits_there none.1))
-      | inr some ↦ rw some.0 (fits_reaching heap seat reached links seat.loaded Walking rests within rests.fits.loaded_within
+      | inr some ↦ rw some.0 (fits_reaching heap seat reached links seat.loaded Walking rests within rests.fits.way.loaded_within
           (record { works = works; names = names; more = omega (arith, some.1); some_done = less some.1 fewer; none_loaded = empty }))
     ]
   where
@@ -127,9 +109,9 @@ pub fits_onward : (heap : Heap) (seat : Seat) (found : ℕ) → Rests heap seat 
     → seat.links ≤ row_of (field_of seat.command) → IsWithinHeap heap (lead_of 0 found) → Fits heap (onward seat found)
 fits_onward heap seat found rests works names empty fewer led =
     elim (eqb_tells seat.links 0) as (λ _. Fits heap (onward seat found)) [
-      | inl none ↦ let fit = way_fits heap seat seat.reached seat.links rests works names empty rests.fits.reached_within (inr none.1) in rw none.0 (rw none.0 at fit)
+      | inl none ↦ let fit = way_fits heap seat seat.reached seat.links rests works names empty rests.fits.way.reached_within (inr none.1) in rw none.0 (rw none.0 at fit)
       | inr some ↦ rw some.0 (way_fits heap seat (link_in found) (seat.links - 1) rests works names empty
-          (unwrap_within heap (lead_of 0 found) (omega (arith, rests.fits.cursor_within)) led) (inl (omega (arith, some.1, fewer))))
+          (unwrap_within heap (lead_of 0 found) (omega (arith, rests.fits.own.cursor_within)) led) (inl (omega (arith, some.1, fewer))))
     ]
 
 -- where the call doesn't end at the meta, it names a field
@@ -144,7 +126,7 @@ pub fits_met : (heap : Heap) (seat : Seat) (found : ℕ) (reply : Option Reply) 
     → IsWithinHeap heap (lead_of 0 found) → Fits heap (met seat found reply)
 fits_met heap seat found None rests is none led =
     fits_onward heap seat found rests is.works (met_names seat.command found is.names none) is.none_loaded (omega (arith, is.whole_way)) led
-fits_met heap seat found (Some reply) rests is some led = fits_closed heap seat seat.registers seat.sets rests rests.fits.registers_whole rests.fits.registers_fit
+fits_met heap seat found (Some reply) rests is some led = fits_closed heap seat seat.registers seat.sets rests rests.fits.own.registers_whole rests.fits.own.registers_fit
 
 -- a number in a word has thirty bits
 plain_fits : (heap : Heap) (kind : Kind) (value : ℕ) → value < 2 ^ 30 → FitsRegister heap (plain_register kind value)
@@ -159,7 +141,7 @@ pub fits_got : (heap : Heap) (seat : Seat) (found : ℕ) (head : Option ℕ) →
 fits_got heap seat found None rests is none led =
     fits_filled heap seat (plain_in found) rests (plain_fits heap (cell_of found).kind (cell_of found).value (omega arith))
 fits_got heap seat found (Some head) rests is some led =
-    fits_reaching heap seat seat.reached seat.links found Naming rests rests.fits.reached_within (subst (IsWithinHeap heap) (sym some) led)
+    fits_reaching heap seat seat.reached seat.links found Naming rests rests.fits.way.reached_within (subst (IsWithinHeap heap) (sym some) led)
     (is, subst IsSome (sym some) refl)
 
 -- a set goes on to its new value
@@ -167,13 +149,13 @@ pub fits_old_done : (heap : Heap) (seat : Seat) (loaded : ℕ) → Rests heap se
     → Fits heap (old_done (record seat { loaded = loaded }))
 fits_old_done heap seat loaded rests is on led = by (head_of (register_in seat.registers (source_of seat.command))) refl where
   by : (new : Option ℕ) → head_of (register_in seat.registers (source_of seat.command)) ≡ new → Fits heap (reaching (record seat { loaded = loaded }) (new_place new))
-  by None e = fits_reaching heap seat seat.reached seat.links loaded Swapping rests rests.fits.reached_within led (is, λ off. gone_aside off on)
-  by (Some head) e = fits_reaching heap seat seat.reached seat.links loaded ShadingNew rests rests.fits.reached_within led (is, on, subst IsSome (sym e) refl)
+  by None e = fits_reaching heap seat seat.reached seat.links loaded Swapping rests rests.fits.way.reached_within led (is, λ off. gone_aside off on)
+  by (Some head) e = fits_reaching heap seat seat.reached seat.links loaded ShadingNew rests rests.fits.way.reached_within led (is, on, subst IsSome (sym e) refl)
 
 -- a set's old value was found
 pub fits_old_found : (heap : Heap) (seat : Seat) (found : ℕ) (head : Option ℕ) → Rests heap seat → Sets seat → has_barrier seat ≡ true → head_in found ≡ head
     → IsWithinHeap heap head → Fits heap (old_found (record seat { loaded = found }) head)
 fits_old_found heap seat found None rests is on none led = fits_old_done heap seat found rests is on (subst (IsWithinHeap heap) (sym none) led)
 fits_old_found heap seat found (Some head) rests is on some led =
-    fits_reaching heap seat seat.reached seat.links found ShadingOld rests rests.fits.reached_within (subst (IsWithinHeap heap) (sym some) led)
+    fits_reaching heap seat seat.reached seat.links found ShadingOld rests rests.fits.way.reached_within (subst (IsWithinHeap heap) (sym some) led)
     (is, on, subst IsSome (sym some) refl)

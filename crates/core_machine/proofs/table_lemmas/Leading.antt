@@ -144,7 +144,7 @@ making_leads heap number seat found Returning limits few fits is = tt
 making_leads heap number seat found Refusing limits few fits is = tt
 making_leads heap number seat found Storing limits few fits is =
     record_leads heap (next_name number seat) (fields_of seat.command) seat.body (seat.stored / 4) (seat.stored % 4) (omega arith) (omega (arith, is.0.makes.numbered))
-    (omega (arith, fields_few seat.command is.0.makes.a_record is.0.makes.in_range)) (omega (arith, fits.cursor_within)) (omega (arith, limits.groups_fit)) fits.body_within
+    (omega (arith, fields_few seat.command is.0.makes.a_record is.0.makes.in_range)) (omega (arith, fits.own.cursor_within)) (omega (arith, limits.groups_fit)) fits.hand.body_within
 making_leads heap number seat found Bearing limits few fits is =
     elim (bool_tells (is_last_birth seat)) as (λ _. FoundWithin heap (address_of (bearing_move number seat).step) (written (bearing_move number seat).step found)) [ inl last ↦ rw last tt | inr more ↦ rw more tt ]
 
@@ -160,7 +160,7 @@ reaching_leads heap number seat found ShadingOld limits few fits is led = tt
 reaching_leads heap number seat found ShadingNew limits few fits is led = tt
 reaching_leads heap number seat found Swapping limits few fits is led =
     register_leads heap (register_in seat.registers (source_of seat.command)) (stamp_of number (seat.sets + 1)) (part_of (field_of seat.command)) (part_some (field_of seat.command))
-    (omega (arith, limits.groups_fit)) (register_fits heap seat.registers (source_of seat.command) fits.registers_fit) (omega (arith, few, set_numbered seat.command seat.made seat.sets is.0.1 is.0.0.numbered))
+    (omega (arith, limits.groups_fit)) (register_fits heap seat.registers (source_of seat.command) fits.own.registers_fit) (omega (arith, few, set_numbered seat.command seat.made seat.sets is.0.1 is.0.0.numbered))
 
 leads_at : (heap : Heap) (number : ℕ) (seat : Seat) (found : ℕ) (place : Place) → IsHeap heap → number < 16 → Fits heap seat → FitsPlace heap seat place → FitsWay seat place
     → IfSome (move_at heap number seat place) (λ move. FoundWithin heap (address_of move.step) found)

@@ -89,7 +89,7 @@ making_wide heap number seat found Returning limits few fits is wide = let le = 
 making_wide heap number seat found Refusing limits few fits is wide = wide
 making_wide heap number seat found Storing limits few fits is wide =
     record_wide (next_name number seat) (fields_of seat.command) seat.body (seat.stored / 4) (seat.stored % 4) (omega arith) (omega (arith, is.0.makes.numbered))
-    (omega (arith, fields_few seat.command is.0.makes.a_record is.0.makes.in_range)) (λ i. fragment_small heap seat.body i limits fits.body_within)
+    (omega (arith, fields_few seat.command is.0.makes.a_record is.0.makes.in_range)) (λ i. fragment_small heap seat.body i limits fits.hand.body_within)
 making_wide heap number seat found Bearing limits few fits is wide =
     let small = mask-lt (part_in (get_or seat.hand (length seat.hand - 1) 0 / 16) seat.hand) in
     elim (bool_tells (is_last_birth seat)) as (λ _. written (bearing_move number seat).step found < 2 ^ 64) [
@@ -119,7 +119,7 @@ reaching_wide heap number seat found ShadingOld limits few fits is wide = shade_
 reaching_wide heap number seat found ShadingNew limits few fits is wide = shade_wide (unwrap_or (head_of (register_in seat.registers (source_of seat.command))) 0) found wide
 reaching_wide heap number seat found Swapping limits few fits is wide =
     register_wide heap (register_in seat.registers (source_of seat.command)) (stamp_of number (seat.sets + 1)) (omega (arith, limits.groups_fit))
-    (register_fits heap seat.registers (source_of seat.command) fits.registers_fit) (omega (arith, few, set_numbered seat.command seat.made seat.sets is.0.1 is.0.0.numbered))
+    (register_fits heap seat.registers (source_of seat.command) fits.own.registers_fit) (omega (arith, few, set_numbered seat.command seat.made seat.sets is.0.1 is.0.0.numbered))
 
 wide_at : (heap : Heap) (number : ℕ) (seat : Seat) (found : ℕ) (place : Place) → IsHeap heap → number < 16 → Fits heap seat → FitsPlace heap seat place → FitsWay seat place
     → seat.asked < 2 ^ 64 → found < 2 ^ 64 → IfSome (move_at heap number seat place) (λ move. written move.step found < 2 ^ 64)

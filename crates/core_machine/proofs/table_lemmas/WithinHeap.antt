@@ -44,7 +44,7 @@ heads_within heap (Object head id ∷ more) (suc i) fit within = heads_within he
 pub roots_within : (heap : Heap) (seat : Seat) (i : ℕ) → Fits heap seat → i < length (roots seat) → get_or (roots seat) i 0 < 16 * heap.groups
 roots_within heap seat i fits within =
     elim (eqb_tells (seat.asked % 7) 3) as (λ _. i < length (roots seat) → get_or (roots seat) i 0 < 16 * heap.groups) [
-      | inl third ↦ rw third.0 (λ l. heads_within heap seat.registers i fits.registers_fit l)
+      | inl third ↦ rw third.0 (λ l. heads_within heap seat.registers i fits.own.registers_fit l)
       | inr other ↦ rw other.0 (λ l. absurd (omega arith))
     ] within
 

@@ -40,15 +40,20 @@ stepped heap state number move = record state {
   seats = slice_set state.seats number (seat_after move (found_by heap state move.step));
 }
 
--- where a seat stands that begins this call
+-- where a seat stands that begins this call; one that isn't served begins nothing
 abbrev pub starts : Heap → Seat → Command → Seat
 starts heap seat (commands.New d fields) = goes_on heap seat
+starts heap seat (commands.Array d cells) = seat
 starts heap seat (commands.Get d r i) = opened seat (register_in seat.registers r)
 starts heap seat (commands.Set r i v) = opened seat (register_in seat.registers r)
+starts heap seat (commands.Num d n) = record seat { place = Telling }
+starts heap seat (commands.Nil d) = record seat { place = Telling }
+starts heap seat (commands.Copy d r) = record seat { place = Telling }
+starts heap seat (commands.Same a b) = record seat { place = Telling }
 starts heap seat (commands.Len r) = opened seat (register_in seat.registers r)
 starts heap seat commands.Poll = record seat { place = Polling Asking }
+starts heap seat commands.Collect = seat
 starts heap seat commands.Leave = record seat { place = Leaving (leaving seat.reserve) }
-starts heap seat _ = record seat { place = Telling }
 
 -- the seat with this call in flight
 abbrev pub begun : Heap → Seat → Command → Seat

@@ -1,5 +1,5 @@
 -- What is true of a seat's own data, whatever the words are.
-use Rattle.std.specs.Prelude.{◌≡◌, ◌*◌, ◌/◌, ◌<◌, ◌≤◌, ◌^◌, true, [], length, All}
+use Rattle.std.specs.Prelude.{◌≡◌, ◌*◌, ◌/◌, ◌<◌, ◌≤◌, ◌^◌, true, [], length, All, ℕ, List}
 use Rattle.heap_model.specs.declared.heap.Heap.{Heap}
 use Rattle.heap_model.specs.declared.command.Command.TheVariants as commands
 use Rattle.heap_model.specs.Command.{IsCommand}
@@ -27,12 +27,20 @@ FitsPlace heap seat (places.Leaving place) = IsAtRest seat × (seat.command ≡ 
 -- what was reached and loaded there
 abbrev pub FitsWay : Seat → Place → Type 0
 FitsWay seat (places.Reaching place) = FitsReaching seat place
-FitsWay seat _ = IsNowhere seat
+FitsWay seat places.Idle = IsNowhere seat
+FitsWay seat (places.Making place) = IsNowhere seat
+FitsWay seat places.Telling = IsNowhere seat
+FitsWay seat (places.Polling place) = IsNowhere seat
+FitsWay seat (places.Leaving place) = IsNowhere seat
 
 -- which phase is about to be answered there
 abbrev pub FitsAnswer : Seat → Place → Type 0
 FitsAnswer seat (places.Polling place) = FitsPolling seat place
-FitsAnswer seat _ = IsSilent seat
+FitsAnswer seat places.Idle = IsSilent seat
+FitsAnswer seat (places.Making place) = IsSilent seat
+FitsAnswer seat places.Telling = IsSilent seat
+FitsAnswer seat (places.Reaching place) = IsSilent seat
+FitsAnswer seat (places.Leaving place) = IsSilent seat
 
 -- a register's number is within the limit, and its object's first fragment is one of the heap's
 abbrev pub FitsRegister : Heap → Register → Type 0
@@ -45,17 +53,29 @@ pub record IsGone (seat : Seat) : Type 0 where
   pub idle : seat.place ≡ places.Idle
   pub no_reserve : seat.reserve ≡ []
 
+-- what a seat keeps between two calls
+pub record OwnFits (heap : Heap) (registers : List Register) (reserve : List ℕ) (cursor : ℕ) : Type 0 where
+  pub registers_whole : length registers ≡ register_count
+  pub registers_fit : All (FitsRegister heap) registers
+  pub cursor_within : cursor < heap.groups
+  pub small_reserve : length reserve ≤ most_reserve
+  pub reserve_of_cursor : All (λ fragment. fragment / group_fragments ≡ cursor) reserve
+
+-- the fragments of the object that a call makes
+pub record HandFits (heap : Heap) (hand body : List ℕ) : Type 0 where
+  pub hand_within : AreFragments heap hand
+  pub body_within : AreFragments heap body
+
+-- what a call has reached and loaded
+pub record WayFits (heap : Heap) (reached loaded : ℕ) : Type 0 where
+  pub reached_within : reached < group_fragments * heap.groups
+  pub loaded_within : IsWithinHeap heap (head_in loaded)
+
 -- the seat's own data fit together
 pub record Fits (heap : Heap) (seat : Seat) : Type 0 where
-  pub registers_whole : length seat.registers ≡ register_count
-  pub registers_fit : All (FitsRegister heap) seat.registers
-  pub cursor_within : seat.cursor < heap.groups
-  pub small_reserve : length seat.reserve ≤ most_reserve
-  pub reserve_of_cursor : All (λ fragment. fragment / group_fragments ≡ seat.cursor) seat.reserve
-  pub hand_within : AreFragments heap seat.hand
-  pub body_within : AreFragments heap seat.body
-  pub reached_within : seat.reached < group_fragments * heap.groups
-  pub loaded_within : IsWithinHeap heap (head_in seat.loaded)
+  pub own : OwnFits heap seat.registers seat.reserve seat.cursor
+  pub hand : HandFits heap seat.hand seat.body
+  pub way : WayFits heap seat.reached seat.loaded
   pub asked_small : seat.asked < 2 ^ 64
   pub at_place : FitsPlace heap seat seat.place
   pub way_at_place : FitsWay seat seat.place

@@ -36,9 +36,12 @@ abbrev pub IsSilent : Seat → Type 0
 IsSilent seat = HasNoAnswer seat.asked seat.shaded
 
 -- a phase is about to be answered that the seat hasn't answered yet
-pub record Answers (seat : Seat) : Type 0 where
-  pub polls : seat.command ≡ commands.Poll
-  pub anew : seat.asked ≢ seat.answered
+pub record IsNew (command : Command) (asked answered : ℕ) : Type 0 where
+  pub polls : command ≡ commands.Poll
+  pub anew : asked ≢ answered
+
+abbrev pub Answers : Seat → Type 0
+Answers seat = IsNew seat.command seat.asked seat.answered
 
 abbrev pub FitsPolling : Seat → Polling → Type 0
 FitsPolling seat Asking = IsSilent seat × (seat.command ≡ commands.Poll)

@@ -4,10 +4,11 @@ use Rattle.heap_model.specs.declared.heap.Heap.{Heap}
 use Rattle.heap_model.specs.declared.command.Command.{Command}
 use Rattle.heap_model.specs.Command.{IsCommand}
 use Rattle.heap_model.specs.Limits.{group_fragments, name_limit}
+use Rattle.heap_model.specs.account.Space.{need_of}
 use Rattle.core_machine.specs.declared.place.Making.{Making}
 use Rattle.core_machine.specs.declared.place.Making.TheVariants.{Gathering, Returning, Refusing, Storing, Bearing}
 use Rattle.core_machine.specs.seat.Commands.{IsRecord}
-use Rattle.core_machine.specs.seat.Seat.{Seat, need}
+use Rattle.core_machine.specs.seat.Seat.{Seat}
 
 -- each is a fragment of the heap
 abbrev pub AreFragments : Heap → List ℕ → Type 0
@@ -31,28 +32,37 @@ pub record MakesRecord (command : Command) (made : ℕ) : Type 0 where
   pub numbered : made + 1 < name_limit
 
 -- nothing is stored or given back yet, too little is gathered, and some group wasn't claimed
-pub record Gathers (heap : Heap) (seat : Seat) : Type 0 where
-  pub makes : MakesRecord seat.command seat.made
-  pub no_body : seat.body ≡ []
-  pub none_stored : seat.stored ≡ 0
-  pub none_given : seat.given ≡ 0
-  pub groups_left : seat.tried < heap.groups
-  pub too_few : length seat.reserve + length seat.hand < need seat
+pub record IsGathering (heap : Heap) (command : Command) (made : ℕ) (reserve hand body : List ℕ) (stored tried given : ℕ) : Type 0 where
+  pub makes : MakesRecord command made
+  pub no_body : body ≡ []
+  pub none_stored : stored ≡ 0
+  pub none_given : given ≡ 0
+  pub groups_left : tried < heap.groups
+  pub too_few : length reserve + length hand < need_of command
+
+abbrev pub Gathers : Heap → Seat → Type 0
+Gathers heap seat = IsGathering heap seat.command seat.made seat.reserve seat.hand seat.body seat.stored seat.tried seat.given
 
 -- every group was claimed, and too little was gathered, with what was given back since
-pub record Refuses (heap : Heap) (seat : Seat) : Type 0 where
-  pub makes : MakesRecord seat.command seat.made
-  pub no_body : seat.body ≡ []
-  pub none_stored : seat.stored ≡ 0
-  pub all_tried : seat.tried ≡ heap.groups
-  pub too_few : length seat.reserve + length seat.hand + seat.given < need seat
+pub record IsRefusing (heap : Heap) (command : Command) (made : ℕ) (reserve hand body : List ℕ) (stored tried given : ℕ) : Type 0 where
+  pub makes : MakesRecord command made
+  pub no_body : body ≡ []
+  pub none_stored : stored ≡ 0
+  pub all_tried : tried ≡ heap.groups
+  pub too_few : length reserve + length hand + given < need_of command
+
+abbrev pub Refuses : Heap → Seat → Type 0
+Refuses heap seat = IsRefusing heap seat.command seat.made seat.reserve seat.hand seat.body seat.stored seat.tried seat.given
 
 -- the object has its fragments
-pub record HasBody (seat : Seat) : Type 0 where
-  pub makes : MakesRecord seat.command seat.made
-  pub whole : length seat.body ≡ need seat
-  pub none_tried : seat.tried ≡ 0
-  pub none_given : seat.given ≡ 0
+pub record HasFragments (command : Command) (made : ℕ) (body : List ℕ) (tried given : ℕ) : Type 0 where
+  pub makes : MakesRecord command made
+  pub whole : length body ≡ need_of command
+  pub none_tried : tried ≡ 0
+  pub none_given : given ≡ 0
+
+abbrev pub HasBody : Seat → Type 0
+HasBody seat = HasFragments seat.command seat.made seat.body seat.tried seat.given
 
 abbrev pub FitsMaking : Heap → Seat → Making → Type 0
 FitsMaking heap seat Gathering = Gathers heap seat

@@ -52,20 +52,26 @@ abbrev pub WorksOnObject : Seat → Type 0
 WorksOnObject seat = HoldsObject seat.registers seat.made seat.sets seat.command
 
 -- the way begins at the object's first fragment
-pub record Opens (seat : Seat) : Type 0 where
-  pub works : WorksOnObject seat
-  pub names : NamesObject seat.command
-  pub at_head : head_of (register_in seat.registers (object_of seat.command)) ≡ Some seat.reached
-  pub whole_way : seat.links ≡ row_of (field_of seat.command)
-  pub none_loaded : seat.loaded ≡ 0
+pub record IsAtHead (registers : List Register) (made sets : ℕ) (command : Command) (reached links loaded : ℕ) : Type 0 where
+  pub works : HoldsObject registers made sets command
+  pub names : NamesObject command
+  pub at_head : head_of (register_in registers (object_of command)) ≡ Some reached
+  pub whole_way : links ≡ row_of (field_of command)
+  pub none_loaded : loaded ≡ 0
+
+abbrev pub Opens : Seat → Type 0
+Opens seat = IsAtHead seat.registers seat.made seat.sets seat.command seat.reached seat.links seat.loaded
 
 -- some links of the way are still to be walked
-pub record Walks (seat : Seat) : Type 0 where
-  pub works : WorksOnObject seat
-  pub names : NamesField seat.command
-  pub more : 0 < seat.links
-  pub some_done : seat.links < row_of (field_of seat.command)
-  pub none_loaded : seat.loaded ≡ 0
+pub record IsOnWay (registers : List Register) (made sets : ℕ) (command : Command) (links loaded : ℕ) : Type 0 where
+  pub works : HoldsObject registers made sets command
+  pub names : NamesField command
+  pub more : 0 < links
+  pub some_done : links < row_of (field_of command)
+  pub none_loaded : loaded ≡ 0
+
+abbrev pub Walks : Seat → Type 0
+Walks seat = IsOnWay seat.registers seat.made seat.sets seat.command seat.links seat.loaded
 
 -- the field was reached by a get
 abbrev pub Gets : Seat → Type 0

@@ -12,7 +12,7 @@ use Rattle.core_machine.specs.declared.seat.register.Register.TheVariants.{Objec
 use Rattle.core_machine.specs.seat.Commands.{target_of, fields_of}
 use Rattle.core_machine.specs.table.Fragments.{part_in, part_out, clear_in}
 use Rattle.core_machine.specs.table.Newborn.{record_word}
-use Rattle.core_machine.specs.seat.Seat.{Seat, need}
+use Rattle.core_machine.specs.seat.Seat.{Seat, need, over}
 
 -- the group that is claimed next: from the cursor's on, wrapping at the last
 abbrev pub next_group : Heap → Seat → ℕ
@@ -73,10 +73,6 @@ given_back seat = record seat {
   place = places.Making (returning (part_out (first_group seat.hand) seat.hand));
 }
 
--- the refusal was told
-abbrev pub told_full : Seat → Seat
-told_full seat = record seat { tried = 0; given = 0; place = places.Idle }
-
 -- the name and the id of the seat's next object
 abbrev pub next_name : ℕ → Seat → Name
 next_name number seat = record { owner = number + 1; count = seat.made }
@@ -102,11 +98,7 @@ born seat = record seat { hand = part_out (last_group seat.hand) seat.hand }
 
 -- the last fragments were born: the register holds the new object
 abbrev pub made_last : ℕ → Seat → Seat
-made_last number seat = record seat {
+made_last number seat = over (record seat {
   registers = slice_set seat.registers (target_of seat.command) (Object (slice_index_or seat.body 0 0) (next_id number seat));
-  hand = [];
-  body = [];
-  stored = 0;
-  place = places.Idle;
   made = seat.made + 1;
-}
+})

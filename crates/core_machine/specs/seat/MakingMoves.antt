@@ -12,8 +12,8 @@ use Rattle.core_machine.specs.declared.step.Step.TheVariants as steps
 use Rattle.core_machine.specs.declared.step.MakingStep.{MakingStep}
 use Rattle.core_machine.specs.declared.step.MakingStep.TheVariants.{Claim, GiveBack, NewbornStore, Birth, LastBirth}
 use Rattle.core_machine.specs.table.Fragments.{in_group, part_in, clear_in, mask}
-use Rattle.core_machine.specs.seat.Seat.{Seat, need}
-use Rattle.core_machine.specs.seat.Making.{next_group, claimed, first_group, last_group, given_back, told_full, next_id, newborn_word, stored_more, born, made_last}
+use Rattle.core_machine.specs.seat.Seat.{Seat, need, over}
+use Rattle.core_machine.specs.seat.Making.{next_group, claimed, first_group, last_group, given_back, next_id, newborn_word, stored_more, born, made_last}
 use Rattle.core_machine.specs.Move.{Move, plain_move}
 
 -- the entry of a claim, where it got some
@@ -39,7 +39,7 @@ abbrev pub full_entry : ℕ → Seat → Entry
 full_entry number seat = Said number seat.command (replies.Full (need seat) (length seat.reserve + seat.given))
 
 abbrev pub refusal_move : ℕ → Seat → Move
-refusal_move number seat = plain_move steps.PollLoad (λ found. told_full seat) (λ found. full_entry number seat ∷ [])
+refusal_move number seat = plain_move steps.PollLoad (λ found. over seat) (λ found. full_entry number seat ∷ [])
 
 -- the store of word `part` of fragment k of the object
 abbrev pub word_store : ℕ → Seat → ℕ → ℕ → MakingStep

@@ -9,7 +9,7 @@ use Rattle.core_machine.specs.declared.place.Leaving.{Leaving}
 use Rattle.core_machine.specs.declared.place.Leaving.TheVariants.{Emptying, Parting}
 use Rattle.core_machine.specs.declared.seat.register.Register.TheVariants.{Nil}
 use Rattle.core_machine.specs.seat.Registers.{heads}
-use Rattle.core_machine.specs.seat.Seat.{Seat}
+use Rattle.core_machine.specs.seat.Seat.{Seat, over}
 
 -- what is shaded before the phase is answered: where marking begins the registers' objects
 abbrev pub roots : Seat → List ℕ
@@ -24,7 +24,7 @@ shades_on seat = record seat { place = places.Polling (answer_place seat) }
 
 -- the phase was found: it is answered where it wasn't yet
 abbrev pub phase_found : Seat → ℕ → Seat
-phase_found seat found = if found == seat.answered then record seat { place = places.Idle } else shades_on (record seat { asked = found })
+phase_found seat found = if found == seat.answered then over seat else shades_on (record seat { asked = found })
 
 -- one more root was shaded
 abbrev pub shaded_more : Seat → Seat
@@ -32,7 +32,7 @@ shaded_more seat = shades_on (record seat { shaded = seat.shaded + 1 })
 
 -- the answer was stored
 abbrev pub answer_stored : Seat → Seat
-answer_stored seat = record seat { answered = seat.asked; asked = 0; shaded = 0; place = places.Idle }
+answer_stored seat = over (record seat { answered = seat.asked })
 
 -- a reserve is given back before the seat leaves
 abbrev pub leaving : List ℕ → Leaving
@@ -45,4 +45,4 @@ emptied seat = record seat { reserve = []; place = places.Leaving Parting }
 
 -- the seat has left
 abbrev pub parted : Seat → Seat
-parted seat = record seat { registers = replicate register_count Nil; left = true; place = places.Idle }
+parted seat = over (record seat { registers = replicate register_count Nil; left = true })

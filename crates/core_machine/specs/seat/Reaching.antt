@@ -1,7 +1,7 @@
 -- How a seat goes on while it reads or writes an object: the way to the field, and what is done with it.
 use Rattle.std.specs.Prelude.{ℕ, ◌+◌, ◌-◌, ◌/◌, ◌%◌, ◌==◌, nat_lt, nat_le, Bool, false, if◌then◌else◌, Option, Some, None, slice_set}
 use Rattle.heap_model.specs.declared.command.Command.{Command}
-use Rattle.heap_model.specs.declared.command.Command.TheVariants.{Get, Len}
+use Rattle.heap_model.specs.declared.command.Command.TheVariants as commands
 use Rattle.heap_model.specs.declared.id.Id.{Id}
 use Rattle.heap_model.specs.declared.reply.Reply.{Reply}
 use Rattle.heap_model.specs.declared.reply.Reply.TheVariants.{Length, NoField}
@@ -10,11 +10,11 @@ use Rattle.core_machine.specs.declared.place.Place.TheVariants as places
 use Rattle.core_machine.specs.declared.place.Reaching.{Reaching}
 use Rattle.core_machine.specs.declared.place.Reaching.TheVariants.{Opening, Walking, Getting, Naming, LoadingOld, ShadingOld, ShadingNew, Swapping}
 use Rattle.core_machine.specs.declared.seat.register.Register.{Register}
-use Rattle.core_machine.specs.declared.seat.register.Register.TheVariants.{Object}
+use Rattle.core_machine.specs.declared.seat.register.Register.TheVariants.{Nil, Number, Object}
 use Rattle.core_machine.specs.seat.Commands.{target_of, source_of, field_of}
 use Rattle.core_machine.specs.table.Loaded.{link_in, length_in, plain_in}
 use Rattle.core_machine.specs.seat.Registers.{register_in, head_of}
-use Rattle.core_machine.specs.seat.Seat.{Seat}
+use Rattle.core_machine.specs.seat.Seat.{Seat, over}
 
 -- the row in which a field stands: 0 is the object's first fragment, 1 its second
 abbrev pub row_of : ℕ → ℕ
@@ -33,24 +33,31 @@ has_barrier seat =
 abbrev pub reaching : Seat → Reaching → Seat
 reaching seat place = record seat { place = places.Reaching place }
 
--- the call is over
-abbrev pub closed : Seat → Seat
-closed seat = record seat { reached = 0; links = 0; loaded = 0; place = places.Idle }
-
 -- the register has another value, and the call is over
 abbrev pub filled : Seat → Register → Seat
-filled seat register = closed (record seat { registers = slice_set seat.registers (target_of seat.command) register })
+filled seat register = over (record seat { registers = slice_set seat.registers (target_of seat.command) register })
 
 -- the way begins at the object's first fragment; without an object the reply is told at once
 abbrev pub opened : Seat → Register → Seat
 opened seat (Object head id) =
     reaching (record seat { reached = head; links = row_of (field_of seat.command) }) Opening
-opened seat _ = record seat { place = places.Telling }
+opened seat Nil = record seat { place = places.Telling }
+opened seat (Number n) = record seat { place = places.Telling }
 
--- what is done with the field: a get loads it, and so does a set with the barrier on
+-- what is done with the field: a get loads it, and so does a set with the barrier on; no other command goes to one
 abbrev pub field_place : Seat → Command → Reaching
-field_place seat (Get d r i) = Getting
-field_place seat _ = if has_barrier seat then LoadingOld else Swapping
+field_place seat (commands.New d fields) = Getting
+field_place seat (commands.Array d cells) = Getting
+field_place seat (commands.Get d r i) = Getting
+field_place seat (commands.Set r i v) = if has_barrier seat then LoadingOld else Swapping
+field_place seat (commands.Num d n) = Getting
+field_place seat (commands.Nil d) = Getting
+field_place seat (commands.Copy d r) = Getting
+field_place seat (commands.Same a b) = Getting
+field_place seat (commands.Len r) = Getting
+field_place seat commands.Poll = Getting
+field_place seat commands.Collect = Getting
+field_place seat commands.Leave = Getting
 
 -- where the way stands at a fragment: at the field, where no link leads on
 abbrev pub way_place : Seat → Reaching
@@ -65,15 +72,29 @@ abbrev pub onward : Seat → ℕ → Seat
 onward seat found =
     if seat.links == 0 then reaching seat (way_place seat) else reaching (stepped_on seat found) (way_place (stepped_on seat found))
 
--- the reply at the meta, where the call ends there: the length, or that there is no such field
+-- the reply at the meta of a command on this field, where there is no such field
+abbrev pub field_reply : ℕ → ℕ → Option Reply
+field_reply field found = if nat_lt field (length_in found) then None else Some NoField
+
+-- the reply at the meta, where the call ends there: the length, or that there is no such field; no other command comes to a meta
 abbrev pub meta_reply : Command → ℕ → Option Reply
-meta_reply (Len r) found = Some (Length (length_in found))
-meta_reply command found = if nat_lt (field_of command) (length_in found) then None else Some NoField
+meta_reply (commands.New d fields) found = None
+meta_reply (commands.Array d cells) found = None
+meta_reply (commands.Get d r i) found = field_reply i found
+meta_reply (commands.Set r i v) found = field_reply i found
+meta_reply (commands.Num d n) found = None
+meta_reply (commands.Nil d) found = None
+meta_reply (commands.Copy d r) found = None
+meta_reply (commands.Same a b) found = None
+meta_reply (commands.Len r) found = Some (Length (length_in found))
+meta_reply commands.Poll found = None
+meta_reply commands.Collect found = None
+meta_reply commands.Leave found = None
 
 -- the meta was found
 abbrev pub met : Seat → ℕ → Option Reply → Seat
 met seat found None = onward seat found
-met seat found (Some reply) = closed seat
+met seat found (Some reply) = over seat
 
 -- a get's field was found: a number or nil stands in the register, a reference waits for its object's name
 abbrev pub got : Seat → ℕ → Option ℕ → Seat
@@ -100,4 +121,4 @@ old_found seat (Some head) = reaching seat ShadingOld
 
 -- the field has its new word
 abbrev pub swapped : Seat → Seat
-swapped seat = record (closed seat) { sets = seat.sets + 1 }
+swapped seat = over (record seat { sets = seat.sets + 1 })

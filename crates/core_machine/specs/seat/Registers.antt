@@ -25,7 +25,8 @@ value_of (Object head id) = values.Object id
 -- the first fragment of the object that a register holds
 abbrev pub head_of : Register → Option ℕ
 head_of (Object head id) = Some head
-head_of _ = None
+head_of Nil = None
+head_of (Number n) = None
 
 -- the first fragments of the objects that the registers hold, register 0 first
 abbrev pub heads : List Register → List ℕ

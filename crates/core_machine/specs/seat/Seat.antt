@@ -1,8 +1,10 @@
 -- What the machine keeps of a seat. The seat's number is its place among the seats, and stands nowhere in it.
-use Rattle.std.specs.Prelude.{ℕ, ◌+◌, ◌<◌, Bool, true, List, [], ◌++◌}
+use Rattle.std.specs.Prelude.{ℕ, ◌+◌, ◌<◌, Bool, true, List, [], ◌∷◌, ◌++◌}
 use Rattle.heap_model.specs.declared.entry.Entry.{Entry}
+use Rattle.heap_model.specs.declared.entry.Entry.TheVariants.{Said}
 use Rattle.heap_model.specs.declared.command.Command.{Command}
 use Rattle.heap_model.specs.declared.command.Command.TheVariants as commands
+use Rattle.heap_model.specs.declared.reply.Reply.{Reply}
 use Rattle.heap_model.specs.Limits.{name_limit, stamp_limit}
 use Rattle.heap_model.specs.account.Space.{need_of}
 use Rattle.core_machine.specs.declared.place.Place.{Place}
@@ -83,9 +85,38 @@ need seat = need_of seat.command
 -- where so many objects were made and sets done, a name is left for the object that the command makes, or a stamp for its set
 abbrev pub HasNumber : ℕ → ℕ → Command → Type 0
 HasNumber made sets (commands.New d fields) = made + 1 < name_limit
+HasNumber made sets (commands.Array d cells) = Unit {0}
+HasNumber made sets (commands.Get d r i) = Unit {0}
 HasNumber made sets (commands.Set r i v) = sets + 1 < stamp_limit
-HasNumber made sets _ = Unit {0}
+HasNumber made sets (commands.Num d n) = Unit {0}
+HasNumber made sets (commands.Nil d) = Unit {0}
+HasNumber made sets (commands.Copy d r) = Unit {0}
+HasNumber made sets (commands.Same a b) = Unit {0}
+HasNumber made sets (commands.Len r) = Unit {0}
+HasNumber made sets commands.Poll = Unit {0}
+HasNumber made sets commands.Collect = Unit {0}
+HasNumber made sets commands.Leave = Unit {0}
+
+-- the call is over, and nothing of it is left
+abbrev pub over : Seat → Seat
+over seat = record seat {
+  hand = [];
+  body = [];
+  stored = 0;
+  tried = 0;
+  given = 0;
+  place = Idle;
+  reached = 0;
+  links = 0;
+  loaded = 0;
+  asked = 0;
+  shaded = 0;
+}
 
 -- the seat with more entries
 abbrev pub with_entries : Seat → List Entry → Seat
 with_entries seat entries = record seat { mine = seat.mine ++ entries }
+
+-- the seat's call is over, with this reply
+abbrev pub replied : ℕ → Seat → Reply → Seat
+replied number seat reply = with_entries (over seat) (Said number seat.command reply ∷ [])

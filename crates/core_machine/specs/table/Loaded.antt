@@ -9,7 +9,7 @@ use Rattle.heap_model.specs.declared.id.Id.{Id}
 use Rattle.heap_model.specs.declared.id.Id.TheVariants.{Board, Made}
 use Rattle.heap_model.specs.Limits.{group_fragments}
 use Rattle.core_machine.specs.declared.table.address.Address.{Address}
-use Rattle.core_machine.specs.declared.table.address.Address.TheVariants.{Word}
+use Rattle.core_machine.specs.declared.table.address.Address.TheVariants.{Phase, Answer, Budget, Spot, Control, Word, Spine}
 use Rattle.core_machine.specs.declared.seat.register.Register.{Register}
 use Rattle.core_machine.specs.declared.seat.register.Register.TheVariants.{Nil, Number}
 use Rattle.core_machine.specs.table.Layout.{at}
@@ -17,7 +17,9 @@ use Rattle.core_machine.specs.table.Layout.{at}
 -- what a cell of this kind and value refers to
 abbrev pub referred : Kind → ℕ → Option ℕ
 referred kinds.Reference value = Some value
-referred _ value = None
+referred kinds.Nil value = None
+referred kinds.Number value = None
+referred kinds.Fixed value = None
 
 -- the first fragment of the object that a field refers to
 abbrev pub head_in : ℕ → Option ℕ
@@ -31,7 +33,8 @@ meta_lead cell = if nat_lt cell.value (2 ^ 29) then (if cell.stamp == 0 then Non
 abbrev pub first_lead : Kind → Cell → Option ℕ
 first_lead kinds.Reference cell = Some cell.value
 first_lead kinds.Fixed cell = meta_lead cell
-first_lead _ cell = None
+first_lead kinds.Nil cell = None
+first_lead kinds.Number cell = None
 
 -- where word `part` of a fragment leads: the first one by a link or a record's meta, each by a reference
 abbrev pub lead_of : ℕ → ℕ → Option ℕ
@@ -59,7 +62,9 @@ stamp_in word = (cell_of word).stamp
 -- what a register holds after it got a field of this kind and value that is no reference
 abbrev pub plain_register : Kind → ℕ → Register
 plain_register kinds.Number value = Number value
-plain_register _ value = Nil
+plain_register kinds.Nil value = Nil
+plain_register kinds.Reference value = Nil
+plain_register kinds.Fixed value = Nil
 
 abbrev pub plain_in : ℕ → Register
 plain_in word = plain_register (cell_of word).kind (cell_of word).value
@@ -76,4 +81,9 @@ LeadWithin heap words = (fragment part : ℕ) → fragment < group_fragments * h
 -- the word that was found at the address leads within the heap, where it stands in a fragment
 abbrev pub FoundWithin : Heap → Address → ℕ → Type 0
 FoundWithin heap (Word fragment part) found = IsWithinHeap heap (lead_of part found)
-FoundWithin heap _ found = Unit {0}
+FoundWithin heap Phase found = Unit {0}
+FoundWithin heap (Answer seat) found = Unit {0}
+FoundWithin heap Budget found = Unit {0}
+FoundWithin heap Spot found = Unit {0}
+FoundWithin heap (Control group) found = Unit {0}
+FoundWithin heap (Spine half offset) found = Unit {0}

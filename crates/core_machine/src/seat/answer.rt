@@ -94,8 +94,7 @@ impl SeatParty {
             self.shade_on();
             return;
         }
-        self.place = Place::Idle;
-        self.say(number, Reply::Phase(found));
+        self.reply(number, Reply::Phase(found));
     }
 
     /// Shaded an object of the registers.
@@ -118,14 +117,11 @@ impl SeatParty {
     {
         let phase = self.asked;
         self.answered = phase;
-        self.asked = 0;
-        self.shaded = 0;
-        self.place = Place::Idle;
         self.note(Entry::Answers {
             seat: number,
             phase,
         });
-        self.say(number, Reply::Phase(phase));
+        self.reply(number, Reply::Phase(phase));
     }
 
     /// Begins to leave.
@@ -170,7 +166,6 @@ impl SeatParty {
     {
         self.registers = [Register::Nil; REGISTER_COUNT];
         self.left = true;
-        self.place = Place::Idle;
-        self.say(number, Reply::Done);
+        self.reply(number, Reply::Done);
     }
 }

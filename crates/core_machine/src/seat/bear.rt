@@ -127,15 +127,7 @@ impl SeatParty {
         };
         let head = self.body[0];
         self.registers[target(&self.command) as usize] = Register::Object { head, id };
-        self.hand = Hand::new();
-        self.body = Hand::new();
-        self.stored = 0;
-        self.place = Place::Idle;
         self.made += 1;
-        self.note(Entry::Said {
-            seat: number,
-            command: self.command,
-            reply: Reply::Made(id),
-        });
+        self.reply(number, Reply::Made(id));
     }
 }

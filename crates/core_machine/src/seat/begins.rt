@@ -17,7 +17,19 @@ const MOST_SETS: u32 = STAMP_LIMIT - 1;
 fn is_served(command: &Command) -> bool
     ensures { IsTrue result ↔ IsServed command.now }
 {
-    !matches!(command, Command::Array { .. } | Command::Collect)
+    match command {
+        Command::Array { .. } | Command::Collect => false,
+        Command::New { .. }
+        | Command::Get { .. }
+        | Command::Set { .. }
+        | Command::Num { .. }
+        | Command::Nil { .. }
+        | Command::Copy { .. }
+        | Command::Same { .. }
+        | Command::Len { .. }
+        | Command::Poll
+        | Command::Leave => true,
+    }
 }
 
 impl SeatParty {
@@ -38,7 +50,16 @@ impl SeatParty {
         match command {
             Command::New { .. } => self.made < u32::MAX,
             Command::Set { .. } => self.sets < MOST_SETS,
-            _ => true,
+            Command::Array { .. }
+            | Command::Get { .. }
+            | Command::Num { .. }
+            | Command::Nil { .. }
+            | Command::Copy { .. }
+            | Command::Same { .. }
+            | Command::Len { .. }
+            | Command::Poll
+            | Command::Collect
+            | Command::Leave => true,
         }
     }
 
@@ -56,7 +77,11 @@ impl SeatParty {
             Command::Get { r, .. } | Command::Set { r, .. } | Command::Len { r } => self.open(r),
             Command::Poll => self.place = Place::Polling(Polling::Asking),
             Command::Leave => self.go(),
-            _ => self.place = Place::Telling,
+            Command::Num { .. }
+            | Command::Nil { .. }
+            | Command::Copy { .. }
+            | Command::Same { .. } => self.place = Place::Telling,
+            Command::Array { .. } | Command::Collect => unreachable!(),
         }
     }
 }

@@ -14,7 +14,12 @@ pub fn target(command: &Command) -> u8
         | Command::Num { d, .. }
         | Command::Nil { d }
         | Command::Copy { d, .. } => d,
-        _ => 0,
+        Command::Set { .. }
+        | Command::Same { .. }
+        | Command::Len { .. }
+        | Command::Poll
+        | Command::Collect
+        | Command::Leave => 0,
     }
 }
 
@@ -24,7 +29,17 @@ pub fn fields(command: &Command) -> u16
 {
     match *command {
         Command::New { fields, .. } => fields,
-        _ => 0,
+        Command::Array { .. }
+        | Command::Get { .. }
+        | Command::Set { .. }
+        | Command::Num { .. }
+        | Command::Nil { .. }
+        | Command::Copy { .. }
+        | Command::Same { .. }
+        | Command::Len { .. }
+        | Command::Poll
+        | Command::Collect
+        | Command::Leave => 0,
     }
 }
 
@@ -34,7 +49,15 @@ pub fn object(command: &Command) -> u8
 {
     match *command {
         Command::Get { r, .. } | Command::Set { r, .. } | Command::Len { r } => r,
-        _ => 0,
+        Command::New { .. }
+        | Command::Array { .. }
+        | Command::Num { .. }
+        | Command::Nil { .. }
+        | Command::Copy { .. }
+        | Command::Same { .. }
+        | Command::Poll
+        | Command::Collect
+        | Command::Leave => 0,
     }
 }
 
@@ -45,7 +68,16 @@ pub fn source(command: &Command) -> u8
     match *command {
         Command::Set { v, .. } => v,
         Command::Copy { r, .. } => r,
-        _ => 0,
+        Command::New { .. }
+        | Command::Array { .. }
+        | Command::Get { .. }
+        | Command::Num { .. }
+        | Command::Nil { .. }
+        | Command::Same { .. }
+        | Command::Len { .. }
+        | Command::Poll
+        | Command::Collect
+        | Command::Leave => 0,
     }
 }
 
@@ -55,6 +87,15 @@ pub fn field(command: &Command) -> u32
 {
     match *command {
         Command::Get { i, .. } | Command::Set { i, .. } => i,
-        _ => 0,
+        Command::New { .. }
+        | Command::Array { .. }
+        | Command::Num { .. }
+        | Command::Nil { .. }
+        | Command::Copy { .. }
+        | Command::Same { .. }
+        | Command::Len { .. }
+        | Command::Poll
+        | Command::Collect
+        | Command::Leave => 0,
     }
 }

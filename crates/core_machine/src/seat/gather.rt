@@ -134,18 +134,12 @@ impl SeatParty {
         ensures seat { self.new.seat ≡ seat_after (refusal_move number self.old.seat) 0 }
         ensures spare { self.old.spare + length self.old.seat.mine ≤ self.new.spare + length self.new.seat.mine }
     {
-        let found = self.reserve.len() as u32 + u32::from(self.given);
+        let given: u16 = self.given;
+        let found = self.reserve.len() as u32 + u32::from(given);
         let reply = Reply::Full {
             need: self.command.need(),
             found,
         };
-        self.tried = 0;
-        self.given = 0;
-        self.place = Place::Idle;
-        self.note(Entry::Said {
-            seat: number,
-            command: self.command,
-            reply,
-        });
+        self.reply(number, reply);
     }
 }

@@ -1,9 +1,9 @@
-ghost use Rattle.std.specs.Prelude.{◌≡◌, ◌+◌, ◌<◌, ◌≤◌, ◌^◌, length, IfSome};
+ghost use Rattle.std.specs.Prelude.{◌≡◌, ◌+◌, ◌<◌, ◌≤◌, ◌^◌, length, IfSome, slice_set};
 ghost use Rattle.heap_model.specs.Limits.{register_count, most_seats, stamp_limit};
 ghost use Rattle.core_machine.specs.seat.Seat.{with_entries};
 ghost use Rattle.core_machine.specs.seat.Commands.{target_of, source_of};
 ghost use Rattle.core_machine.specs.table.Loaded.{head_in as head_in_of};
-ghost use Rattle.core_machine.specs.seat.Reaching.{filled, got, old_done, new_place as new_place_of};
+ghost use Rattle.core_machine.specs.seat.Reaching.{got, old_done, new_place as new_place_of};
 ghost use Rattle.core_machine.specs.seat.ReachingMoves.{got_adds, name_move, old_move, swap_move, loaded_head as loaded_head_of, new_register as new_register_of, new_word as new_word_of};
 ghost use Rattle.core_machine.specs.seat.Registers.{head_of, IsSmall};
 ghost use Rattle.core_machine.specs.Moves.{seat_after};
@@ -22,7 +22,7 @@ fn new_place(register: &Register) -> Reaching
 {
     match register {
         Register::Object { .. } => Reaching::ShadingNew,
-        _ => Reaching::Swapping,
+        Register::Nil | Register::Number(_) => Reaching::Swapping,
     }
 }
 
@@ -58,14 +58,13 @@ impl SeatParty {
         self.new_register().word(stamp)
     }
 
-    /// The register has another value, and the call is over.
+    /// The register that the answer goes to has another value.
     fn fill(&mut self, register: Register)
         requires { target_of self.old.seat.command < register_count }
-        ensures seat { self.new.seat ≡ filled self.old.seat register }
+        ensures seat { self.new.seat ≡ record self.old.seat { registers = slice_set self.old.seat.registers (target_of self.old.seat.command) register } }
         ensures spare { self.new.spare ≡ self.old.spare }
     {
         self.registers[target(&self.command) as usize] = register;
-        self.close();
     }
 
     /// Learns the field of a get.
@@ -82,7 +81,7 @@ impl SeatParty {
         }
         let register = plain_in(found);
         self.fill(register);
-        self.say(
+        self.reply(
             number,
             Reply::Got {
                 value: register.value(),
@@ -103,7 +102,7 @@ impl SeatParty {
         let stamp = stamp_in(self.loaded);
         let id = id_in(found);
         self.fill(Register::Object { head, id });
-        self.say(
+        self.reply(
             number,
             Reply::Got {
                 value: Value::Object(id),
@@ -143,8 +142,7 @@ impl SeatParty {
         ensures seat { self.new.seat ≡ seat_after (swap_move number self.old.seat) found }
         ensures spare { self.old.spare + length self.old.seat.mine ≤ self.new.spare + length self.new.seat.mine }
     {
-        self.close();
         self.sets += 1;
-        self.say(number, Reply::Was(stamp_in(found)));
+        self.reply(number, Reply::Was(stamp_in(found)));
     }
 }

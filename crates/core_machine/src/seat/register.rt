@@ -30,7 +30,7 @@ impl Register {
     {
         match *self {
             Register::Object { head, .. } => Some(head),
-            _ => None,
+            Register::Nil | Register::Number(_) => None,
         }
     }
 

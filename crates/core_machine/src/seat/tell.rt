@@ -4,7 +4,6 @@ ghost use Rattle.core_machine.specs.seat.Telling.{local_reply as local_reply_of,
 ghost use Rattle.core_machine.specs.seat.AnsweringMoves.{telling_move};
 ghost use Rattle.core_machine.specs.Moves.{seat_after};
 
-use crate::place::Place;
 use crate::seat::SeatParty;
 use crate::seat::register::Register;
 use heap_model::{Command, Reply};
@@ -29,7 +28,14 @@ impl SeatParty {
                 let b = self.registers[b as usize].value();
                 answer(a == b)
             },
-            _ => Reply::NoObject,
+            Command::Get { .. }
+            | Command::Set { .. }
+            | Command::Len { .. }
+            | Command::New { .. }
+            | Command::Array { .. }
+            | Command::Poll
+            | Command::Collect
+            | Command::Leave => Reply::NoObject,
         }
     }
 
@@ -43,7 +49,15 @@ impl SeatParty {
             Command::Num { d, n } => self.registers[d as usize] = Register::Number(n),
             Command::Nil { d } => self.registers[d as usize] = Register::Nil,
             Command::Copy { d, r } => self.registers[d as usize] = self.registers[r as usize],
-            _ => (),
+            Command::Same { .. }
+            | Command::Get { .. }
+            | Command::Set { .. }
+            | Command::Len { .. }
+            | Command::New { .. }
+            | Command::Array { .. }
+            | Command::Poll
+            | Command::Collect
+            | Command::Leave => (),
         }
     }
 
@@ -56,7 +70,6 @@ impl SeatParty {
     {
         let reply = self.local_reply();
         self.change_register();
-        self.place = Place::Idle;
-        self.say(number, reply);
+        self.reply(number, reply);
     }
 }

@@ -2,7 +2,7 @@ ghost use Rattle.std.specs.Prelude.{◌≡◌, ◌+◌, ◌*◌, ◌<◌, ◌≤
 ghost use Rattle.heap_model.specs.Limits.{last_index, register_count};
 ghost use Rattle.core_machine.specs.seat.Commands.{field_of};
 ghost use Rattle.core_machine.specs.table.Loaded.{lead_of};
-ghost use Rattle.core_machine.specs.seat.Reaching.{row_of, part_of, has_barrier as has_barrier_of, field_place as field_place_of, way_place as way_place_of, opened, onward, closed, meta_reply as meta_reply_of};
+ghost use Rattle.core_machine.specs.seat.Reaching.{row_of, part_of, has_barrier as has_barrier_of, field_place as field_place_of, way_place as way_place_of, opened, onward, field_reply as field_reply_of, meta_reply as meta_reply_of};
 ghost use Rattle.core_machine.specs.seat.ReachingMoves.{open_move, field_part as field_part_of};
 ghost use Rattle.core_machine.specs.seat.Registers.{register_in};
 ghost use Rattle.core_machine.specs.Moves.{seat_after};
@@ -31,15 +31,33 @@ fn part(field: u32) -> u8
     ((field + 1) % 3 + 1) as u8
 }
 
+/// The reply at an object's meta to a command on this field, where there is no such field.
+fn field_reply(field: u32, found: u64) -> Option<Reply>
+    ensures { result ≡ field_reply_of field found }
+{
+    if field < u32::from(length_in(found)) {
+        None
+    } else {
+        Some(Reply::NoField)
+    }
+}
+
 /// The reply at an object's meta, where the call ends there.
 fn meta_reply(command: &Command, found: u64) -> Option<Reply>
     ensures { result ≡ meta_reply_of command.now found }
 {
-    let length = length_in(found);
     match *command {
-        Command::Len { .. } => Some(Reply::Length(length)),
-        _ if field(command) < u32::from(length) => None,
-        _ => Some(Reply::NoField),
+        Command::Len { .. } => Some(Reply::Length(length_in(found))),
+        Command::Get { i, .. } | Command::Set { i, .. } => field_reply(i, found),
+        Command::New { .. }
+        | Command::Array { .. }
+        | Command::Num { .. }
+        | Command::Nil { .. }
+        | Command::Copy { .. }
+        | Command::Same { .. }
+        | Command::Poll
+        | Command::Collect
+        | Command::Leave => None,
     }
 }
 
@@ -81,9 +99,19 @@ impl SeatParty {
         ensures { result ≡ field_place_of self.now.seat self.now.seat.command }
     {
         match self.command {
-            Command::Get { .. } => Reaching::Getting,
-            _ if self.has_barrier() => Reaching::LoadingOld,
-            _ => Reaching::Swapping,
+            Command::Set { .. } if self.has_barrier() => Reaching::LoadingOld,
+            Command::Set { .. } => Reaching::Swapping,
+            Command::Get { .. }
+            | Command::New { .. }
+            | Command::Array { .. }
+            | Command::Num { .. }
+            | Command::Nil { .. }
+            | Command::Copy { .. }
+            | Command::Same { .. }
+            | Command::Len { .. }
+            | Command::Poll
+            | Command::Collect
+            | Command::Leave => Reaching::Getting,
         }
     }
 
@@ -111,17 +139,6 @@ impl SeatParty {
         self.place = Place::Reaching(self.way_place());
     }
 
-    /// The call is over.
-    pub(crate) fn close(&mut self)
-        ensures seat { self.new.seat ≡ closed self.old.seat }
-        ensures spare { self.new.spare ≡ self.old.spare }
-    {
-        self.reached = 0;
-        self.links = 0;
-        self.loaded = 0;
-        self.place = Place::Idle;
-    }
-
     /// Learns the object's meta.
     pub(crate) fn learn_meta(&mut self, number: u8, found: u64)
         requires leads { IfSome (lead_of 0 found) (λ fragment. fragment < 2 ^ 16) }
@@ -133,7 +150,6 @@ impl SeatParty {
             self.learn_link(found);
             return;
         };
-        self.close();
-        self.say(number, reply);
+        self.reply(number, reply);
     }
 }

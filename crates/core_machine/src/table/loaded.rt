@@ -18,7 +18,7 @@ pub fn head_in(word: u64) -> Option<u32>
     let cell = Cell::read(word);
     match cell.kind {
         Kind::Reference => Some(cell.value),
-        _ => None,
+        Kind::Nil | Kind::Number | Kind::Fixed => None,
     }
 }
 
@@ -30,7 +30,7 @@ fn first_lead(word: u64) -> Option<u32>
     match cell.kind {
         Kind::Reference => Some(cell.value),
         Kind::Fixed if cell.value < ARRAY && cell.stamp != 0 => Some(cell.stamp),
-        _ => None,
+        Kind::Fixed | Kind::Nil | Kind::Number => None,
     }
 }
 
@@ -82,6 +82,6 @@ pub fn plain_in(word: u64) -> Register
     let cell = Cell::read(word);
     match cell.kind {
         Kind::Number => Register::Number(cell.value),
-        _ => Register::Nil,
+        Kind::Nil | Kind::Reference | Kind::Fixed => Register::Nil,
     }
 }

@@ -77,9 +77,9 @@ module _ (heap : Heap) (state : State) (book : Book) (q : ℕ) (rule : Rule heap
         coloured = birth_coloured heap state.words words_born book.owner later book.colour (last_part seat) black unborn cycle.coloured.born book.fragments fragments (phase book.history)
             (bears_late heap state book q Bearing rule here place) bears
             (λ f k x leads. leads_control heap state.words g _ group_born f k x leads)
-            (λ dark. born_ahead heap state.words book.owner book.colour q seat rule.machine.limits here at_place.0.makes.numbered (few_fields seat at_place.0) some_born stands.fits.body_within stands.own.holding
+            (λ dark. born_ahead heap state.words book.owner book.colour q seat rule.machine.limits here at_place.0.makes.numbered (few_fields seat at_place.0) some_born stands.fits.hand.body_within stands.own.holding
             (subst (AreBorne book.owner book.colour q) dark (births_are book.owner book.colour q seat stands.cycle.births))
             (all_stored heap state.words seat.body (newborn_word q seat) seat.stored at_place.3 stands.own.stored)
-            g (born_in_order heap seat.cursor seat.tried seat.hand seat.body stands.fits.hand_within some_born stands.own.together))
+            g (born_in_order heap seat.cursor seat.tried seat.hand seat.body stands.fits.hand.hand_within some_born stands.own.together))
             first cycle.coloured;
       }

@@ -35,4 +35,4 @@ module _ (heap : Heap) (state : State) (book : Book) (q : ℕ) (rule : Rule heap
   spent_own = omega (arith, own_reserve)
 
   pub few_own : taken_of q book.history ≤ spent_of q book.history + 15
-  few_own = omega (arith, own_reserve, (rule.seats_stand q here).fits.small_reserve)
+  few_own = omega (arith, own_reserve, (rule.seats_stand q here).fits.own.small_reserve)

@@ -110,7 +110,7 @@ module _ (heap : Heap) (state : State) (book : Book) (q : ℕ) (rule : Rule heap
         hand = hand_given book.owner r q fs apart held;
         stored = stored_control heap state.words r seat g word below other.own.stored;
         gathers = other_gives heap book.owner book.history q fs once inside rule.heap_stands.used (book.begun r) other.told.began.earlier seat.cursor seat.tried seat.given held
-            other.fits.cursor_within (tried_within heap seat seat.place other.fits.at_place) r apart other.told.gathers;
+            other.fits.own.cursor_within (tried_within heap seat seat.place other.fits.at_place) r apart other.told.gathers;
         cycle = cycle_other heap words_given owner book.colour book.history entry refl r seat
             (cycle_control heap state.words book.owner owner book.colour book.colour (phase book.history) (answered r book.history) (has_left r book.history) r seat g word below
             (omega (arith, under, rule.machine.limits.seats_fit)) (λ f marked. marked) (λ f borne. (borne_before Free book.owner fs r f free_bears_none borne, refl)) (watched_born heap state book rule r under) other.cycle) away;

@@ -27,10 +27,10 @@ bears_late heap state book q making rule here place early =
 
 -- the groups of its hand's first and last fragments are the heap's
 pub first_within : (heap : Heap) (seat : Seat) → Fits heap seat → 0 < length seat.hand → first_group seat.hand < heap.groups
-first_within heap seat fits some = group_within heap seat.hand 0 some fits.hand_within
+first_within heap seat fits some = group_within heap seat.hand 0 some fits.hand.hand_within
 
 pub last_within : (heap : Heap) (seat : Seat) → Fits heap seat → 0 < length seat.hand → last_group seat.hand < heap.groups
-last_within heap seat fits some = group_within heap seat.hand (length seat.hand - 1) (omega (arith, some)) fits.hand_within
+last_within heap seat fits some = group_within heap seat.hand (length seat.hand - 1) (omega (arith, some)) fits.hand.hand_within
 
 -- a record that is made has few fields
 pub few_fields : (seat : Seat) → HasBody seat → fields_of seat.command ≤ 47

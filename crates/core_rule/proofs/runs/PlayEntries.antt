@@ -102,7 +102,9 @@ field_plain false = tt
 
 meta_plain : (command : Command) (found : ℕ) → IfSome (meta_reply command found) IsPlainReply
 meta_plain (commands.Len r) found = tt
-meta_plain _ found = field_plain _
+meta_plain (commands.Get d r i) found = field_plain _
+meta_plain (commands.Set r i v) found = field_plain _
+meta_plain _ found = tt
 
 refusal : (heap : Heap) (state : State) (book : Book) (q : ℕ) → Rule heap state book → q < heap.seats → (seat_at state q).place ≡ places.Making Refusing
     → list_all (is_of q) (drop (book.begun q) book.history) ≡ true → AddsPlay heap book.history q (full_entry q (seat_at state q) ∷ [])
@@ -114,13 +116,13 @@ refusal heap state book q rule here placed alone =
     let own : length seat.reserve + spent_of q book.history ≡ taken_of q book.history
     = bare_hand seat.reserve seat.hand seat.body (spent_of q book.history) (taken_of q book.history) refuses.1 refuses.0.no_body stands.told.counts.unborn in
     let finds : FindsSpace heap true book.history q (length seat.reserve + seat.given)
-    = finds_in_play heap book.owner book.history q (book.begun q) seat.cursor seat.given (length seat.reserve) fits.cursor_within
+    = finds_in_play heap book.owner book.history q (book.begun q) seat.cursor seat.given (length seat.reserve) fits.own.cursor_within
     rule.heap_stands.used own alone
     (subst (λ n. GathersRight heap book.owner q (drop (book.begun q) book.history) seat.cursor n seat.given) refuses.0.all_tried stands.told.gathers) in
     let less : length seat.reserve + seat.given < need seat = omega (arith, refuses.0.too_few) in
     one heap book.history q (full_entry q seat) (eq-eqb q q refl)
     (λ run. full_keeps seat.command refuses.0.makes.a_record heap true book.history q (length seat.reserve + seat.given)
-    (omega (arith, own)) (omega (arith, own, fits.small_reserve)) less finds)
+    (omega (arith, own)) (omega (arith, own, fits.own.small_reserve)) less finds)
 
 -- what the step due of a seat adds, where all entries since its call began are its own
 pub adds_play : (heap : Heap) (state : State) (book : Book) (q : ℕ) (place : Place) → Rule heap state book → q < heap.seats → (seat_at state q).place ≡ place

@@ -1,5 +1,5 @@
 -- A step that changes no word keeps the rule, where its seat stands after it.
-use Rattle.std.proofs.Common.{◌≡◌, ℕ, ◌<◌, false, List, [], ◌∷◌, ◌++◌, slice_set, refl, sym, ◌∙◌, subst, arith}
+use Rattle.std.proofs.Common.{◌≡◌, ℕ, ◌<◌, false, List, [], ◌∷◌, ◌++◌, slice_set, refl, sym, ◌∙◌, subst, arith, ap}
 use Rattle.std.proofs.lemmas.Bool.{eq-eqb}
 use Rattle.std.proofs.lemmas.List.{append-nil}
 use Rattle.heap_model.specs.declared.command.Command.{Command}
@@ -16,14 +16,17 @@ use Rattle.heap_model.specs.account.PhaseCounts.{phase, answered, has_left, is_l
 use Rattle.heap_model.specs.graph.State.{State as Graph}
 use Rattle.core_machine.specs.declared.table.address.Address.{Address}
 use Rattle.core_machine.specs.declared.place.Place.{Place}
+use Rattle.core_machine.specs.declared.place.Place.TheVariants as places
 use Rattle.core_machine.specs.declared.seat.register.Register.{Register}
 use Rattle.core_machine.specs.seat.Commands.{target_of}
+use Rattle.core_machine.specs.seat.Fits.{IsAtRest, IsSilent}
 use Rattle.core_machine.specs.table.Layout.{at, put}
 use Rattle.core_machine.specs.machine.Machine.{State, seat_at}
 use Rattle.core_machine.specs.seat.Reaching.{has_barrier}
-use Rattle.core_machine.specs.seat.Seat.{Seat}
+use Rattle.core_machine.specs.seat.Seat.{Seat, with_entries, over}
 use Rattle.core_machine.specs.machine.Value.{IsMachine}
 use Rattle.core_machine.proofs.table_lemmas.Addresses.{put-at}
+use Rattle.core_machine.proofs.seat_lemmas.Aside.{over_way}
 use Rattle.core_rule.specs.Book.{Book}
 use Rattle.core_rule.specs.Counts.{OwnList}
 use Rattle.core_rule.specs.Cycle.{SeatInCycle}
@@ -51,6 +54,19 @@ went seat registers reached links loaded place added =
 -- the state after a load, which writes back what it found
 abbrev pub loaded_state : Heap → State → ℕ → Address → Seat → State
 loaded_state heap state q a seat = record state { words = put heap state.words a (at heap state.words a); seats = slice_set state.seats q seat }
+
+-- a call that has its way alone is over where its way is
+pub over_went : (heap : Heap) (state : State) (book : Book) (q : ℕ) (a : Address) (registers : List Register) (added shown : List Entry)
+    → IsAtRest (seat_at state q) → IsSilent (seat_at state q)
+    → (IsMachine heap (loaded_state heap state q a (went (seat_at state q) registers 0 0 0 places.Idle added))
+    → Keeps heap (loaded_state heap state q a (went (seat_at state q) registers 0 0 0 places.Idle added)) book book.begun shown)
+    → IsMachine heap (loaded_state heap state q a (with_entries (over (record (seat_at state q) { registers = registers })) added))
+    → Keeps heap (loaded_state heap state q a (with_entries (over (record (seat_at state q) { registers = registers })) added)) book book.begun shown
+over_went heap state book q a registers added shown rest silent keeps =
+    let seat : Seat = seat_at state q in
+    let same : with_entries (over (record seat { registers = registers })) added ≡ went seat registers 0 0 0 places.Idle added
+    = ap (λ (s : Seat). record s { registers = registers; mine = seat.mine ++ added }) (over_way seat rest silent) in
+    subst (λ (s : Seat). IsMachine heap (loaded_state heap state q a s) → Keeps heap (loaded_state heap state q a s) book book.begun shown) (sym same) keeps
 
 module _ (heap : Heap) (state : State) (book : Book) (q : ℕ) (rule : Rule heap state book) (here : q < heap.seats) (a : Address)
     (registers : List Register) (reached links loaded : ℕ) (place : Place) (added : List Entry)

@@ -3,8 +3,6 @@ use Rattle.std.proofs.Common.{◌≡◌, ℕ, ◌+◌, ◌-◌, ◌<◌, false, 
 use Rattle.std.proofs.lemmas.Bool.{cond_both, eqb-true, eqb-false}
 use Rattle.std.proofs.lemmas.Bool.Decides.{eqb_tells}
 use Rattle.heap_model.specs.declared.graph.cell.Cell.{Cell}
-use Rattle.heap_model.specs.declared.command.Command.{Command}
-use Rattle.heap_model.specs.declared.command.Command.TheVariants as commands
 use Rattle.heap_model.specs.declared.entry.Entry.{Entry}
 use Rattle.heap_model.specs.declared.heap.Heap.{Heap}
 use Rattle.heap_model.specs.declared.id.Id.{Id}
@@ -17,8 +15,9 @@ use Rattle.core_machine.specs.declared.place.Reaching.TheVariants.{Walking, Gett
 use Rattle.core_machine.specs.seat.Commands.{field_of}
 use Rattle.core_machine.specs.table.Layout.{at}
 use Rattle.core_machine.specs.table.Loaded.{head_in, link_in}
-use Rattle.core_machine.specs.seat.Reaching.{row_of, has_barrier, field_place, way_place, stepped_on, onward, reaching}
+use Rattle.core_machine.specs.seat.Reaching.{row_of, has_barrier, way_place, stepped_on, onward, reaching}
 use Rattle.core_machine.specs.seat.Seat.{Seat}
+use Rattle.core_machine.proofs.seat_lemmas.FieldPlaces.{field_cases}
 use Rattle.core_rule.specs.Book.{fragment_at}
 use Rattle.core_rule.specs.ControlWords.{Bits}
 use Rattle.core_rule.specs.Objects.{AreMade, Objects, cells_at}
@@ -26,12 +25,6 @@ use Rattle.core_rule.specs.Owners.{Owner}
 use Rattle.core_rule.specs.Ways.{Finds, LoadedKept, OldKept, ReachingStands}
 use Rattle.core_rule.proofs.ways.KeptWords.{link_found, row_there}
 use Rattle.core_rule.proofs.cycle.Unwatched.{IsUnwatched}
-
--- a command gets its field, or loads or swaps it by the barrier
-field_cases : (P : Reaching → Type 0) (seat : Seat) (command : Command) → P Getting → (has_barrier seat ≡ true → P LoadingOld) → (has_barrier seat ≡ false → P Swapping)
-    → P (field_place seat command)
-field_cases P seat (commands.Get d r i) gets loads swaps = gets
-field_cases P seat _ gets loads swaps = cond_both (has_barrier seat) LoadingOld Swapping P loads swaps
 
 -- so the way leads to one of four places
 pub way_cases : (P : Reaching → Type 0) (seat : Seat) → P Walking → P Getting → (has_barrier seat ≡ true → P LoadingOld) → (has_barrier seat ≡ false → P Swapping)

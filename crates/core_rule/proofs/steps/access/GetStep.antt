@@ -43,7 +43,7 @@ use Rattle.core_rule.proofs.steps.Assemble.{Keeps, StepKeeps}
 use Rattle.core_rule.proofs.ways.AtObject.{is_present, way_object, at_rest}
 use Rattle.core_rule.proofs.graph.GraphRegisters.{registers_length}
 use Rattle.core_rule.proofs.ways.KeptWords.{has_room, field_found, name_found}
-use Rattle.core_rule.proofs.steps.Loads.{went_cycle, went, loaded_state, load_tells}
+use Rattle.core_rule.proofs.steps.Loads.{went_cycle, went, loaded_state, load_tells, over_went}
 use Rattle.core_rule.proofs.graph.Numbering.{id_at-number_of}
 use Rattle.core_rule.proofs.graph.ObjectReplies.{accepts_got, graph_got, keeps_got, target_within}
 use Rattle.core_rule.proofs.entries.OwnEntries.{own_entries}
@@ -71,7 +71,7 @@ module _ (heap : Heap) (state : State) (book : Book) (q : ℕ) (rule : Rule heap
   in_graph = omega (arith, registers_length heap book.history q present, target_within (seat_at state q).command a_get ranges)
 
   in_seat : target_of (seat_at state q).command < length (seat_at state q).registers
-  in_seat = omega (arith, (rule.seats_stand q here).fits.registers_whole, target_within (seat_at state q).command a_get ranges)
+  in_seat = omega (arith, (rule.seats_stand q here).fits.own.registers_whole, target_within (seat_at state q).command a_get ranges)
 
   -- a number or nil stands in the register
   filled_keeps : (new : Register) (stamp : ℕ) → Holds book.made book.owner book.fragments new (value_of new)
@@ -159,13 +159,16 @@ get_keeps heap state book q rule here place machine =
     let goal = λ (o : Option ℕ). IsMachine heap (loaded_state heap state q (Word seat.reached (field_part seat)) (with_entries (got seat found o) (got_adds q seat found o)))
     → Keeps heap (loaded_state heap state q (Word seat.reached (field_part seat)) (with_entries (got seat found o) (got_adds q seat found o))) book book.begun (got_shows heap q seat words found o) in
     let filled = filled_keeps heap state book q rule here place gets.1 gets.0.in_range (plain_in found) (stamp_in found) in
+    let told : List Entry = said q seat (Got (value_of (plain_in found)) (stamp_in found)) in
+    let ends = over_went heap state book q (Word seat.reached (field_part seat)) (slice_set seat.registers (target_of seat.command) (plain_in found)) told told
+    (rw place at stands.fits.at_place) (rw place at stands.fits.answer_at_place) in
     let by_value : (value : Value) → cell.value ≡ value → goal (named_head head value) = λ value. elim value as (λ v. cell.value ≡ v → goal (named_head head v)) [
       | values.Nil ↦ λ e. let is : plain_in found ≡ registers.Nil = plain ∙ ap plain_of e in
-          filled (subst (λ x. Holds book.made book.owner book.fragments x (value_of x)) (sym is) refl)
-          (subst (λ v. Accepts g (Said q seat.command (Got v (stamp_in found)))) (e ∙ sym (ap value_of is)) accepted)
+          ends (filled (subst (λ x. Holds book.made book.owner book.fragments x (value_of x)) (sym is) refl)
+          (subst (λ v. Accepts g (Said q seat.command (Got v (stamp_in found)))) (e ∙ sym (ap value_of is)) accepted))
       | values.Number n ↦ λ e. let is : plain_in found ≡ registers.Number n = plain ∙ ap plain_of e in
-          filled (subst (λ x. Holds book.made book.owner book.fragments x (value_of x)) (sym is) (refl, subst (NamesKept book.made book.owner book.fragments) e named.0))
-          (subst (λ v. Accepts g (Said q seat.command (Got v (stamp_in found)))) (e ∙ sym (ap value_of is)) accepted)
+          ends (filled (subst (λ x. Holds book.made book.owner book.fragments x (value_of x)) (sym is) (refl, subst (NamesKept book.made book.owner book.fragments) e named.0))
+          (subst (λ v. Accepts g (Said q seat.command (Got v (stamp_in found)))) (e ∙ sym (ap value_of is)) accepted))
       | values.Object id ↦ λ e machine.
           let kept : NamesKept book.made book.owner book.fragments (values.Object id) = subst (NamesKept book.made book.owner book.fragments) e named.0 in
           let name : id_in (at heap words (Word (head id) 1)) ≡ id

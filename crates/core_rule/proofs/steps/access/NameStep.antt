@@ -25,7 +25,7 @@ use Rattle.core_rule.specs.Counts.{AwaitsName}
 use Rattle.core_rule.specs.Registers.{Registers, Holds}
 use Rattle.core_rule.proofs.steps.Assemble.{StepKeeps}
 use Rattle.core_rule.proofs.ways.KeptWords.{name_found}
-use Rattle.core_rule.proofs.steps.Loads.{went_cycle, load_goes}
+use Rattle.core_rule.proofs.steps.Loads.{went_cycle, load_goes, over_went}
 use Rattle.core_rule.proofs.graph.Numbering.{id_at-number_of}
 use Rattle.core_rule.proofs.graph.ObjectReplies.{target_within}
 use Rattle.core_rule.proofs.graph.PutRegister.{registers_with}
@@ -52,9 +52,10 @@ name_keeps heap state book q rule here place machine =
     ∙ id_at-number_of book.made id awaits.kept.0 in
     let holds : Holds book.made book.owner book.fragments (registers.Object at_name (id_in found)) (register g q d)
     = subst (λ x. Holds book.made book.owner book.fragments (registers.Object at_name x) (register g q d)) (sym name) (awaits.held, awaits.kept, head) in
-    let within : d < length seat.registers = omega (arith, stands.fits.registers_whole, target_within seat.command gets.1 gets.0.in_range) in
+    let within : d < length seat.registers = omega (arith, stands.fits.own.registers_whole, target_within seat.command gets.1 gets.0.in_range) in
     let added : List Entry = said q seat (Got (values.Object (id_in found)) (stamp_in seat.loaded)) in
     let told : stands.told.list.awaited ≡ added = awaits.told ∙ ap (λ x. said q seat (Got (values.Object x) (stamp_in seat.loaded))) (sym name) in
+    over_went heap state book q (Word at_name 1) (slice_set seat.registers d (registers.Object at_name (id_in found))) added [] (rw place at stands.fits.at_place) (rw place at stands.fits.answer_at_place) (λ machine.
     load_goes heap state book q rule here (Word at_name 1) (slice_set seat.registers d (registers.Object at_name (id_in found))) 0 0 0 places.Idle added machine
     (λ r unawaited. registers_with book.made book.owner book.fragments g q d seat.registers (registers.Object at_name (id_in found)) within holds before r)
     (record {
@@ -64,4 +65,4 @@ name_keeps heap state book q rule here place machine =
     })
     tt
     (record { earlier = stands.told.began.earlier; unanswered = λ busy. absurd (busy tt) })
-    (went_cycle heap state book q rule here (Word at_name 1) (slice_set seat.registers d (registers.Object at_name (id_in found))) 0 0 0 places.Idle added machine tt)
+    (went_cycle heap state book q rule here (Word at_name 1) (slice_set seat.registers d (registers.Object at_name (id_in found))) 0 0 0 places.Idle added machine tt)) machine

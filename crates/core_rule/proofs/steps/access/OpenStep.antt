@@ -38,7 +38,7 @@ use Rattle.core_rule.specs.Ways.{SetsOut}
 use Rattle.core_rule.proofs.steps.Assemble.{Keeps, StepKeeps}
 use Rattle.core_rule.proofs.ways.AtObject.{is_present, way_object, at_rest}
 use Rattle.core_rule.proofs.ways.KeptWords.{length_found}
-use Rattle.core_rule.proofs.steps.Loads.{went_cycle, went, loaded_state, load_tells}
+use Rattle.core_rule.proofs.steps.Loads.{went_cycle, went, loaded_state, load_tells, over_went}
 use Rattle.core_rule.proofs.graph.ObjectReplies.{IsLen, accepts_length, accepts_no_field, graph_length, graph_no_field, keeps_length, keeps_no_field}
 use Rattle.core_rule.proofs.steps.access.OnwardStep.{onward_keeps}
 use Rattle.core_rule.proofs.entries.OwnEntries.{own_entries}
@@ -111,15 +111,16 @@ open_keeps heap state book q rule here place machine =
     let enough = spent_own heap state book q rule here (at_rest heap state book q rule here Opening place) in
     let little = few_own heap state book q rule here (at_rest heap state book q rule here Opening place) in
     let leaves_none = λ (reply : Reply). no_leave_told q q seat.command reply (λ leaves. subst NamesObject leaves opens.names) in
+    let ends = λ (reply : Reply). over_went heap state book q (Word seat.reached 0) seat.registers (said q seat reply) (said q seat reply) (rw place at stands.fits.at_place) (rw place at stands.fits.answer_at_place) in
     meta_cases (λ reply. IsMachine heap (loaded_state heap state q (Word seat.reached 0) (with_entries (met seat found reply) (said_some q seat reply)))
     → Keeps heap (loaded_state heap state q (Word seat.reached 0) (with_entries (met seat found reply) (said_some q seat reply))) book book.begun (said_some q seat reply))
     seat.command found opens.names
-    (λ len. met_keeps heap state book q rule here place (replies.Length (length_in found)) refl (graph_length g q (length_in found) seat.command len)
+    (λ len. ends (replies.Length (length_in found)) (met_keeps heap state book q rule here place (replies.Length (length_in found)) refl (graph_length g q (length_in found) seat.command len)
     (subst (λ n. Accepts g (Said q seat.command (replies.Length n))) (sym size) (accepts_length g q id seat.command opens.works.in_range present made held len))
-    (keeps_length heap false book.history q enough little (length_in found) seat.command len) (leaves_none (replies.Length (length_in found))))
+    (keeps_length heap false book.history q enough little (length_in found) seat.command len) (leaves_none (replies.Length (length_in found)))))
     (λ field more. onward_keeps heap state book q rule here (busy heap state book q rule here place) (free heap state book q rule here place)
     opens.none_loaded (record { number = number; way = way; within = omega (arith, more, size) }))
-    (λ field past. met_keeps heap state book q rule here place replies.NoField refl (graph_no_field g q seat.command field)
+    (λ field past. ends replies.NoField (met_keeps heap state book q rule here place replies.NoField refl (graph_no_field g q seat.command field)
     (accepts_no_field g q id seat.command opens.works.in_range present made held field (omega (arith, past, size)))
-    (keeps_no_field heap false book.history q enough little seat.command field) (leaves_none replies.NoField))
+    (keeps_no_field heap false book.history q enough little seat.command field) (leaves_none replies.NoField)))
     machine

@@ -27,7 +27,7 @@ use Rattle.core_machine.specs.declared.table.address.Address.TheVariants.{Word}
 use Rattle.core_machine.specs.declared.place.Place.TheVariants as places
 use Rattle.core_machine.specs.declared.place.Reaching.TheVariants.{Swapping}
 use Rattle.core_machine.specs.seat.Commands.{object_of, source_of, field_of, target_of}
-use Rattle.core_machine.specs.seat.Fits.{IsAtRest}
+use Rattle.core_machine.specs.seat.Fits.{IsAtRest, IsSilent}
 use Rattle.core_machine.specs.seat.FitsReaching.{IsSet, Sets as FitsSets}
 use Rattle.core_machine.specs.table.Layout.{at, put}
 use Rattle.core_machine.specs.table.Loaded.{stamp_in}
@@ -100,6 +100,7 @@ swap_keeps heap state book q rule here place machine =
     let busy : seat.place ≢ places.Idle = λ idle. absurd (cc (place, idle)) in
     let present : (party g q).left ≡ false = stands.told.counts.leaves ∙ in_flight heap seat stands.fits busy in
     let awaits = rw place at stands.told.list.awaits in
+    let silent : IsSilent seat = rw place at stands.fits.answer_at_place in
     let holds : (r : ℕ) → Holds book.made book.owner book.fragments (register_in seat.registers r) (register g q r)
     = λ r. stands.names.registers r (none_awaited seat.place (places.Reaching Swapping) (target_of seat.command) r place (λ none. none)) in
     let n : ℕ = finds.number in
@@ -137,7 +138,7 @@ swap_keeps heap state book q rule here place machine =
     let small : cell.stamp < 2 ^ 32 = omega (arith, few, here, rule.machine.limits.seats_fit) in
     let names : NamesKept book.made book.owner book.fragments cell.value × (cell.stamp < 2 ^ 32)
     = (register_names book.made book.owner book.fragments (register_in seat.registers (source_of seat.command)) cell.value (holds (source_of seat.command)), small) in
-    let inside : fragment < 16 * heap.groups = subst (λ f. f < 16 * heap.groups) arrived stands.fits.reached_within in
+    let inside : fragment < 16 * heap.groups = subst (λ f. f < 16 * heap.groups) arrived stands.fits.way.reached_within in
     reply_keeps heap state book q (put heap state.words (Word seat.reached part) word) (seat_after (swap_move q seat) found) seat.command (replies.Was stamp) rule here machine
     refl rest (all_told seat.mine stands.told.list.awaited (filter (is_of q) book.history) stands.told.list.own awaits)
     (legal_more heap false book.history (entries.Said q seat.command (replies.Was stamp)) rule.heap_stands.legal
@@ -167,7 +168,7 @@ swap_keeps heap state book q rule here place machine =
     (cycle_own heap (put heap state.words (Word seat.reached part) word) book.owner book.colour book.history (entries.Said q seat.command (replies.Was stamp)) refl q
     (seat_after (swap_move q seat) found)
     (cycle_apart heap state.words (put heap state.words (Word seat.reached part) word) book.owner book.owner book.colour book.colour (phase book.history) (answered q book.history) (has_left q book.history)
-    q seat (seat_after (swap_move q seat) found) record { answered = refl; left = refl; asked = refl } tt
+    q seat (seat_after (swap_move q seat) found) record { answered = refl; left = refl; asked = sym silent.none_asked } tt
     (answer_swapped heap state book q rule here place cell.value cell.stamp (holds (source_of seat.command)) names.0 small word is_word q here) stands.cycle.births stands.cycle)
     refl (no_leave_told q q seat.command (replies.Was stamp) (λ leaves. subst IsSet leaves a_set)))
     (leaves_swapped heap state book q rule here place cell.value cell.stamp (holds (source_of seat.command)) names.0 small word is_word)

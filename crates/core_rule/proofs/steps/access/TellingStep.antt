@@ -1,5 +1,5 @@
 -- Telling the reply of a call that looks at no word keeps the rule.
-use Rattle.std.proofs.Common.{◌≡◌, ◌≢◌, false, filter, refl, ◌∙◌, subst}
+use Rattle.std.proofs.Common.{◌≡◌, ◌≢◌, false, filter, refl, ◌∙◌, subst, sym}
 use Rattle.heap_model.specs.Command.{IsCommand}
 use Rattle.heap_model.specs.account.Cycles.{graph_of}
 use Rattle.heap_model.specs.account.Effects.{is_of}
@@ -8,7 +8,7 @@ use Rattle.heap_model.specs.graph.State.{State as Graph}
 use Rattle.core_machine.specs.declared.table.address.Address.TheVariants.{Phase}
 use Rattle.core_machine.specs.declared.place.Place.TheVariants as places
 use Rattle.core_machine.specs.seat.Commands.{target_of}
-use Rattle.core_machine.specs.seat.Fits.{IsAtRest, IsLocal}
+use Rattle.core_machine.specs.seat.Fits.{IsAtRest, IsSilent, IsLocal}
 use Rattle.core_machine.specs.table.Layout.{at}
 use Rattle.core_machine.specs.machine.Machine.{seat_at}
 use Rattle.core_machine.specs.Moves.{telling_move, seat_after}
@@ -32,9 +32,10 @@ telling_keeps heap state book q rule here place machine =
     let busy : seat.place ≢ places.Idle = λ idle. absurd (cc (place, idle)) in
     let present : (party g q).left ≡ false = stands.told.counts.leaves ∙ in_flight heap seat stands.fits busy in
     let awaits = rw place at stands.told.list.awaits in
+    let silent : IsSilent seat = rw place at stands.fits.answer_at_place in
     local_reply_keeps heap state book q Phase (seat_after (telling_move q seat) (at heap state.words Phase)) (local_reply seat.registers seat.command) rule here machine
     at_place.0 (all_told seat.mine stands.told.list.awaited (filter (is_of q) book.history) stands.told.list.own awaits) present at_place.1
-    (local_replies heap book.history g q book.made book.owner book.fragments seat.registers present stands.fits.registers_whole (registers_length heap book.history q present)
+    (local_replies heap book.history g q book.made book.owner book.fragments seat.registers present stands.fits.own.registers_whole (registers_length heap book.history q present)
     (λ i. stands.names.registers i (none_awaited seat.place places.Telling (target_of seat.command) i place (λ none. none))) seat.command at_place.1 at_place.2)
     (no_leave_told q q seat.command (local_reply seat.registers seat.command) (λ leaves. subst (IsLocal seat.registers) leaves at_place.2))
-    record { idle = refl; reserve = refl; mine = refl; answered = refl; asked = refl; made = refl; sets = refl; left = refl }
+    record { idle = refl; reserve = refl; mine = refl; answered = refl; asked = sym silent.none_asked; made = refl; sets = refl; left = refl }

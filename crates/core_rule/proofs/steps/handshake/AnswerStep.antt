@@ -36,7 +36,9 @@ use Rattle.core_rule.proofs.entries.AtRest.{in_flight, none_awaited, spent_own, 
 use Rattle.core_rule.proofs.cycle.CycleFrames.{cycle_stays}
 use Rattle.core_rule.proofs.cycle.FieldFrames.{watched_born}
 use Rattle.core_rule.proofs.cycle.CycleHistory.{heap_cycle_more, cycle_other}
-use Rattle.core_rule.proofs.hand.EmptyHand.{none_stored, gathers_none}
+use Rattle.heap_model.specs.account.Space.{taken_of, spent_of}
+use Rattle.core_rule.proofs.hand.Bodies.{bare_hand}
+use Rattle.core_rule.proofs.hand.EmptyHand.{nothing_together, none_stored, gathers_none, holding_as}
 use Rattle.core_rule.proofs.frames.EntryFrames.{SameFragments, heap_past, seat_past}
 use Rattle.core_rule.proofs.hand.HandMoves.{bears_nothing}
 use Rattle.core_rule.proofs.entries.InFlight.{began_idle, began_past}
@@ -166,7 +168,11 @@ module _ (heap : Heap) (state : State) (book : Book) (q : ℕ) (rule : Rule heap
       (rw graph stands.told.counts.numbered) (rw graph stands.told.counts.stamped) (rw graph stands.told.counts.leaves) (omega arith) in
       record {
         fits = fits;
-        own = record { holding = stands.own.holding; stored = none_stored heap words q now rest.none_stored; together = stands.own.together };
+        own = record {
+          holding = holding_as book.owner q seat.reserve seat.hand seat.body seat.reserve [] [] refl (sym rest.empty_hand) (sym rest.no_body) stands.own.holding;
+          stored = none_stored heap words q now refl;
+          together = nothing_together heap seat.cursor 0 [] [] refl refl;
+        };
         names = record {
           registers = rw graph_later (λ i awake. stands.names.registers i (none_awaited seat.place (places.Polling Answering) (target_of seat.command) i place (λ none. none)));
           way = tt;
@@ -180,9 +186,10 @@ module _ (heap : Heap) (state : State) (book : Book) (q : ℕ) (rule : Rule heap
             awaits = refl;
           };
           counts = counts_own (graph_of heap middle.history) (graph_of heap later.history) middle.history q seat now counts_middle second own
-              (rw graph_then counts_middle.numbered) (rw graph_then counts_middle.stamped) (rw graph_then counts_middle.leaves) (omega arith);
+              (rw graph_then counts_middle.numbered) (rw graph_then counts_middle.stamped) (rw graph_then counts_middle.leaves)
+              (omega (arith, bare_hand seat.reserve seat.hand seat.body (spent_of q middle.history) (taken_of q middle.history) rest.empty_hand rest.no_body counts_middle.unborn));
           began = began_idle middle.history second q (book.begun q) seat.place (began_past book.history first q (book.begun q) seat.place seat.place refl (λ busy. busy) stands.told.began);
-          gathers = gathers_none heap book.owner q (drop (book.begun q) later.history) now.cursor now.tried now.given rest.none_tried rest.none_given;
+          gathers = gathers_none heap book.owner q (drop (book.begun q) later.history) now.cursor 0 0 refl refl;
         };
         cycle = own_cycle;
       }

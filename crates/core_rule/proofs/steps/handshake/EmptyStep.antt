@@ -50,7 +50,7 @@ empty_keeps heap state book q rule here place machine =
     let present : (party g q).left ≡ false = stands.told.counts.leaves ∙ in_flight heap seat stands.fits busy in
     let awaits = rw place at stands.told.list.awaits in
     let told : seat.mine ≡ filter (is_of q) book.history = all_told seat.mine stands.told.list.awaited (filter (is_of q) book.history) stands.told.list.own awaits in
-    let below : seat.cursor < heap.groups = stands.fits.cursor_within in
+    let below : seat.cursor < heap.groups = stands.fits.own.cursor_within in
     let held = reserve_held book.owner q fs seat.hand seat.body stands.own.holding in
     let once = reserve_once book.owner q fs seat.hand seat.body stands.own.holding in
     let graph = graph_given heap state book q rule here seat.cursor fs below held once in
@@ -59,7 +59,7 @@ empty_keeps heap state book q rule here place machine =
     let own : length fs + spent_of q book.history ≡ taken_of q book.history = own_reserve heap state book q rule here rest in
     seat_steps heap state book q (words_given heap state book q rule here seat.cursor fs below held once) now later (entry ∷ []) rule here machine refl refl
     (heap_given heap state book q rule here seat.cursor fs below held once
-    (emptied_bits book.owner q fs seat.hand seat.body stands.own.holding heap state.words seat.cursor rule.machine.table below stands.fits.reserve_of_cursor rule.heap_stands.control_words)
+    (emptied_bits book.owner q fs seat.hand seat.body stands.own.holding heap state.words seat.cursor rule.machine.table below stands.fits.own.reserve_of_cursor rule.heap_stands.control_words)
     present at_place.2 (omega (arith, own)))
     record {
       fits = fit_after heap state book q rule here machine;

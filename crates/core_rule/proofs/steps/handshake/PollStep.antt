@@ -21,7 +21,7 @@ use Rattle.core_machine.specs.seat.Fits.{IsAtRest, IsSilent}
 use Rattle.core_machine.specs.table.Layout.{at, put}
 use Rattle.core_machine.specs.machine.Machine.{State, seat_at}
 use Rattle.core_machine.specs.seat.Polling.{roots, shades_on}
-use Rattle.core_machine.specs.seat.Seat.{Seat, with_entries}
+use Rattle.core_machine.specs.seat.Seat.{Seat, with_entries, over}
 use Rattle.core_machine.specs.machine.Value.{IsMachine}
 use Rattle.core_machine.proofs.table_lemmas.Addresses.{put-at}
 use Rattle.core_rule.specs.Book.{Book}
@@ -41,7 +41,7 @@ use Rattle.core_rule.proofs.entries.SeatLists.{all_told}
 
 -- the seat after the load, by whether it has answered the phase found
 abbrev polled : ℕ → Seat → ℕ → Bool → Seat
-polled q seat found same = with_entries (if same then record seat { place = places.Idle } else shades_on (record seat { asked = found }))
+polled q seat found same = with_entries (if same then over seat else shades_on (record seat { asked = found }))
     (if same then entries.Said q seat.command (replies.Phase found) ∷ [] else [])
 
 abbrev polls : Heap → State → ℕ → Bool → State
@@ -100,7 +100,7 @@ module _ (heap : Heap) (state : State) (book : Book) (q : ℕ) (rule : Rule heap
       (subst IsCommand (sym asks.1) tt)
       (subst (λ c. IsLocalReply heap book.history g q book.made book.owner book.fragments c (replies.Phase found) seat.registers) (sym asks.1) local)
       (no_leave_told q q seat.command (replies.Phase found) (λ leaves. absurd (cc (leaves, asks.1))))
-      record { idle = refl; reserve = refl; mine = refl; answered = refl; asked = refl; made = refl; sets = refl; left = refl }
+      record { idle = refl; reserve = refl; mine = refl; answered = refl; asked = sym asks.0.none_asked; made = refl; sets = refl; left = refl }
 
   -- it hasn't, so that it is one phase behind
   own_cycle : found ≢ seat.answered

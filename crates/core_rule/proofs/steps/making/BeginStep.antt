@@ -44,7 +44,7 @@ begin_keeps heap state book q command rule here may a_record machine =
       own = record {
         holding = holding_goes_on heap book.owner q seat rest.no_body stands.own.holding;
         stored = λ u below. absurd (none_below u next.stored (same.stored ∙ rest.none_stored) below);
-        together = together_goes_on heap seat rest.no_body stands.fits.cursor_within stands.fits.reserve_of_cursor
+        together = together_goes_on heap seat rest.no_body stands.fits.own.cursor_within stands.fits.own.reserve_of_cursor
             (nothing_together heap seat.cursor seat.tried seat.hand seat.body rest.empty_hand rest.no_body);
       };
       names = record {

@@ -84,7 +84,7 @@ birth_keeps heap state book q rule here place more machine =
       own = record {
         holding = holding_bears book.owner q seat.reserve seat.hand seat.body stands.own.holding g some;
         stored = stored_control heap state.words q seat g word below stands.own.stored;
-        together = together_bears heap seat.cursor seat.tried seat.hand seat.body stands.fits.hand_within some stands.own.together;
+        together = together_bears heap seat.cursor seat.tried seat.hand seat.body stands.fits.hand.hand_within some stands.own.together;
       };
       names = record {
         registers = registers_owners book.owner owner kept book.made book.fragments (graph_of heap book.history) q seat.registers seat.place (target_of seat.command) stands.names.registers;

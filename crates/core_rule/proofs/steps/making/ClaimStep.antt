@@ -99,7 +99,7 @@ claim_keeps heap state book q rule here place machine =
     let mid : Seat = record seat { hand = seat.hand ++ fs; tried = seat.tried + 1 } in
     let next : Seat = seat_after (claim_move heap q seat) found in
     let gathers : Gathers heap seat = rw place at stands.fits.at_place in
-    let below = next_within heap seat stands.fits.cursor_within in
+    let below = next_within heap seat stands.fits.own.cursor_within in
     let once : (f : ℕ) → tally f fs ≤ 1 = λ f. clear_once g found f in
     let inside = clear_within heap state.words book.owner g rule.machine.table below heap_stands.control_words in
     let free = clear_is_free heap state.words book.owner g rule.machine.table below heap_stands.control_words in
@@ -129,9 +129,9 @@ claim_keeps heap state book q rule here place machine =
         holding = holding_goes_on heap owner q mid gathers.no_body
             (holding_claims book.owner q seat.reserve seat.hand seat.body stands.own.holding fs once free gathers.no_body);
         stored = λ u less. absurd (none_below u next.stored seat.stored same.stored gathers.none_stored less);
-        together = together_goes_on heap mid gathers.no_body stands.fits.cursor_within stands.fits.reserve_of_cursor
+        together = together_goes_on heap mid gathers.no_body stands.fits.own.cursor_within stands.fits.own.reserve_of_cursor
             (subst (λ b. AreTogether heap seat.cursor (seat.tried + 1) (seat.hand ++ fs) b) (sym gathers.no_body)
-            (together_claims heap seat.cursor seat.tried seat.hand fs stands.fits.cursor_within gathers.groups_left (clear_in-group g found)
+            (together_claims heap seat.cursor seat.tried seat.hand fs stands.fits.own.cursor_within gathers.groups_left (clear_in-group g found)
             (subst (λ b. AreTogether heap seat.cursor seat.tried seat.hand b) gathers.no_body stands.own.together)));
       };
       names = record {

@@ -88,7 +88,7 @@ give_back_keeps heap state book q rule here place machine =
         began = began_past book.history entry q (book.begun q) seat.place (places.Making (returning (part_out g seat.hand))) refl (λ still. is_busy Returning seat.place place) stands.told.began;
         gathers = own_gives heap book.owner book.history q part once (held_within heap state.words book.owner rule.heap_stands.control_words q part held) rule.heap_stands.used
             (book.begun q) stands.told.began.earlier seat.cursor seat.tried seat.given held
-            stands.fits.cursor_within (tried_within heap seat seat.place stands.fits.at_place) stands.told.gathers;
+            stands.fits.own.cursor_within (tried_within heap seat seat.place stands.fits.at_place) stands.told.gathers;
       };
       cycle = cycle_given heap state book q rule here g part below held once now record { answered = refl; left = refl; asked = refl } tt;
     }

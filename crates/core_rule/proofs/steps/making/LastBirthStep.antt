@@ -12,7 +12,7 @@ use Rattle.core_machine.specs.declared.table.address.Address.TheVariants.{Contro
 use Rattle.core_machine.specs.declared.place.Making.TheVariants.{Bearing}
 use Rattle.core_machine.specs.declared.place.Place.TheVariants as places
 use Rattle.core_machine.specs.seat.Commands.{target_of, fields_of, IsRecord}
-use Rattle.core_machine.specs.seat.Fits.{HasBody}
+use Rattle.core_machine.specs.seat.Fits.{HasBody, IsSilent}
 use Rattle.core_machine.specs.table.Fragments.{mask, tally}
 use Rattle.core_machine.specs.table.Layout.{at}
 use Rattle.core_machine.specs.machine.Machine.{State, seat_at}
@@ -21,7 +21,6 @@ use Rattle.core_machine.specs.Moves.{bears_black, last_birth_move, last_part, ma
 use Rattle.core_machine.specs.table.Operation.{birth_bits}
 use Rattle.core_machine.specs.seat.Seat.{Seat}
 use Rattle.core_rule.specs.Book.{Book}
-use Rattle.core_rule.specs.Gathers.{GathersRight}
 use Rattle.core_rule.specs.Objects.{AreMade}
 use Rattle.core_rule.specs.Rule.{Rule}
 use Rattle.core_rule.proofs.cycle.FieldFrames.{watched_born}
@@ -86,6 +85,7 @@ last_birth_keeps heap state book q rule here place last machine =
     let list = making_list (graph_of heap book.history) book.history book.made book.owner book.fragments q seat Bearing place stands.told.list in
     let at_place : HasBody seat × (0 < length seat.hand) × (length seat.hand ≤ length body) × (seat.stored ≡ 4 * length body) = rw place at stands.fits.at_place in
     let has = at_place.0 in
+    let silent : IsSilent seat = rw place at stands.fits.answer_at_place in
     let below = group_born heap state book q rule here place in
     let some = some_born heap state book q rule here place in
     let d : ℕ = target_of seat.command in
@@ -119,7 +119,7 @@ last_birth_keeps heap state book q rule here place last machine =
           (objects_grown heap state.words g grown book.made id book.owner book.fragments fields body ids more new rule.heap_stands.objects));
       used = used_made heap now.owner book.history q seat (used_same heap book.owner now.owner book.history
           (kept_taken book.owner q seat.reserve seat.hand body stands.own.holding some (length book.made)) rule.heap_stands.used);
-      legal = made_legal g book.history q seat stands.told.counts has.whole some present heap refl has.makes.a_record has.makes.in_range stands.fits.small_reserve rule.heap_stands.legal;
+      legal = made_legal g book.history q seat stands.told.counts has.whole some present heap refl has.makes.a_record has.makes.in_range stands.fits.own.small_reserve rule.heap_stands.legal;
       cycle = heap_cycle_more heap words now.owner now.colour book.history entry refl now.fragments
           (heap_born heap state book q rule here place now.owner now.fragments
           (kept_bears book.owner book.colour q seat.reserve seat.hand body stands.own.holding some group (length book.made) last black births)
@@ -131,11 +131,11 @@ last_birth_keeps heap state book q rule here place last machine =
       own = record {
         holding = kept_holding book.owner q seat.reserve seat.hand body stands.own.holding some (length book.made);
         stored = λ u none. absurd (omega (arith, none));
-        together = nothing_together heap seat.cursor seat.tried [] [] refl refl;
+        together = nothing_together heap seat.cursor 0 [] [] refl refl;
       };
       names = record {
         registers = rw graph (λ r still. registers_own g q d (fresh false fields) present book.made id book.owner book.fragments body unkept once some
-            (number_new g grown book.made id (fresh false fields) ids more) seat.registers (omega (arith, stands.fits.registers_whole, ranges.1))
+            (number_new g grown book.made id (fresh false fields) ids more) seat.registers (omega (arith, stands.fits.own.registers_whole, ranges.1))
             (omega (arith, registers_length heap book.history q present, ranges.1)) (ap (Made q) stands.told.counts.numbered)
             (λ i. stands.names.registers i (awaits_none Bearing seat.place d i place)) r);
         way = tt;
@@ -145,13 +145,11 @@ last_birth_keeps heap state book q rule here place last machine =
             (own_grows q book.history seat.mine entry (eq-eqb q q refl) list);
         counts = rw graph (counts_made g book.history q seat stands.told.counts has.whole some present d (fresh false fields) found);
         began = began_idle book.history entry q (book.begun q) seat.place stands.told.began;
-        gathers = subst (λ n. GathersRight heap now.owner q (drop (book.begun q) now.history) seat.cursor n seat.given) (sym has.none_tried)
-            (subst (λ n. GathersRight heap now.owner q (drop (book.begun q) now.history) seat.cursor 0 n) (sym has.none_given)
-            (nothing_tried heap now.owner q (drop (book.begun q) now.history) seat.cursor));
+        gathers = nothing_tried heap now.owner q (drop (book.begun q) now.history) seat.cursor;
       };
       cycle = cycle_own heap words now.owner now.colour book.history entry refl q (seat_after (last_birth_move q seat) found)
           (cycle_apart heap state.words words book.owner now.owner book.colour now.colour (phase book.history) (answered q book.history) (has_left q book.history) q
-          seat (seat_after (last_birth_move q seat) found) record { answered = refl; left = refl; asked = refl } tt
+          seat (seat_after (last_birth_move q seat) found) record { answered = refl; left = refl; asked = sym silent.none_asked } tt
           (answer_after_control heap state.words word group q (omega (arith, here, rule.machine.limits.seats_fit)))
           (are_births now.owner now.colour q seat (kept_own book.owner book.colour q seat.reserve seat.hand body stands.own.holding some group (length book.made) last black births)) stands.cycle)
           refl (no_leave_told q q seat.command _ (λ leaves. subst IsRecord leaves has.makes.a_record));

@@ -13,7 +13,7 @@ use Rattle.core_machine.specs.declared.table.address.Address.TheVariants.{Phase}
 use Rattle.core_machine.specs.declared.place.Making.TheVariants.{Refusing}
 use Rattle.core_machine.specs.declared.place.Place.TheVariants as places
 use Rattle.core_machine.specs.seat.Commands.{target_of, IsRecord}
-use Rattle.core_machine.specs.seat.Fits.{Refuses}
+use Rattle.core_machine.specs.seat.Fits.{Refuses, IsSilent}
 use Rattle.core_machine.specs.table.Layout.{at}
 use Rattle.core_machine.specs.machine.Machine.{seat_at}
 use Rattle.core_machine.specs.Moves.{refusal_move, full_entry, seat_after}
@@ -24,7 +24,7 @@ use Rattle.core_rule.specs.Gathers.{GathersRight}
 use Rattle.core_rule.proofs.steps.Assemble.{fit_after, present_at, Keeps, seat_steps, StepKeeps}
 use Rattle.core_rule.proofs.hand.Bodies.{bare_hand}
 use Rattle.core_rule.proofs.cycle.CycleHistory.{heap_cycle_more, cycle_own, cycle_other}
-use Rattle.core_rule.proofs.hand.EmptyHand.{nothing_together}
+use Rattle.core_rule.proofs.hand.EmptyHand.{nothing_together, none_stored, holding_as}
 use Rattle.core_rule.proofs.frames.EntryFrames.{heap_past, seat_past, fragments_same}
 use Rattle.core_rule.proofs.gather.GatherMoves.{nothing_tried}
 use Rattle.core_rule.proofs.entries.InFlight.{awaits_none, is_busy, began_idle}
@@ -47,6 +47,7 @@ refusal_keeps heap state book q rule here place machine =
     let fits = stands.fits in
     let at_place : Refuses heap seat × (seat.hand ≡ []) = rw place at fits.at_place in
     let refuses = at_place.0 in
+    let silent : IsSilent seat = rw place at fits.answer_at_place in
     let g : Graph = graph_of heap book.history in
     let history : List Entry = book.history ++ entry ∷ [] in
     let graph : graph_of heap history ≡ g
@@ -55,7 +56,7 @@ refusal_keeps heap state book q rule here place machine =
     let own : length seat.reserve + spent_of q book.history ≡ taken_of q book.history
     = bare_hand seat.reserve seat.hand seat.body (spent_of q book.history) (taken_of q book.history) at_place.1 refuses.no_body stands.told.counts.unborn in
     let finds : FindsSpace heap false book.history q (length seat.reserve + seat.given)
-    = finds_in_run heap book.owner book.history q (book.begun q) seat.cursor seat.given (length seat.reserve) fits.cursor_within
+    = finds_in_run heap book.owner book.history q (book.begun q) seat.cursor seat.given (length seat.reserve) fits.own.cursor_within
     rule.heap_stands.used own (stands.told.began.unanswered (is_busy Refusing seat.place place)) (subst (λ n. GathersRight heap book.owner q (drop (book.begun q) book.history) seat.cursor n seat.given) refuses.all_tried stands.told.gathers) in
     let present = present_at heap state book q Refusing rule here place in
     let list = making_list g book.history book.made book.owner book.fragments q seat Refusing place stands.told.list in
@@ -65,7 +66,7 @@ refusal_keeps heap state book q rule here place machine =
     let legal = legal_more heap false book.history entry rule.heap_stands.legal
     (accepts_full seat.command refuses.makes.a_record g q (need seat) (length seat.reserve + seat.given) refuses.makes.in_range present)
     (full_keeps seat.command refuses.makes.a_record heap false book.history q (length seat.reserve + seat.given)
-    (omega (arith, own)) (omega (arith, own, fits.small_reserve)) less finds) in
+    (omega (arith, own)) (omega (arith, own, fits.own.small_reserve)) less finds) in
     subst (λ words. Keeps heap (record state { words = words; seats = slice_set state.seats q (seat_after (refusal_move q seat) (at heap state.words Phase)) }) book book.begun (entry ∷ []))
     (sym (put-at heap state.words Phase))
     (seat_steps heap state book q state.words (seat_after (refusal_move q seat) (at heap state.words Phase)) (record book { history = history }) (entry ∷ [])
@@ -74,7 +75,11 @@ refusal_keeps heap state book q rule here place machine =
     (heap_cycle_more heap state.words book.owner book.colour book.history entry refl book.fragments rule.heap_stands.cycle) rule.heap_stands)
     record {
       fits = fit_after heap state book q rule here whole;
-      own = record { holding = stands.own.holding; stored = stands.own.stored; together = nothing_together heap seat.cursor 0 seat.hand seat.body at_place.1 refuses.no_body };
+      own = record {
+        holding = holding_as book.owner q seat.reserve seat.hand seat.body seat.reserve [] [] refl (sym at_place.1) (sym refuses.no_body) stands.own.holding;
+        stored = none_stored heap state.words q (seat_after (refusal_move q seat) (at heap state.words Phase)) refl;
+        together = nothing_together heap seat.cursor 0 [] [] refl refl;
+      };
       names = record { registers = rw graph (λ r fresh. stands.names.registers r (awaits_none Refusing seat.place (target_of seat.command) r place)); way = tt };
       told = record {
         list = whole_list (graph_of heap history) history book.made book.owner book.fragments q (seat_after (refusal_move q seat) (at heap state.words Phase)) refl (own_grows q book.history seat.mine entry (eq-eqb q q refl) list);
@@ -85,7 +90,7 @@ refusal_keeps heap state book q rule here place machine =
       };
       cycle = cycle_own heap state.words book.owner book.colour book.history entry refl q (seat_after (refusal_move q seat) (at heap state.words Phase))
           (cycle_goes_on heap state.words state.words book.owner book.owner book.colour (phase book.history) (answered q book.history) (has_left q book.history) q seat
-          (seat_after (refusal_move q seat) (at heap state.words Phase)) record { answered = refl; left = refl; asked = refl } tt
+          (seat_after (refusal_move q seat) (at heap state.words Phase)) record { answered = refl; left = refl; asked = sym silent.none_asked } tt
           refl (λ f borne. borne) stands.cycle) refl (no_leave_told q q seat.command _ (λ leaves. subst IsRecord leaves refuses.makes.a_record));
     }
     (λ r below apart other. seat_past heap state.words state.words (fragments_same heap state.words) book entry nodes r (seat_at state r) (of_other q r apart) (ap (λ (x : Graph). party x r) graph)

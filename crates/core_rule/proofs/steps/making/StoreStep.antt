@@ -64,7 +64,7 @@ store_keeps heap state book q rule here place machine =
       fits = fit_after heap state book q rule here machine;
       own = record {
         holding = stands.own.holding;
-        stored = store_next heap seat.body (newborn_word q seat) state.words seat.stored once stands.fits.body_within at_place.2 rule.machine.table stands.own.stored;
+        stored = store_next heap seat.body (newborn_word q seat) state.words seat.stored once stands.fits.hand.body_within at_place.2 rule.machine.table stands.own.stored;
         together = stands.own.together;
       };
       names = record { registers = λ r fresh. stands.names.registers r (awaits_none Storing seat.place (target_of seat.command) r place); way = tt };
