@@ -18,7 +18,8 @@ pub fn shows_use(entries: &[Entry], used: u64) -> bool
     ensures { IsTrue result ↔ ShowsUse entries.now used }
 {
     let all = Effect::of_all(entries);
-    is_left(used, u64::from(BOARD_FRAGMENTS) + all.taken, all.given + all.freed)
+    let gained = u64::from(BOARD_FRAGMENTS) + all.taken;
+    is_left(used, gained, all.given + all.freed)
 }
 
 /// Whether the mark shows the counts after the entries.
@@ -27,7 +28,8 @@ pub fn shows_counts(heap: Heap, entries: &[Entry], mark: SpaceMark) -> bool
     ensures { IsTrue result ↔ ShowsCounts heap entries.now mark }
 {
     let all = Effect::of_all(entries);
-    is_left(mark.used, u64::from(BOARD_FRAGMENTS) + all.taken, all.given + all.freed)
+    let gained = u64::from(BOARD_FRAGMENTS) + all.taken;
+    is_left(mark.used, gained, all.given + all.freed)
         && mark.total == u64::from(GROUP_FRAGMENTS) * u64::from(heap.groups)
         && is_left(mark.spine, all.words, all.returned)
         && mark.budget == u64::from(heap.spine)
