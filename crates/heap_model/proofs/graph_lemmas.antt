@@ -1,6 +1,8 @@
 -- The graph that only grows, and what is reached in it.
 pub mod Among
+pub mod MadeLemmas
 pub mod MarkLemmas
 pub mod NoteLemmas
 pub mod OrderLemmas
+pub mod PlaceLemmas
 pub mod SearchLemmas

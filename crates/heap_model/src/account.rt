@@ -9,6 +9,7 @@ use crate::account::swung::Swung;
 use crate::entry::Entry;
 use crate::fault::{ApplyFault, Memory};
 use crate::graph::Graph;
+use crate::graph::reach::search::Search;
 use crate::heap::Heap;
 use crate::limits::BOARD_FRAGMENTS;
 use std::alloc::Global;
@@ -34,14 +35,17 @@ pub struct Account {
     cycle: Cycle,
     swung: Swung,
     ended: Option<u64>,
+    /// Room to search the graph, in which each object that was made has a mark.
+    search: Search,
 }
 
 impl Model for Account {
+    ghost use Rattle.heap_model.specs.graph.Marking.{mark_counts};
     ghost use Rattle.heap_model.specs.account.Books.{Books, AreBooks};
 
     ghost Value = { Books };
 
-    ghost view = { λ a. record { heap = a.heap; entries = a.entries; all = a.all; seats = a.seats; cycle = a.cycle; swung = a.swung; ended = a.ended } };
+    ghost view = { λ a. record { heap = a.heap; entries = a.entries; all = a.all; seats = a.seats; cycle = a.cycle; swung = a.swung; ended = a.ended; made = mark_counts a.search.marks } };
 
     ghost invariant = { λ a. AreBooks a.heap a.entries a.all a.seats a.cycle };
 }
@@ -60,6 +64,7 @@ impl Account {
         ensures heap { IfOk result (λ account. account.heap ≡ heap) }
         ensures tells { IfOk result (λ account. Tells account []) }
     {
+        let search = Graph::new(alloc, heap)?.room_to_search()?;
         Ok(Account {
             heap,
             entries: 0,
@@ -75,6 +80,7 @@ impl Account {
             },
             swung: Swung::new(alloc),
             ended: None,
+            search,
         })
     }
 
@@ -91,7 +97,7 @@ impl Account {
         ensures heap { self.new.heap ≡ self.old.heap }
         ensures unchanged { OnErr result (self.new ≡ self.old) }
     {
-        if !self.keeps(graph, entry, play)? {
+        if !self.keeps(graph, entry, play) {
             return Err(ApplyFault::NotLegal);
         }
         self.prepare(graph, entry)?;

@@ -16,7 +16,7 @@ mod growth;
 mod legal;
 mod lookup;
 pub(crate) mod object;
-mod reach;
+pub(crate) mod reach;
 pub(crate) mod seat;
 mod sizes;
 

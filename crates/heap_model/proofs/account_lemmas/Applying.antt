@@ -12,6 +12,8 @@ use Rattle.heap_model.specs.declared.account.effect.Effect.{Effect}
 use Rattle.heap_model.specs.declared.account.seat.SeatAccount.{SeatAccount}
 use Rattle.heap_model.specs.declared.account.cycle.Cycle.{Cycle}
 use Rattle.heap_model.specs.graph.State.{opening}
+use Rattle.heap_model.specs.graph.Growth.{counts_after}
+use Rattle.heap_model.specs.graph.Objects.{made_counts}
 use Rattle.heap_model.specs.graph.Reach.{IsReach}
 use Rattle.heap_model.specs.graph.Sizes.{frags_of, words_of}
 use Rattle.heap_model.specs.account.Space.{total, granted}
@@ -25,16 +27,17 @@ use Rattle.heap_model.specs.account.SeatBooks.{seat_at, TellsSeat}
 use Rattle.heap_model.specs.account.Noting.{IsCounted, IsNoted}
 use Rattle.heap_model.specs.account.Preparing.{IsPrepared, IsBegun, brought_by}
 use Rattle.heap_model.proofs.Histories.{graph_after-more, total-more}
+use Rattle.heap_model.proofs.graph_lemmas.MadeLemmas.{made_counts-after}
 use Rattle.heap_model.proofs.account_lemmas.Windows.{up_to_last-yes, up_to_last-no, after_last-yes, after_last-no, sum-parts}
 use Rattle.heap_model.proofs.account_lemmas.Turns.{turn}
 use Rattle.heap_model.proofs.account_lemmas.Counting.{Counts, tells_seat, tells_more}
 
 -- what was prepared and noted was counted
-counted : (old mid new : Books) (entry : Entry) → mid ≡ record old { cycle = mid.cycle; swung = mid.swung } → IsCounted mid entry new → IsCounted old entry new
-counted old mid new entry rest n = go mid.cycle mid.swung (subst (λ m. IsCounted m entry new) rest n)
+counted : (old mid new : Books) (entry : Entry) → mid ≡ record old { cycle = mid.cycle; swung = mid.swung; made = mid.made } → IsCounted mid entry new → IsCounted old entry new
+counted old mid new entry rest n = go mid.cycle mid.swung mid.made (subst (λ m. IsCounted m entry new) rest n)
   where
-    go : (cycle : Cycle) (swung : List Id) → IsCounted (record old { cycle = cycle; swung = swung }) entry new → IsCounted old entry new
-    go cycle swung n = record { heap = n.heap; entries = n.entries; all = n.all; seats = n.seats; ended = n.ended }
+    go : (cycle : Cycle) (swung : List Id) (made : List ℕ) → IsCounted (record old { cycle = cycle; swung = swung; made = made }) entry new → IsCounted old entry new
+    go cycle swung made n = record { heap = n.heap; entries = n.entries; all = n.all; seats = n.seats; ended = n.ended }
 
 -- the arrays that have swung in the phase
 swung-more : (history : List Entry) (entry : Entry) (old mid new : List Id) → new ≡ cond (begins_phase entry) [] mid
@@ -130,10 +133,13 @@ advance_of entry begins = cc begins
 pub applied : (play : Bool) (old mid new : Books) (history : List Entry) (entry : Entry) → Tells old history → KeepsSpace old.heap play history entry
     → IsPrepared old (graph_of old.heap history) entry mid → IsNoted mid entry new → Tells new (history ++ entry ∷ [])
 applied play old mid new history entry t keeps prepared noted =
-    tells_more play old new history entry c (swung-more history entry old.swung mid.swung new.swung noted.swung prepared.swung t.swung) (λ some. cycle some (cases_Bool (begins_cycle entry)))
+    tells_more play old new history entry c (swung-more history entry old.swung mid.swung new.swung noted.swung prepared.swung t.swung) (λ some. cycle some (cases_Bool (begins_cycle entry))) made
   where
     c : Counts play old new history entry
     c = record { tells = t; keeps = keeps; counted = counted old mid new entry prepared.rest noted.counted }
+
+    made : new.made ≡ made_counts (graph_of old.heap (history ++ entry ∷ []))
+    made = noted.made ∙ prepared.made ∙ ap (λ counts. counts_after counts entry) t.made ∙ sym (ap made_counts (graph_after-more (opening old.heap) history entry) ∙ made_counts-after (graph_of old.heap history) entry)
 
     begun : (entry : Entry) → Counts play old new history entry → (p : ℕ) → entry ≡ entries.Advance p → p % 7 ≡ 1 → IsBegun old (graph_of old.heap history) mid.cycle → TellsCycle old.heap mid.cycle (history ++ entry ∷ [])
     begun entry c p is one b = subst (λ e. TellsCycle old.heap mid.cycle (history ++ e ∷ [])) (sym is) (begun-tells play old new history p (subst (λ e. Counts play old new history e) is c) one mid.cycle b)

@@ -7,6 +7,8 @@ use Rattle.heap_model.specs.declared.id.Id.{Id}
 use Rattle.heap_model.specs.declared.entry.Entry.{Entry}
 use Rattle.heap_model.specs.declared.entry.Entry.TheVariants as entries
 use Rattle.heap_model.specs.declared.account.effect.Effect.{Effect}
+use Rattle.heap_model.specs.graph.Objects.{made_counts}
+use Rattle.heap_model.specs.account.Cycles.{graph_of}
 use Rattle.heap_model.specs.account.Space.{total, total_of}
 use Rattle.heap_model.specs.account.Effects.{effect_of, is_of}
 use Rattle.heap_model.specs.account.Sums.{plus, IsMeasured}
@@ -195,11 +197,11 @@ tells_seat play old new history entry c s lt =
     then_phases noted = ap (λ (x : Effect). x.phases) noted.all_then ∙ phases_by (is_reply_to s entry) (plus old.all (effect_of entry)) (seat_at old.seats s).all_then
         ∙ ap (λ n. cond (is_reply_to s entry) n (seat_at old.seats s).all_then.phases) (sym (phases_grow old new entry c.counted))
 
--- the account tells all, where what swung and the cycle are so too
+-- the account tells all, where what swung, the cycle and the objects are so too
 pub tells_more : (play : Bool) (old new : Books) (history : List Entry) (entry : Entry) → Counts play old new history entry
     → ((id : Id) → (HasSwung id (history ++ entry ∷ []) → Contains new.swung id) × (Contains new.swung id → HasSwung id (history ++ entry ∷ [])))
-    → (1 ≤ new.all.phases → TellsCycle old.heap new.cycle (history ++ entry ∷ [])) → Tells new (history ++ entry ∷ [])
-tells_more play old new history entry c swung cycle = record {
+    → (1 ≤ new.all.phases → TellsCycle old.heap new.cycle (history ++ entry ∷ [])) → new.made ≡ made_counts (graph_of old.heap (history ++ entry ∷ [])) → Tells new (history ++ entry ∷ [])
+tells_more play old new history entry c swung cycle made = record {
   entries = c.counted.entries ∙ ap (λ n. n + 1) c.tells.entries ∙ sym (length-append history (entry ∷ []));
   all = all-more old.all new.all history entry c.counted.all c.tells.all;
   seats = λ s lt. subst (λ h. TellsSeat h new.all new.seats s (seat_at new.seats s) (history ++ entry ∷ [])) (sym c.counted.heap)
@@ -208,4 +210,5 @@ tells_more play old new history entry c swung cycle = record {
   just_ended = λ cycle. subst (λ o. (JustEnded cycle (history ++ entry ∷ []) → o ≡ Some cycle) × (o ≡ Some cycle → JustEnded cycle (history ++ entry ∷ []))) (sym c.counted.ended) (just_ended-more history entry cycle);
   swung = swung;
   cycle = λ some. subst (λ h. TellsCycle h new.cycle (history ++ entry ∷ [])) (sym c.counted.heap) (cycle some);
+  made = made ∙ ap (λ h. made_counts (graph_of h (history ++ entry ∷ []))) (sym c.counted.heap);
 }

@@ -76,4 +76,5 @@ is_noted old mid new entry all i noted counts puts put sums is here =
       };
       swung = ap (λ (b : Books). b.swung) puts ∙ ap (λ (b : Books). b.swung) counts;
       cycle = ap (λ (b : Books). b.cycle) puts ∙ ap (λ (b : Books). b.cycle) counts;
+      made = ap (λ (b : Books). b.made) puts ∙ ap (λ (b : Books). b.made) counts;
     }

@@ -7,6 +7,8 @@ use Rattle.heap_model.specs.declared.entry.Entry.TheVariants as entries
 use Rattle.heap_model.specs.declared.account.seat.SeatAccount.{SeatAccount}
 use Rattle.heap_model.specs.declared.account.cycle.Cycle.{Cycle}
 use Rattle.heap_model.specs.Heap.{IsHeap}
+use Rattle.heap_model.specs.graph.Objects.{made_counts}
+use Rattle.heap_model.specs.graph.State.{opening}
 use Rattle.heap_model.specs.account.Effects.{no_effect}
 use Rattle.heap_model.specs.account.Phases.{WasBehind}
 use Rattle.heap_model.specs.account.PhaseCounts.{phase}
@@ -49,9 +51,9 @@ opening_tells heap seats s few all lt = record {
         omega (arith, g)
 
 -- nothing is told
-pub tells_nothing : (heap : Heap) (cycle : Cycle) → IsHeap heap
-    → Tells (record { heap = heap; entries = 0; all = no_effect; seats = replicate 16 opening_seat; cycle = cycle; swung = []; ended = None }) []
-tells_nothing heap cycle fits = record {
+pub tells_nothing : (heap : Heap) (cycle : Cycle) (made : List ℕ) → IsHeap heap → made ≡ made_counts (opening heap)
+    → Tells (record { heap = heap; entries = 0; all = no_effect; seats = replicate 16 opening_seat; cycle = cycle; swung = []; ended = None; made = made }) []
+tells_nothing heap cycle made fits none = record {
   entries = refl;
   all = record { taken = refl; given = refl; born = refl; freed = refl; words = refl; returned = refl; phases = refl; answers = refl };
   seats = λ s lt. let each : (q : ℕ) → q < 16 → seat_at (replicate 16 opening_seat) q ≡ opening_seat = λ q below. get_or-replicate 16 q opening_seat no_seat below in
@@ -60,6 +62,7 @@ tells_nothing heap cycle fits = record {
   just_ended = λ c. (λ h. absurd (empty h.0 (entries.Ends c h.1) h.2), λ h. cc h);
   swung = λ id. (λ h. absurd (no_element (entries.Swings id) h), λ h. absurd (no_element id h));
   cycle = λ some. absurd (omega (arith, some));
+  made = none;
 }
   where
     empty : (xs : List Entry) (x : Entry) → [] ≡ xs ++ x ∷ [] → ⊥

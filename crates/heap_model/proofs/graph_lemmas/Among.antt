@@ -1,16 +1,15 @@
 -- Lists of ids in their order.
-use Rattle.std.proofs.Common.{◌≡◌, ℕ, zero, suc, ◌+◌, ◌<◌, ◌⊎◌, inl, inr, List, [], ◌∷◌, ◌++◌, length, get_or, AllPairs, Contains, refl, sym, ◌∙◌, subst, arith, length-append, take, Bool, true, false, cond, IsTrue, ◌↔◌}
-use Rattle.std.proofs.Math.Seq.{get_or-append_seam}
-use Rattle.std.proofs.lemmas.List.{get_or_append_left, take_more}
-use Rattle.std.proofs.lemmas.List.Elements.{Contains-append_left, Contains-append_right, Contains-push, Contains-push_cases, Contains-get_or}
-use Rattle.std.proofs.lemmas.List.Quantifiers.{all_pairs_push}
+use Rattle.std.proofs.Common.{◌≡◌, zero, suc, ◌⊎◌, inl, inr, List, [], ◌∷◌, AllPairs, Contains, refl, sym, ap, ◌∙◌, subst, arith, Bool, true, false, Option, Some, None, filter, unwrap_or}
+use Rattle.std.proofs.lemmas.Bool.{cases_Bool, cond-true, cond-false, both_ways}
+use Rattle.std.proofs.lemmas.List.Elements.{All-filter, filter_passes, Contains-append_right, Contains-get_or}
+use Rattle.std.proofs.lemmas.List.Kept.{AllPairs-filter}
 use Rattle.heap_model.specs.declared.id.Id.{Id}
 use Rattle.heap_model.specs.declared.id.Id.TheVariants.{Board, Made}
 use Rattle.heap_model.specs.graph.State.{State}
-use Rattle.heap_model.specs.graph.Search.{IsSearch}
-use Rattle.heap_model.specs.graph.Marking.{Marking, IsMarked}
+use Rattle.heap_model.specs.graph.Search.{Search, IsSearch}
+use Rattle.heap_model.specs.graph.Marking.{mark, is_marked}
+use Rattle.heap_model.specs.graph.Reach.{IsBefore, IsReachAmong}
 use Rattle.heap_model.proofs.graph_lemmas.SearchLemmas.{IsMarked-reached}
-use Rattle.heap_model.specs.graph.Reach.{Reaches, IsBefore, IsReachAmong}
 
 -- an element of a list is its head, or stands in its tail
 contains_cases : {A : Type 0} (x : A) (xs : List A) (q : A) → Contains (x ∷ xs) q → (x ≡ q) ⊎ Contains xs q
@@ -28,16 +27,6 @@ pairs_tail R x xs h i j d lt within = h (suc i) (suc j) d (omega (arith, lt)) (o
 
 pairs_head : {A : Type 0} (R : A → A → Type 0) (x : A) (xs : List A) (q : A) → AllPairs R (x ∷ xs) → Contains xs q → R x q
 pairs_head R x xs q h c = subst (R x) c.2 (h 0 (suc c.0) q (omega arith) (omega (arith, c.1)))
-
-pairs_front : {A : Type 0} (R : A → A → Type 0) (xs : List A) (x : A) → AllPairs R (xs ++ x ∷ []) → AllPairs R xs
-pairs_front R xs x h i j d lt within =
-    subst (λ a. R a (get_or xs j d)) (get_or_append_left xs (x ∷ []) d i (omega (arith, lt, within)))
-    (subst (λ b. R (get_or (xs ++ x ∷ []) i d) b) (get_or_append_left xs (x ∷ []) d j within) (h i j d lt (omega (arith, within, length-append xs (x ∷ [])))))
-
-pairs_last : {A : Type 0} (R : A → A → Type 0) (xs : List A) (x q : A) → AllPairs R (xs ++ x ∷ []) → Contains xs q → R q x
-pairs_last R xs x q h c =
-    subst (λ a. R a x) (get_or_append_left xs (x ∷ []) q c.0 c.1 ∙ c.2)
-    (subst (λ b. R (get_or (xs ++ x ∷ []) c.0 q) b) (get_or-append_seam xs x [] q) (h c.0 (length xs) q c.1 (omega (arith, length-append xs (x ∷ [])))))
 
 -- no id is before itself, nor before one that is before it
 not_around : (a b : Id) → IsBefore a b → IsBefore b a → ⊥
@@ -73,43 +62,35 @@ same_ids (x ∷ xs) (y ∷ ys) p q there back =
     backward id h (inr c) e = c
     backward id h (inl same) e = absurd (let before = subst (λ z. IsBefore y z) (sym (sym e ∙ same)) (pairs_head IsBefore y ys id q h) in not_around y y before before)
 
--- the reached ones among one more id
-pub among_push : (g : State) (done both : List Id) (x : Id) → IsReachAmong g done both → Reaches g x → IsReachAmong g (done ++ x ∷ []) (both ++ x ∷ [])
-among_push g done both x a reaches = record {
-  ordered = λ p. all_pairs_push IsBefore both x (a.ordered (pairs_front IsBefore done x p))
-      (λ k d lt. pairs_last IsBefore done x (get_or both k d) p ((a.reached (get_or both k d)).0 (Contains-get_or both k d lt)).0);
+-- a filter keeps what passes
+kept_passes : {A : Type 0} (p : A → Bool) (xs : List A) (x : A) → Contains (filter p xs) x → Contains xs x × (p x ≡ true)
+kept_passes p xs x c =
+    (subst (Contains xs) c.2 (All-filter p (Contains xs) xs (λ k d lt. Contains-get_or xs k d lt) c.0 x c.1), subst (λ y. p y ≡ true) c.2 (filter_passes p xs c.0 x c.1))
+
+passes_kept : {A : Type 0} (p : A → Bool) (xs : List A) (x : A) → Contains xs x → p x ≡ true → Contains (filter p xs) x
+passes_kept p [] x c fits = absurd (omega (arith, c.1))
+passes_kept p (y ∷ ys) x c fits = elim (cases_Bool (p y)) [
+  | inl passes ↦ subst (λ zs. Contains zs x) (sym (cond-true (p y) (y ∷ filter p ys) (filter p ys) passes)) (elim (contains_cases y ys x c) [
+    | inl same ↦ subst (Contains (y ∷ filter p ys)) same (contains_head y (filter p ys))
+    | inr later ↦ contains_tail y (filter p ys) x (passes_kept p ys x later fits)
+  ])
+  | inr fails ↦ subst (λ zs. Contains zs x) (sym (cond-false (p y) (y ∷ filter p ys) (filter p ys) fails)) (elim (contains_cases y ys x c) [
+    | inl same ↦ absurd (both_ways (p y) fails (ap p same ∙ fits))
+    | inr later ↦ passes_kept p ys x later fits
+  ])
+]
+
+-- a mark is set exactly where its test says so
+is_set : (set : Option Bool) → unwrap_or set false ≡ true → set ≡ Some true
+is_set None h = cc h
+is_set (Some b) h = ap Some h
+
+-- at the end of a search the marked ones of the ids are the reached ones
+pub among_marked : (g : State) (walk : Search) (ids : List Id) → IsSearch g walk → walk.waiting ≡ [] → IsReachAmong g ids (filter (is_marked walk.marks) ids)
+among_marked g walk ids search none = record {
+  ordered = AllPairs-filter IsBefore (is_marked walk.marks) ids;
   reached = λ id. (
-    λ h. elim (Contains-push_cases both x id h) [
-      | inl old ↦ (Contains-append_left done (x ∷ []) id ((a.reached id).0 old).0, ((a.reached id).0 old).1)
-      | inr new ↦ (subst (λ z. Contains (done ++ x ∷ []) z) new (Contains-push done x), subst (Reaches g) new reaches)
-    ],
-    λ h. elim (Contains-push_cases done x id h.0) [
-      | inl old ↦ Contains-append_left both (x ∷ []) id ((a.reached id).1 (old, h.1))
-      | inr new ↦ subst (λ z. Contains (both ++ x ∷ []) z) new (Contains-push both x)
-    ],
+    λ c. let kept = kept_passes (is_marked walk.marks) ids id c in (kept.0, search.reached id (is_set (mark walk.marks id) kept.1)),
+    λ c. passes_kept (is_marked walk.marks) ids id c.0 (ap (λ o. unwrap_or o false) (IsMarked-reached g walk search none id c.1)),
   );
 }
-
-pub among_skip : (g : State) (done both : List Id) (x : Id) → IsReachAmong g done both → (Reaches g x → ⊥) → IsReachAmong g (done ++ x ∷ []) both
-among_skip g done both x a never = record {
-  ordered = λ p. a.ordered (pairs_front IsBefore done x p);
-  reached = λ id. (
-    λ h. (Contains-append_left done (x ∷ []) id ((a.reached id).0 h).0, ((a.reached id).0 h).1),
-    λ h. elim (Contains-push_cases done x id h.0) [
-      | inl old ↦ (a.reached id).1 (old, h.1)
-      | inr new ↦ absurd (never (subst (Reaches g) (sym new) h.1))
-    ],
-  );
-}
-
-pub among_none : (g : State) → IsReachAmong g [] []
-among_none g = record { ordered = λ p. p; reached = λ id. (λ h. absurd (omega (arith, h.1)), λ h. h.0) }
-
--- the next id is marked or not, and so reached or not
-pub among_step : (g : State) (m : Marking) (ids both : List Id) (i : ℕ) (d : Id) (marked : Bool) → IsSearch g (record { marks = m; waiting = [] }) → i < length ids → IsReachAmong g (take i ids) both
-    → (IsTrue marked ↔ IsMarked m (get_or ids i d)) → IsReachAmong g (take (i + 1) ids) (cond marked (both ++ get_or ids i d ∷ []) both)
-among_step g m ids both i d true search lt a is =
-    subst (λ t. IsReachAmong g t (both ++ get_or ids i d ∷ [])) (sym (take_more ids i d lt)) (among_push g (take i ids) both (get_or ids i d) a (search.reached (get_or ids i d) (is.0 refl)))
-among_step g m ids both i d false search lt a is =
-    subst (λ t. IsReachAmong g t both) (sym (take_more ids i d lt))
-    (among_skip g (take i ids) both (get_or ids i d) a (λ reaches. cc (is.1 (IsMarked-reached g (record { marks = m; waiting = [] }) search refl (get_or ids i d) reaches))))

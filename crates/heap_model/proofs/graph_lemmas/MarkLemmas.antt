@@ -1,14 +1,16 @@
 -- Setting the mark of an object.
-use Rattle.std.proofs.Common.{◌≡◌, ℕ, zero, suc, ◌+◌, ◌<◌, ◌≤◌, ◌⊎◌, inl, inr, Bool, true, false, not, cond, List, [], ◌∷◌, length, get_or, set, slice_get, sum_by, count_by, map, replicate, Some, is_some, refl, sym, ap, ◌∙◌, subst, arith, length-set}
+use Rattle.std.proofs.Common.{◌≡◌, ℕ, zero, suc, ◌+◌, ◌<◌, ◌≤◌, ◌⊎◌, inl, inr, Bool, true, false, not, cond, List, [], ◌∷◌, ◌++◌, length, get_or, set, slice_get, sum_by, count_by, replicate, Some, is_some, refl, sym, ap, ◌∙◌, subst, arith, length-append, length-set}
 use Rattle.std.proofs.lemmas.Bool.{cases_eq, cases_lt}
 use Rattle.std.proofs.lemmas.Option.{slice_get-get_or, slice_get_past, slice_get_within, get_or_from_slice_get, none-some}
-use Rattle.std.proofs.lemmas.List.{get_or-set_same, get_or-set_other, get_or_past}
+use Rattle.std.proofs.Math.ListN.{get_or-map}
+use Rattle.std.proofs.Math.Seq.{map-set_same}
+use Rattle.std.proofs.lemmas.List.{get_or-set_same, get_or-set_other, get_or_past, length-replicate, map-set}
 use Rattle.std.proofs.lemmas.List.Sums.{sum_by-set}
 use Rattle.heap_model.specs.declared.id.Id.{Id}
 use Rattle.heap_model.specs.declared.id.Id.TheVariants.{Board, Made}
-use Rattle.heap_model.specs.graph.Objects.{party, nobody}
+use Rattle.heap_model.specs.graph.Objects.{party, node, nobody}
 use Rattle.heap_model.specs.graph.State.{State, Party}
-use Rattle.heap_model.specs.graph.Marking.{Marking, marks_of, mark, with_mark, unmarked, IsMarked, no_marks, HasMarks}
+use Rattle.heap_model.specs.graph.Marking.{Marking, marks_of, mark, with_mark, unmarked, mark_counts, IsMarked, no_marks, HasMarks}
 
 -- an element that is put in place of another is found there
 slice_get-set_same : {A : Type 0} (xs : List A) (i : ℕ) (x : A) → i < length xs → slice_get (set xs i x) i ≡ Some x
@@ -76,28 +78,49 @@ unmarked-with_mark m (Made s count) h =
     let rows = unmarked_rows m.seats s (set (marks_of m s) count true) (seat_within m.seats s count false h) (unmarked_row (marks_of m s) count h) in
     omega (arith, rows)
 
--- the opening marks are there for each object, and none is set
-marks_of-no_marks : (seats : List Party) (s : ℕ) → get_or (map (λ seat. replicate (length seat.objects) false) seats) s [] ≡ replicate (length (get_or seats s nobody).objects) false
-marks_of-no_marks [] s = refl
-marks_of-no_marks (seat ∷ seats) zero = refl
-marks_of-no_marks (seat ∷ seats) (suc s) = marks_of-no_marks seats s
+-- one more mark of a seat
+pub mark_counts-added : (m : Marking) (s : ℕ) → mark_counts (record m { seats = set m.seats s (marks_of m s ++ false ∷ []) }) ≡ set (mark_counts m) s (get_or (mark_counts m) s 0 + 1)
+mark_counts-added m s =
+    map-set length m.seats s (marks_of m s ++ false ∷ [])
+    ∙ ap (set (mark_counts m) s) (length-append (marks_of m s) (false ∷ []) ∙ ap (λ n. n + 1) (sym (get_or-map length m.seats s [])))
 
-is_some-slice_get-replicate : {A : Type 0} (xs : List A) (i : ℕ) → is_some (slice_get (replicate (length xs) false) i) ≡ is_some (slice_get xs i)
-is_some-slice_get-replicate [] i = refl
-is_some-slice_get-replicate (x ∷ xs) zero = refl
-is_some-slice_get-replicate (x ∷ xs) (suc i) = is_some-slice_get-replicate xs i
+-- whether a mark is set or not, there are as many
+pub mark_counts-with_mark : (m : Marking) (id : Id) → mark_counts (with_mark m id) ≡ mark_counts m
+mark_counts-with_mark m Board = refl
+mark_counts-with_mark m (Made s count) = map-set_same length m.seats s (set (marks_of m s) count true) [] (length-set (marks_of m s) count true)
+
+-- lists of one length have elements at the same places
+there_by_length : {A B : Type 0} (xs : List A) (ys : List B) (i : ℕ) → length xs ≡ length ys → is_some (slice_get xs i) ≡ is_some (slice_get ys i)
+there_by_length [] [] i same = refl
+there_by_length [] (y ∷ ys) i same = absurd (omega (arith, same))
+there_by_length (x ∷ xs) [] i same = absurd (omega (arith, same))
+there_by_length (x ∷ xs) (y ∷ ys) zero same = refl
+there_by_length (x ∷ xs) (y ∷ ys) (suc i) same = there_by_length xs ys i (omega (arith, same))
+
+-- marks that are as many stand at the same ids
+pub marks_by_counts : (old new : Marking) → mark_counts new ≡ mark_counts old → (id : Id) → is_some (mark new id) ≡ is_some (mark old id)
+marks_by_counts old new same Board = refl
+marks_by_counts old new same (Made s count) =
+    there_by_length (marks_of new s) (marks_of old s) count (sym (get_or-map length new.seats s []) ∙ ap (λ counts. get_or counts s 0) same ∙ get_or-map length old.seats s [])
+
+-- where there is a mark for each object, there is one for the object of each id
+pub marks_there : (g : State) (m : Marking) → HasMarks g m → (id : Id) → is_some (mark m id) ≡ is_some (node g id)
+marks_there g m same Board = refl
+marks_there g m same (Made s count) =
+    there_by_length (marks_of m s) (party g s).objects count
+    (sym (get_or-map length m.seats s []) ∙ ap (λ counts. get_or counts s 0) same ∙ get_or-map (λ (seat : Party). length seat.objects) g.seats s nobody)
+
+-- none of the marks is set at first
+pub mark_counts-no_marks : (counts : List ℕ) → mark_counts (no_marks counts) ≡ counts
+mark_counts-no_marks [] = refl
+mark_counts-no_marks (n ∷ counts) = cc (length-replicate n false, mark_counts-no_marks counts)
 
 slice_get-replicate-unset : (n i : ℕ) → slice_get (replicate n false) i ≡ Some true → ⊥
 slice_get-replicate-unset zero i h = none-some true h
 slice_get-replicate-unset (suc n) zero h = cc
 slice_get-replicate-unset (suc n) (suc i) h = slice_get-replicate-unset n i h
 
-pub HasMarks-no_marks : (g : State) → HasMarks g (no_marks g)
-HasMarks-no_marks g Board = refl
-HasMarks-no_marks g (Made s count) =
-    ap (λ row. is_some (slice_get row count)) (marks_of-no_marks g.seats s) ∙ is_some-slice_get-replicate (party g s).objects count
-
-pub IsMarked-no_marks : (g : State) (id : Id) → IsMarked (no_marks g) id → ⊥
-IsMarked-no_marks g Board h = cc
-IsMarked-no_marks g (Made s count) h =
-    slice_get-replicate-unset (length (party g s).objects) count (subst (λ row. slice_get row count ≡ Some true) (marks_of-no_marks g.seats s) h)
+pub IsMarked-no_marks : (counts : List ℕ) (id : Id) → IsMarked (no_marks counts) id → ⊥
+IsMarked-no_marks counts Board h = cc
+IsMarked-no_marks counts (Made s count) h =
+    slice_get-replicate-unset (get_or counts s 0) count (subst (λ row. slice_get row count ≡ Some true) (get_or-map (λ n. replicate n false) counts s 0) h)

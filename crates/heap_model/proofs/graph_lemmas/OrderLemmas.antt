@@ -10,6 +10,7 @@ use Rattle.heap_model.specs.graph.Objects.{party}
 use Rattle.heap_model.specs.graph.State.{State}
 use Rattle.heap_model.specs.graph.Reach.{IsBefore}
 use Rattle.heap_model.specs.graph.Marking.{Marking, IsMarked, HasMarks, IsListed}
+use Rattle.heap_model.proofs.graph_lemmas.MarkLemmas.{marks_there}
 
 -- the next place after this one, in its seat
 abbrev pub next_place : Id → Id
@@ -92,7 +93,7 @@ IsListed-seat g m s ids objects listed = record {
     within : (t count : ℕ) → t ≡ s → IsMarked m (Made t count) → count < end
     within t count here marked = elim (cases_lt count end) [
       | inl inside ↦ inside
-      | inr past ↦ absurd (false-true (ap is_some (sym (slice_get_past (party g s).objects count past)) ∙ subst (λ x. is_some (slice_get (party g x).objects count) ≡ true) here (sym (objects (Made t count)) ∙ ap is_some marked)))
+      | inr past ↦ absurd (false-true (ap is_some (sym (slice_get_past (party g s).objects count past)) ∙ subst (λ x. is_some (slice_get (party g x).objects count) ≡ true) here (sym (marks_there g m objects (Made t count)) ∙ ap is_some marked)))
     ]
 
     earlier : (id : Id) → IsMarked m id → IsBefore id (Made (s + 1) 0) → IsBefore id (Made s end)

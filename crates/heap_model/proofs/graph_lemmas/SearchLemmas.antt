@@ -8,17 +8,17 @@ use Rattle.heap_model.specs.declared.id.Id.{Id}
 use Rattle.heap_model.specs.declared.id.Id.TheVariants.{Board, Made}
 use Rattle.heap_model.specs.declared.id.Value.{Value}
 use Rattle.heap_model.specs.declared.id.Value.TheVariants.{Nil, Number, Object}
-use Rattle.heap_model.specs.graph.Objects.{node, nobody}
+use Rattle.heap_model.specs.graph.Objects.{node, nobody, made_counts}
 use Rattle.heap_model.specs.graph.State.{State, Node, Party}
 use Rattle.heap_model.specs.graph.Reach.{IsRoot, IsRegistered, PointsTo, Points, Reaches, from_register, from_cell, IsBefore, IsReach}
 use Rattle.heap_model.specs.graph.Search.{Search, GoesOn, FoundFromSeat, FoundFromObject, IsSearch}
 use Rattle.heap_model.specs.graph.Marking.{Marking, mark, with_mark, IsMarked, IsFound, HasMarks, IsListed, no_marks}
-use Rattle.heap_model.proofs.graph_lemmas.MarkLemmas.{with_mark-here, with_mark-other, unmarked-with_mark, HasMarks-no_marks, IsMarked-no_marks}
+use Rattle.heap_model.proofs.graph_lemmas.MarkLemmas.{with_mark-here, with_mark-other, unmarked-with_mark, mark_counts-with_mark, mark_counts-no_marks, marks_by_counts, marks_there, IsMarked-no_marks}
 
 pub GoesOn-trans : {P : Id → Type 0} {a b c : Search} → GoesOn P a b → GoesOn P b c → GoesOn P a c
 GoesOn-trans {P} {a} {b} {c} first then = record {
   marked_stay = λ id marked. then.marked_stay id (first.marked_stay id marked);
-  objects_stay = λ id. then.objects_stay id ∙ first.objects_stay id;
+  marks_stay = then.marks_stay ∙ first.marks_stay;
   waiting_stay = λ id waits. then.waiting_stay id (first.waiting_stay id waits);
   marked_more = λ id marked. elim (then.marked_more id marked) [
     | inl before ↦ elim (first.marked_more id before) [ inl old ↦ inl old | inr new ↦ inr (then.waiting_stay id new.0, new.1) ]
@@ -34,7 +34,7 @@ GoesOn-trans {P} {a} {b} {c} first then = record {
 pub GoesOn-weaker : {P Q : Id → Type 0} {a b : Search} → ((id : Id) → P id → Q id) → GoesOn P a b → GoesOn Q a b
 GoesOn-weaker weaker on = record {
   marked_stay = on.marked_stay;
-  objects_stay = on.objects_stay;
+  marks_stay = on.marks_stay;
   waiting_stay = on.waiting_stay;
   marked_more = λ id marked. elim (on.marked_more id marked) [ inl old ↦ inl old | inr new ↦ inr (new.0, weaker id new.1) ];
   waiting_more = on.waiting_more;
@@ -45,19 +45,13 @@ GoesOn-weaker weaker on = record {
 abbrev pub noted : Search → Id → Search
 noted walk id = record { marks = with_mark walk.marks id; waiting = walk.waiting ++ id ∷ [] }
 
-is_some-with_mark : (m : Marking) (id other : Id) → mark m id ≡ Some false → is_some (mark (with_mark m id) other) ≡ is_some (mark m other)
-is_some-with_mark m id other fresh = elim (with_mark-other m id other fresh) [
-  | inl stays ↦ ap is_some stays
-  | inr here ↦ subst (λ x. is_some (mark (with_mark m id) x) ≡ is_some (mark m x)) here (ap is_some (with_mark-here m id fresh) ∙ sym (ap is_some fresh))
-]
-
 pub GoesOn-noted : (walk : Search) (id : Id) → mark walk.marks id ≡ Some false → GoesOn (λ x. id ≡ x) walk (noted walk id)
 GoesOn-noted walk id fresh = record {
   marked_stay = λ x marked. elim (with_mark-other walk.marks id x fresh) [
     | inl stays ↦ stays ∙ marked
     | inr here ↦ subst (λ y. IsMarked (with_mark walk.marks id) y) here (with_mark-here walk.marks id fresh)
   ];
-  objects_stay = λ x. is_some-with_mark walk.marks id x fresh;
+  marks_stay = mark_counts-with_mark walk.marks id;
   waiting_stay = λ x waits. Contains-append_left walk.waiting (id ∷ []) x waits;
   marked_more = λ x marked. elim (with_mark-other walk.marks id x fresh) [
     | inl stays ↦ inl (sym stays ∙ marked)
@@ -83,7 +77,7 @@ IsFound-note m {new} {value} id is fresh noting =
 pub IsFound-stays : {P : Id → Type 0} {a b : Search} → GoesOn P a b → (value : Value) → IsFound a.marks value → IsFound b.marks value
 IsFound-stays on Nil found = tt
 IsFound-stays on (Number n) found = tt
-IsFound-stays on (Object id) found = λ there. on.marked_stay id (found (sym (on.objects_stay id) ∙ there))
+IsFound-stays {P} {a} {b} on (Object id) found = λ there. on.marked_stay id (found (sym (marks_by_counts a.marks b.marks on.marks_stay id) ∙ there))
 
 pub FoundFromSeat-stays : {P : Id → Type 0} {a b : Search} → GoesOn P a b → (seat : Party) → FoundFromSeat a.marks seat → FoundFromSeat b.marks seat
 FoundFromSeat-stays {P} {a} {b} on seat found = All-weaker (IsFound a.marks) (IsFound b.marks) (IsFound-stays on) seat.registers found
@@ -94,22 +88,22 @@ FoundFromObject-stays {P} {a} {b} on object found =
 
 -- an object whose mark is there was made
 made_of_marked : (g : State) (m : Marking) (id : Id) → HasMarks g m → IsMarked m id → IsSome (node g id)
-made_of_marked g m id objects marked = sym (objects id) ∙ ap is_some marked
+made_of_marked g m id objects marked = sym (marks_there g m objects id) ∙ ap is_some marked
 
 -- a search that went on from the seats alone
-pub IsSearch-start : (g : State) (walk : Search) → GoesOn (IsRoot g) (record { marks = no_marks g; waiting = [] }) walk → All (FoundFromSeat walk.marks) g.seats → IsSearch g walk
+pub IsSearch-start : (g : State) (walk : Search) → GoesOn (IsRoot g) (record { marks = no_marks (made_counts g); waiting = [] }) walk → All (FoundFromSeat walk.marks) g.seats → IsSearch g walk
 IsSearch-start g walk on found =
-    let objects : HasMarks g walk.marks = λ id. on.objects_stay id ∙ HasMarks-no_marks g id in
+    let objects : HasMarks g walk.marks = on.marks_stay ∙ mark_counts-no_marks (made_counts g) in
     record {
       objects = objects;
       reached = λ id marked. elim (on.marked_more id marked) [
-        | inl old ↦ absurd (IsMarked-no_marks g id old)
+        | inl old ↦ absurd (IsMarked-no_marks (made_counts g) id old)
         | inr new ↦ from_register id (made_of_marked g walk.marks id objects marked) new.1
       ];
       waiting = λ id waits. elim (on.waiting_more id waits) [ inl old ↦ absurd (omega (arith, old.1)) | inr marked ↦ marked ];
       from_seats = found;
       from_objects = λ id marked. elim (on.marked_more id marked) [
-        | inl old ↦ absurd (IsMarked-no_marks g id old)
+        | inl old ↦ absurd (IsMarked-no_marks (made_counts g) id old)
         | inr new ↦ inl new.0
       ];
     }
@@ -117,7 +111,7 @@ IsSearch-start g walk on found =
 -- a search from which an object was taken whose cells were then looked at
 pub IsSearch-step : (g : State) (walk : Search) (id : Id) (new : Search) → IsSearch g (record walk { waiting = walk.waiting ++ id ∷ [] }) → GoesOn (Points g id) walk new → IfSome (node g id) (FoundFromObject new.marks) → IsSearch g new
 IsSearch-step g walk id new is on found =
-    let objects : HasMarks g new.marks = λ x. on.objects_stay x ∙ is.objects x in
+    let objects : HasMarks g new.marks = on.marks_stay ∙ is.objects in
     record {
       objects = objects;
       reached = λ x marked. elim (on.marked_more x marked) [
@@ -153,7 +147,7 @@ pub IsMarked-reached : (g : State) (walk : Search) → IsSearch g walk → walk.
 IsMarked-reached g walk is none _ (from_register id made root) =
     let seat = Any-All (λ seat. IsRegistered seat id) (FoundFromSeat walk.marks) g.seats root is.from_seats in
     let held = seat.1 in
-    subst (IsFound walk.marks) held.2 (seat.2 held.0 (Object id) held.1) (is.objects id ∙ made)
+    subst (IsFound walk.marks) held.2 (seat.2 held.0 (Object id) held.1) (marks_there g walk.marks is.objects id ∙ made)
 IsMarked-reached g walk is none _ (from_cell id made holder reached points) =
     let marked = IsMarked-reached g walk is none holder reached in
     elim (is.from_objects holder marked) [
@@ -165,7 +159,7 @@ IsMarked-reached g walk is none _ (from_cell id made holder reached points) =
     pointed_at None some all = absurd some
     pointed_at (Some object) some all =
         let cell = Any-All (λ cell. cell.value ≡ Object id) (λ cell. IsFound walk.marks cell.value) object.cells some all in
-        found_object walk.marks cell.0.value id cell.1 cell.2 (is.objects id ∙ made)
+        found_object walk.marks cell.0.value id cell.1 cell.2 (marks_there g walk.marks is.objects id ∙ made)
 
 -- a made object is before all those of a seat past the last
 before_end : (g : State) (id : Id) → IsSome (node g id) → IsBefore id (Made (length g.seats) 0)

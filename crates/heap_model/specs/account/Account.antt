@@ -1,7 +1,6 @@
 -- The rules of space and phases that each entry keeps. Sums are compared with sums, so that nothing is cut off at 0.
-use Rattle.std.specs.Prelude.{◌≡◌, ℕ, ◌+◌, ◌*◌, ◌%◌, ◌≤◌, Bool, List, [], ◌∷◌, ◌++◌}
+use Rattle.std.specs.Prelude.{ℕ, ◌+◌, ◌*◌, ◌≤◌, Bool, List, [], ◌∷◌, ◌++◌}
 use Rattle.heap_model.specs.Limits.{group_fragments, most_reserve}
-use Rattle.heap_model.specs.PhasePlan.{cycle_phases, barriers}
 use Rattle.heap_model.specs.declared.heap.Heap.{Heap}
 use Rattle.heap_model.specs.declared.command.Command.{Command}
 use Rattle.heap_model.specs.declared.command.Command.TheVariants as commands
@@ -11,7 +10,8 @@ use Rattle.heap_model.specs.graph.Legal.{IsObjectLegal}
 use Rattle.heap_model.specs.account.Space.{gained, lost, taken_of, spent_of}
 use Rattle.heap_model.specs.Needs.{made_by}
 use Rattle.heap_model.specs.account.Phases.{AnswersPhase, BeginsPhase, ShowsRightly}
-use Rattle.heap_model.specs.account.Cycles.{EndsCycle, IsThroughCycle, LeavesWithinBounds}
+use Rattle.heap_model.specs.account.Cycles.{EndsCycle}
+use Rattle.heap_model.specs.account.Preparing.{WantsMemory}
 use Rattle.heap_model.specs.account.Sweep.{Sweeps}
 use Rattle.heap_model.specs.account.Refusals.{RefusesRightly}
 pub use Rattle.heap_model.specs.account.Refusals.{given_up, FindsSpace, ShowsSpace, RefusesSpine}
@@ -46,13 +46,9 @@ pub record KeepsSpace (heap : Heap) (play : Bool) (before : List Entry) (entry :
   pub ends : EndsCycle heap before entry
   pub shows : ShowsRightly heap play before entry
 
--- memory may be lacked for a legal entry that begins a cycle or swings an array, and where a cycle ends: there all but how much was kept
--- at least is known to be legal
+-- memory may be lacked for a legal entry alone, one that makes an object, begins a cycle, or swings an array
 abbrev pub MayLackMemory : Heap → Bool → List Entry → Entry → Type 0
-MayLackMemory heap play before (entries.Advance p) = (p % cycle_phases ≡ barriers) × KeepsSpace heap play before (entries.Advance p)
-MayLackMemory heap play before (entries.Swings id) = KeepsSpace heap play before (entries.Swings id)
-MayLackMemory heap play before (entries.Ends cycle kept) = IsThroughCycle heap before cycle × LeavesWithinBounds heap before kept
-MayLackMemory heap play before _ = ⊥
+MayLackMemory heap play before entry = KeepsSpace heap play before entry × WantsMemory entry
 
 -- each entry keeps the rules after those before it
 abbrev pub KeepsSpaceAfter : Heap → Bool → List Entry → List Entry → Type 0

@@ -8,6 +8,7 @@ use Rattle.heap_model.specs.declared.account.effect.Effect.{Effect}
 use Rattle.heap_model.specs.declared.account.seat.SeatAccount.{SeatAccount}
 use Rattle.heap_model.specs.declared.account.cycle.Cycle.{Cycle}
 use Rattle.heap_model.specs.Heap.{IsHeap}
+use Rattle.heap_model.specs.graph.Objects.{made_counts}
 use Rattle.heap_model.specs.graph.Reach.{IsReach}
 use Rattle.heap_model.specs.graph.Sizes.{frags_of, words_of}
 use Rattle.heap_model.specs.account.Space.{granted, total}
@@ -27,6 +28,7 @@ pub record Books : Type 0 where
   pub cycle : Cycle
   pub swung : List Id
   pub ended : Option ℕ
+  pub made : List ℕ
 
 -- the seat has left or answered the phase
 abbrev pub HasAnswered : Books → ℕ → Type 0
@@ -64,3 +66,4 @@ pub record Tells (books : Books) (history : List Entry) : Type 0 where
   pub just_ended : (cycle : ℕ) → JustEnded cycle history ↔ (books.ended ≡ Some cycle)
   pub swung : (id : Id) → HasSwung id history ↔ Contains books.swung id
   pub cycle : 1 ≤ books.all.phases → TellsCycle books.heap books.cycle history
+  pub made : books.made ≡ made_counts (graph_of books.heap history)

@@ -42,7 +42,7 @@ abbrev pub ended_by : Entry → Option ℕ
 ended_by (entries.Ends cycle kept) = Some cycle
 ended_by _ = None
 
--- what is kept of all, but for what swung and the cycle
+-- what is kept of all, but for what swung, the cycle and the objects
 pub record IsCounted (old : Books) (entry : Entry) (new : Books) : Type 0 where
   pub heap : new.heap ≡ old.heap
   pub entries : new.entries ≡ old.entries + 1
@@ -55,3 +55,4 @@ pub record IsNoted (old : Books) (entry : Entry) (new : Books) : Type 0 where
   pub counted : IsCounted old entry new
   pub swung : new.swung ≡ (if begins_phase entry then [] else old.swung)
   pub cycle : new.cycle ≡ old.cycle
+  pub made : new.made ≡ old.made

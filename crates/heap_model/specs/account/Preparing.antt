@@ -10,6 +10,7 @@ use Rattle.heap_model.specs.declared.account.seat.SeatAccount.{SeatAccount}
 use Rattle.heap_model.specs.declared.account.cycle.Cycle.{Cycle}
 use Rattle.heap_model.specs.graph.State.{State}
 use Rattle.heap_model.specs.graph.Reach.{IsReach}
+use Rattle.heap_model.specs.graph.Growth.{makes, counts_after}
 use Rattle.heap_model.specs.graph.Sizes.{frags_of, words_of}
 use Rattle.heap_model.specs.account.Windows.{begins_cycle}
 use Rattle.heap_model.specs.account.Books.{Books, CycleFits}
@@ -36,15 +37,17 @@ IsWithinBy books kept =
     × (books.all.words ≤ books.all.returned + books.cycle.words + (books.all.words - books.cycle.words_then))
     × (kept ≤ books.cycle.frags + books.cycle.brought + (books.all.taken - books.cycle.taken_then))
 
--- what the entry needs memory for is kept: an array that swings, and a cycle that begins
+-- what the entry needs memory for is kept: an array that swings, a cycle that begins, and a mark for an object that is made
 pub record IsPrepared (old : Books) (g : State) (entry : Entry) (new : Books) : Type 0 where
-  pub rest : new ≡ record old { cycle = new.cycle; swung = new.swung }
+  pub rest : new ≡ record old { cycle = new.cycle; swung = new.swung; made = new.made }
   pub swung : (id : Id) → Contains new.swung id ↔ Contains old.swung id ⊎ (entry ≡ entries.Swings id)
   pub begun : begins_cycle entry ≡ true → IsBegun old g new.cycle
   pub same : begins_cycle entry ≡ false → new.cycle ≡ old.cycle
+  pub made : new.made ≡ counts_after old.made entry
 
--- memory is wanted for an entry that begins a cycle, or swings an array
+-- memory is wanted for an entry that makes an object, begins a cycle, or swings an array
 abbrev pub WantsMemory : Entry → Type 0
+WantsMemory (entries.Said s command reply) = makes (entries.Said s command reply) ≡ true
 WantsMemory (entries.Advance p) = p % cycle_phases ≡ barriers
 WantsMemory (entries.Swings id) = Unit {0}
 WantsMemory _ = ⊥

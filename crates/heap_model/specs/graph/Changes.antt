@@ -1,5 +1,5 @@
 -- How a graph changes: another register or cell, one more object or set, a seat that leaves.
-use Rattle.std.specs.Prelude.{ℕ, ◌+◌, ◌*◌, ◌^◌, true, false, [], ◌∷◌, ◌++◌, length, replicate, slice_index_or, slice_set}
+use Rattle.std.specs.Prelude.{ℕ, ◌+◌, ◌*◌, true, false, [], ◌∷◌, ◌++◌, length, replicate, slice_index_or, slice_set}
 use Rattle.heap_model.specs.Limits.{register_count, stamp_limit}
 use Rattle.heap_model.specs.declared.id.Id.TheVariants.{Board, Made}
 use Rattle.heap_model.specs.declared.id.Value.{Value}

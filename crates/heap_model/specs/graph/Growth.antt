@@ -1,5 +1,5 @@
 -- How the graph grows with each entry.
-use Rattle.std.specs.Prelude.{ℕ, true, false, List, fold}
+use Rattle.std.specs.Prelude.{ℕ, ◌+◌, Bool, true, false, if◌then◌else◌, List, slice_index_or, slice_set, fold}
 use Rattle.heap_model.specs.declared.id.Value.TheVariants.{Nil, Number}
 use Rattle.heap_model.specs.declared.command.Command.{Command}
 use Rattle.heap_model.specs.declared.command.Command.TheVariants as commands
@@ -28,6 +28,17 @@ after_reply g s _ reply = g
 abbrev pub after : State → Entry → State
 after g (entries.Said s command reply) = after_reply g s command reply
 after g _ = g
+
+-- the entry makes an object
+abbrev pub makes : Entry → Bool
+makes (entries.Said s (commands.New d fields) (replies.Made id)) = true
+makes (entries.Said s (commands.Array d cells) (replies.Made id)) = true
+makes _ = false
+
+-- how many objects each seat made, after an entry
+abbrev pub counts_after : List ℕ → Entry → List ℕ
+counts_after counts (entries.Said s command reply) = if makes (entries.Said s command reply) then slice_set counts s (slice_index_or counts s 0 + 1) else counts
+counts_after counts _ = counts
 
 -- the graph after a history
 abbrev pub graph_after : State → List Entry → State

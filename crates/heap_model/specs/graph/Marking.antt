@@ -1,10 +1,10 @@
 -- The marks of a search through the graph.
-use Rattle.std.specs.Prelude.{◌≡◌, ℕ, ◌+◌, Bool, true, false, not, if◌then◌else◌, List, [], length, map, replicate, slice_get, slice_index_or, slice_set, count_by, sum_by, AllPairs, Contains, Option, Some, is_some, IsSome}
+use Rattle.std.specs.Prelude.{◌≡◌, ℕ, ◌+◌, Bool, true, false, not, if◌then◌else◌, List, [], length, map, replicate, slice_get, slice_index_or, slice_set, count_by, sum_by, AllPairs, Contains, Option, Some, unwrap_or, IsSome}
 use Rattle.heap_model.specs.declared.id.Id.{Id}
 use Rattle.heap_model.specs.declared.id.Id.TheVariants.{Board, Made}
 use Rattle.heap_model.specs.declared.id.Value.{Value}
 use Rattle.heap_model.specs.declared.id.Value.TheVariants.{Nil, Number, Object}
-use Rattle.heap_model.specs.graph.Objects.{node}
+use Rattle.heap_model.specs.graph.Objects.{made_counts}
 use Rattle.heap_model.specs.graph.State.{State}
 use Rattle.heap_model.specs.graph.Reach.{IsBefore}
 
@@ -26,6 +26,10 @@ mark m (Made s count) = slice_get (marks_of m s) count
 abbrev pub IsMarked : Marking → Id → Type 0
 IsMarked m id = mark m id ≡ Some true
 
+-- whether there is and it is
+abbrev pub is_marked : Marking → Id → Bool
+is_marked m id = unwrap_or (mark m id) false
+
 -- the marks, that of this id among them
 abbrev pub with_mark : Marking → Id → Marking
 with_mark m Board = record m { board = true }
@@ -35,13 +39,21 @@ with_mark m (Made s count) = record m { seats = slice_set m.seats s (slice_set (
 abbrev pub unmarked : Marking → ℕ
 unmarked m = (if m.board then 0 else 1) + sum_by (λ marks. count_by not marks) m.seats
 
+-- how many marks there are, the board's among them
+abbrev pub all_marks : Marking → ℕ
+all_marks m = 1 + sum_by length m.seats
+
+-- how many marks there are of each seat, in the order of the seats
+abbrev pub mark_counts : Marking → List ℕ
+mark_counts m = map length m.seats
+
+-- so many marks of each seat, and the board's, of which none is set
+abbrev pub no_marks : List ℕ → Marking
+no_marks counts = record { board = false; seats = map (λ n. replicate n false) counts }
+
 -- there is a mark for each object of the graph, and no more
 abbrev pub HasMarks : State → Marking → Type 0
-HasMarks g m = (id : Id) → is_some (mark m id) ≡ is_some (node g id)
-
--- no object of the graph is marked
-abbrev pub no_marks : State → Marking
-no_marks g = record { board = false; seats = map (λ seat. replicate (length seat.objects) false) g.seats }
+HasMarks g m = mark_counts m ≡ made_counts g
 
 -- where the value refers to an object, that one is marked
 abbrev pub IsFound : Marking → Value → Type 0

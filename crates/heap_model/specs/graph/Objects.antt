@@ -1,5 +1,5 @@
 -- What the seats, registers, ids and values of a graph stand for.
-use Rattle.std.specs.Prelude.{ℕ, true, [], slice_get, slice_index_or, Option, Some, None, Result, Ok, Err}
+use Rattle.std.specs.Prelude.{ℕ, true, List, [], length, map, slice_get, slice_index_or, Option, Some, None, Result, Ok, Err}
 use Rattle.heap_model.specs.declared.id.Id.{Id}
 use Rattle.heap_model.specs.declared.id.Id.TheVariants.{Board, Made}
 use Rattle.heap_model.specs.declared.id.Value.{Value}
@@ -20,6 +20,10 @@ party g s = slice_index_or g.seats s nobody
 -- the value of a seat's register
 abbrev pub register : State → ℕ → ℕ → Value
 register g s r = slice_index_or (party g s).registers r Nil
+
+-- how many objects each seat made, in the order of the seats
+abbrev pub made_counts : State → List ℕ
+made_counts g = map (λ seat. length seat.objects) g.seats
 
 -- the object of this id, where it was made
 abbrev pub node : State → Id → Option Node

@@ -1,21 +1,27 @@
 -- A search through the graph: the marks, and those marked objects whose cells wait to be looked at.
-use Rattle.std.specs.Prelude.{◌≡◌, ◌+◌, ◌⊎◌, List, length, All, Contains, is_some}
+use Rattle.std.specs.Prelude.{◌≡◌, ℕ, ◌+◌, ◌≤◌, ◌⊎◌, List, length, All, Contains}
 use Rattle.std.specs.Option.{IfSome}
 use Rattle.heap_model.specs.declared.id.Id.{Id}
 use Rattle.heap_model.specs.graph.Objects.{node}
 use Rattle.heap_model.specs.graph.State.{Node, Party, State}
 use Rattle.heap_model.specs.graph.Reach.{Reaches}
-use Rattle.heap_model.specs.graph.Marking.{Marking, mark, IsMarked, unmarked, HasMarks, IsFound}
+use Rattle.heap_model.specs.graph.Marking.{Marking, IsMarked, unmarked, all_marks, mark_counts, HasMarks, IsFound}
 
 -- the marks, and the marked ids that wait
 pub record Search : Type 0 where
   pub marks : Marking
   pub waiting : List Id
 
+-- there are places enough for each marked object to wait once, and one of them is left for each object that isn't marked
+pub record HasPlaces (m : Marking) (waiting places capacity : ℕ) : Type 0 where
+  pub counted : all_marks m ≤ places
+  pub room : places ≤ capacity
+  pub left : unmarked m + waiting ≤ places
+
 -- the search went on by marking some more objects, of which `P` holds, and which wait now
 pub record GoesOn (P : Id → Type 0) (old new : Search) : Type 0 where
   pub marked_stay : (id : Id) → IsMarked old.marks id → IsMarked new.marks id
-  pub objects_stay : (id : Id) → is_some (mark new.marks id) ≡ is_some (mark old.marks id)
+  pub marks_stay : mark_counts new.marks ≡ mark_counts old.marks
   pub waiting_stay : (id : Id) → Contains old.waiting id → Contains new.waiting id
   pub marked_more : (id : Id) → IsMarked new.marks id → IsMarked old.marks id ⊎ (Contains new.waiting id × P id)
   pub waiting_more : (id : Id) → Contains new.waiting id → Contains old.waiting id ⊎ IsMarked new.marks id

@@ -1,5 +1,5 @@
 -- How many fragments and spine words the objects of a graph have.
-use Rattle.std.specs.Prelude.{ℕ, ◌+◌, ◌/◌, if◌then◌else◌, List, length, sum_by}
+use Rattle.std.specs.Prelude.{ℕ, if◌then◌else◌, List, length, sum_by}
 use Rattle.std.specs.Option.{option_map_or}
 use Rattle.heap_model.specs.declared.id.Id.{Id}
 use Rattle.heap_model.specs.graph.Objects.{node}

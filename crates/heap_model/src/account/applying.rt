@@ -1,42 +1,44 @@
-ghost use Rattle.std.specs.Prelude.{◌≡◌, ◌<◌, ◌+◌, ◌^◌, ◌↔◌, ◌∷◌, [], ◌++◌, List, Err, IsTrue, IfOk, OnOk, OnErr};
+ghost use Rattle.std.specs.Prelude.{◌≡◌, ◌<◌, ◌+◌, ◌^◌, ◌↔◌, ◌∷◌, [], ◌++◌, List, Err, IsTrue, OnOk, OnErr};
 ghost use Rattle.heap_model.specs.declared.entry.Entry.{Entry as Entries};
 ghost use Rattle.heap_model.specs.declared.entry.Entry.TheVariants as entries;
+ghost use Rattle.heap_model.specs.graph.Growth.{makes};
 
 use crate::account::Account;
 use crate::command::Command;
 use crate::entry::Entry;
-use crate::fault::{ApplyFault, Memory};
+use crate::fault::ApplyFault;
 use crate::graph::Graph;
 use crate::phase_plan::{BARRIERS, CYCLE_PHASES};
 use crate::reply::Reply;
 
 impl Account {
     ghost use Rattle.heap_model.specs.account.Cycles.{graph_of};
-    ghost use Rattle.heap_model.specs.account.Account.{KeepsSpace, MayLackMemory};
+    ghost use Rattle.heap_model.specs.account.Account.{KeepsSpace};
     ghost use Rattle.heap_model.specs.account.Books.{Tells};
     ghost use Rattle.heap_model.specs.account.Noting.{IsSeatBelow};
     ghost use Rattle.heap_model.specs.account.Preparing.{IsPrepared, WantsMemory};
 
-    pub(super) fn keeps(&self, graph: &Graph, entry: &Entry, play: bool) -> Result<bool, Memory>
-        requires { IsSeatBelow self.now.heap.seats entry.now }
-        ensures keeps { (history : List Entries) → Tells self.now history → graph.now ≡ graph_of self.now.heap history → IfOk result (λ keeps. IsTrue keeps ↔ KeepsSpace self.now.heap play history entry.now) }
-        ensures memory { (history : List Entries) → Tells self.now history → OnErr result (MayLackMemory self.now.heap play history entry.now) }
+    /// Whether the entry keeps the rules, for which no memory is taken.
+    pub(super) fn keeps(&mut self, graph: &Graph, entry: &Entry, play: bool) -> bool
+        requires { IsSeatBelow self.old.heap.seats entry.now }
+        ensures keeps { (history : List Entries) → Tells self.old history → graph.now ≡ graph_of self.old.heap history → (IsTrue result ↔ KeepsSpace self.old.heap play history entry.now) }
+        ensures unchanged { self.new ≡ self.old }
     {
         match *entry {
             Entry::Said {
                 seat,
                 command,
                 reply,
-            } => Ok(self.may_say(play, seat, command, reply)),
-            Entry::Takes { seat, count } => Ok(self.may_take(seat, count)),
-            Entry::GivesBack { seat, count } => Ok(self.may_give(seat, count)),
-            Entry::Answers { seat, phase } => Ok(self.may_answer(seat, phase)),
-            Entry::Advance(phase) => Ok(self.may_begin(phase)),
-            Entry::Frees(count) => Ok(self.may_free(count)),
-            Entry::Returns(count) => Ok(self.may_return(count)),
-            Entry::Swings(id) => Ok(self.may_swing(graph, id)),
+            } => self.may_say(play, seat, command, reply),
+            Entry::Takes { seat, count } => self.may_take(seat, count),
+            Entry::GivesBack { seat, count } => self.may_give(seat, count),
+            Entry::Answers { seat, phase } => self.may_answer(seat, phase),
+            Entry::Advance(phase) => self.may_begin(phase),
+            Entry::Frees(count) => self.may_free(count),
+            Entry::Returns(count) => self.may_return(count),
+            Entry::Swings(id) => self.may_swing(graph, id),
             Entry::Ends { cycle, kept } => self.may_end(graph, cycle, kept),
-            Entry::Turned { reply, .. } => Ok(self.turn_shows(reply)),
+            Entry::Turned { reply, .. } => self.turn_shows(reply),
         }
     }
 
@@ -58,6 +60,7 @@ impl Account {
         ensures unchanged { OnErr result (self.new ≡ self.old) }
     {
         match *entry {
+            Entry::Said { seat, .. } if makes(entry) => self.search.add(seat)?,
             Entry::Advance(phase) if phase % CYCLE_PHASES == BARRIERS => self.cycle =
                 self.begun_cycle(graph)?,
             Entry::Swings(id) => self.swung.add(id)?,
@@ -65,4 +68,18 @@ impl Account {
         }
         Ok(())
     }
+}
+
+/// Whether the entry makes an object.
+fn makes(entry: &Entry) -> bool
+    ensures { result ≡ makes entry.now }
+{
+    matches!(
+        *entry,
+        Entry::Said {
+            command: Command::New { .. } | Command::Array { .. },
+            reply: Reply::Made(_),
+            ..
+        }
+    )
 }

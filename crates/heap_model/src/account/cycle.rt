@@ -1,4 +1,4 @@
-ghost use Rattle.std.specs.Prelude.{◌≡◌, ◌<◌, ◌≤◌, ◌+◌, ◌^◌, ◌↔◌, ℕ, List, IsTrue, IfOk, OnErr, sum_by};
+ghost use Rattle.std.specs.Prelude.{◌≡◌, ◌<◌, ◌≤◌, ◌+◌, ◌^◌, ◌↔◌, ℕ, List, IsTrue, IfOk, sum_by};
 ghost use Rattle.std.specs.List.{range_with_len};
 ghost use Rattle.heap_model.specs.declared.entry.Entry.{Entry as Entries};
 
@@ -20,7 +20,7 @@ pub struct Cycle {
 }
 
 impl Account {
-    ghost use Rattle.heap_model.specs.account.Cycles.{graph_of, LeavesLittle, LeavesWithinBounds};
+    ghost use Rattle.heap_model.specs.account.Cycles.{graph_of, LeavesLittle};
     ghost use Rattle.heap_model.specs.account.Books.{Tells};
     ghost use Rattle.heap_model.specs.account.SeatBooks.{seat_at};
     ghost use Rattle.heap_model.specs.account.Preparing.{IsBegun, brought_by, IsWithinBy};
@@ -66,17 +66,16 @@ impl Account {
     }
 
     /// Whether little is left where the cycle ends here.
-    pub(super) fn leaves_little(&self, graph: &Graph, kept: u64) -> Result<bool, Memory>
-        requires { 1 ≤ self.now.all.phases }
-        ensures little { (history : List Entries) → Tells self.now history → graph.now ≡ graph_of self.now.heap history → IfOk result (λ little. IsTrue little ↔ LeavesLittle self.now.heap history kept) }
-        ensures memory { (history : List Entries) → Tells self.now history → OnErr result (LeavesWithinBounds self.now.heap history kept) }
+    pub(super) fn leaves_little(&mut self, graph: &Graph, kept: u64) -> bool
+        requires { 1 ≤ self.old.all.phases }
+        ensures little { (history : List Entries) → Tells self.old history → graph.now ≡ graph_of self.old.heap history → (IsTrue result ↔ LeavesLittle self.old.heap history kept) }
+        ensures unchanged { self.new ≡ self.old }
     {
         if !self.is_within(kept) {
-            return Ok(false);
+            return false;
         }
-        let both = graph.reached_among(&self.cycle.reached)?;
-        let frags = graph.frags_of(&both);
-        Ok(frags <= kept as u128)
+        let frags = graph.reached_frags(&self.cycle.reached, &mut self.search);
+        frags <= kept as u128
     }
 
     /// Whether what is in use and what was kept are within the bounds.

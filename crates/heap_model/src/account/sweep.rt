@@ -1,9 +1,8 @@
-ghost use Rattle.std.specs.Prelude.{◌≡◌, ◌%◌, ◌↔◌, List, IsTrue, IfOk, OnErr};
+ghost use Rattle.std.specs.Prelude.{◌≡◌, ◌%◌, ◌↔◌, List, IsTrue};
 ghost use Rattle.heap_model.specs.declared.entry.Entry.{Entry as Entries};
 ghost use Rattle.heap_model.specs.declared.entry.Entry.TheVariants as entries;
 
 use crate::account::Account;
-use crate::fault::Memory;
 use crate::graph::Graph;
 use crate::id::Id;
 use crate::phase_plan::{CLEARING, COPYING, CYCLE_PHASES, SWEEP};
@@ -12,7 +11,7 @@ impl Account {
     ghost use Rattle.heap_model.specs.PhasePlan.{cycle_phases, sweep};
     ghost use Rattle.heap_model.specs.account.PhaseCounts.{phase};
     ghost use Rattle.heap_model.specs.account.Books.{Tells};
-    ghost use Rattle.heap_model.specs.account.Cycles.{graph_of, EndsCycle, IsThroughCycle, LeavesWithinBounds};
+    ghost use Rattle.heap_model.specs.account.Cycles.{graph_of, EndsCycle};
     ghost use Rattle.heap_model.specs.account.Sweep.{Sweeps};
 
     pub(super) fn may_free(&self, count: u32) -> bool
@@ -41,14 +40,14 @@ impl Account {
         self.all.phases % CYCLE_PHASES == COPYING && graph.is_array(id) && !self.swung.has(id)
     }
 
-    pub(super) fn may_end(&self, graph: &Graph, cycle: u64, kept: u64) -> Result<bool, Memory>
-        ensures ends { (history : List Entries) → Tells self.now history → graph.now ≡ graph_of self.now.heap history → IfOk result (λ may. IsTrue may ↔ EndsCycle self.now.heap history (entries.Ends cycle kept)) }
-        ensures memory { (history : List Entries) → Tells self.now history → OnErr result (IsThroughCycle self.now.heap history cycle × LeavesWithinBounds self.now.heap history kept) }
+    pub(super) fn may_end(&mut self, graph: &Graph, cycle: u64, kept: u64) -> bool
+        ensures ends { (history : List Entries) → Tells self.old history → graph.now ≡ graph_of self.old.heap history → (IsTrue result ↔ EndsCycle self.old.heap history (entries.Ends cycle kept)) }
+        ensures unchanged { self.new ≡ self.old }
     {
         if self.all.phases as u128 != CYCLE_PHASES as u128 * cycle as u128 + CLEARING as u128
             || !self.all_answered()
         {
-            return Ok(false);
+            return false;
         }
         self.leaves_little(graph, kept)
     }

@@ -1,4 +1,5 @@
-ghost use Rattle.std.specs.Prelude.{◌≡◌, ◌+◌, [], length, IfOk, OnOk, IfSome};
+ghost use Rattle.std.specs.Prelude.{◌≡◌, ◌+◌, [], List, length, IfOk, OnOk, IfSome};
+ghost use Rattle.heap_model.specs.declared.id.Id.{Id as Ids};
 ghost use Rattle.heap_model.specs.declared.id.Id.TheVariants.{Board, Made};
 
 use crate::fault::Memory;
@@ -8,48 +9,52 @@ use marks::Marks;
 use search::Search;
 use std::alloc::AllocError;
 
-mod marks;
-mod search;
+pub(super) mod marks;
+pub(crate) mod search;
 
 impl Graph {
     ghost use Rattle.heap_model.specs.graph.Objects.{node};
     ghost use Rattle.heap_model.specs.graph.Reach.{IsReach, IsReachAmong, Points};
-    ghost use Rattle.heap_model.specs.graph.Sizes.{frags as frags_at};
+    ghost use Rattle.heap_model.specs.graph.Sizes.{frags as frags_at, frags_of};
     ghost use Rattle.heap_model.specs.graph.Search.{IsSearch, GoesOn, FoundFromObject};
-    ghost use Rattle.heap_model.specs.graph.Marking.{HasMarks, IsListed};
+    ghost use Rattle.heap_model.specs.graph.Marking.{HasMarks, IsListed, mark_counts};
 
     /// The objects to which a path leads from some register: the board first, and the others by seat and count.
     pub fn reach(&self) -> Result<Vec<Id>, Memory>
         ensures { IfOk result (λ ids. IsReach self.now ids.items) }
     {
-        let marks = self.reached_marks()?;
-        let ids = self.list(&marks)?;
+        let mut search = self.room_to_search()?;
+        self.search(&mut search);
+        let ids = self.list(search.marks())?;
         Ok(ids)
     }
 
-    /// Those of the ids to which a path leads from some register.
-    pub(crate) fn reached_among(&self, ids: &[Id]) -> Result<Vec<Id>, Memory>
-        ensures { IfOk result (λ both. IsReachAmong self.now ids.now both.items) }
+    /// Room for a search, in which each object of the graph has a mark.
+    pub(crate) fn room_to_search(&self) -> Result<Search, AllocError>
+        ensures { IfOk result (λ search. HasMarks self.now search.marks) }
     {
-        let marks = self.reached_marks()?;
-        let mut both = Vec::new(self.alloc);
-        for id in ids {
-            if marks.is_marked(*id) {
-                both.push(*id)?;
-            }
-        }
-        Ok(both)
+        Search::new(self.alloc, &self.seats)
     }
 
-    /// The marks of a search that is through.
-    fn reached_marks(&self) -> Result<Marks, AllocError>
-        ensures { IfOk result (λ marks. IsSearch self.now (record { marks = marks; waiting = [] })) }
+    /// The fragments of those of the ids to which a path leads from some register.
+    pub(crate) fn reached_frags(&self, ids: &[Id], search: &mut Search) -> u128
+        ensures sum { HasMarks self.now search.old.marks → (both : List Ids) × IsReachAmong self.now ids.now both × (result ≡ frags_of self.now both) }
+        ensures marks { mark_counts search.new.marks ≡ mark_counts search.old.marks }
     {
-        let mut search = self.search_from_seats()?;
+        self.search(search);
+        self.marked_frags(ids, search.marks())
+    }
+
+    /// Marks what is reached, where each object has a mark.
+    fn search(&self, search: &mut Search)
+        ensures reached { HasMarks self.now search.old.marks → IsSearch self.now search.new }
+        ensures through { search.new.waiting ≡ [] }
+        ensures marks { mark_counts search.new.marks ≡ mark_counts search.old.marks }
+    {
+        self.search_from_seats(search);
         while let Some(id) = search.next() {
-            self.look_at(id, &mut search)?;
+            self.look_at(id, search);
         }
-        Ok(search.into_marks())
     }
 
     /// How many fragments the object has, and 0 where there is no such object.
@@ -62,25 +67,25 @@ impl Graph {
         }
     }
 
-    fn search_from_seats(&self) -> Result<Search, AllocError>
-        ensures { IfOk result (IsSearch self.now) }
+    /// Begins a search anew, by what the registers hold.
+    fn search_from_seats(&self, search: &mut Search)
+        ensures reached { HasMarks self.now search.old.marks → IsSearch self.now search.new }
+        ensures marks { mark_counts search.new.marks ≡ mark_counts search.old.marks }
     {
-        let mut search = Search::new(self.alloc, Marks::new(self.alloc, &self.seats)?);
+        search.restart();
         for seat in &self.seats {
-            search.note_seat(seat)?;
+            search.note_seat(seat);
         }
-        Ok(search)
     }
 
     /// Notes what the cells of the object hold.
-    fn look_at(&self, id: Id, search: &mut Search) -> Result<(), AllocError>
-        ensures goes_on { OnOk result (GoesOn (Points self.now id) search.old search.new) }
-        ensures found { OnOk result (IfSome (node self.now id) (FoundFromObject search.new.marks)) }
+    fn look_at(&self, id: Id, search: &mut Search)
+        ensures goes_on { GoesOn (Points self.now id) search.old search.new }
+        ensures found { IfSome (node self.now id) (FoundFromObject search.new.marks) }
     {
         if let Some(object) = self.target(Value::Object(id)) {
-            search.note_object(object)?;
+            search.note_object(object);
         }
-        Ok(())
     }
 
     /// The marked ids in their order.

@@ -1,10 +1,13 @@
 ghost use Rattle.std.specs.Prelude.{◌≡◌, ◌<◌, ◌^◌, ◌↔◌, IsTrue};
+ghost use Rattle.std.specs.List.{filter};
 
 use crate::graph::Graph;
+use crate::graph::reach::marks::Marks;
 use crate::id::{Id, Value};
 
 impl Graph {
     ghost use Rattle.heap_model.specs.graph.Sizes.{words as words_at, frags_of, words_of};
+    ghost use Rattle.heap_model.specs.graph.Marking.{is_marked};
     ghost use Rattle.heap_model.specs.account.Sweep.{IsArray};
 
     pub(crate) fn is_array(&self, id: Id) -> bool
@@ -34,6 +37,19 @@ impl Graph {
         let mut sum = 0;
         for id in ids {
             sum += self.frags(*id) as u128;
+        }
+        sum
+    }
+
+    /// The fragments of those of the objects that are marked.
+    pub(super) fn marked_frags(&self, ids: &[Id], marks: &Marks) -> u128
+        ensures { result ≡ frags_of self.now (filter (is_marked marks.now) ids.now) }
+    {
+        let mut sum = 0;
+        for id in ids {
+            if marks.is_marked(*id) {
+                sum += self.frags(*id) as u128;
+            }
         }
         sum
     }

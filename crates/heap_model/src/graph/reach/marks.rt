@@ -1,8 +1,8 @@
-ghost use Rattle.std.specs.Prelude.{◌≡◌, ◌↔◌, map, replicate, false, length, Some, if◌then◌else◌, IfOk, IsTrue};
+ghost use Rattle.std.specs.Prelude.{◌≡◌, ◌↔◌, [], ◌∷◌, ◌++◌, map, false, length, slice_set, Some, if◌then◌else◌, IfOk, OnOk, OnErr, IsTrue};
 
 use crate::graph::seat::Seat;
 use crate::id::Id;
-use std::alloc::{AllocError, Global};
+use std::alloc::{AllocError, AllocFailed, Global};
 use std::marker::Model;
 
 /// The marks of the objects of one seat.
@@ -35,14 +35,11 @@ impl Model for Marks {
 }
 
 impl Marks {
-    ghost use Rattle.heap_model.specs.graph.Marking.{mark as mark_of, with_mark, IsMarked};
+    ghost use Rattle.heap_model.specs.graph.Marking.{mark as mark_of, marks_of, mark_counts, no_marks, with_mark, is_marked, IsMarked};
 
     /// The marks of the board and of the objects of these seats, with none set.
     pub fn new(alloc: Global, seats: &[Seat]) -> Result<Marks, AllocError>
-        ensures { IfOk result (λ marks. marks ≡ record {
-          board = false;
-          seats = map (λ seat. replicate (length seat.objects) false) seats.now;
-        }) }
+        ensures { IfOk result (λ marks. marks ≡ no_marks (map (λ seat. length seat.objects) seats.now)) }
     {
         let mut rows = Vec::with_capacity(alloc, seats.len())?;
         for seat in seats {
@@ -55,8 +52,30 @@ impl Marks {
         })
     }
 
+    /// One more mark of the seat, where there is such a one.
+    pub fn add(&mut self, seat: u8) -> Result<(), AllocFailed<bool>>
+        ensures added { OnOk result (self.new ≡ record self.old { seats = slice_set self.old.seats seat (marks_of self.old seat ++ false ∷ []) }) }
+        ensures unchanged { OnErr result (self.new ≡ self.old) }
+    {
+        match self.seats.get_mut(seat as usize) {
+            Some(row) => row.add(),
+            None => Ok(()),
+        }
+    }
+
+    /// Takes back all marks.
+    pub fn clear(&mut self)
+        ensures { self.new ≡ no_marks (mark_counts self.old) }
+    {
+        self.board = false;
+        for seat in 0..self.seats.len() {
+            self.seats[seat].clear();
+        }
+    }
+
     pub fn is_marked(&self, id: Id) -> bool
-        ensures { IsTrue result ↔ IsMarked self.now id }
+        ensures value { result ≡ is_marked self.now id }
+        ensures marked { IsTrue result ↔ IsMarked self.now id }
     {
         match id {
             Id::Board => self.board,
@@ -87,7 +106,20 @@ impl Marks {
 }
 
 impl Row {
-    ghost use Rattle.std.specs.Prelude.{true, slice_get, slice_set};
+    ghost use Rattle.std.specs.Prelude.{true, replicate, slice_get};
+
+    fn add(&mut self) -> Result<(), AllocFailed<bool>>
+        ensures added { OnOk result (self.new ≡ self.old ++ false ∷ []) }
+        ensures unchanged { OnErr result (self.new ≡ self.old) }
+    {
+        self.marks.push(false)
+    }
+
+    fn clear(&mut self)
+        ensures { self.new ≡ replicate (length self.old) false }
+    {
+        self.marks.fill(false);
+    }
 
     /// Sets the mark, where there is such a one and it wasn't set: then it answers true.
     fn mark(&mut self, count: u32) -> bool

@@ -1,46 +1,79 @@
-ghost use Rattle.std.specs.Prelude.{◌≡◌, [], ◌∷◌, ◌++◌, All, OnOk, IfSome, IfNone};
+ghost use Rattle.std.specs.Prelude.{◌≡◌, ◌+◌, ◌≤◌, [], ◌∷◌, ◌++◌, All, map, length, slice_index_or, slice_set, IfOk, OnOk, OnErr, IfSome, IfNone};
 ghost use Rattle.heap_model.specs.declared.id.Value.TheVariants.{Object as Reference};
 
 use super::marks::Marks;
 use crate::graph::object::Object;
 use crate::graph::seat::Seat;
 use crate::id::{Id, Value};
-use std::alloc::{AllocError, AllocFailed, Global};
+use std::alloc::{AllocError, Global};
 use std::marker::Model;
 
-/// What a walk through a graph has found so far.
+/// What a walk through a graph has found so far. Each object that isn't marked yet has its place among those that wait, so
+/// that a walk takes no memory.
 #[derive(Drop)]
 pub struct Search {
     marks: Marks,
     waiting: Vec<Id>,
+    /// For so many marks there is room.
+    places: usize,
 }
 
 impl Model for Search {
-    ghost use Rattle.heap_model.specs.graph.Search.{Search};
+    ghost use Rattle.std.specs.Prelude.{vec_capacity, vec_len};
+    ghost use Rattle.heap_model.specs.graph.Search.{Search, HasPlaces};
 
     ghost Value = { Search };
 
     ghost view = { λ s. record { marks = s.marks; waiting = s.waiting.items } };
+
+    ghost invariant = { λ s. HasPlaces s.marks (vec_len s.waiting) s.places (vec_capacity s.waiting) };
 }
 
 impl Search {
+    ghost use Rattle.heap_model.specs.Limits.{most_seats};
     ghost use Rattle.heap_model.specs.graph.Reach.{IsRegistered, PointsTo};
     ghost use Rattle.heap_model.specs.graph.Search.{GoesOn, FoundFromSeat, FoundFromObject};
-    ghost use Rattle.heap_model.specs.graph.Marking.{IsFound};
+    ghost use Rattle.heap_model.specs.graph.Marking.{IsFound, mark_counts, no_marks};
 
-    pub fn new(alloc: Global, marks: Marks) -> Search
-        ensures { result ≡ record { marks = marks; waiting = [] } }
+    /// Room for the board and the objects of these seats.
+    pub fn new(alloc: Global, seats: &[Seat]) -> Result<Search, AllocError>
+        requires { length seats.now ≤ most_seats }
+        ensures { IfOk result (λ search. mark_counts search.marks ≡ map (λ seat. length seat.objects) seats.now) }
     {
-        Search {
-            marks,
-            waiting: Vec::new(alloc),
+        let mut places = 1;
+        for seat in seats {
+            places += seat.made();
         }
+        Ok(Search {
+            marks: Marks::new(alloc, seats)?,
+            waiting: Vec::with_capacity(alloc, places)?,
+            places,
+        })
     }
 
-    pub fn into_marks(self) -> Marks
-        ensures { result ≡ self.marks }
+    /// Makes room for one more object of the seat.
+    pub fn add(&mut self, seat: u8) -> Result<(), AllocError>
+        ensures added { OnOk result (mark_counts self.new.marks ≡ slice_set (mark_counts self.old.marks) seat (slice_index_or (mark_counts self.old.marks) seat 0 + 1)) }
+        ensures unchanged { OnErr result (self.new ≡ self.old) }
     {
-        self.marks
+        self.waiting.reserve(self.places + 1)?;
+        self.marks.add(seat)?;
+        self.places += 1;
+        Ok(())
+    }
+
+    /// Takes back all marks.
+    pub fn restart(&mut self)
+        ensures { self.new ≡ record { marks = no_marks (mark_counts self.old.marks); waiting = [] } }
+    {
+        self.marks.clear();
+        self.waiting.clear();
+    }
+
+    pub fn marks(&self) -> &Marks
+        ensures { result.now ≡ self.now.marks }
+    {
+        &self.marks
     }
 
     /// Takes an object whose cells are to be looked at.
@@ -55,35 +88,35 @@ impl Search {
     }
 
     /// Marks what the value refers to, and lets it wait if it wasn't marked.
-    fn note(&mut self, value: Value) -> Result<(), AllocFailed<Id>>
-        ensures goes_on { OnOk result (GoesOn (λ id. value ≡ Reference id) self.old self.new) }
-        ensures found { OnOk result (IsFound self.new.marks value) }
+    fn note(&mut self, value: Value)
+        ensures goes_on { GoesOn (λ id. value ≡ Reference id) self.old self.new }
+        ensures found { IsFound self.new.marks value }
     {
         if let Value::Object(id) = value
             && self.marks.mark(id)
         {
-            self.waiting.push(id)?;
+            match self.waiting.push(id) {
+                Ok(()) => (),
+                Err(_) => unreachable!(),
+            }
         }
-        Ok(())
     }
 
-    pub fn note_seat(&mut self, seat: &Seat) -> Result<(), AllocError>
-        ensures goes_on { OnOk result (GoesOn (IsRegistered seat.now) self.old self.new) }
-        ensures found { OnOk result (FoundFromSeat self.new.marks seat.now) }
+    pub fn note_seat(&mut self, seat: &Seat)
+        ensures goes_on { GoesOn (IsRegistered seat.now) self.old self.new }
+        ensures found { FoundFromSeat self.new.marks seat.now }
     {
         for value in seat.registers() {
-            self.note(*value)?;
+            self.note(*value);
         }
-        Ok(())
     }
 
-    pub fn note_object(&mut self, object: &Object) -> Result<(), AllocError>
-        ensures goes_on { OnOk result (GoesOn (PointsTo object.now) self.old self.new) }
-        ensures found { OnOk result (FoundFromObject self.new.marks object.now) }
+    pub fn note_object(&mut self, object: &Object)
+        ensures goes_on { GoesOn (PointsTo object.now) self.old self.new }
+        ensures found { FoundFromObject self.new.marks object.now }
     {
         for cell in object.cells() {
-            self.note(cell.value)?;
+            self.note(cell.value);
         }
-        Ok(())
     }
 }

@@ -19,4 +19,5 @@ returns-in_ok-add-in-Swings-clause-prepared c = record {
       );
   begun = search rules;
   same = search rules;
+  made = search rules;
 }

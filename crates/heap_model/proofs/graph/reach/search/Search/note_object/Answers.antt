@@ -4,7 +4,7 @@ use Rattle.heap_model.proofs.graph.reach.search.Search.note_object.Goals as goal
 
 pub loop-cell-preserved : goal.loop-cell-preserved
 loop-cell-preserved c =
-    let noted = c.in_ok-note.ensures in
+    let noted = c.note.ensures in
     let cells = c.cells-cell-items in
     record {
       goes_on = GoesOn-cell c.args.object.now cells.result.now c.loop-cell.cell-index _ cells.ensures c.loop-cell-test.true c.loop-cell.invariant.goes_on noted.goes_on;

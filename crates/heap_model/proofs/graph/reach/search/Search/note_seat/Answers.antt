@@ -4,7 +4,7 @@ use Rattle.heap_model.proofs.graph.reach.search.Search.note_seat.Goals as goal
 
 pub loop-value-preserved : goal.loop-value-preserved
 loop-value-preserved c =
-    let noted = c.in_ok-note.ensures in
+    let noted = c.note.ensures in
     let values = c.registers-value-items in
     record {
       goes_on = GoesOn-register c.args.seat.now values.result.now c.loop-value.value-index _ values.ensures c.loop-value-test.true c.loop-value.invariant.goes_on noted.goes_on;
