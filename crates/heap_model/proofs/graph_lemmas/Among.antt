@@ -1,4 +1,4 @@
--- Lists of ids in their order.
+-- Lists of ids in their order, and which of the ids a search has marked.
 use Rattle.std.proofs.Common.{◌≡◌, zero, suc, ◌⊎◌, inl, inr, List, [], ◌∷◌, AllPairs, Contains, refl, sym, ap, ◌∙◌, subst, arith, Bool, true, false, Option, Some, None, filter, unwrap_or}
 use Rattle.std.proofs.lemmas.Bool.{cases_Bool, cond-true, cond-false, both_ways}
 use Rattle.std.proofs.lemmas.List.Elements.{All-filter, filter_passes, Contains-append_right, Contains-get_or}
