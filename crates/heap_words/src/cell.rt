@@ -1,5 +1,6 @@
-ghost use Rattle.std.specs.Prelude.{◌≡◌, ◌^◌, ◌<◌};
-ghost use Rattle.heap_words.specs.Cell.{cell_of, cell_word};
+ghost use Rattle.std.specs.Prelude.{◌≡◌, ◌≢◌, ◌^◌, ◌<◌, MatchOption};
+ghost use Rattle.heap_words.specs.Cell.{cell_of, cell_word, fixed_cell};
+ghost use Rattle.heap_words.specs.declared.kind.Kind.TheVariants.{Fixed};
 
 use crate::kind::Kind;
 
@@ -33,6 +34,18 @@ impl Cell {
             kind: Kind::read(word),
             value: (word >> 32 & 0x3fff_ffff) as u32,
             stamp: (word & 0xffff_ffff) as u32,
+        }
+    }
+
+    /// The value and the stamp of the fixed cell that packs to this word.
+    pub(crate) fn read_fixed(word: u64) -> Option<(u32, u32)>
+        ensures { MatchOption result
+            ((cell_of word).kind ≢ Fixed) (λ parts. cell_of word ≡ fixed_cell parts.0 parts.1) }
+    {
+        let Cell { kind, value, stamp } = Cell::read(word);
+        match kind {
+            Kind::Fixed => Some((value, stamp)),
+            _ => None,
         }
     }
 }

@@ -42,14 +42,7 @@ impl Meta {
     pub fn read(word: u64) -> Option<Meta>
         ensures { Reads IsMeta meta_word word result }
     {
-        let Cell {
-            kind: Kind::Fixed,
-            value,
-            stamp,
-        } = Cell::read(word)
-        else {
-            return None;
-        };
+        let (value, stamp) = Cell::read_fixed(word)?;
         let next = u16::try_from(stamp).ok()?;
         let array = value >= ARRAY;
         let length = if array { value - ARRAY } else { value };

@@ -31,18 +31,8 @@ impl Name {
     pub fn read(word: u64) -> Option<Name>
         ensures { Reads IsName name_word word result }
     {
-        let Cell {
-            kind: Kind::Fixed,
-            value,
-            stamp,
-        } = Cell::read(word)
-        else {
-            return None;
-        };
+        let (value, count) = Cell::read_fixed(word)?;
         let owner = u8::try_from(value).ok()?;
-        Some(Name {
-            owner,
-            count: stamp,
-        })
+        Some(Name { owner, count })
     }
 }

@@ -32,20 +32,13 @@ impl Spot {
     pub fn read(word: u64) -> Option<Spot>
         ensures { Reads IsSpot spot_word word result }
     {
-        let Cell {
-            kind: Kind::Fixed,
-            value,
-            stamp,
-        } = Cell::read(word)
-        else {
-            return None;
-        };
+        let (value, offset) = Cell::read_fixed(word)?;
         if value >= 2 {
             return None;
         }
         Some(Spot {
             half: value as u8,
-            offset: stamp,
+            offset,
         })
     }
 }

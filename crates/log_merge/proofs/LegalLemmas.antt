@@ -13,7 +13,7 @@ use Rattle.script_text.specs.declared.script.Form.{Form}
 use Rattle.script_text.specs.declared.script.Form.TheVariants.{Play, Run}
 use Rattle.reply_text.specs.declared.history.History.{History}
 use Rattle.reply_text.specs.declared.history.SpaceMark.{SpaceMark}
-use Rattle.reply_text.specs.declared.line.HistoryLine.TheVariants as lines
+use Rattle.reply_text.specs.declared.history_line.HistoryLine.TheVariants as lines
 use Rattle.reply_text.specs.History.{body, marked, space_line}
 use Rattle.log_merge.specs.Legal.{AreLegal, ShowsAtMark, ShowsCounts, ShowsUse, IsLegalHistory}
 use Rattle.log_merge.specs.Lines.{entry_of, entries_of, IsFirstIllegal, KeepsLine, KeepLines, KeepsRules}

@@ -6,8 +6,8 @@ use Rattle.std.specs.List.{AllByRecursion}
 use Rattle.heap_model.specs.declared.heap.Heap.{Heap}
 use Rattle.heap_model.specs.declared.entry.Entry.{Entry}
 use Rattle.script_text.specs.declared.script.Form.{Form}
-use Rattle.reply_text.specs.declared.line.HistoryLine.{HistoryLine}
-use Rattle.reply_text.specs.declared.line.HistoryLine.TheVariants as lines
+use Rattle.reply_text.specs.declared.history_line.HistoryLine.{HistoryLine}
+use Rattle.reply_text.specs.declared.history_line.HistoryLine.TheVariants as lines
 use Rattle.reply_text.specs.declared.history.SpaceMark.{SpaceMark}
 use Rattle.reply_text.specs.History.{marked, space_line}
 use Rattle.log_merge.specs.Lines.{entry_of, entries_of, KeepLines, BreaksAt}

@@ -4,7 +4,7 @@ use Rattle.std.proofs.lemmas.List.{append-nil}
 use Rattle.script_text.specs.declared.script.Form.{Form}
 use Rattle.reply_text.specs.declared.history.History.{History}
 use Rattle.reply_text.specs.declared.history.SpaceMark.{SpaceMark}
-use Rattle.reply_text.specs.declared.line.HistoryLine.{HistoryLine}
+use Rattle.reply_text.specs.declared.history_line.HistoryLine.{HistoryLine}
 use Rattle.reply_text.specs.History.{body, space_line}
 use Rattle.log_merge.specs.declared.checker.Checker.{Checker}
 use Rattle.log_merge.specs.Legal.{ShowsCounts}

@@ -7,7 +7,7 @@ use Rattle.heap_model.specs.account.Books.{Books, Tells}
 use Rattle.heap_model.specs.account.Cycles.{graph_of}
 use Rattle.script_text.specs.declared.script.Form.{Form}
 use Rattle.script_text.specs.declared.script.Form.TheVariants.{Play, Run}
-use Rattle.reply_text.specs.declared.line.HistoryLine.{HistoryLine}
+use Rattle.reply_text.specs.declared.history_line.HistoryLine.{HistoryLine}
 use Rattle.log_merge.specs.declared.checker.Checker.{Checker}
 use Rattle.log_merge.specs.declared.fault.CheckFault.{CheckFault}
 use Rattle.log_merge.specs.declared.fault.CheckFault.TheVariants as faults

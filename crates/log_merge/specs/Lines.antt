@@ -9,8 +9,8 @@ use Rattle.heap_model.specs.account.Cycles.{graph_of}
 use Rattle.script_text.specs.declared.script.Form.{Form}
 use Rattle.script_text.specs.declared.script.Form.TheVariants.{Play, Run}
 use Rattle.reply_text.specs.declared.history.History.{History}
-use Rattle.reply_text.specs.declared.line.HistoryLine.{HistoryLine}
-use Rattle.reply_text.specs.declared.line.HistoryLine.TheVariants as lines
+use Rattle.reply_text.specs.declared.history_line.HistoryLine.{HistoryLine}
+use Rattle.reply_text.specs.declared.history_line.HistoryLine.TheVariants as lines
 use Rattle.reply_text.specs.History.{body}
 use Rattle.log_merge.specs.Legal.{ShowsCounts, ShowsUse}
 

@@ -1,13 +1,3 @@
-pub mod Lines
-pub mod Limits
-pub mod Parts
-pub mod CommandReading
-pub mod Digits
-pub mod Reread
-pub mod Answered
-pub mod LineReread
-pub mod WordsAbove
-pub mod LinesReread
-pub mod Told
+pub mod read_lemmas
+pub mod write_lemmas
 pub mod Whole
-pub mod MarkedText

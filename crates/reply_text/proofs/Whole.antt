@@ -17,15 +17,15 @@ use Rattle.script_text.proofs.Whole.{heap_of-heap_line, same_heap}
 use Rattle.script_text.proofs.WordBytes.{heap_words-above}
 use Rattle.reply_text.specs.declared.history.History.{History}
 use Rattle.reply_text.specs.declared.history.SpaceMark.{SpaceMark}
-use Rattle.reply_text.specs.declared.line.HistoryLine.{HistoryLine}
-use Rattle.reply_text.specs.Faults.{first_history_fault, form_of}
-use Rattle.reply_text.specs.Stages.{first_stage}
-use Rattle.reply_text.specs.Reading.{GivesOnlyHistory}
+use Rattle.reply_text.specs.declared.history_line.HistoryLine.{HistoryLine}
+use Rattle.reply_text.specs.read.Faults.{first_history_fault, form_of}
+use Rattle.reply_text.specs.read.Stages.{first_stage}
+use Rattle.reply_text.specs.read.Reading.{GivesOnlyHistory}
 use Rattle.reply_text.specs.History.{IsHistory, IsSpellable, body, form_line, history_lines, too_many}
-use Rattle.reply_text.specs.Lines.{IsHistoryLine, history_line}
-use Rattle.reply_text.specs.LineWords.{line_of}
-use Rattle.reply_text.proofs.LinesReread.{body_lines, follow-body, history_lines-above, lines_fault-none}
-use Rattle.reply_text.proofs.Told.{end_in, end_in-body, entries_in, entries_in-body, lines-from_texts, mark_in, mark_in-body, values_in}
+use Rattle.reply_text.specs.write.Lines.{IsHistoryLine, history_line}
+use Rattle.reply_text.specs.read.LineWords.{line_of}
+use Rattle.reply_text.proofs.read_lemmas.LinesReread.{body_lines, follow-body, history_lines-above, lines_fault-none}
+use Rattle.reply_text.proofs.read_lemmas.Told.{end_in, end_in-body, entries_in, entries_in-body, lines-from_texts, mark_in, mark_in-body, values_in}
 
 form_of-form_line : (form : Form) → form_of (form_line form) ≡ Some form
 form_of-form_line Play = refl

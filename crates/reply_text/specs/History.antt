@@ -9,10 +9,10 @@ use Rattle.script_text.specs.Text.{lines_of}
 use Rattle.script_text.specs.Words.{heap_line}
 use Rattle.reply_text.specs.declared.history.History.{History}
 use Rattle.reply_text.specs.declared.history.SpaceMark.{SpaceMark}
-use Rattle.reply_text.specs.declared.line.HistoryLine.{HistoryLine}
-use Rattle.reply_text.specs.declared.line.HistoryLine.TheVariants as lines
+use Rattle.reply_text.specs.declared.history_line.HistoryLine.{HistoryLine}
+use Rattle.reply_text.specs.declared.history_line.HistoryLine.TheVariants as lines
 use Rattle.reply_text.specs.Ranges.{IsSpace}
-use Rattle.reply_text.specs.Lines.{history_line}
+use Rattle.reply_text.specs.write.Lines.{history_line}
 use Rattle.reply_text.specs.Written.{IsWritten}
 
 -- the first line

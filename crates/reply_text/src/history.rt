@@ -1,6 +1,5 @@
-use crate::entries::Entries;
-use heap_model::Heap;
-use script_text::Form;
+use heap_model::{Entry, Heap};
+use script_text::{Form, Sequence};
 
 /// What a play had taken when its script was done: fragments of all of them, and spine words of its budget.
 #[derive(Clone, Copy, Debug, PartialEq, Eq)]
@@ -18,7 +17,7 @@ pub struct SpaceMark {
 pub struct History {
     pub form: Form,
     pub heap: Heap,
-    pub entries: Entries,
+    pub entries: Sequence<Entry>,
     pub mark: Option<SpaceMark>,
     /// How many fragments are taken at the end.
     pub end_used: u64,

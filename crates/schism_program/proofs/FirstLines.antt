@@ -5,7 +5,7 @@ use Rattle.heap_model.specs.declared.heap.Heap.{Heap}
 use Rattle.heap_model.specs.declared.entry.Entry.{Entry}
 use Rattle.script_text.specs.declared.script.Form.{Form}
 use Rattle.reply_text.specs.declared.history.History.{History}
-use Rattle.reply_text.specs.declared.line.HistoryLine.{HistoryLine}
+use Rattle.reply_text.specs.declared.history_line.HistoryLine.{HistoryLine}
 use Rattle.log_merge.specs.Lines.{entry_of, entries_of, KeepLines, KeepsLine, IsFirstIllegal}
 
 module _ (form : Form) (heap : Heap) where

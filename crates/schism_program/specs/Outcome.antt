@@ -14,23 +14,22 @@ pub record Reads (words : List (List ℕ)) (left left' : Option (List ℕ)) (wor
   pub all : GivesAll left left' input
   pub short : length input ≤ most_bytes work
 
--- all was read, and the text that the work makes of it was written
-pub record WritesAll (words : List (List ℕ)) (left left' taken taken' : Option (List ℕ)) : Type 0 where
+-- all was read, and what was written is told by the text that the work makes of it
+pub record Writes (IsWritten : List ℕ → Type 0) (words : List (List ℕ)) (left left' : Option (List ℕ)) : Type 0 where
   pub work : Work
   pub input : List ℕ
   pub text : List ℕ
   pub reads : Reads words left left' work input
   pub makes : Makes work input text
-  pub written : Takes taken taken' text
+  pub written : IsWritten text
+
+-- all was read, and the text that the work makes of it was written
+abbrev pub WritesAll : List (List ℕ) → Option (List ℕ) → Option (List ℕ) → Option (List ℕ) → Option (List ℕ) → Type 0
+WritesAll words left left' taken taken' = Writes (Takes taken taken') words left left'
 
 -- all was read, and a front of the text that the work makes of it was written
-pub record WritesFront (words : List (List ℕ)) (left left' taken taken' : Option (List ℕ)) : Type 0 where
-  pub work : Work
-  pub input : List ℕ
-  pub text : List ℕ
-  pub reads : Reads words left left' work input
-  pub makes : Makes work input text
-  pub written : TakesFront taken taken' text
+abbrev pub WritesFront : List (List ℕ) → Option (List ℕ) → Option (List ℕ) → Option (List ℕ) → Option (List ℕ) → Type 0
+WritesFront words left left' taken taken' = Writes (TakesFront taken taken') words left left'
 
 -- all was read, and this line is refused
 pub record IsRefused (words : List (List ℕ)) (left left' : Option (List ℕ)) (line : ℕ) (cause : Cause) : Type 0 where

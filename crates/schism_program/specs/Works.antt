@@ -1,7 +1,7 @@
 -- What the program does with an input, by the form that its words have.
 use Rattle.std.specs.Prelude.{◌≡◌, ℕ, List, [], ◌∷◌, codes, Some}
 use Rattle.script_text.specs.declared.cause.Cause.{Cause}
-use Rattle.reply_text.specs.Faults.{first_history_fault}
+use Rattle.reply_text.specs.read.Faults.{first_history_fault}
 use Rattle.schism_program.specs.declared.work.Work.{Work}
 use Rattle.schism_program.specs.declared.work.Work.TheVariants.{Play, Check}
 use Rattle.schism_program.specs.Serving.{FailsToPlay, IsPlayable, Plays}

@@ -13,8 +13,8 @@ use core_machine::Machine;
 use core_rule::law_every_run;
 use heap_model::limits::GROUP_FRAGMENTS;
 use heap_model::{Command, Entry, Memory};
-use reply_text::{Entries, History, SpaceMark};
-use script_text::{Form, Line, Script};
+use reply_text::{History, SpaceMark};
+use script_text::{Form, Line, Script, Sequence};
 use std::alloc::Global;
 
 /// Answers the lines of the script on a heap that has just been opened, and notes the entries.
@@ -94,7 +94,7 @@ pub fn play(alloc: Global, script: &Script) -> Result<History, Memory>
     Ok(History {
         form: Form::Play,
         heap: script.heap,
-        entries: Entries::from_vec(history),
+        entries: Sequence::from_vec(history),
         mark: Some(mark),
         end_used: in_use(&machine),
     })

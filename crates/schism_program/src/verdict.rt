@@ -1,6 +1,6 @@
 ghost use Rattle.std.specs.Prelude.{◌≡◌, ◌++◌, ◌∷◌, [], ℕ, length, Err, IfOk, Some};
 ghost use Rattle.script_text.specs.declared.cause.LineFault.{LineFault as ALineFault};
-ghost use Rattle.reply_text.specs.Faults.{first_history_fault};
+ghost use Rattle.reply_text.specs.read.Faults.{first_history_fault};
 ghost use Rattle.reply_text.specs.History.{IsHistory};
 ghost use Rattle.schism_program.specs.Verdict.{FindsIllegal, FindsLegal, verdict_line};
 

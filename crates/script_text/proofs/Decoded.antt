@@ -1,5 +1,5 @@
 -- The words of a line tell the line.
-use Rattle.std.proofs.Common.{◌≡◌, ℕ, ◌<◌, ◌^◌, List, [], ◌∷◌, Option, Some, None, codes, decimal, bytes_eq, unwrap_or, slice_index, map, refl, arith}
+use Rattle.std.proofs.Common.{◌≡◌, ℕ, ◌<◌, ◌^◌, List, [], ◌∷◌, Option, Some, None, decimal, bytes_eq, unwrap_or, map, refl, arith}
 use Rattle.std.specs.Map.{lookup}
 use Rattle.std.specs.Str.Parse.{digits_value}
 use Rattle.std.proofs.lemmas.Fmt.{decimal_is_IsNumeral}
@@ -11,6 +11,7 @@ use Rattle.script_text.specs.declared.script.Form.{Form}
 use Rattle.script_text.specs.declared.script.Form.TheVariants.{Play, Run}
 use Rattle.script_text.specs.declared.script.Line.{Line}
 use Rattle.script_text.specs.declared.script.Line.TheVariants as lines
+use Rattle.script_text.specs.Operands.{commands_with}
 use Rattle.script_text.specs.Grammar.{IsScripted, IsTurnCommand, IsLine}
 use Rattle.script_text.specs.Numbers.{number_of}
 use Rattle.script_text.specs.Words.{command_words, turn_words, line_words}
@@ -22,22 +23,6 @@ value-decimal : (n : ℕ) → n < 2 ^ 64 → digits_value 10 (decimal n) ≡ n
 value-decimal n small = (decimal_is_IsNumeral n small).1
 
 -- what the words of a command tell, by its name and its numbers
-abbrev commands_with : List ℕ → List (List ℕ × Command)
-commands_with ns =
-    let at : ℕ → ℕ = λ k. slice_index ns k in
-    (codes "new", New (at 0) (at 1))
-    ∷ (codes "array", Array (at 0) (at 1))
-    ∷ (codes "get", Get (at 0) (at 1) (at 2))
-    ∷ (codes "set", Set (at 0) (at 1) (at 2))
-    ∷ (codes "num", Num (at 0) (at 1))
-    ∷ (codes "nil", Nil (at 0))
-    ∷ (codes "copy", Copy (at 0) (at 1))
-    ∷ (codes "same", Same (at 0) (at 1))
-    ∷ (codes "len", Len (at 0))
-    ∷ (codes "poll", Poll)
-    ∷ (codes "collect", Collect)
-    ∷ []
-
 abbrev command_of : List (List ℕ) → Command
 command_of [] = Leave
 command_of (word ∷ rest) = unwrap_or (lookup (bytes_eq word) (commands_with (map (digits_value 10) rest))) Leave

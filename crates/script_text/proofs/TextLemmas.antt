@@ -1,11 +1,11 @@
 -- The lines of a text, one after the other.
-use Rattle.std.proofs.Common.{◌≡◌, ◌==◌, ℕ, ◌<◌, List, [], ◌∷◌, length, Option, Some, None, MatchOption, IfSome, codes, refl, sym, append_assoc, false, ◌∙◌, ap, arith, Bor, option_copied}
-use Rattle.std.specs.List.{All, AllByRecursion, slice_split, join_with_byte}
+use Rattle.std.proofs.Common.{◌≡◌, ◌≢◌, ◌==◌, ℕ, ◌<◌, List, [], ◌∷◌, ◌++◌, length, Option, Some, None, MatchOption, IfSome, unwrap_or, codes, refl, sym, append_assoc, Bool, true, false, cond, ap, ◌∙◌, arith, Bor}
+use Rattle.std.specs.List.{All, AllByRecursion, slice_split, onto_first, join_with_byte}
+use Rattle.std.proofs.lemmas.Grind.{common_steps}
 use Rattle.std.proofs.lemmas.List.Splits.{length-slice_split, slice_split_at, join_with_byte-slice_split}
 use Rattle.heap_model.specs.declared.heap.Heap.{Heap}
 use Rattle.script_text.specs.Text.{lines_of, without_empty_last, words_of, sentence, text_of}
 use Rattle.script_text.specs.Words.{heap_words, heap_line}
-use Rattle.script_text.specs.Left.{parts_left}
 use Rattle.script_text.proofs.Tokens.{IsAbove, IsAbove-lower, free}
 
 -- what is left after a line that more parts follow
@@ -13,20 +13,38 @@ without_empty_last-more : (line : List ℕ) (parts : List (List ℕ)) → 0 < le
 without_empty_last-more line [] h = absurd (omega arith)
 without_empty_last-more line (part ∷ parts) h = refl
 
--- a line that isn't empty and is the last is a line
-without_empty_last-one : (line : List ℕ) → 0 < length line → without_empty_last (line ∷ []) ≡ line ∷ []
-without_empty_last-one [] h = absurd (omega arith)
-without_empty_last-one (b ∷ bs) h = refl
+-- with one more byte in front, the parts but for an empty last one have that byte in front too
+without_empty_last-step : (x : ℕ) (parts kept : List (List ℕ)) (b : Bool) → 0 < length parts → without_empty_last parts ≡ kept →
+    without_empty_last (cond b ([] ∷ parts) (onto_first x parts)) ≡ cond b ([] ∷ kept) (onto_first x kept)
+without_empty_last-step x parts kept true some e = rw (without_empty_last-more [] parts some) (ap (λ ps. [] ∷ ps) e)
+without_empty_last-step x [] kept false some e = absurd (omega arith)
+without_empty_last-step x ([] ∷ []) kept false some e = rw (← e) refl
+without_empty_last-step x ((c ∷ cs) ∷ []) kept false some e = rw (← e) refl
+without_empty_last-step x (part ∷ next ∷ more) kept false some e = rw (← e) refl
 
--- the first line, and those of what is left after it
-pub lines_of-next : (text line : List ℕ) (after : Option (Bor (List ℕ))) → 0 < length text →
-    MatchOption after (slice_split (λ b. b == 10) text ≡ line ∷ []) (λ rest. slice_split (λ b. b == 10) text ≡ line ∷ slice_split (λ b. b == 10) rest.now) →
-    lines_of text ≡ line ∷ parts_left lines_of (option_copied after)
-lines_of-next text line None some e =
-    let whole : line ≡ text = sym (ap (join_with_byte 10) e) ∙ join_with_byte-slice_split 10 text in
-    rw e (without_empty_last-one line (rw whole some))
-lines_of-next text line (Some rest) some e =
-    rw e (without_empty_last-more line (slice_split (λ b. b == 10) rest.now) (omega (arith, length-slice_split (λ b. b == 10) rest.now)))
+-- where a line feed ends the text, the lines are the parts before it
+lines_of-ended : (front : List ℕ) → lines_of (front ++ 10 ∷ []) ≡ slice_split (λ b. b == 10) front
+lines_of-ended [] = refl
+lines_of-ended (x ∷ xs) =
+    let some : 0 < length (slice_split (λ b. b == 10) (xs ++ 10 ∷ [])) = omega (arith, length-slice_split (λ b. b == 10) (xs ++ 10 ∷ [])) in
+    without_empty_last-step x (slice_split (λ b. b == 10) (xs ++ 10 ∷ [])) (slice_split (λ b. b == 10) xs) (x == 10) some (lines_of-ended xs)
+
+-- and where none does, all parts
+lines_of-unended : (text : List ℕ) → 0 < length text → ((front : List ℕ) → text ≢ front ++ 10 ∷ []) → lines_of text ≡ slice_split (λ b. b == 10) text
+lines_of-unended [] some unended = absurd (omega arith)
+lines_of-unended (x ∷ []) some unended =
+    let other : (x == 10) ≡ false = grind (arith, common_steps, unended []) in rw other refl
+lines_of-unended (x ∷ y ∷ ys) some unended =
+    let parts : 0 < length (slice_split (λ b. b == 10) (y ∷ ys)) = omega (arith, length-slice_split (λ b. b == 10) (y ∷ ys)) in
+    let rest = lines_of-unended (y ∷ ys) (omega arith) (λ front e. unended (x ∷ front) (ap (λ bs. x ∷ bs) e)) in
+    without_empty_last-step x (slice_split (λ b. b == 10) (y ∷ ys)) (slice_split (λ b. b == 10) (y ∷ ys)) (x == 10) parts rest
+
+-- the lines of a text are the parts of what is left where a line feed at its end is taken off
+pub lines_of-stripped : (text : Bor (List ℕ)) (front : Option (Bor (List ℕ))) → 0 < length text.now →
+    MatchOption front ((before : List ℕ) → text.now ≢ before ++ 10 ∷ []) (λ before. text.now ≡ before.now ++ 10 ∷ []) →
+    lines_of text.now ≡ slice_split (λ b. b == 10) (unwrap_or front text).now
+lines_of-stripped text None some unended = lines_of-unended text.now some unended
+lines_of-stripped text (Some before) some e = rw e (lines_of-ended before.now)
 
 -- a line is the sentence of its words
 pub sentence-words_of : (line : List ℕ) (words : List (List ℕ)) → words_of line ≡ words → line ≡ sentence words

@@ -1,6 +1,12 @@
 -- The numbers that words spell.
-use Rattle.std.specs.Prelude.{ℕ, ◌^◌, ◌&&◌, List, Option, Some, None, bytes_eq, decimal, nat_lt, if◌then◌else◌}
+use Rattle.std.specs.Prelude.{◌≢◌, ℕ, ◌^◌, ◌&&◌, List, [], ◌∷◌, Option, Some, None, bytes_eq, decimal, nat_lt, if◌then◌else◌}
 use Rattle.std.specs.Str.Parse.{digits_value}
+
+-- no plus stands first, and no zero before other digits
+abbrev pub BeginsNumber : List ℕ → Type 0
+BeginsNumber [] = ⊥
+BeginsNumber (b ∷ []) = b ≢ 43
+BeginsNumber (b ∷ c ∷ cs) = (b ≢ 43) × (b ≢ 48)
 
 -- the number below the limit whose decimal digits the word is
 unfoldable pub number_below : ℕ → List ℕ → Option ℕ

@@ -1,6 +1,8 @@
 -- The operands of the commands.
-use Rattle.std.specs.Prelude.{ℕ, ◌-◌, ◌&&◌, List, [], ◌∷◌, Option, Some, None, Result, Ok, Err, codes, nat_le, if◌then◌else◌}
+use Rattle.std.specs.Prelude.{ℕ, ◌-◌, ◌&&◌, List, [], ◌∷◌, Option, Some, None, Result, Ok, Err, codes, nat_le, slice_index, if◌then◌else◌}
 use Rattle.heap_model.specs.Limits.{last_register, last_index, most_fields, most_cells, most_turns, number_limit}
+use Rattle.heap_model.specs.declared.command.Command.{Command}
+use Rattle.heap_model.specs.declared.command.Command.TheVariants.{New, Array, Get, Set, Num, Nil, Copy, Same, Len, Poll, Collect}
 use Rattle.script_text.specs.declared.cause.Cause.{Cause}
 use Rattle.script_text.specs.declared.cause.Cause.TheVariants.{BadNumber, OutOfRange, TooManyWords}
 use Rattle.script_text.specs.Numbers.{number_of}
@@ -33,6 +35,23 @@ commands =
     ∷ (codes "len", register ∷ [])
     ∷ (codes "poll", [])
     ∷ (codes "collect", [])
+    ∷ []
+
+-- each command of a script by its name, with these operands
+abbrev pub commands_with : List ℕ → List (List ℕ × Command)
+commands_with ns =
+    let at : ℕ → ℕ = λ k. slice_index ns k in
+    (codes "new", New (at 0) (at 1))
+    ∷ (codes "array", Array (at 0) (at 1))
+    ∷ (codes "get", Get (at 0) (at 1) (at 2))
+    ∷ (codes "set", Set (at 0) (at 1) (at 2))
+    ∷ (codes "num", Num (at 0) (at 1))
+    ∷ (codes "nil", Nil (at 0))
+    ∷ (codes "copy", Copy (at 0) (at 1))
+    ∷ (codes "same", Same (at 0) (at 1))
+    ∷ (codes "len", Len (at 0))
+    ∷ (codes "poll", Poll)
+    ∷ (codes "collect", Collect)
     ∷ []
 
 -- each command of the collector with its operands

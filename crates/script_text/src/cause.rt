@@ -2,7 +2,6 @@ ghost use Rattle.std.specs.Prelude.{◌≡◌};
 ghost use Rattle.script_text.specs.declared.cause.ScriptFault.TheVariants as faults;
 
 use heap_model::Memory;
-use std::alloc::{AllocError, AllocFailed};
 use thiserror::Error;
 
 /// What is wrong with a line.
@@ -60,22 +59,6 @@ impl From<Memory> for ScriptFault {
     ghost from_gives = { λ _ e. e ≡ faults.Memory };
 
     fn from(_e: Memory) -> ScriptFault {
-        ScriptFault::Memory
-    }
-}
-
-impl From<AllocError> for ScriptFault {
-    ghost from_gives = { λ _ e. e ≡ faults.Memory };
-
-    fn from(_e: AllocError) -> ScriptFault {
-        ScriptFault::Memory
-    }
-}
-
-impl<T: Drop> From<AllocFailed<T>> for ScriptFault {
-    ghost from_gives = { λ _ e. e ≡ faults.Memory };
-
-    fn from(_e: AllocFailed<T>) -> ScriptFault {
         ScriptFault::Memory
     }
 }

@@ -9,13 +9,13 @@ ghost use Rattle.script_text.specs.Words.{command_words};
 use crate::cause::Cause;
 use crate::name::{Name, read_name};
 use crate::operand::{index, operand, register, target};
-use crate::words::Words;
+use crate::parts::Parts;
 use heap_model::Command;
 use heap_model::limits::{MOST_CELLS, MOST_FIELDS, NUMBER_LIMIT};
 
 /// The command of this name, with the next words as its operands.
 #[tactic(auto, using(crate::proofs::OperandCauses::after_operand_early))]
-pub fn operands(name: Name, words: &mut Words<'_>) -> Result<Command, Cause>
+pub fn operands(name: Name, words: &mut Parts<'_>) -> Result<Command, Cause>
     ensures found { IfOk result (λ c. name_word name ∷ words.old ≡ command_words c ++ words.new) }
     ensures range { IfOk result IsScripted }
     ensures rest { OnOk result
@@ -73,7 +73,7 @@ pub fn operands(name: Name, words: &mut Words<'_>) -> Result<Command, Cause>
 }
 
 /// The command that the next words are; no fault is looked for after them.
-pub fn read_command(words: &mut Words<'_>) -> Result<Command, Cause>
+pub fn read_command(words: &mut Parts<'_>) -> Result<Command, Cause>
     ensures found { IfOk result (λ c. words.old ≡ command_words c ++ words.new) }
     ensures range { IfOk result IsScripted }
     ensures rest { OnOk result (command_fault commands words.old ≡ operands_fault [] words.new) }

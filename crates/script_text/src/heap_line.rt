@@ -5,7 +5,7 @@ ghost use Rattle.script_text.specs.Text.{words_of};
 ghost use Rattle.script_text.specs.Words.{heap_line};
 
 use crate::number::read_short;
-use crate::words::Words;
+use crate::parts::Parts;
 use heap_model::Heap;
 
 /// The heap that a heap line asks for, if it is one within the limits.
@@ -14,7 +14,7 @@ pub fn read_heap(line: &[u8]) -> Option<Heap>
     ensures found { IfSome result (λ heap. line.now ≡ heap_line heap) }
     ensures range { IfSome result IsHeap }
 {
-    let mut words = Words::new(line);
+    let mut words = Parts::words(line);
     let [Some(word), Some(groups), Some(spine), Some(seats), None] = [
         words.next(),
         words.next(),

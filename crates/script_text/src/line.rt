@@ -8,9 +8,9 @@ ghost use Rattle.script_text.specs.Words.{line_words, line_text};
 use crate::cause::Cause;
 use crate::command::read_command;
 use crate::number::read_short;
+use crate::parts::Parts;
 use crate::script::{Form, Line};
 use crate::turn::read_turns;
-use crate::words::Words;
 
 /// The seat that the word is the number of.
 fn read_seat(word: &[u8], seats: u8) -> Option<u8>
@@ -40,7 +40,7 @@ fn is_turns(word: &[u8], form: Form) -> bool
 }
 
 /// The line that the next words are; no fault is looked for after them.
-fn read_front(words: &mut Words<'_>, form: Form, seats: u8) -> Result<Line, Cause>
+fn read_front(words: &mut Parts<'_>, form: Form, seats: u8) -> Result<Line, Cause>
     ensures found { IfOk result (λ line. words.old ≡ line_words line ++ words.new) }
     ensures range { IfOk result (IsLine form seats) }
     ensures rest { OnOk result (words_fault form seats words.old ≡ operands_fault [] words.new) }
@@ -67,7 +67,7 @@ pub fn read_line(line: &[u8], form: Form, seats: u8) -> Result<Line, Cause>
     ensures none { OnOk result (words_fault form seats (words_of line.now) ≡ None) }
     ensures fault { IfErr result (λ cause. words_fault form seats (words_of line.now) ≡ Some cause) }
 {
-    let mut words = Words::new(line);
+    let mut words = Parts::words(line);
     let read = read_front(&mut words, form, seats)?;
     if words.next().is_some() {
         return Err(Cause::TooManyWords);

@@ -4,11 +4,11 @@ ghost use Rattle.script_text.specs.Operands.{after_operand, target as target_ran
 
 use crate::cause::Cause;
 use crate::number::read_short;
-use crate::words::Words;
+use crate::parts::Parts;
 use heap_model::limits::{LAST_INDEX, LAST_REGISTER};
 
 /// The next word as a number in the range, both ends among it.
-pub fn operand(words: &mut Words<'_>, least: u32, most: u32) -> Result<u32, Cause>
+pub fn operand(words: &mut Parts<'_>, least: u32, most: u32) -> Result<u32, Cause>
     ensures range { IfOk result (λ n. (least ≤ n) × (n ≤ most)) }
     ensures found { IfOk result (λ n. words.old ≡ decimal n ∷ words.new) }
     ensures gives { MatchResult result
@@ -29,7 +29,7 @@ pub fn operand(words: &mut Words<'_>, least: u32, most: u32) -> Result<u32, Caus
 }
 
 /// A register that is written.
-pub fn target(words: &mut Words<'_>) -> Result<u8, Cause>
+pub fn target(words: &mut Parts<'_>) -> Result<u8, Cause>
     ensures range { IfOk result (λ d. (1 ≤ d) × (d ≤ last_register)) }
     ensures found { IfOk result (λ d. words.old ≡ decimal d ∷ words.new) }
     ensures gives { MatchResult result
@@ -40,7 +40,7 @@ pub fn target(words: &mut Words<'_>) -> Result<u8, Cause>
 }
 
 /// A register that is read.
-pub fn register(words: &mut Words<'_>) -> Result<u8, Cause>
+pub fn register(words: &mut Parts<'_>) -> Result<u8, Cause>
     ensures range { IfOk result (λ r. r ≤ last_register) }
     ensures found { IfOk result (λ r. words.old ≡ decimal r ∷ words.new) }
     ensures gives { MatchResult result
@@ -51,7 +51,7 @@ pub fn register(words: &mut Words<'_>) -> Result<u8, Cause>
 }
 
 /// The index of a field or a cell.
-pub fn index(words: &mut Words<'_>) -> Result<u32, Cause>
+pub fn index(words: &mut Parts<'_>) -> Result<u32, Cause>
     ensures range { IfOk result (λ i. i ≤ last_index) }
     ensures found { IfOk result (λ i. words.old ≡ decimal i ∷ words.new) }
     ensures gives { MatchResult result

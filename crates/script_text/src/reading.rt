@@ -10,9 +10,9 @@ ghost use Rattle.script_text.specs.Words.{heap_line, line_text};
 use crate::cause::{Cause, LineFault, ScriptFault};
 use crate::heap_line::read_heap;
 use crate::line::read_line;
-use crate::lines::Lines;
+use crate::parts::Parts;
 use crate::script::{Form, Line, Script};
-use crate::text_lines::TextLines;
+use crate::sequence::Sequence;
 use heap_model::Heap;
 use std::alloc::Global;
 
@@ -36,17 +36,17 @@ fn read_counted(line: &[u8], number: u32, form: Form, seats: u8) -> Result<Line,
 /// The lines after the heap line.
 fn read_lines(
     alloc: Global,
-    lines: TextLines<'_>,
+    lines: Parts<'_>,
     form: Form,
     seats: u8,
-) -> Result<Lines, ScriptFault>
+) -> Result<Sequence<Line>, ScriptFault>
     ensures found { IfOk result (λ read. lines.entry ≡ map line_text read) }
     ensures range { IfOk result (AllByRecursion (IsLine form seats)) }
     ensures short { IfOk result (λ read. length read + 2 ≤ most_lines) }
     ensures none { OnOk result (lines_fault form seats 3 lines.entry ≡ None) }
     ensures fault { IfErr result (FailsBy (lines_fault form seats 3 lines.entry)) }
 {
-    let mut read = Lines::new(alloc);
+    let mut read = Sequence::new(alloc);
     let mut number = 2;
     for line in lines {
         number += 1;
@@ -56,7 +56,7 @@ fn read_lines(
 }
 
 /// The heap of the second line, if the first is the header.
-fn read_head(lines: &mut TextLines<'_>) -> Result<Heap, LineFault>
+fn read_head(lines: &mut Parts<'_>) -> Result<Heap, LineFault>
     ensures found { IfOk result
         (λ heap. lines.old ≡ codes "schism 1" ∷ heap_line heap ∷ lines.new) }
     ensures range { IfOk result IsHeap }
@@ -83,7 +83,7 @@ fn read(alloc: Global, text: &[u8], form: Form) -> Result<Script, ScriptFault>
     ensures none { OnOk result (first_fault form text.now ≡ None) }
     ensures fault { IfErr result (FailsBy (first_fault form text.now)) }
 {
-    let mut lines = TextLines::new(text);
+    let mut lines = Parts::lines(text);
     let heap = read_head(&mut lines)?;
     let lines = read_lines(alloc, lines, form, heap.seats)?;
     Ok(Script { heap, lines })

@@ -1,4 +1,4 @@
-use crate::lines::Lines;
+use crate::sequence::Sequence;
 use heap_model::{Command, Heap, TurnCommand};
 
 /// What a script is for: a play on one thread, or a run of many.
@@ -19,5 +19,5 @@ pub enum Line {
 #[derive(Debug, Drop)]
 pub struct Script {
     pub heap: Heap,
-    pub lines: Lines,
+    pub lines: Sequence<Line>,
 }

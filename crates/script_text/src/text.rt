@@ -7,9 +7,8 @@ ghost use Rattle.script_text.specs.Words.{heap_line, line_text, script_lines};
 ghost use Rattle.script_text.specs.Writing.{IsOfForm};
 
 use crate::script::{Line, Script};
-use crate::writing::{push_command, push_heap, push_turns};
+use crate::writing::{push_command, push_digits, push_heap, push_turns};
 use heap_model::{Heap, Memory};
-use itoa::Buffer;
 use std::alloc::Global;
 
 /// Appends a line and its line feed.
@@ -18,7 +17,7 @@ fn push_line(text: &mut Vec<u8>, line: &Line) -> Result<(), Memory>
 {
     match *line {
         Line::Seat { seat, command } => {
-            text.extend_from_slice(Buffer::new().format(seat).as_bytes())?;
+            push_digits(text, seat.into())?;
             push_command(text, &command)?;
         }
         Line::Turns { command } => {

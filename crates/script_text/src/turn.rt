@@ -6,12 +6,12 @@ ghost use Rattle.script_text.specs.Words.{turn_words};
 
 use crate::cause::Cause;
 use crate::operand::operand;
-use crate::words::Words;
+use crate::parts::Parts;
 use heap_model::TurnCommand;
 use heap_model::limits::MOST_TURNS;
 
 /// The command of the collector that the next words are; no fault is looked for after them.
-pub fn read_turns(words: &mut Words<'_>) -> Result<TurnCommand, Cause>
+pub fn read_turns(words: &mut Parts<'_>) -> Result<TurnCommand, Cause>
     ensures found { IfOk result (λ c. words.old ≡ turn_words c ++ words.new) }
     ensures range { IfOk result IsTurnCommand }
     ensures rest { OnOk result (command_fault turn_commands words.old ≡ operands_fault [] words.new) }

@@ -2,7 +2,7 @@
 
 use super::calls::{begin, call, log, machine_of, step, turn, word};
 use super::texts::{step_text, turn_text};
-use core_machine::{Address, Machine};
+use core_machine::{Address, Machine, MakingStep, Step};
 use heap_model::{Command, Entry};
 use reply_text::render_entry;
 use script_text::{Form, Line, read_script};
@@ -15,6 +15,8 @@ use std::test::Fail;
 ///
 /// - `SEAT COMMAND`, a whole call, and `SEAT begin COMMAND`, where nothing more is done;
 /// - `PARTY step`, its due step; the collector is the party `c`;
+/// - `SEAT stores`, four due steps that store a fragment's words in their order, each where 0 was found: the fragment and
+///   the words;
 /// - `c turn`, a turn of the collector;
 /// - `free`, how many fragments nobody has, and `phase`, the phase that the machine tells;
 /// - a word, what it is and where it stands in the table: `phase word`, `answer SEAT`, `budget`, `spot`,
@@ -73,6 +75,9 @@ fn done(alloc: Global, machine: &mut Machine, party: u8, words: &str) -> Result<
         let (step, found) = step(machine, party)?;
         return Ok(step_text(alloc, &step, found)?);
     }
+    if words == "stores" {
+        return stored(alloc, machine, party);
+    }
     if words == "turn" {
         return Ok(turn_text(alloc, &turn(machine)?)?);
     }
@@ -92,6 +97,32 @@ fn done(alloc: Global, machine: &mut Machine, party: u8, words: &str) -> Result<
     } else {
         Err("the last entry is another".into())
     }
+}
+
+/// The fragment whose four words are stored by the next steps, and the words.
+fn stored(alloc: Global, machine: &mut Machine, party: u8) -> Result<String, Fail> {
+    let mut text = String::new(alloc);
+    for wanted in 0..4 {
+        let (step, found) = step(machine, party)?;
+        let Step::Making(
+            MakingStep::NewbornStore {
+                fragment,
+                part,
+                word,
+            },
+        ) = step
+        else {
+            return Err("no store".into());
+        };
+        if part != wanted || found != 0 {
+            return Err("another part, or not where 0 was".into());
+        }
+        if part == 0 {
+            text.push_str(&format!(in alloc; "{fragment}:")?)?;
+        }
+        text.push_str(&format!(in alloc; " {word:x}")?)?;
+    }
+    Ok(text)
 }
 
 /// The command that these words are in a script, where no seat leaves.

@@ -69,10 +69,7 @@ const BLACK_BIRTH: &[&str] = &[
     "c turn => stepped; c phase 2",
     "0 poll => 0 answers 2; 0 poll = 2",
     "0 begin new 2 2 => true",
-    "0 step => store 12.0 c000000200000000 found 0",
-    "0 step => store 12.1 c000000100000001 found 0",
-    "0 step => store 12.2 0 found 0",
-    "0 step => store 12.3 0 found 0",
+    "0 stores => 12: c000000200000000 c000000100000001 0 0",
     "0 step => last birth 0 1000 black found fffffff; 0 new 2 2 = 0.1",
     "control 0 => 100010001fffffff at 19",
 ];

@@ -1,5 +1,5 @@
 use Rattle.std.proofs.Common.{◌++◌, map, take, drop, ◌+◌, rules}
-use Rattle.reply_text.specs.declared.line.HistoryLine.TheVariants as lines
+use Rattle.reply_text.specs.declared.history_line.HistoryLine.TheVariants as lines
 use Rattle.log_merge.specs.Checking.{StopsIn}
 use Rattle.log_merge.proofs.LineLemmas.{lines_parted}
 use Rattle.log_merge.proofs.PassingLemmas.{StopsIn-append, StopsIn-more}

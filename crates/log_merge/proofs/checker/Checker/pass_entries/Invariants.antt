@@ -1,7 +1,7 @@
 use Rattle.std.proofs.Common.{◌≡◌, ◌+◌, List, map, take}
 use Rattle.script_text.specs.declared.script.Form.{Form}
-use Rattle.reply_text.specs.declared.line.HistoryLine.{HistoryLine}
-use Rattle.reply_text.specs.declared.line.HistoryLine.TheVariants as lines
+use Rattle.reply_text.specs.declared.history_line.HistoryLine.{HistoryLine}
+use Rattle.reply_text.specs.declared.history_line.HistoryLine.TheVariants as lines
 use Rattle.log_merge.specs.Checking.{GoesOver, IsReady}
 use Rattle.log_merge.proofs.checker.Checker.pass_entries.Given as goal
 

@@ -1,5 +1,5 @@
 use Rattle.std.proofs.Common.{◌+◌, ap}
-use Rattle.reply_text.specs.declared.line.HistoryLine.TheVariants as lines
+use Rattle.reply_text.specs.declared.history_line.HistoryLine.TheVariants as lines
 use Rattle.log_merge.specs.Lines.{entries_of}
 use Rattle.log_merge.proofs.PassingLemmas.{Passed-more}
 use Rattle.log_merge.proofs.checker.Checker.pass_entry.Goals as goal

@@ -1,7 +1,7 @@
 use Rattle.std.proofs.Common.{◌≡◌, ◌∷◌, [], ◌++◌, append_assoc, map, subst, sym, ◌∙◌, rules}
 use Rattle.std.proofs.lemmas.Result.{on_ok_weaker, IfErr-weaker}
 use Rattle.script_text.specs.declared.script.Form.{Form}
-use Rattle.reply_text.specs.declared.line.HistoryLine.TheVariants as lines
+use Rattle.reply_text.specs.declared.history_line.HistoryLine.TheVariants as lines
 use Rattle.reply_text.specs.History.{marked, space_line}
 use Rattle.log_merge.specs.Checking.{GoesOver, StopsIn}
 use Rattle.log_merge.proofs.LineLemmas.{AllByRecursion-drop, entries_of-entries, marked_parted}

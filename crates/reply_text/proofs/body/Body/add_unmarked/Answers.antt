@@ -1,4 +1,0 @@
-use Rattle.reply_text.proofs.body.Body.add_unmarked.Goals as goal
-
-pub returns-in-Entry-clause-found : goal.returns-in-Entry-clause-found
-returns-in-Entry-clause-found c = λ form seats before. rw c.in-Entry.is (c.add_entry.ensures.found form seats before)

@@ -1,0 +1,10 @@
+use Rattle.std.proofs.Common.{◌≡◌, rules}
+use Rattle.script_text.specs.Text.{words_of}
+use Rattle.script_text.proofs.TextLemmas.{sentence-words_of}
+use Rattle.reply_text.specs.write.Lines.{history_words}
+use Rattle.reply_text.proofs.read.line.read_line.Goals as goal
+
+pub returns-clause-found : goal.returns-clause-found
+returns-clause-found c =
+    let words : words_of c.args.line.now ≡ history_words c.in_ok-read.read = search rules in
+    sentence-words_of c.args.line.now (history_words c.in_ok-read.read) words

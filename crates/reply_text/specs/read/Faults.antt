@@ -1,0 +1,64 @@
+-- The first fault of the text of a history.
+use Rattle.std.specs.Prelude.{ℕ, ◌+◌, ◌==◌, List, [], ◌∷◌, Option, Some, None, bytes_eq, codes, if◌then◌else◌}
+use Rattle.heap_model.specs.declared.heap.Heap.{Heap}
+use Rattle.script_text.specs.declared.cause.Cause.{Cause}
+use Rattle.script_text.specs.declared.cause.Cause.TheVariants.{NoHeader, BadHeap, BadEntry, NoEnd, HistoryLines}
+use Rattle.script_text.specs.declared.cause.LineFault.{LineFault}
+use Rattle.script_text.specs.declared.script.Form.{Form}
+use Rattle.script_text.specs.declared.script.Form.TheVariants.{Play, Run}
+use Rattle.script_text.specs.HeapLine.{heap_of}
+use Rattle.script_text.specs.Text.{lines_of, words_of}
+use Rattle.reply_text.specs.declared.read.stage.Stage.{Stage}
+use Rattle.reply_text.specs.declared.read.stage.Stage.TheVariants.{Unmarked, Marked, Ended}
+use Rattle.reply_text.specs.History.{too_many}
+use Rattle.reply_text.specs.read.LineWords.{line_of}
+use Rattle.reply_text.specs.read.Tokens.{◌>>=◌}
+use Rattle.reply_text.specs.read.Stages.{first_stage, after_line}
+
+-- a line with what is wrong with it
+abbrev pub fault_at : ℕ → Cause → Option LineFault
+fault_at number cause = Some (record { line = number; cause = cause })
+
+-- what is wrong where no line follows
+abbrev pub end_fault : Stage → ℕ → Option LineFault
+end_fault Ended number = None
+end_fault Unmarked number = fault_at number NoEnd
+end_fault Marked number = fault_at number NoEnd
+
+-- what is wrong with the line of this number, by where it leads, or else with the lines after it
+abbrev pub line_fault : ℕ → Option Stage → (Stage → Option LineFault) → Option LineFault
+line_fault number None rest = fault_at number BadEntry
+line_fault number (Some stage) rest = if number == too_many then fault_at number HistoryLines else rest stage
+
+-- the first fault of the lines, of which the first has this number
+abbrev pub lines_fault : Form → ℕ → Stage → ℕ → List (List ℕ) → Option LineFault
+lines_fault form seats stage number [] = end_fault stage number
+lines_fault form seats stage number (line ∷ more) =
+    line_fault number (line_of form seats line >>= after_line stage) (λ next. lines_fault form seats next (number + 1) more)
+
+-- the form that the first line tells
+abbrev pub form_of : List ℕ → Option Form
+form_of line =
+    if bytes_eq line (codes "history 1 play") then Some Play
+    else if bytes_eq line (codes "history 1 run") then Some Run
+    else None
+
+-- the first fault from the third line on, if the second asks for a heap
+abbrev pub further_fault : Form → Option Heap → List (List ℕ) → Option LineFault
+further_fault form None more = fault_at 2 BadHeap
+further_fault form (Some heap) more = lines_fault form heap.seats (first_stage form) 3 more
+
+-- the first fault from the second line on, if the first tells a form
+abbrev pub heap_fault : Option Form → List (List ℕ) → Option LineFault
+heap_fault None more = fault_at 1 NoHeader
+heap_fault (Some form) [] = fault_at 2 BadHeap
+heap_fault (Some form) (line ∷ more) = further_fault form (heap_of (words_of line)) more
+
+-- the first fault of the lines of a text
+abbrev pub header_fault : List (List ℕ) → Option LineFault
+header_fault [] = fault_at 1 NoHeader
+header_fault (line ∷ more) = heap_fault (form_of line) more
+
+-- the first fault of a text
+unfoldable pub first_history_fault : List ℕ → Option LineFault
+first_history_fault text = header_fault (lines_of text)

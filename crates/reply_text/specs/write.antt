@@ -1,0 +1,3 @@
+-- How a history is spelled: the words of entries and of lines.
+pub mod Entries
+pub mod Lines

@@ -1,0 +1,53 @@
+ghost use Rattle.std.specs.Prelude.{◌≡◌, ℕ, [], ◌∷◌, ◌++◌, None, Some, codes, IfOk, MatchResult};
+ghost use Rattle.script_text.specs.declared.script.Form.{Form};
+ghost use Rattle.reply_text.specs.write.Entries.{entry_words};
+ghost use Rattle.reply_text.specs.read.EntryWords.{collector_entry, ends_at};
+ghost use Rattle.reply_text.specs.Written.{IsWritten};
+
+use crate::read::misspelled::Misspelled;
+use crate::read::tokens::{count, id, literal, next_word, number};
+use crate::read::turned::read_turned;
+use heap_model::Entry;
+use script_text::{Form, Parts};
+
+/// A cycle that ended, after the word `ends`.
+fn read_ends(words: &mut Parts<'_>) -> Result<Entry, Misspelled>
+    ensures found { IfOk result
+        (λ entry. codes "c" ∷ codes "ends" ∷ words.old ≡ entry_words entry ++ words.new) }
+    ensures range { (form : Form) (seats : ℕ) → IfOk result (IsWritten form seats) }
+    ensures gives { MatchResult result
+        (λ entry. ends_at words.old ≡ Some (entry, words.new))
+        (λ _. ends_at words.old ≡ None) }
+{
+    let cycle = number(words, u64::MAX)?;
+    literal(words, b"kept")?;
+    let kept = number(words, u64::MAX)?;
+    Ok(Entry::Ends { cycle, kept })
+}
+
+/// What the collector did, after its word `c`.
+pub fn read_collector(words: &mut Parts<'_>, form: Form) -> Result<Entry, Misspelled>
+    ensures found { IfOk result (λ entry. codes "c" ∷ words.old ≡ entry_words entry ++ words.new) }
+    ensures range { (seats : ℕ) → IfOk result (IsWritten form seats) }
+    ensures gives { MatchResult result
+        (λ entry. collector_entry form words.old ≡ Some (entry, words.new))
+        (λ _. collector_entry form words.old ≡ None) }
+{
+    let word = next_word(words)?;
+    if word == b"phase".as_slice() {
+        return Ok(Entry::Advance(number(words, u64::MAX)?));
+    }
+    if word == b"frees".as_slice() {
+        return Ok(Entry::Frees(count(words)?));
+    }
+    if word == b"returns".as_slice() {
+        return Ok(Entry::Returns(count(words)?));
+    }
+    if word == b"swings".as_slice() {
+        return Ok(Entry::Swings(id(words)?));
+    }
+    if word == b"ends".as_slice() {
+        return read_ends(words);
+    }
+    read_turned(word, words, form)
+}

@@ -1,0 +1,147 @@
+ghost use Rattle.std.specs.Prelude.{◌≡◌, ℕ, ◌+◌, ◌<◌, ◌≤◌, None, Some, List, [], ◌∷◌, ◌++◌, length, map, IfOk, IfSome, OnOk, IfErr};
+ghost use Rattle.heap_model.specs.Heap.{IsHeap};
+ghost use Rattle.script_text.specs.declared.script.Form.{Form};
+ghost use Rattle.script_text.specs.Reading.{FailsBy};
+ghost use Rattle.script_text.specs.Words.{heap_line};
+ghost use Rattle.reply_text.specs.declared.read.stage.Stage.TheVariants.{Ended};
+ghost use Rattle.reply_text.specs.read.Body.{IsBody, lines_read};
+ghost use Rattle.reply_text.specs.read.Reading.{GivesOnlyHistory};
+ghost use Rattle.reply_text.specs.read.Faults.{first_history_fault, form_of, header_fault, lines_fault};
+ghost use Rattle.reply_text.specs.read.Stages.{first_stage};
+ghost use Rattle.reply_text.specs.History.{IsHistory, form_line, too_many};
+ghost use Rattle.reply_text.specs.write.Lines.{history_line};
+
+use crate::history::History;
+use crate::read::body::Body;
+use crate::read::line::read_line;
+use crate::read::misspelled::Misspelled;
+use crate::read::stage::Stage;
+use heap_model::Heap;
+use script_text::{Cause, Form, LineFault, Parts, ScriptFault, read_heap};
+use std::alloc::Global;
+
+/// The number of the first line that a history does not have.
+const TOO_MANY: u32 = 4_000_000;
+
+/// Adds the line of this number.
+fn add_line(
+    body: &mut Body,
+    line: &[u8],
+    number: u32,
+    form: Form,
+    seats: u8,
+) -> Result<(), ScriptFault>
+    requires few { number ≤ too_many }
+    requires seats { 1 ≤ seats }
+    requires body { IsBody form seats body.old }
+    ensures found { OnOk result
+        (map history_line (lines_read body.new) ≡ map history_line (lines_read body.old) ++ line.now ∷ []) }
+    ensures counted { OnOk result
+        (length (lines_read body.new) ≡ length (lines_read body.old) + 1) }
+    ensures range { OnOk result (IsBody form seats body.new) }
+    ensures short { OnOk result (number < too_many) }
+    ensures none { (rest : List (List ℕ)) → OnOk result
+        (lines_fault form seats body.old.stage number (line.now ∷ rest) ≡ lines_fault form seats body.new.stage (number + 1) rest) }
+    ensures fault { (rest : List (List ℕ)) →
+        IfErr result (FailsBy (lines_fault form seats body.old.stage number (line.now ∷ rest))) }
+{
+    let Ok(read) = read_line(line, form, seats) else {
+        return Err(Cause::BadEntry.at(number).into());
+    };
+    body.add(read, number)?;
+    if number == TOO_MANY {
+        return Err(Cause::HistoryLines.at(number).into());
+    }
+    Ok(())
+}
+
+/// The lines after the heap line.
+fn read_body(alloc: Global, lines: Parts<'_>, form: Form, seats: u8) -> Result<Body, ScriptFault>
+    requires { 1 ≤ seats }
+    ensures found { IfOk result (λ body. lines.entry ≡ map history_line (lines_read body)) }
+    ensures range { IfOk result (IsBody form seats) }
+    ensures ended { IfOk result (λ body. body.stage ≡ Ended) }
+    ensures short { IfOk result (λ body. length (lines_read body) + 2 < too_many) }
+    ensures none { OnOk result (lines_fault form seats (first_stage form) 3 lines.entry ≡ None) }
+    ensures fault { IfErr result
+        (FailsBy (lines_fault form seats (first_stage form) 3 lines.entry)) }
+{
+    let mut body = Body::new(alloc, form);
+    let mut number = 3;
+    for line in lines {
+        add_line(&mut body, line, number, form, seats)?;
+        number += 1;
+    }
+    if body.stage == Stage::Ended {
+        Ok(body)
+    } else {
+        Err(Cause::NoEnd.at(number).into())
+    }
+}
+
+/// The form that the first line tells.
+fn read_form(line: &[u8]) -> Option<Form>
+    ensures value { result ≡ form_of line.now }
+    ensures found { IfSome result (λ form. line.now ≡ form_line form) }
+{
+    if line == b"history 1 play".as_slice() {
+        return Some(Form::Play);
+    }
+    if line == b"history 1 run".as_slice() {
+        return Some(Form::Run);
+    }
+    None
+}
+
+/// The form of the first line, and the heap of the second.
+fn read_head(lines: &mut Parts<'_>) -> Result<(Form, Heap), LineFault>
+    ensures found { IfOk result
+        (λ head. lines.old ≡ form_line head.0 ∷ heap_line head.1 ∷ lines.new) }
+    ensures range { IfOk result (λ head. IsHeap head.1) }
+    ensures rest { IfOk result
+        (λ head. header_fault lines.old ≡ lines_fault head.0 head.1.seats (first_stage head.0) 3 lines.new) }
+    ensures fault { IfErr result (λ fault. header_fault lines.old ≡ Some fault) }
+{
+    let Some(first) = lines.next() else {
+        return Err(Cause::NoHeader.at(1));
+    };
+    let Some(form) = read_form(first) else {
+        return Err(Cause::NoHeader.at(1));
+    };
+    let Some(second) = lines.next() else {
+        return Err(Cause::BadHeap.at(2));
+    };
+    let Some(heap) = read_heap(second) else {
+        return Err(Cause::BadHeap.at(2));
+    };
+    Ok((form, heap))
+}
+
+#[tactic(auto, unfolding(crate::specs::read::Faults::first_history_fault))]
+fn read(alloc: Global, text: &[u8]) -> Result<History, ScriptFault>
+    ensures found { IfOk result (IsHistory text.now) }
+    ensures none { OnOk result (first_history_fault text.now ≡ None) }
+    ensures fault { IfErr result (FailsBy (first_history_fault text.now)) }
+{
+    let mut lines = Parts::lines(text);
+    let (form, heap) = read_head(&mut lines)?;
+    let body = read_body(alloc, lines, form, heap.seats)?;
+    Ok(History {
+        form,
+        heap,
+        entries: body.entries,
+        mark: body.mark,
+        end_used: body.end_used,
+    })
+}
+
+/// The history that the text is.
+pub fn read_history(alloc: Global, text: &[u8]) -> Result<History, ScriptFault>
+    ensures found { IfOk result (IsHistory text.now) }
+    ensures none { OnOk result (first_history_fault text.now ≡ None) }
+    ensures fault { IfErr result (FailsBy (first_history_fault text.now)) }
+    // It is that history alone, and a text with a fault is none.
+    ensures only { GivesOnlyHistory text.now result }
+{
+    read(alloc, text)
+}

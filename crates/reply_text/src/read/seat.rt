@@ -1,0 +1,42 @@
+ghost use Rattle.std.specs.Prelude.{◌≡◌, ◌<◌, ℕ, [], ◌∷◌, ◌++◌, None, Some, decimal, IfOk, MatchResult};
+ghost use Rattle.script_text.specs.declared.script.Form.{Form};
+ghost use Rattle.reply_text.specs.write.Entries.{entry_words};
+ghost use Rattle.reply_text.specs.read.EntryWords.{seat_entry};
+ghost use Rattle.reply_text.specs.Written.{IsWritten};
+
+use crate::read::misspelled::Misspelled;
+use crate::read::said::read_said;
+use crate::read::tokens::{count, literal, next_word, number};
+use heap_model::Entry;
+use script_text::Parts;
+
+/// An entry of this seat, after its number.
+pub fn read_seat_entry(seat: u8, words: &mut Parts<'_>) -> Result<Entry, Misspelled>
+    ensures found { IfOk result
+        (λ entry. decimal seat ∷ words.old ≡ entry_words entry ++ words.new) }
+    ensures range { (form : Form) (seats : ℕ) → seat < seats → IfOk result (IsWritten form seats) }
+    ensures gives { MatchResult result
+        (λ entry. seat_entry seat words.old ≡ Some (entry, words.new))
+        (λ _. seat_entry seat words.old ≡ None) }
+{
+    let word = next_word(words)?;
+    if word == b"takes".as_slice() {
+        let count = count(words)?;
+        return Ok(Entry::Takes { seat, count });
+    }
+    if word == b"gives".as_slice() {
+        literal(words, b"back")?;
+        let count = count(words)?;
+        return Ok(Entry::GivesBack { seat, count });
+    }
+    if word == b"answers".as_slice() {
+        let phase = number(words, u64::MAX)?;
+        return Ok(Entry::Answers { seat, phase });
+    }
+    let (command, reply) = read_said(word, words)?;
+    Ok(Entry::Said {
+        seat,
+        command,
+        reply,
+    })
+}

@@ -1,0 +1,97 @@
+ghost use Rattle.std.specs.Prelude.{◌≡◌, [], ◌∷◌, ◌++◌, map, OnOk, IfOk};
+ghost use Rattle.script_text.specs.Text.{text_of};
+ghost use Rattle.reply_text.specs.declared.history_line.HistoryLine.TheVariants as lines;
+ghost use Rattle.reply_text.specs.History.{IsHistory, IsSpellable, form_line, history_lines, marked, space_line};
+ghost use Rattle.reply_text.specs.write.Lines.{history_line};
+
+use crate::history::{History, SpaceMark};
+use crate::write::rendering::push_entry;
+use crate::write::replies::push_named;
+use heap_model::{Entry, Memory};
+use script_text::{Form, push_heap_line};
+use std::alloc::Global;
+
+/// Appends the first line and its line feed.
+fn push_form(text: &mut Vec<u8>, form: Form) -> Result<(), Memory>
+    ensures { OnOk result (text.new.items ≡ text.old.items ++ (form_line form ++ 10 ∷ [])) }
+{
+    match form {
+        Form::Play => text.extend_from_slice(b"history 1 play\n")?,
+        Form::Run => text.extend_from_slice(b"history 1 run\n")?,
+    }
+    Ok(())
+}
+
+/// Appends the lines of entries, each with its line feed.
+fn push_entries(text: &mut Vec<u8>, entries: &[Entry]) -> Result<(), Memory>
+    ensures { OnOk result
+        (text.new.items ≡ text.old.items ++ text_of (map history_line (map lines.Entry entries.now))) }
+{
+    for entry in entries {
+        push_entry(text, entry)?;
+        text.push(b'\n')?;
+    }
+    Ok(())
+}
+
+/// Appends the space line and its line feed.
+#[tactic(auto, using(crate::proofs::write_lemmas::Lines::spelling))]
+fn push_space(text: &mut Vec<u8>, mark: SpaceMark) -> Result<(), Memory>
+    ensures { OnOk result
+        (text.new.items ≡ text.old.items ++ (history_line (space_line mark) ++ 10 ∷ [])) }
+{
+    text.extend_from_slice(b"space")?;
+    push_named(text, b"used", mark.used)?;
+    push_named(text, b"of", mark.total)?;
+    push_named(text, b"spine", mark.spine)?;
+    push_named(text, b"of", mark.budget)?;
+    text.push(b'\n')?;
+    Ok(())
+}
+
+/// Appends the end line and its line feed.
+#[tactic(auto, using(crate::proofs::write_lemmas::Lines::spelling))]
+fn push_end(text: &mut Vec<u8>, used: u64) -> Result<(), Memory>
+    ensures { OnOk result
+        (text.new.items ≡ text.old.items ++ (history_line (lines.End used) ++ 10 ∷ [])) }
+{
+    text.extend_from_slice(b"end")?;
+    push_named(text, b"used", used)?;
+    text.push(b'\n')?;
+    Ok(())
+}
+
+/// Appends the lines of entries, and the space line where it stands among them.
+fn push_marked(text: &mut Vec<u8>, mark: Option<SpaceMark>, entries: &[Entry]) -> Result<(), Memory>
+    ensures { OnOk result
+        (text.new.items ≡ text.old.items ++ text_of (map history_line (marked mark entries.now))) }
+{
+    let Some(mark) = mark else {
+        return push_entries(text, entries);
+    };
+    let (before, after) = entries.split_at(mark.before.min(entries.len()));
+    push_entries(text, before)?;
+    push_space(text, mark)?;
+    push_entries(text, after)
+}
+
+fn render(alloc: Global, history: &History) -> Result<Vec<u8>, Memory>
+    ensures { IfOk result (λ text. text.items ≡ text_of (history_lines history.now)) }
+{
+    let mut text = Vec::new(alloc);
+    push_form(&mut text, history.form)?;
+    push_heap_line(&mut text, &history.heap)?;
+    push_marked(&mut text, history.mark, history.entries.as_slice())?;
+    push_end(&mut text, history.end_used)?;
+    Ok(text)
+}
+
+/// The text of the history, each line with its line feed.
+pub fn render_history(alloc: Global, history: &History) -> Result<Vec<u8>, Memory>
+    ensures text { IfOk result (λ text. text.items ≡ text_of (history_lines history.now)) }
+    // Read again, the text is this history.
+    ensures again { IsSpellable history.now →
+        IfOk result (λ text. IsHistory text.items history.now) }
+{
+    render(alloc, history)
+}
