@@ -8,7 +8,7 @@ ghost use Rattle.core_machine.specs.Moves.{due_store, bearing_move, last_birth_m
 
 use crate::place::{Making, Place};
 use crate::seat::SeatParty;
-use crate::seat::commands::{fields, target};
+use crate::seat::commands::Parts;
 use crate::seat::register::Register;
 use crate::step::MakingStep;
 use crate::table::fragments::{Hand, all_in, last_group, mask_in, rest_of};
@@ -29,7 +29,7 @@ impl SeatParty {
             owner: number + 1,
             count: self.made,
         };
-        let fields = fields(&self.command);
+        let fields = Parts::of(&self.command).fields;
         let fragments = self.body.as_slice();
         Newborn {
             name,
@@ -126,7 +126,7 @@ impl SeatParty {
             count: self.made,
         };
         let head = self.body[0];
-        self.registers[target(&self.command) as usize] = Register::Object { head, id };
+        self.registers[Parts::of(&self.command).target as usize] = Register::Object { head, id };
         self.made += 1;
         self.reply(number, Reply::Made(id));
     }

@@ -10,7 +10,7 @@ ghost use Rattle.core_machine.specs.Moves.{seat_after};
 
 use crate::place::{Place, Reaching};
 use crate::seat::SeatParty;
-use crate::seat::commands::{field, source, target};
+use crate::seat::commands::Parts;
 use crate::seat::register::Register;
 use crate::table::loaded::{head_in, id_in, plain_in, stamp_in};
 use heap_model::limits::STAMP_LIMIT;
@@ -43,7 +43,7 @@ impl SeatParty {
         requires { source_of self.now.seat.command < register_count }
         ensures { result ≡ new_register_of self.now.seat }
     {
-        self.registers[source(&self.command) as usize]
+        self.registers[Parts::of(&self.command).source as usize]
     }
 
     /// The new word of the field.
@@ -64,7 +64,7 @@ impl SeatParty {
         ensures seat { self.new.seat ≡ record self.old.seat { registers = slice_set self.old.seat.registers (target_of self.old.seat.command) register } }
         ensures spare { self.new.spare ≡ self.old.spare }
     {
-        self.registers[target(&self.command) as usize] = register;
+        self.registers[Parts::of(&self.command).target as usize] = register;
     }
 
     /// Learns the field of a get.

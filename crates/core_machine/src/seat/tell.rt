@@ -28,14 +28,7 @@ impl SeatParty {
                 let b = self.registers[b as usize].value();
                 answer(a == b)
             },
-            Command::Get { .. }
-            | Command::Set { .. }
-            | Command::Len { .. }
-            | Command::New { .. }
-            | Command::Array { .. }
-            | Command::Poll
-            | Command::Collect
-            | Command::Leave => Reply::NoObject,
+            _ => Reply::NoObject,
         }
     }
 
@@ -49,15 +42,7 @@ impl SeatParty {
             Command::Num { d, n } => self.registers[d as usize] = Register::Number(n),
             Command::Nil { d } => self.registers[d as usize] = Register::Nil,
             Command::Copy { d, r } => self.registers[d as usize] = self.registers[r as usize],
-            Command::Same { .. }
-            | Command::Get { .. }
-            | Command::Set { .. }
-            | Command::Len { .. }
-            | Command::New { .. }
-            | Command::Array { .. }
-            | Command::Poll
-            | Command::Collect
-            | Command::Leave => (),
+            _ => (),
         }
     }
 

@@ -9,7 +9,7 @@ ghost use Rattle.core_machine.specs.Moves.{seat_after};
 
 use crate::place::{Place, Reaching};
 use crate::seat::SeatParty;
-use crate::seat::commands::field;
+use crate::seat::commands::Parts;
 use crate::seat::register::Register;
 use crate::table::loaded::{length_in, link_in};
 use heap_model::phase_plan::{BARRIERS, CLEARING, CYCLE_PHASES};
@@ -49,15 +49,7 @@ fn meta_reply(command: &Command, found: u64) -> Option<Reply>
     match *command {
         Command::Len { .. } => Some(Reply::Length(length_in(found))),
         Command::Get { i, .. } | Command::Set { i, .. } => field_reply(i, found),
-        Command::New { .. }
-        | Command::Array { .. }
-        | Command::Num { .. }
-        | Command::Nil { .. }
-        | Command::Copy { .. }
-        | Command::Same { .. }
-        | Command::Poll
-        | Command::Collect
-        | Command::Leave => None,
+        _ => None,
     }
 }
 
@@ -74,7 +66,7 @@ impl SeatParty {
             return;
         };
         self.reached = head;
-        self.links = row(field(&self.command));
+        self.links = row(Parts::of(&self.command).field);
         self.place = Place::Reaching(Reaching::Opening);
     }
 
@@ -83,7 +75,7 @@ impl SeatParty {
         requires { field_of self.now.seat.command ≤ last_index }
         ensures { result ≡ field_part_of self.now.seat }
     {
-        part(field(&self.command))
+        part(Parts::of(&self.command).field)
     }
 
     /// Whether a set has to shade what it takes out and what it puts in.
@@ -101,17 +93,7 @@ impl SeatParty {
         match self.command {
             Command::Set { .. } if self.has_barrier() => Reaching::LoadingOld,
             Command::Set { .. } => Reaching::Swapping,
-            Command::Get { .. }
-            | Command::New { .. }
-            | Command::Array { .. }
-            | Command::Num { .. }
-            | Command::Nil { .. }
-            | Command::Copy { .. }
-            | Command::Same { .. }
-            | Command::Len { .. }
-            | Command::Poll
-            | Command::Collect
-            | Command::Leave => Reaching::Getting,
+            _ => Reaching::Getting,
         }
     }
 
