@@ -11,6 +11,7 @@ use crate::collector::CollectorParty;
 use crate::seat::SeatParty;
 use crate::step::Step;
 use crate::table::address::Address;
+use crate::table::words::{load, perform};
 use heap_model::{Command, Entry, Heap, Memory, Turn};
 use std::marker::Model;
 
@@ -61,13 +62,11 @@ impl Machine {
     }
 
     /// The word at the address.
-    #[tactic(auto, unfolding(crate::specs::table::Layout::at))]
     pub fn word(&self, address: Address) -> u64
         requires { InTable self.now.heap address }
         ensures { result ≡ at self.now.heap self.now.state.words address }
     {
-        let index = address.index(&self.heap);
-        self.words[index]
+        load(self.words.as_slice(), &self.heap, address)
     }
 
     /// The phase word.
@@ -147,9 +146,7 @@ impl Machine {
         ensures spent { SpendsRoom self.old self.new seat }
     {
         let heap = self.heap;
-        let index = step.address().index(&heap);
-        let found = self.words[index];
-        self.words[index] = step.operation().written(found);
+        let found = perform(&mut self.words, &heap, step);
         let party = &mut self.seats[seat as usize];
         party.learn(&heap, seat, found);
         found
@@ -181,9 +178,7 @@ impl Machine {
         ensures spent { SpendsRoom self.old self.new (length self.old.state.seats) }
     {
         let heap = self.heap;
-        let index = step.address().index(&heap);
-        let found = self.words[index];
-        self.words[index] = step.operation().written(found);
+        let found = perform(&mut self.words, &heap, step);
         let answer = self.collector.learn(&heap, found);
         (found, answer)
     }

@@ -1,6 +1,6 @@
 -- Reading and writing the words of a table.
-use Rattle.std.proofs.Common.{◌≡◌, ◌≢◌, ℕ, ◌+◌, ◌*◌, ◌<◌, ◌^◌, inl, inr, List, length, get_or, set, zero, suc, ap, refl, sym, ◌∙◌, arith}
-use Rattle.std.proofs.lemmas.List.{get_or-set_same, get_or-set_other, set-get_or, length-set, get_or_default, get_or_past}
+use Rattle.std.proofs.Common.{◌≡◌, ◌≢◌, ℕ, ◌+◌, ◌*◌, ◌<◌, ◌^◌, inl, inr, List, length, get_or, zero, suc, refl, sym, arith}
+use Rattle.std.proofs.lemmas.List.{get_or-set_same, get_or-set_other, set-get_or, length-set, get_or_past}
 use Rattle.std.specs.List.{All}
 use Rattle.std.proofs.lemmas.Bool.Decides.{leb_tells}
 use Rattle.std.proofs.lemmas.List.Elements.{All-set}
@@ -116,17 +116,6 @@ pub at-put_other : (heap : Heap) (words : List ℕ) (a b : Address) (word : ℕ)
 unfolding at put
 at-put_other heap words a b word here there other =
     get_or-set_other words (index_of heap a) (index_of heap b) word 0 (λ same. other (sym (index_apart heap a b here there (sym same))))
-
--- a read of the list at the place of a word
-pub at_read : (heap : Heap) (words : List ℕ) (a : Address) (i word : ℕ) → i ≡ index_of heap a → i < length words → word ≡ get_or words i word
-    → word ≡ at heap words a
-unfolding at
-at_read heap words a i word place within is = is ∙ get_or_default words i word 0 within ∙ ap (λ (n : ℕ). get_or words n 0) place
-
--- a write of the list at the place of a word
-pub put_write : (heap : Heap) (words : List ℕ) (a : Address) (i word : ℕ) → i ≡ index_of heap a → set words i word ≡ put heap words a word
-unfolding put
-put_write heap words a i word place = ap (λ (n : ℕ). set words n word) place
 
 -- what is true of all words stays true where one more is written
 pub All-put : (heap : Heap) (words : List ℕ) (a : Address) (word : ℕ) → word < 2 ^ 64 → All (λ w. w < 2 ^ 64) words → All (λ w. w < 2 ^ 64) (put heap words a word)

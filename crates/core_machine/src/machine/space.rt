@@ -8,6 +8,7 @@ ghost use Rattle.core_machine.specs.table.Layout.{table_length};
 use crate::machine::Machine;
 use crate::table::address::Address;
 use crate::table::fragments::{Hand, add_clear};
+use crate::table::words::load;
 use heap_model::Heap;
 
 impl Machine {
@@ -29,7 +30,7 @@ fn free_in(words: &[u64], heap: &Heap) -> usize
 {
     let mut free = 0;
     for group in 0..heap.groups {
-        let word = words[Address::Control(group).index(heap)];
+        let word = load(words, heap, Address::Control(group));
         free += count_clear(group, word);
     }
     free
