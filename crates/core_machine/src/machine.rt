@@ -61,7 +61,7 @@ impl Machine {
         self.heap
     }
 
-    /// The word at the address.
+    /// The word at the address; 0 past the end of the table.
     pub fn word(&self, address: Address) -> u64
         requires { InTable self.now.heap address }
         ensures { result ≡ at self.now.heap self.now.state.words address }

@@ -2,7 +2,7 @@
 use Rattle.std.proofs.Common.{◌∷◌, replicate, suc, ◌≡◌, ◌≢◌, ℕ, ◌+◌, ◌*◌, ◌/◌, ◌%◌, ◌<◌, ◌≤◌, ◌^◌, List, map, length, replicate, get_or, ltb, true, false, refl, sym, ap, ◌∙◌, subst, inl, inr, arith}
 use Rattle.std.proofs.lemmas.Bool.{lt-ltb, le-ltb}
 use Rattle.std.proofs.lemmas.Bool.Decides.{eqb_tells, leb_tells}
-use Rattle.std.proofs.lemmas.List.{get_or-replicate}
+use Rattle.std.proofs.lemmas.List.{get_or-replicate, get_or_past, length-replicate}
 use Rattle.heap_words.specs.declared.phase.TheConstants.{LEFT}
 use Rattle.heap_words.specs.Spot.{spot_word}
 use Rattle.std.specs.List.{range_with_len, All}
@@ -24,7 +24,7 @@ use Rattle.core_machine.specs.seat.Fits.{AreFragments, FitsRegister, CollectorFi
 use Rattle.core_machine.proofs.seat_lemmas.Aside.{gone_aside}
 use Rattle.core_machine.proofs.table_lemmas.Leading.{record_leads, zero_leads}
 use Rattle.core_machine.specs.machine.Value.{IsMachine}
-use Rattle.core_machine.proofs.table_lemmas.Addresses.{index_within, length-put, at-put_same, at-put_other}
+use Rattle.core_machine.proofs.table_lemmas.Addresses.{length-put, at-put_same, at-put_other}
 
 -- another number hasn't
 with_left-other : (heap : Heap) (n number word : ℕ) → number ≢ n → with_left heap n (Answer number) word ≡ with_left heap (n + 1) (Answer number) word
@@ -88,10 +88,17 @@ with_board-more heap words place Spot word table some within there is = at-put_o
 with_board-more heap words place (Control group) word table some within there is = at-put_other heap words (Word (place / 4) (place % 4)) (Control group) (next_word place) (omega arith, omega arith) there (λ e. cc) ∙ is
 with_board-more heap words place (Spine half offset) word table some within there is = at-put_other heap words (Word (place / 4) (place % 4)) (Spine half offset) (next_word place) (omega arith, omega arith) there (λ e. cc) ∙ is
 
+-- a list of one number reads as that number, and so it does past its end
+read_same : (n i number : ℕ) → get_or (replicate n number) i number ≡ number
+read_same n i number = elim (leb_tells (suc i) n) as (λ _. get_or (replicate n number) i number ≡ number) [
+  | inl within ↦ get_or-replicate n i number number within.1
+  | inr past ↦ get_or_past (replicate n number) i number (omega (arith, past.1, length-replicate n number))
+]
+
 -- a table of zeros
-pub at-zeros : (heap : Heap) (words : List ℕ) (a : Address) → words ≡ replicate (table_length heap) 0 → InTable heap a → at heap words a ≡ 0
+pub at-zeros : (heap : Heap) (words : List ℕ) (a : Address) → words ≡ replicate (table_length heap) 0 → at heap words a ≡ 0
 unfolding at
-at-zeros heap words a is within = rw is (get_or-replicate (table_length heap) (index_of heap a) 0 0 (index_within heap a within))
+at-zeros heap words a is = rw is (read_same (table_length heap) (index_of heap a) 0)
 
 -- the word of the spot
 abbrev pub spot_word_of : ℕ

@@ -7,41 +7,24 @@ use Rattle.std.proofs.lemmas.List.Elements.{All-set}
 use Rattle.heap_model.specs.declared.heap.Heap.{Heap}
 use Rattle.core_machine.specs.declared.table.address.Address.{Address}
 use Rattle.core_machine.specs.declared.table.address.Address.TheVariants.{Phase, Answer, Budget, Spot, Control, Word, Spine}
-use Rattle.core_machine.specs.table.Layout.{table_length, index_of, InTable, at, put}
-
--- a word of either half stands in the table
-half_within : (groups spine half offset : ℕ) → half < 2 → offset < 2 * spine
-    → 19 + 65 * groups + 2 * spine * half + offset < 19 + 65 * groups + 4 * spine
-half_within groups spine zero offset below within = omega arith
-half_within groups spine (suc zero) offset below within = omega arith
-half_within groups spine (suc (suc n)) offset below within = absurd (omega arith)
-
--- no two words of the halves stand in one place
-half_apart : (spine half half' offset offset' : ℕ) → half < 2 → half' < 2 → offset < 2 * spine → offset' < 2 * spine
-    → 2 * spine * half + offset ≡ 2 * spine * half' + offset' → (half ≡ half') × (offset ≡ offset')
-half_apart spine zero zero offset offset' b b' w w' same = (refl, omega arith)
-half_apart spine zero (suc zero) offset offset' b b' w w' same = absurd (omega arith)
-half_apart spine (suc zero) zero offset offset' b b' w w' same = absurd (omega arith)
-half_apart spine (suc zero) (suc zero) offset offset' b b' w w' same = (refl, omega arith)
-half_apart spine (suc (suc n)) half' offset offset' b b' w w' same = absurd (omega arith)
-half_apart spine half (suc (suc n)) offset offset' b b' w w' same = absurd (omega arith)
+use Rattle.core_machine.specs.table.Layout.{table_length, index_of, InTable, HasWord, at, put}
 
 -- a word of the table stands in it
-pub index_within : (heap : Heap) (a : Address) → InTable heap a → index_of heap a < table_length heap
+pub index_within : (heap : Heap) (a : Address) → HasWord heap a → index_of heap a < table_length heap
 index_within heap Phase within = omega arith
 index_within heap (Answer seat) within = omega arith
 index_within heap Budget within = omega arith
 index_within heap Spot within = omega arith
 index_within heap (Control group) within = omega arith
 index_within heap (Word fragment part) within = omega arith
-index_within heap (Spine half offset) within = half_within heap.groups heap.spine half offset within.0 within.1
+index_within heap (Spine half offset) within = omega (arith, within.0, within.1)
 
 pub length-put : (heap : Heap) (words : List ℕ) (a : Address) (word : ℕ) → length (put heap words a word) ≡ length words
 unfolding put
 length-put heap words a word = length-set words (index_of heap a) word
 
 -- what was written is read
-pub at-put_same : (heap : Heap) (words : List ℕ) (a : Address) (word : ℕ) → length words ≡ table_length heap → InTable heap a
+pub at-put_same : (heap : Heap) (words : List ℕ) (a : Address) (word : ℕ) → length words ≡ table_length heap → HasWord heap a
     → at heap (put heap words a word) a ≡ word
 unfolding at put
 at-put_same heap words a word whole within =
@@ -107,7 +90,8 @@ index_apart heap (Spine half offset) Spot here there same = absurd (omega arith)
 index_apart heap (Spine half offset) (Control group') here there same = absurd (omega arith)
 index_apart heap (Spine half offset) (Word fragment' part') here there same = absurd (omega arith)
 index_apart heap (Spine half offset) (Spine half' offset') here there same =
-    let e = half_apart heap.spine half half' offset offset' here.0 there.0 here.1 there.1 (omega arith) in
+    let e : half ≡ half' = omega arith in
+    let f : offset ≡ offset' = omega arith in
     cc
 
 -- other words stay

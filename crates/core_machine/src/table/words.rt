@@ -7,7 +7,7 @@ use crate::step::Step;
 use crate::table::address::Address;
 use heap_model::Heap;
 
-/// The word at the address.
+/// The word at the address; 0 past the end of the table.
 #[tactic(auto, unfolding(crate::specs::table::Layout::at))]
 pub fn load(words: &[u64], heap: &Heap, address: Address) -> u64
     requires limits { IsHeap heap.now }
@@ -20,7 +20,7 @@ pub fn load(words: &[u64], heap: &Heap, address: Address) -> u64
     }
 }
 
-/// Writes the word at the address.
+/// Writes the word at the address; past the end of the table nothing is written.
 #[tactic(auto, unfolding(crate::specs::table::Layout::put))]
 pub fn store(words: &mut [u64], heap: &Heap, address: Address, word: u64)
     requires limits { IsHeap heap.now }
@@ -34,7 +34,8 @@ pub fn store(words: &mut [u64], heap: &Heap, address: Address, word: u64)
     }
 }
 
-/// Does to its word what the step does, and answers the word as it was before.
+/// Does to its word what the step does, and answers the word as it was before. Past the end of the table that was 0,
+/// and nothing is written.
 #[tactic(auto, unfolding(crate::specs::table::Layout::at, crate::specs::table::Layout::put))]
 pub fn perform(words: &mut Vec<u64>, heap: &Heap, step: &Step) -> u64
     requires limits { IsHeap heap.now }
