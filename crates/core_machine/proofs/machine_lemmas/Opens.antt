@@ -19,7 +19,7 @@ use Rattle.core_machine.specs.seat.Seat.{Seat, nobody}
 use Rattle.core_machine.specs.declared.seat.register.Register.TheVariants.{Nil, Object}
 use Rattle.heap_model.specs.declared.id.Id.TheVariants.{Board}
 use Rattle.core_machine.specs.collector.Collector.{Collector, opening_collector}
-use Rattle.core_machine.specs.table.Loaded.{lead_of, IsWithinHeap, LeadWithin}
+use Rattle.core_machine.specs.table.Loaded.{lead_of, IsWithinHeap, FoundWithin}
 use Rattle.core_machine.specs.seat.Fits.{AreFragments, FitsRegister, CollectorFits, Fits}
 use Rattle.core_machine.proofs.seat_lemmas.Aside.{gone_aside}
 use Rattle.core_machine.proofs.table_lemmas.Leading.{record_leads, zero_leads}
@@ -145,13 +145,18 @@ board_within heap some = list 11 0 (omega arith) where
   list (suc n) from few = All-cons (λ fragment. fragment < 16 * heap.groups) from (range_with_len (from + 1) n) (omega arith) (list n (from + 1) (omega arith))
 
 -- every word of the opening leads within the heap
-opening_leads : (heap : Heap) (words : List ℕ) → IsHeap heap → ((a : Address) → InTable heap a → at heap words a ≡ opening_word heap a) → LeadWithin heap words
-opening_leads heap words limits opens f part within few =
-    subst (λ (w : ℕ). IsWithinHeap heap (lead_of part w)) (sym (opens (Word f part) (within, few)))
-    (elim (leb_tells (suc f) 11) as (λ _. IsWithinHeap heap (lead_of part (opening_word heap (Word f part)))) [
+opening_leads : (heap : Heap) → IsHeap heap → (a : Address) → InTable heap a → FoundWithin heap a (opening_word heap a)
+opening_leads heap limits Phase there = tt
+opening_leads heap limits (Answer number) there = tt
+opening_leads heap limits Budget there = tt
+opening_leads heap limits Spot there = tt
+opening_leads heap limits (Control group) there = tt
+opening_leads heap limits (Spine half offset) there = omega (arith, limits.some_group)
+opening_leads heap limits (Word f part) there =
+    elim (leb_tells (suc f) 11) as (λ _. IsWithinHeap heap (lead_of part (opening_word heap (Word f part)))) [
       | inl board_ ↦ rw board_.0 (record_leads heap board_name 32 board f part (omega arith) (omega arith) (omega arith) (omega (arith, limits.some_group)) (omega (arith, limits.groups_fit)) (board_within heap limits.some_group))
       | inr past ↦ rw past.0 (zero_leads heap part)
-    ])
+    ]
 
 -- a register at the opening
 opening_registers : (heap : Heap) → 1 ≤ heap.groups → All (FitsRegister heap) (Object 0 Board ∷ replicate 15 Nil)
@@ -197,7 +202,7 @@ machine_opens heap words seats collector limits table wide opens opened here =
       limits = limits;
       table = table;
       wide = wide;
-      leads = opening_leads heap words limits opens;
+      leads = λ a there. subst (FoundWithin heap a) (sym (opens a there)) (opening_leads heap limits a there);
       seated = long;
       fit = λ n within.
           let is : get_or seats n nobody ≡ opening_seat heap n = ap (λ (l : List Seat). get_or l n nobody) opened ∙ get_or-map-range_with_len (opening_seat heap) 0 heap.seats n n nobody (omega arith) (omega arith) in

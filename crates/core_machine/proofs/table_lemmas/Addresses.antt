@@ -1,6 +1,6 @@
 -- Reading and writing the words of a table.
-use Rattle.std.proofs.Common.{◌≡◌, ◌≢◌, ℕ, ◌+◌, ◌*◌, ◌<◌, ◌^◌, inl, inr, List, length, get_or, zero, suc, refl, sym, arith}
-use Rattle.std.proofs.lemmas.List.{get_or-set_same, get_or-set_other, set-get_or, length-set, get_or_past}
+use Rattle.std.proofs.Common.{◌≡◌, ◌≢◌, ℕ, ◌+◌, ◌*◌, ◌<◌, ◌^◌, inl, inr, List, length, get_or, set, zero, suc, refl, sym, subst, arith}
+use Rattle.std.proofs.lemmas.List.{get_or-set_same, get_or-set_other, set-get_or, length-set, get_or_past, set_past}
 use Rattle.std.specs.List.{All}
 use Rattle.std.proofs.lemmas.Bool.Decides.{leb_tells}
 use Rattle.std.proofs.lemmas.List.Elements.{All-set}
@@ -100,6 +100,16 @@ pub at-put_other : (heap : Heap) (words : List ℕ) (a b : Address) (word : ℕ)
 unfolding at put
 at-put_other heap words a b word here there other =
     get_or-set_other words (index_of heap a) (index_of heap b) word 0 (λ same. other (sym (index_apart heap a b here there (sym same))))
+
+-- what is true of a word and of the one that it takes the place of is true of the word at the address, also past the end of the table
+pub put-tells : (P : ℕ → Type 0) (heap : Heap) (words : List ℕ) (a : Address) (word : ℕ) → P word → P (at heap words a)
+    → P (at heap (put heap words a word) a)
+unfolding at put
+put-tells P heap words a word now before =
+    elim (leb_tells (suc (index_of heap a)) (length words)) as (λ _. P (get_or (set words (index_of heap a) word) (index_of heap a) 0)) [
+      | inl within ↦ subst P (sym (get_or-set_same words (index_of heap a) word 0 within.1)) now
+      | inr past ↦ subst (λ (l : List ℕ). P (get_or l (index_of heap a) 0)) (sym (set_past words (index_of heap a) word (omega (arith, past.1)))) before
+    ]
 
 -- what is true of all words stays true where one more is written
 pub All-put : (heap : Heap) (words : List ℕ) (a : Address) (word : ℕ) → word < 2 ^ 64 → All (λ w. w < 2 ^ 64) words → All (λ w. w < 2 ^ 64) (put heap words a word)

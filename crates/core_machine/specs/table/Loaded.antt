@@ -12,7 +12,7 @@ use Rattle.core_machine.specs.declared.table.address.Address.{Address}
 use Rattle.core_machine.specs.declared.table.address.Address.TheVariants.{Phase, Answer, Budget, Spot, Control, Word, Spine}
 use Rattle.core_machine.specs.declared.seat.register.Register.{Register}
 use Rattle.core_machine.specs.declared.seat.register.Register.TheVariants.{Nil, Number}
-use Rattle.core_machine.specs.table.Layout.{at}
+use Rattle.core_machine.specs.table.Layout.{at, InTable}
 
 -- what a cell of this kind and value refers to
 abbrev pub referred : Kind → ℕ → Option ℕ
@@ -73,17 +73,21 @@ plain_in word = plain_register (cell_of word).kind (cell_of word).value
 abbrev pub IsWithinHeap : Heap → Option ℕ → Type 0
 IsWithinHeap heap fragment = IfSome fragment (λ f. f < group_fragments * heap.groups)
 
--- every word of a fragment leads to a fragment of the heap, or nowhere
-abbrev pub LeadWithin : Heap → List ℕ → Type 0
-LeadWithin heap words = (fragment part : ℕ) → fragment < group_fragments * heap.groups → part < 4
-    → IsWithinHeap heap (lead_of part (at heap words (Word fragment part)))
+-- the fragment that a spine word names
+abbrev pub payload_in : ℕ → ℕ
+payload_in word = (cell_of word).value
 
--- the word that was found at the address leads within the heap, where it stands in a fragment
+-- the word that was found at the address leads within the heap: a fragment's word to one of its fragments or nowhere, and a spine word
+-- names one
 abbrev pub FoundWithin : Heap → Address → ℕ → Type 0
 FoundWithin heap (Word fragment part) found = IsWithinHeap heap (lead_of part found)
+FoundWithin heap (Spine half offset) found = payload_in found < group_fragments * heap.groups
 FoundWithin heap Phase found = Unit {0}
 FoundWithin heap (Answer seat) found = Unit {0}
 FoundWithin heap Budget found = Unit {0}
 FoundWithin heap Spot found = Unit {0}
 FoundWithin heap (Control group) found = Unit {0}
-FoundWithin heap (Spine half offset) found = Unit {0}
+
+-- every word leads within the heap
+abbrev pub LeadWithin : Heap → List ℕ → Type 0
+LeadWithin heap words = (address : Address) → InTable heap address → FoundWithin heap address (at heap words address)
