@@ -4,6 +4,8 @@ use Rattle.heap_words.specs.declared.cell.Cell.{Cell}
 use Rattle.heap_words.specs.declared.kind.Kind.{Kind}
 use Rattle.heap_words.specs.declared.kind.Kind.TheVariants as kinds
 use Rattle.heap_words.specs.Cell.{cell_of}
+pub use Rattle.heap_words.specs.Meta.{meta_lead, length_in}
+use Rattle.heap_words.specs.Name.{name_in}
 use Rattle.heap_model.specs.declared.heap.Heap.{Heap}
 use Rattle.heap_model.specs.declared.id.Id.{Id}
 use Rattle.heap_model.specs.declared.id.Id.TheVariants.{Board, Made}
@@ -25,10 +27,6 @@ referred kinds.Fixed value = None
 abbrev pub head_in : ℕ → Option ℕ
 head_in word = referred (cell_of word).kind (cell_of word).value
 
--- where a record's meta leads: to its second fragment, where it has one; an array's leads nowhere
-abbrev pub meta_lead : Cell → Option ℕ
-meta_lead cell = if nat_lt cell.value (2 ^ 29) then (if cell.stamp == 0 then None else Some cell.stamp) else None
-
 -- where a fragment's first word of this kind leads
 abbrev pub first_lead : Kind → Cell → Option ℕ
 first_lead kinds.Reference cell = Some cell.value
@@ -44,16 +42,12 @@ lead_of part word = if part == 0 then first_lead (cell_of word).kind (cell_of wo
 abbrev pub link_in : ℕ → ℕ
 link_in word = unwrap_or (lead_of 0 word) 0
 
--- the length in a meta
-abbrev pub length_in : ℕ → ℕ
-length_in word = (cell_of word).value % 2 ^ 13
-
--- the id in a name: an owner has at most eight bits
+-- the id in a name
 abbrev pub id_of_owner : ℕ → ℕ → Id
 id_of_owner owner count = if owner == 0 then Board else Made (owner - 1) count
 
 abbrev pub id_in : ℕ → Id
-id_in word = id_of_owner ((cell_of word).value % 2 ^ 8) (cell_of word).stamp
+id_in word = id_of_owner (name_in word).owner (name_in word).count
 
 -- the stamp of a field
 abbrev pub stamp_in : ℕ → ℕ

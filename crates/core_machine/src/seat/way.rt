@@ -11,9 +11,10 @@ use crate::place::{Place, Reaching};
 use crate::seat::SeatParty;
 use crate::seat::commands::Parts;
 use crate::seat::register::Register;
-use crate::table::loaded::{length_in, link_in};
+use crate::table::loaded::link_in;
 use heap_model::phase_plan::{BARRIERS, CLEARING, CYCLE_PHASES};
 use heap_model::{Command, Reply};
+use heap_words::Meta;
 
 /// The row in which a field stands: 0 is the object's first fragment, 1 its second.
 fn row(field: u32) -> u16
@@ -35,7 +36,7 @@ fn part(field: u32) -> u8
 fn field_reply(field: u32, found: u64) -> Option<Reply>
     ensures { result ≡ field_reply_of field found }
 {
-    if field < u32::from(length_in(found)) {
+    if field < u32::from(Meta::length_in(found)) {
         None
     } else {
         Some(Reply::NoField)
@@ -47,7 +48,7 @@ fn meta_reply(command: &Command, found: u64) -> Option<Reply>
     ensures { result ≡ meta_reply_of command.now found }
 {
     match *command {
-        Command::Len { .. } => Some(Reply::Length(length_in(found))),
+        Command::Len { .. } => Some(Reply::Length(Meta::length_in(found))),
         Command::Get { i, .. } | Command::Set { i, .. } => field_reply(i, found),
         _ => None,
     }
