@@ -189,8 +189,8 @@ impl Machine {
         ensures { result.now ≡ log_of self.now party }
     {
         match self.seats.get(party as usize) {
-            Some(seat) => seat.log(),
-            None => self.collector.log(),
+            Some(seat) => seat.mine.entries(),
+            None => self.collector.log.entries(),
         }
     }
 
@@ -200,8 +200,8 @@ impl Machine {
         ensures { result ≡ spare_of self.now party }
     {
         match self.seats.get(party as usize) {
-            Some(seat) => seat.spare(),
-            None => self.collector.spare(),
+            Some(seat) => seat.mine.spare(),
+            None => self.collector.log.spare(),
         }
     }
 

@@ -1,10 +1,11 @@
-ghost use Rattle.std.specs.Prelude.{◌≡◌, ℕ, ◌+◌, ◌*◌, ◌/◌, ◌%◌, ◌<◌, ◌≤◌, ◌^◌, length};
+ghost use Rattle.std.specs.Prelude.{◌≡◌, ℕ, ◌*◌, ◌/◌, ◌%◌, ◌<◌, ◌^◌, length};
 ghost use Rattle.heap_model.specs.Limits.{register_count, most_seats};
 ghost use Rattle.core_machine.specs.declared.step.Step.TheVariants.{Making as Makes};
 ghost use Rattle.core_machine.specs.seat.Commands.{fields_of, target_of};
 ghost use Rattle.core_machine.specs.seat.Fits.{HasBody};
 ghost use Rattle.core_machine.specs.seat.Making.{stored_more, newborn_word as newborn_word_of};
 ghost use Rattle.core_machine.specs.Moves.{due_store, bearing_move, last_birth_move, bears_black as bears_black_of, seat_after};
+ghost use Rattle.core_machine.specs.machine.Value.{KeepsRoom};
 
 use crate::place::{Making, Place};
 use crate::seat::SeatParty;
@@ -102,7 +103,7 @@ impl SeatParty {
         requires registers { target_of self.old.seat.command < register_count }
         requires spare { 0 < self.old.spare }
         ensures seat { self.new.seat ≡ seat_after (bearing_move number self.old.seat) 0 }
-        ensures spare { self.old.spare + length self.old.seat.mine ≤ self.new.spare + length self.new.seat.mine }
+        ensures spare { KeepsRoom self.old self.new }
     {
         let group = last_group(self.hand.as_slice());
         if all_in(self.hand.as_slice(), group) {
@@ -119,7 +120,7 @@ impl SeatParty {
         requires registers { target_of self.old.seat.command < register_count }
         requires spare { 0 < self.old.spare }
         ensures seat { self.new.seat ≡ seat_after (last_birth_move number self.old.seat) 0 }
-        ensures spare { self.old.spare + length self.old.seat.mine ≤ self.new.spare + length self.new.seat.mine }
+        ensures spare { KeepsRoom self.old self.new }
     {
         let id = Id::Made {
             seat: number,

@@ -1,8 +1,9 @@
-ghost use Rattle.std.specs.Prelude.{◌≡◌, ◌+◌, ◌<◌, ◌≤◌, length};
+ghost use Rattle.std.specs.Prelude.{◌≡◌, ◌<◌};
 ghost use Rattle.heap_model.specs.Command.{IsCommand};
 ghost use Rattle.core_machine.specs.seat.Telling.{local_reply as local_reply_of, local_registers, answer_of};
 ghost use Rattle.core_machine.specs.seat.AnsweringMoves.{telling_move};
 ghost use Rattle.core_machine.specs.Moves.{seat_after};
+ghost use Rattle.core_machine.specs.machine.Value.{KeepsRoom};
 
 use crate::seat::SeatParty;
 use crate::seat::register::Register;
@@ -51,7 +52,7 @@ impl SeatParty {
         requires command { IsCommand self.old.seat.command }
         requires spare { 0 < self.old.spare }
         ensures seat { self.new.seat ≡ seat_after (telling_move number self.old.seat) 0 }
-        ensures spare { self.old.spare + length self.old.seat.mine ≤ self.new.spare + length self.new.seat.mine }
+        ensures spare { KeepsRoom self.old self.new }
     {
         let reply = self.local_reply();
         self.change_register();

@@ -1,4 +1,4 @@
-ghost use Rattle.std.specs.Prelude.{◌≡◌, ◌+◌, ◌*◌, ◌<◌, ◌≤◌, ◌^◌, length, IfSome};
+ghost use Rattle.std.specs.Prelude.{◌≡◌, ◌*◌, ◌<◌, ◌≤◌, ◌^◌, IfSome};
 ghost use Rattle.heap_model.specs.Limits.{last_index, register_count};
 ghost use Rattle.core_machine.specs.seat.Commands.{field_of};
 ghost use Rattle.core_machine.specs.table.Loaded.{lead_of};
@@ -6,6 +6,7 @@ ghost use Rattle.core_machine.specs.seat.Reaching.{row_of, part_of, has_barrier 
 ghost use Rattle.core_machine.specs.seat.ReachingMoves.{open_move, field_part as field_part_of};
 ghost use Rattle.core_machine.specs.seat.Registers.{register_in};
 ghost use Rattle.core_machine.specs.Moves.{seat_after};
+ghost use Rattle.core_machine.specs.machine.Value.{KeepsRoom};
 
 use crate::place::{Place, Reaching};
 use crate::seat::SeatParty;
@@ -127,7 +128,7 @@ impl SeatParty {
         requires leads { IfSome (lead_of 0 found) (λ fragment. fragment < 2 ^ 16) }
         requires spare { 0 < self.old.spare }
         ensures seat { self.new.seat ≡ seat_after (open_move number self.old.seat) found }
-        ensures spare { self.old.spare + length self.old.seat.mine ≤ self.new.spare + length self.new.seat.mine }
+        ensures spare { KeepsRoom self.old self.new }
     {
         let Some(reply) = meta_reply(&self.command, found) else {
             self.learn_link(found);
