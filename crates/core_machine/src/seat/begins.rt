@@ -7,6 +7,7 @@ ghost use Rattle.core_machine.specs.machine.Machine.{MayBegin, begun};
 
 use crate::place::{Place, Polling};
 use crate::seat::SeatParty;
+use crate::seat::commands::Parts;
 use heap_model::limits::STAMP_LIMIT;
 use heap_model::{Command, Heap};
 
@@ -65,7 +66,9 @@ impl SeatParty {
         self.command = command;
         match command {
             Command::New { .. } => self.go_on(heap),
-            Command::Get { r, .. } | Command::Set { r, .. } | Command::Len { r } => self.open(r),
+            Command::Get { .. } | Command::Set { .. } | Command::Len { .. } => {
+                self.open(Parts::of(&command).object);
+            }
             Command::Poll => self.place = Place::Polling(Polling::Asking),
             Command::Leave => self.go(),
             Command::Num { .. }
