@@ -3,4 +3,5 @@ pub mod OpeningMachine
 pub mod Opens
 pub mod Parties
 pub mod Runs
+pub mod SeatSteps
 pub mod Stepping

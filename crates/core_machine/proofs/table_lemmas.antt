@@ -3,6 +3,7 @@ pub mod Addresses
 pub mod Bits
 pub mod CellWords
 pub mod Clear
+pub mod Counting
 pub mod Filters
 pub mod Free
 pub mod Leading

@@ -4,6 +4,7 @@ ghost use Rattle.core_machine.specs.collector.Collector.{opening_collector, next
 ghost use Rattle.core_machine.specs.seat.Fits.{CollectorFits};
 
 use crate::collector::stage::Stage;
+use crate::log::Log;
 use crate::step::TurningStep;
 use heap_model::phase_plan::{CYCLE_PHASES, MARKING};
 use heap_model::{Entry, Heap, Memory, Turn};
@@ -19,11 +20,10 @@ pub struct CollectorParty {
     pub(crate) phase: u64,
     pub(crate) stage: Stage,
     pub(crate) looked: u8,
-    pub(crate) log: Vec<Entry>,
+    pub(crate) log: Log,
 }
 
 impl Model for CollectorParty {
-    ghost use Rattle.std.specs.Prelude.{◌-◌, vec_capacity, vec_len};
     ghost use Rattle.core_machine.specs.machine.Value.{CollectorWithRoom};
 
     ghost Value = { CollectorWithRoom };
@@ -33,9 +33,9 @@ impl Model for CollectorParty {
         phase = party.phase;
         stage = party.stage;
         looked = party.looked;
-        log = party.log.items;
+        log = party.log.entries;
       };
-      spare = vec_capacity party.log - vec_len party.log;
+      spare = party.log.spare;
     } };
 }
 
@@ -48,22 +48,8 @@ impl CollectorParty {
             phase: 0,
             stage: Stage::Looking,
             looked: 0,
-            log: Vec::new(alloc),
+            log: Log::new(alloc),
         }
-    }
-
-    /// The collector's entries, in their order.
-    pub fn log(&self) -> &[Entry]
-        ensures { result.now ≡ self.now.collector.log }
-    {
-        self.log.as_slice()
-    }
-
-    /// For how many more entries there is room.
-    pub fn spare(&self) -> usize
-        ensures { result ≡ self.now.spare }
-    {
-        self.log.capacity() - self.log.len()
     }
 
     /// Makes room for at least `n` more entries.
@@ -73,7 +59,7 @@ impl CollectorParty {
         ensures room { OnOk result (n ≤ self.new.spare) }
         ensures memory { OnErr result (self.new ≡ self.old) }
     {
-        self.log.reserve(n).map_err(|_| Memory)
+        self.log.reserve(n)
     }
 
     /// The step of its next turn.
@@ -124,10 +110,7 @@ impl CollectorParty {
         self.phase += 1;
         self.stage = Stage::Looking;
         self.looked = 0;
-        match self.log.push(Entry::Advance(self.phase)) {
-            Ok(()) => (),
-            Err(_) => unreachable!(),
-        }
+        self.log.push(Entry::Advance(self.phase));
     }
 
     /// Learns the word that its turn found. Each phase has an entry, so there is always a number left for the next one.
@@ -139,7 +122,7 @@ impl CollectorParty {
         ensures answer { result ≡ turn_answer self.old.collector self.old.collector.stage found }
         ensures spare { self.old.spare + length self.old.collector.log ≤ self.new.spare + length self.new.collector.log }
     {
-        let _all = self.log.capacity();
+        let _all = self.log.spare();
         let Stage::Looking = self.stage else {
             self.advance();
             return Turn::Stepped;

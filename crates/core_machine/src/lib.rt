@@ -2,6 +2,7 @@
 #![tactic(auto)]
 
 mod collector;
+mod log;
 mod machine;
 mod place;
 mod seat;

@@ -11,6 +11,7 @@ use crate::collector::CollectorParty;
 use crate::seat::SeatParty;
 use crate::step::Step;
 use crate::table::address::Address;
+use crate::table::words::{load, perform};
 use heap_model::{Command, Entry, Heap, Memory, Turn};
 use std::marker::Model;
 
@@ -60,14 +61,12 @@ impl Machine {
         self.heap
     }
 
-    /// The word at the address.
-    #[tactic(auto, unfolding(crate::specs::table::Layout::at))]
+    /// The word at the address; 0 past the end of the table.
     pub fn word(&self, address: Address) -> u64
         requires { InTable self.now.heap address }
         ensures { result ≡ at self.now.heap self.now.state.words address }
     {
-        let index = address.index(&self.heap);
-        self.words[index]
+        load(self.words.as_slice(), &self.heap, address)
     }
 
     /// The phase word.
@@ -147,9 +146,7 @@ impl Machine {
         ensures spent { SpendsRoom self.old self.new seat }
     {
         let heap = self.heap;
-        let index = step.address().index(&heap);
-        let found = self.words[index];
-        self.words[index] = step.operation().written(found);
+        let found = perform(&mut self.words, &heap, step);
         let party = &mut self.seats[seat as usize];
         party.learn(&heap, seat, found);
         found
@@ -181,9 +178,7 @@ impl Machine {
         ensures spent { SpendsRoom self.old self.new (length self.old.state.seats) }
     {
         let heap = self.heap;
-        let index = step.address().index(&heap);
-        let found = self.words[index];
-        self.words[index] = step.operation().written(found);
+        let found = perform(&mut self.words, &heap, step);
         let answer = self.collector.learn(&heap, found);
         (found, answer)
     }
@@ -194,8 +189,8 @@ impl Machine {
         ensures { result.now ≡ log_of self.now party }
     {
         match self.seats.get(party as usize) {
-            Some(seat) => seat.log(),
-            None => self.collector.log(),
+            Some(seat) => seat.mine.entries(),
+            None => self.collector.log.entries(),
         }
     }
 
@@ -205,8 +200,8 @@ impl Machine {
         ensures { result ≡ spare_of self.now party }
     {
         match self.seats.get(party as usize) {
-            Some(seat) => seat.spare(),
-            None => self.collector.spare(),
+            Some(seat) => seat.mine.spare(),
+            None => self.collector.log.spare(),
         }
     }
 

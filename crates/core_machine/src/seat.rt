@@ -1,8 +1,9 @@
-ghost use Rattle.std.specs.Prelude.{◌≡◌, ◌+◌, ◌-◌, ◌<◌, ◌≤◌, ◌∷◌, [], OnOk, OnErr};
+ghost use Rattle.std.specs.Prelude.{◌≡◌, ◌+◌, ◌<◌, ◌≤◌, ◌∷◌, [], OnOk, OnErr};
 ghost use Rattle.heap_model.specs.Heap.{IsHeap};
 ghost use Rattle.core_machine.specs.seat.Seat.{with_entries, over, replied};
 ghost use Rattle.core_machine.specs.machine.Opening.{opening_seat};
 
+use crate::log::Log;
 use crate::place::Place;
 use crate::seat::register::Register;
 use crate::table::fragments::{Hand, Reserve};
@@ -45,11 +46,10 @@ pub struct SeatParty {
     pub(crate) shaded: u8,
     pub(crate) sets: u32,
     pub(crate) left: bool,
-    pub(crate) mine: Vec<Entry>,
+    pub(crate) mine: Log,
 }
 
 impl Model for SeatParty {
-    ghost use Rattle.std.specs.Prelude.{◌-◌, vec_capacity, vec_len};
     ghost use Rattle.core_machine.specs.machine.Value.{SeatWithRoom};
 
     ghost Value = { SeatWithRoom };
@@ -75,9 +75,9 @@ impl Model for SeatParty {
         shaded = party.shaded;
         sets = party.sets;
         left = party.left;
-        mine = party.mine.items;
+        mine = party.mine.entries;
       };
-      spare = vec_capacity party.mine - vec_len party.mine;
+      spare = party.mine.spare;
     } };
 }
 
@@ -112,22 +112,8 @@ impl SeatParty {
             shaded: 0,
             sets: 0,
             left: false,
-            mine: Vec::new(alloc),
+            mine: Log::new(alloc),
         }
-    }
-
-    /// The seat's entries, in their order.
-    pub fn log(&self) -> &[Entry]
-        ensures { result.now ≡ self.now.seat.mine }
-    {
-        self.mine.as_slice()
-    }
-
-    /// For how many more entries there is room.
-    pub fn spare(&self) -> usize
-        ensures { result ≡ self.now.spare }
-    {
-        self.mine.capacity() - self.mine.len()
     }
 
     /// Makes room for at least `n` more entries.
@@ -137,7 +123,7 @@ impl SeatParty {
         ensures room { OnOk result (n ≤ self.new.spare) }
         ensures memory { OnErr result (self.new ≡ self.old) }
     {
-        self.mine.reserve(n).map_err(|_| Memory)
+        self.mine.reserve(n)
     }
 
     /// Adds an entry, for which there is room.
@@ -146,10 +132,7 @@ impl SeatParty {
         ensures seat { self.new.seat ≡ with_entries self.old.seat (entry ∷ []) }
         ensures spare { self.old.spare ≤ self.new.spare + 1 }
     {
-        match self.mine.push(entry) {
-            Ok(()) => (),
-            Err(_) => unreachable!(),
-        }
+        self.mine.push(entry);
     }
 
     /// The call is over, and nothing of it is left.

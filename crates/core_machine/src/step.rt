@@ -1,10 +1,10 @@
 ghost use Rattle.std.specs.Prelude.{◌≡◌};
-ghost use Rattle.core_machine.specs.table.Operation.{address_of, operation_of, making_address, making_operation, birth_bits as birth_bits_of, reaching_address, reaching_operation, shade_bit as shade_bit_of, answering_address, answering_operation, turning_address, turning_operation};
+ghost use Rattle.core_machine.specs.table.Operation.{address_of, operation_of, making_address, making_operation, reaching_address, reaching_operation, answering_address, answering_operation, turning_address, turning_operation};
 
 use crate::step::operation::Operation;
 use crate::table::address::Address;
 use heap_model::limits::GROUP_FRAGMENTS;
-use heap_words::LEFT;
+use heap_words::{ALL_TAKEN, LEFT, all_but, birth_bits, shade_bit};
 
 pub(crate) mod operation;
 
@@ -118,8 +118,8 @@ impl MakingStep {
         ensures { result ≡ making_operation self.now }
     {
         match *self {
-            MakingStep::Claim { .. } => Operation::Or(0xffff),
-            MakingStep::GiveBack { bits, .. } => Operation::And(!u64::from(bits)),
+            MakingStep::Claim { .. } => Operation::Or(ALL_TAKEN),
+            MakingStep::GiveBack { bits, .. } => Operation::And(all_but(bits)),
             MakingStep::NewbornStore { word, .. } => Operation::Store(word),
             MakingStep::Birth { bits, black, .. } | MakingStep::LastBirth { bits, black, .. } => {
                 Operation::Or(birth_bits(black, bits))
@@ -198,23 +198,4 @@ impl TurningStep {
             TurningStep::AdvanceStore { phase } => Operation::Store(phase),
         }
     }
-}
-
-/// The bits that a birth sets.
-fn birth_bits(black: bool, bits: u16) -> u64
-    ensures { result ≡ birth_bits_of black bits }
-{
-    let born = u64::from(bits) << 16;
-    if black {
-        born + (born << 16) + (born << 32)
-    } else {
-        born
-    }
-}
-
-/// The bit that a shade sets.
-fn shade_bit(fragment: u16) -> u64
-    ensures { result ≡ shade_bit_of fragment }
-{
-    1 << (32 + fragment % 16)
 }

@@ -2,3 +2,4 @@ pub(crate) mod address;
 pub(crate) mod fragments;
 pub(crate) mod loaded;
 pub(crate) mod newborn;
+pub(crate) mod words;

@@ -1,6 +1,8 @@
--- Parts of a word that are put side by side by `|`.
-use Rattle.std.proofs.Common.{◌≡◌, ℕ, ◌+◌, ◌*◌, ◌%◌, ◌^◌, ◌<◌, bit_or, refl, arith}
-use Rattle.std.proofs.lemmas.Nat.{or_shifted, shl_whole}
+-- Parts of a word that are put side by side by `|`, and single bits of sixteen.
+use Rattle.std.proofs.Common.{◌≡◌, ℕ, ◌+◌, ◌*◌, ◌/◌, ◌%◌, ◌^◌, ◌<◌, bit_and, bit_or, refl, arith}
+use Rattle.std.specs.Int.{bit_at}
+use Rattle.std.proofs.lemmas.Nat.{one_shl, or_shifted, shl_whole}
+use Rattle.std.proofs.lemmas.Nat.Bits.{shr_and_one}
 
 -- below a multiple of 2^k there is room for k bits
 or_above : (a n k b : ℕ) → a ≡ n * 2 ^ k → b < 2 ^ k → bit_or a b ≡ a + b
@@ -27,3 +29,11 @@ group_parts t b m s p q r u = rw (
   or_above (s * 2 ^ 48 + m * 2 ^ 32) (s * 2 ^ 16 + m) 32 (b * 2 ^ 16) (omega arith) (omega arith),
   or_above (s * 2 ^ 48 + m * 2 ^ 32 + b * 2 ^ 16) (s * 2 ^ 32 + m * 2 ^ 16 + b) 16 t (omega arith) p,
 )
+
+-- a bit below the sixteenth, shifted within sixteen bits
+pub place_shift : (k : ℕ) → 1 * 2 ^ (k % 16) % 2 ^ 16 ≡ 2 ^ (k % 16)
+place_shift k = one_shl (k % 16) 16 (omega arith)
+
+-- a bit below the sixteenth, tested
+pub place_test : (word k : ℕ) → bit_and (word / 2 ^ (k % 16)) 1 ≡ bit_at word (k % 16)
+place_test word k = shr_and_one word (k % 16)

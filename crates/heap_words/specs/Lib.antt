@@ -1,4 +1,5 @@
 pub mod Cell
+pub mod Control
 pub mod Group
 pub mod Kind
 pub mod Meta

@@ -1,5 +1,6 @@
-use Rattle.std.specs.Prelude.{◌≡◌, ℕ, ◌+◌, ◌^◌, ◌<◌, IsTrue, if◌then◌else◌}
-use Rattle.heap_words.specs.Cell.{cell_word, fixed_cell}
+use Rattle.std.specs.Prelude.{◌≡◌, ℕ, ◌+◌, ◌%◌, ◌^◌, ◌<◌, ◌==◌, nat_lt, IsTrue, if◌then◌else◌, Option, Some, None}
+use Rattle.heap_words.specs.Cell.{cell_of, cell_word, fixed_cell}
+use Rattle.heap_words.specs.declared.cell.Cell.{Cell}
 use Rattle.heap_words.specs.declared.meta.Meta.{Meta}
 
 -- the length is below 8192, the next fragment below 65536, and an array has none
@@ -10,3 +11,11 @@ IsMeta meta = (meta.length < 2 ^ 13) × (meta.next < 2 ^ 16) × (IsTrue meta.arr
 abbrev pub meta_word : Meta → ℕ
 meta_word meta =
     cell_word (fixed_cell (if meta.array then 2 ^ 29 + meta.length else meta.length) meta.next)
+
+-- where a record's meta leads: to its second fragment, where it has one; an array's leads nowhere
+abbrev pub meta_lead : Cell → Option ℕ
+meta_lead cell = if nat_lt cell.value (2 ^ 29) then (if cell.stamp == 0 then None else Some cell.stamp) else None
+
+-- the length in a meta
+abbrev pub length_in : ℕ → ℕ
+length_in word = (cell_of word).value % 2 ^ 13

@@ -1,5 +1,5 @@
-use Rattle.std.specs.Prelude.{ℕ, ◌^◌, ◌<◌}
-use Rattle.heap_words.specs.Cell.{cell_word, fixed_cell}
+use Rattle.std.specs.Prelude.{ℕ, ◌%◌, ◌^◌, ◌<◌}
+use Rattle.heap_words.specs.Cell.{cell_of, cell_word, fixed_cell}
 use Rattle.heap_words.specs.declared.name.Name.{Name}
 
 -- the owner is below 256, and the count below 2^32
@@ -9,3 +9,7 @@ IsName name = (name.owner < 2 ^ 8) × (name.count < 2 ^ 32)
 -- the word of the fixed cell of the owner and the count
 abbrev pub name_word : Name → ℕ
 name_word name = cell_word (fixed_cell name.owner name.count)
+
+-- the name that a word tells: an owner has at most eight bits
+abbrev pub name_in : ℕ → Name
+name_in word = record { owner = (cell_of word).value % 2 ^ 8; count = (cell_of word).stamp }

@@ -2,6 +2,7 @@
 #![tactic(auto)]
 
 mod cell;
+mod control;
 mod group;
 mod kind;
 mod laws;
@@ -13,6 +14,7 @@ mod spot;
 mod tests;
 
 pub use cell::Cell;
+pub use control::{ALL_TAKEN, all_but, birth_bits, is_clear, place_bit, shade_bit};
 pub use group::Group;
 pub use kind::Kind;
 pub use laws::word_laws;

@@ -1,5 +1,5 @@
 ghost use Rattle.std.specs.Prelude.{◌≡◌};
-ghost use Rattle.heap_words.specs.Name.{IsName, name_word};
+ghost use Rattle.heap_words.specs.Name.{IsName, name_word, name_in};
 ghost use Rattle.heap_words.specs.Reads.{Reads};
 
 use crate::cell::Cell;
@@ -25,6 +25,17 @@ impl Name {
             stamp: self.count,
         }
         .pack()
+    }
+
+    /// The name that a word tells; of a word that no name packs to some name.
+    pub fn told(word: u64) -> Name
+        ensures { result ≡ name_in word }
+    {
+        let cell = Cell::read(word);
+        Name {
+            owner: (cell.value % 256) as u8,
+            count: cell.stamp,
+        }
     }
 
     /// The name that packs to this word.

@@ -20,14 +20,11 @@ record Addressed (heap : Heap) (i : ℕ) : Type 0 where
   is : index_of heap address ≡ i
 
 spine_at : (heap : Heap) (i : ℕ) → 19 + 65 * heap.groups ≤ i → i < table_length heap → Addressed heap i
-spine_at heap i past within = elim (leb_tells (suc i) (19 + 65 * heap.groups + 2 * heap.spine)) [
-  | inl first ↦ record { address = Spine 0 (i - (19 + 65 * heap.groups)); there = (omega arith, omega (arith, first.1, past)); is = omega (arith, past) }
-  | inr second ↦ record {
-    address = Spine 1 (i - (19 + 65 * heap.groups + 2 * heap.spine));
-    there = (omega arith, omega (arith, second.1, within));
-    is = omega (arith, second.1);
-  }
-]
+spine_at heap i past within = record {
+  address = Spine ((i - (19 + 65 * heap.groups)) % 2) ((i - (19 + 65 * heap.groups)) / 2);
+  there = omega arith;
+  is = omega (arith, past);
+}
 
 fragment_at_index : (heap : Heap) (i : ℕ) → 19 + heap.groups ≤ i → i < table_length heap → Addressed heap i
 fragment_at_index heap i past within = elim (leb_tells (suc i) (19 + 65 * heap.groups)) [

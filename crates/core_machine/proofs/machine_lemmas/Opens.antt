@@ -2,7 +2,7 @@
 use Rattle.std.proofs.Common.{◌∷◌, replicate, suc, ◌≡◌, ◌≢◌, ℕ, ◌+◌, ◌*◌, ◌/◌, ◌%◌, ◌<◌, ◌≤◌, ◌^◌, List, map, length, replicate, get_or, ltb, true, false, refl, sym, ap, ◌∙◌, subst, inl, inr, arith}
 use Rattle.std.proofs.lemmas.Bool.{lt-ltb, le-ltb}
 use Rattle.std.proofs.lemmas.Bool.Decides.{eqb_tells, leb_tells}
-use Rattle.std.proofs.lemmas.List.{get_or-replicate}
+use Rattle.std.proofs.lemmas.List.{get_or-replicate, get_or_past, length-replicate}
 use Rattle.heap_words.specs.declared.phase.TheConstants.{LEFT}
 use Rattle.heap_words.specs.Spot.{spot_word}
 use Rattle.std.specs.List.{range_with_len, All}
@@ -19,12 +19,12 @@ use Rattle.core_machine.specs.seat.Seat.{Seat, nobody}
 use Rattle.core_machine.specs.declared.seat.register.Register.TheVariants.{Nil, Object}
 use Rattle.heap_model.specs.declared.id.Id.TheVariants.{Board}
 use Rattle.core_machine.specs.collector.Collector.{Collector, opening_collector}
-use Rattle.core_machine.specs.table.Loaded.{lead_of, IsWithinHeap, LeadWithin}
+use Rattle.core_machine.specs.table.Loaded.{lead_of, IsWithinHeap, FoundWithin}
 use Rattle.core_machine.specs.seat.Fits.{AreFragments, FitsRegister, CollectorFits, Fits}
 use Rattle.core_machine.proofs.seat_lemmas.Aside.{gone_aside}
 use Rattle.core_machine.proofs.table_lemmas.Leading.{record_leads, zero_leads}
 use Rattle.core_machine.specs.machine.Value.{IsMachine}
-use Rattle.core_machine.proofs.table_lemmas.Addresses.{index_within, length-put, at-put_same, at-put_other}
+use Rattle.core_machine.proofs.table_lemmas.Addresses.{length-put, at-put_same, at-put_other}
 
 -- another number hasn't
 with_left-other : (heap : Heap) (n number word : ℕ) → number ≢ n → with_left heap n (Answer number) word ≡ with_left heap (n + 1) (Answer number) word
@@ -88,10 +88,17 @@ with_board-more heap words place Spot word table some within there is = at-put_o
 with_board-more heap words place (Control group) word table some within there is = at-put_other heap words (Word (place / 4) (place % 4)) (Control group) (next_word place) (omega arith, omega arith) there (λ e. cc) ∙ is
 with_board-more heap words place (Spine half offset) word table some within there is = at-put_other heap words (Word (place / 4) (place % 4)) (Spine half offset) (next_word place) (omega arith, omega arith) there (λ e. cc) ∙ is
 
+-- a list of one number reads as that number, and so it does past its end
+read_same : (n i number : ℕ) → get_or (replicate n number) i number ≡ number
+read_same n i number = elim (leb_tells (suc i) n) as (λ _. get_or (replicate n number) i number ≡ number) [
+  | inl within ↦ get_or-replicate n i number number within.1
+  | inr past ↦ get_or_past (replicate n number) i number (omega (arith, past.1, length-replicate n number))
+]
+
 -- a table of zeros
-pub at-zeros : (heap : Heap) (words : List ℕ) (a : Address) → words ≡ replicate (table_length heap) 0 → InTable heap a → at heap words a ≡ 0
+pub at-zeros : (heap : Heap) (words : List ℕ) (a : Address) → words ≡ replicate (table_length heap) 0 → at heap words a ≡ 0
 unfolding at
-at-zeros heap words a is within = rw is (get_or-replicate (table_length heap) (index_of heap a) 0 0 (index_within heap a within))
+at-zeros heap words a is = rw is (read_same (table_length heap) (index_of heap a) 0)
 
 -- the word of the spot
 abbrev pub spot_word_of : ℕ
@@ -138,13 +145,18 @@ board_within heap some = list 11 0 (omega arith) where
   list (suc n) from few = All-cons (λ fragment. fragment < 16 * heap.groups) from (range_with_len (from + 1) n) (omega arith) (list n (from + 1) (omega arith))
 
 -- every word of the opening leads within the heap
-opening_leads : (heap : Heap) (words : List ℕ) → IsHeap heap → ((a : Address) → InTable heap a → at heap words a ≡ opening_word heap a) → LeadWithin heap words
-opening_leads heap words limits opens f part within few =
-    subst (λ (w : ℕ). IsWithinHeap heap (lead_of part w)) (sym (opens (Word f part) (within, few)))
-    (elim (leb_tells (suc f) 11) as (λ _. IsWithinHeap heap (lead_of part (opening_word heap (Word f part)))) [
+opening_leads : (heap : Heap) → IsHeap heap → (a : Address) → InTable heap a → FoundWithin heap a (opening_word heap a)
+opening_leads heap limits Phase there = tt
+opening_leads heap limits (Answer number) there = tt
+opening_leads heap limits Budget there = tt
+opening_leads heap limits Spot there = tt
+opening_leads heap limits (Control group) there = tt
+opening_leads heap limits (Spine half offset) there = omega (arith, limits.some_group)
+opening_leads heap limits (Word f part) there =
+    elim (leb_tells (suc f) 11) as (λ _. IsWithinHeap heap (lead_of part (opening_word heap (Word f part)))) [
       | inl board_ ↦ rw board_.0 (record_leads heap board_name 32 board f part (omega arith) (omega arith) (omega arith) (omega (arith, limits.some_group)) (omega (arith, limits.groups_fit)) (board_within heap limits.some_group))
       | inr past ↦ rw past.0 (zero_leads heap part)
-    ])
+    ]
 
 -- a register at the opening
 opening_registers : (heap : Heap) → 1 ≤ heap.groups → All (FitsRegister heap) (Object 0 Board ∷ replicate 15 Nil)
@@ -190,7 +202,7 @@ machine_opens heap words seats collector limits table wide opens opened here =
       limits = limits;
       table = table;
       wide = wide;
-      leads = opening_leads heap words limits opens;
+      leads = λ a there. subst (FoundWithin heap a) (sym (opens a there)) (opening_leads heap limits a there);
       seated = long;
       fit = λ n within.
           let is : get_or seats n nobody ≡ opening_seat heap n = ap (λ (l : List Seat). get_or l n nobody) opened ∙ get_or-map-range_with_len (opening_seat heap) 0 heap.seats n n nobody (omega arith) (omega arith) in

@@ -23,7 +23,7 @@ use Rattle.core_machine.proofs.table_lemmas.Addresses.{length-put, All-put, at-l
 use Rattle.core_machine.proofs.table_lemmas.Wide.{written_wide}
 use Rattle.core_machine.proofs.seat_lemmas.FittingMoves.{fits_begun, fits_moved, move_in_table}
 use Rattle.core_machine.proofs.collector_lemmas.FittingTurns.{fits_turn, turn_in_table, turn_wide, turn_leads}
-use Rattle.core_machine.proofs.table_lemmas.Leading.{leads-put, written_leads, found-leads}
+use Rattle.core_machine.proofs.table_lemmas.Leading.{leads-put, written_leads}
 
 pub Run-more : (heap : Heap) (state : State) (events : List Event) (event : Event) → Run heap state events → Can heap (after_all heap state events) event
     → Run heap state (events ++ event ∷ [])
@@ -77,11 +77,11 @@ machine_moved heap state q None machine within fits wide leads there = machine
 machine_moved heap state q (Some move) machine within fits wide leads there =
     let found = found_by heap state move.step in
     let small = at-lt heap state.words (address_of move.step) machine.wide in
-    let led = found-leads heap state.words (address_of move.step) there machine.leads in
+    let led = machine.leads (address_of move.step) there in
     machine_with heap state (put heap state.words (address_of move.step) (written move.step found)) q (seat_after move found) machine within
     (length-put heap state.words (address_of move.step) (written move.step found))
     (All-put heap state.words (address_of move.step) (written move.step found) (wide found small) machine.wide)
-    (leads-put heap state.words (address_of move.step) (written move.step found) machine.table there (leads found led) machine.leads)
+    (leads-put heap state.words (address_of move.step) (written move.step found) there (leads found led) machine.leads)
     (fits found small led)
 
 -- the collector's turn leaves a machine
@@ -94,7 +94,7 @@ machine_turned heap state machine may =
       limits = machine.limits;
       table = length-put heap state.words (address_of step) (written step found) ∙ machine.table;
       wide = All-put heap state.words (address_of step) (written step found) (turn_wide heap state.collector found machine.collector_fit (at-lt heap state.words (address_of step) machine.wide)) machine.wide;
-      leads = leads-put heap state.words (address_of step) (written step found) machine.table there (turn_leads heap state.collector (written step found)) machine.leads;
+      leads = leads-put heap state.words (address_of step) (written step found) there (turn_leads heap state.collector (written step found)) machine.leads;
       seated = machine.seated;
       fit = machine.fit;
       collector_fit = fits_turn heap state.collector found machine.limits machine.collector_fit may;
@@ -119,7 +119,7 @@ due_at_move heap state None step machine due there = cc
 due_at_move heap state (Some move) step machine due there =
     let same : move.step ≡ step = cc in (
       subst (λ (s : Step). InTable heap (address_of s)) same there,
-      subst (λ (s : Step). FoundWithin heap (address_of move.step) (found_by heap state s)) same (found-leads heap state.words (address_of move.step) there machine.leads),
+      subst (λ (s : Step). FoundWithin heap (address_of move.step) (found_by heap state s)) same (machine.leads (address_of move.step) there),
     )
 
 pub due_within_table : (heap : Heap) (state : State) (q : ℕ) (step : Step) → IsMachine heap state → q < length state.seats → due_step heap q (seat_at state q) ≡ Some step

@@ -15,14 +15,9 @@ use Rattle.core_machine.specs.collector.Collector.{Collector}
 use Rattle.core_machine.specs.seat.Seat.{Seat, nobody}
 use Rattle.core_machine.specs.Moves.{Move, next_move, due_step, seat_moved}
 use Rattle.core_machine.specs.machine.Machine.{seat_at, found_by, MayBegin, begun, Begins, Steps, after, moved}
-use Rattle.core_machine.specs.machine.Value.{SeatWithRoom, MachineValue, spare_of, log_of, SpendsRoom, IsMachine}
+use Rattle.core_machine.specs.machine.Value.{SeatWithRoom, spare_of, log_of, SpendsRoom, IsMachine}
 use Rattle.core_machine.proofs.machine_lemmas.Runs.{machine_after, due_within_table}
 use Rattle.core_machine.proofs.machine_lemmas.Parties.{state_of, value_of, seat_of, seats_set, spares_same, spare_at}
-
--- what is due by a value is due by the same value
-pub due_at : (view value : MachineValue) (q : ℕ) (step : Step) → view ≡ value → due_step value.heap q (seat_at value.state q) ≡ Some step
-    → due_step view.heap q (seat_at view.state q) ≡ Some step
-due_at view value q step same due = subst (λ (v : MachineValue). due_step v.heap q (seat_at v.state q) ≡ Some step) (sym same) due
 
 -- a party with a step due is a seat
 pub due_within : (heap : Heap) (words : List ℕ) (parties : List SeatWithRoom) (collector : Collector) (q : ℕ) (step : Step)

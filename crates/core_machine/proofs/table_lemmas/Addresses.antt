@@ -1,47 +1,30 @@
 -- Reading and writing the words of a table.
-use Rattle.std.proofs.Common.{◌≡◌, ◌≢◌, ℕ, ◌+◌, ◌*◌, ◌<◌, ◌^◌, inl, inr, List, length, get_or, set, zero, suc, ap, refl, sym, ◌∙◌, arith}
-use Rattle.std.proofs.lemmas.List.{get_or-set_same, get_or-set_other, set-get_or, length-set, get_or_default, get_or_past}
+use Rattle.std.proofs.Common.{◌≡◌, ◌≢◌, ℕ, ◌<◌, ◌^◌, inl, inr, List, length, get_or, set, suc, refl, sym, subst, arith}
+use Rattle.std.proofs.lemmas.List.{get_or-set_same, get_or-set_other, set-get_or, length-set, get_or_past, set_past}
 use Rattle.std.specs.List.{All}
 use Rattle.std.proofs.lemmas.Bool.Decides.{leb_tells}
 use Rattle.std.proofs.lemmas.List.Elements.{All-set}
 use Rattle.heap_model.specs.declared.heap.Heap.{Heap}
 use Rattle.core_machine.specs.declared.table.address.Address.{Address}
 use Rattle.core_machine.specs.declared.table.address.Address.TheVariants.{Phase, Answer, Budget, Spot, Control, Word, Spine}
-use Rattle.core_machine.specs.table.Layout.{table_length, index_of, InTable, at, put}
-
--- a word of either half stands in the table
-half_within : (groups spine half offset : ℕ) → half < 2 → offset < 2 * spine
-    → 19 + 65 * groups + 2 * spine * half + offset < 19 + 65 * groups + 4 * spine
-half_within groups spine zero offset below within = omega arith
-half_within groups spine (suc zero) offset below within = omega arith
-half_within groups spine (suc (suc n)) offset below within = absurd (omega arith)
-
--- no two words of the halves stand in one place
-half_apart : (spine half half' offset offset' : ℕ) → half < 2 → half' < 2 → offset < 2 * spine → offset' < 2 * spine
-    → 2 * spine * half + offset ≡ 2 * spine * half' + offset' → (half ≡ half') × (offset ≡ offset')
-half_apart spine zero zero offset offset' b b' w w' same = (refl, omega arith)
-half_apart spine zero (suc zero) offset offset' b b' w w' same = absurd (omega arith)
-half_apart spine (suc zero) zero offset offset' b b' w w' same = absurd (omega arith)
-half_apart spine (suc zero) (suc zero) offset offset' b b' w w' same = (refl, omega arith)
-half_apart spine (suc (suc n)) half' offset offset' b b' w w' same = absurd (omega arith)
-half_apart spine half (suc (suc n)) offset offset' b b' w w' same = absurd (omega arith)
+use Rattle.core_machine.specs.table.Layout.{table_length, index_of, InTable, HasWord, at, put}
 
 -- a word of the table stands in it
-pub index_within : (heap : Heap) (a : Address) → InTable heap a → index_of heap a < table_length heap
+pub index_within : (heap : Heap) (a : Address) → HasWord heap a → index_of heap a < table_length heap
 index_within heap Phase within = omega arith
 index_within heap (Answer seat) within = omega arith
 index_within heap Budget within = omega arith
 index_within heap Spot within = omega arith
 index_within heap (Control group) within = omega arith
 index_within heap (Word fragment part) within = omega arith
-index_within heap (Spine half offset) within = half_within heap.groups heap.spine half offset within.0 within.1
+index_within heap (Spine half offset) within = omega (arith, within.0, within.1)
 
 pub length-put : (heap : Heap) (words : List ℕ) (a : Address) (word : ℕ) → length (put heap words a word) ≡ length words
 unfolding put
 length-put heap words a word = length-set words (index_of heap a) word
 
 -- what was written is read
-pub at-put_same : (heap : Heap) (words : List ℕ) (a : Address) (word : ℕ) → length words ≡ table_length heap → InTable heap a
+pub at-put_same : (heap : Heap) (words : List ℕ) (a : Address) (word : ℕ) → length words ≡ table_length heap → HasWord heap a
     → at heap (put heap words a word) a ≡ word
 unfolding at put
 at-put_same heap words a word whole within =
@@ -107,7 +90,8 @@ index_apart heap (Spine half offset) Spot here there same = absurd (omega arith)
 index_apart heap (Spine half offset) (Control group') here there same = absurd (omega arith)
 index_apart heap (Spine half offset) (Word fragment' part') here there same = absurd (omega arith)
 index_apart heap (Spine half offset) (Spine half' offset') here there same =
-    let e = half_apart heap.spine half half' offset offset' here.0 there.0 here.1 there.1 (omega arith) in
+    let e : half ≡ half' = omega arith in
+    let f : offset ≡ offset' = omega arith in
     cc
 
 -- other words stay
@@ -117,16 +101,15 @@ unfolding at put
 at-put_other heap words a b word here there other =
     get_or-set_other words (index_of heap a) (index_of heap b) word 0 (λ same. other (sym (index_apart heap a b here there (sym same))))
 
--- a read of the list at the place of a word
-pub at_read : (heap : Heap) (words : List ℕ) (a : Address) (i word : ℕ) → i ≡ index_of heap a → i < length words → word ≡ get_or words i word
-    → word ≡ at heap words a
-unfolding at
-at_read heap words a i word place within is = is ∙ get_or_default words i word 0 within ∙ ap (λ (n : ℕ). get_or words n 0) place
-
--- a write of the list at the place of a word
-pub put_write : (heap : Heap) (words : List ℕ) (a : Address) (i word : ℕ) → i ≡ index_of heap a → set words i word ≡ put heap words a word
-unfolding put
-put_write heap words a i word place = ap (λ (n : ℕ). set words n word) place
+-- what is true of a word and of the one that it takes the place of is true of the word at the address, also past the end of the table
+pub put-tells : (P : ℕ → Type 0) (heap : Heap) (words : List ℕ) (a : Address) (word : ℕ) → P word → P (at heap words a)
+    → P (at heap (put heap words a word) a)
+unfolding at put
+put-tells P heap words a word now before =
+    elim (leb_tells (suc (index_of heap a)) (length words)) as (λ _. P (get_or (set words (index_of heap a) word) (index_of heap a) 0)) [
+      | inl within ↦ subst P (sym (get_or-set_same words (index_of heap a) word 0 within.1)) now
+      | inr past ↦ subst (λ (l : List ℕ). P (get_or l (index_of heap a) 0)) (sym (set_past words (index_of heap a) word (omega (arith, past.1)))) before
+    ]
 
 -- what is true of all words stays true where one more is written
 pub All-put : (heap : Heap) (words : List ℕ) (a : Address) (word : ℕ) → word < 2 ^ 64 → All (λ w. w < 2 ^ 64) words → All (λ w. w < 2 ^ 64) (put heap words a word)

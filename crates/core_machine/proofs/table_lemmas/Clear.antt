@@ -1,11 +1,8 @@
 -- The clear fragments of a group, one by one.
-use Rattle.std.proofs.Common.{◌≡◌, ℕ, zero, suc, ◌+◌, ◌*◌, ◌%◌, ◌<◌, ◌≤◌, true, false, cond, List, [], ◌∷◌, ◌++◌, length, filter, refl, sym, ap, ◌∙◌, append-nil, add-zero, eq-eqb, ◌≢◌, ◌/◌, ◌^◌, bit_and, arith}
+use Rattle.std.proofs.Common.{◌≡◌, ℕ, zero, suc, ◌+◌, ◌*◌, ◌≤◌, true, false, cond, List, [], ◌∷◌, ◌++◌, length, filter, refl, ap, ◌∙◌, append-nil, add-zero, arith}
 use Rattle.std.specs.List.{range_with_len}
-use Rattle.std.proofs.lemmas.Bool.{ne_eqb}
 use Rattle.std.proofs.lemmas.List.Elements.{filter-append}
 use Rattle.std.proofs.lemmas.List.FromFn.{length-range_with_len}
-use Rattle.std.specs.Int.{bit_at}
-use Rattle.std.proofs.lemmas.Nat.Bits.{shr_and_one}
 use Rattle.core_machine.specs.table.Fragments.{is_clear, clear_among}
 use Rattle.core_machine.proofs.table_lemmas.Filters.{length-filter_le}
 
@@ -29,22 +26,14 @@ clear_among-more group word count =
     step ∙ filter-append (is_clear word) (range_with_len (16 * group) count) ((16 * group + count) ∷ [])
 
 -- the fragment whose taken bit isn't set is among them
-pub clear_among-clear : (group word count : ℕ) → count < 16 → bit_and (word / 2 ^ count) 1 ≡ 0
+pub clear_among-clear : (group word count : ℕ) → is_clear word (16 * group + count) ≡ true
     → clear_among group word (count + 1) ≡ clear_among group word count ++ (16 * group + count) ∷ []
-clear_among-clear group word count within unset =
-    let place : (16 * group + count) % 16 ≡ count = omega arith in
-    let bit : bit_at word ((16 * group + count) % 16) ≡ 0 = rw place (sym (shr_and_one word count) ∙ unset) in
-    let passes : is_clear word (16 * group + count) ≡ true = eq-eqb _ 0 bit in
-    rw (clear_among-more group word count, passes) refl
+clear_among-clear group word count clear = rw (clear_among-more group word count, clear) refl
 
 -- one whose taken bit is set isn't
-pub clear_among-taken : (group word count : ℕ) → count < 16 → bit_and (word / 2 ^ count) 1 ≢ 0
+pub clear_among-taken : (group word count : ℕ) → is_clear word (16 * group + count) ≡ false
     → clear_among group word (count + 1) ≡ clear_among group word count
-clear_among-taken group word count within set =
-    let place : (16 * group + count) % 16 ≡ count = omega arith in
-    let bit : bit_at word ((16 * group + count) % 16) ≢ 0 = λ e. set (shr_and_one word count ∙ rw place at e) in
-    let fails : is_clear word (16 * group + count) ≡ false = ne_eqb _ 0 bit in
-    rw (clear_among-more group word count, fails) (append-nil _)
+clear_among-taken group word count taken = rw (clear_among-more group word count, taken) (append-nil _)
 
 pub clear_among-zero : (group word : ℕ) → clear_among group word 0 ≡ []
 unfolding clear_among

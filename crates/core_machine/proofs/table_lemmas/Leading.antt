@@ -1,5 +1,5 @@
 -- Every step leaves words that lead within the heap.
-use Rattle.std.proofs.Common.{suc, ◌≡◌, ◌≢◌, ℕ, ◌+◌, ◌*◌, ◌/◌, ◌%◌, ◌^◌, ◌<◌, ◌≤◌, true, false, cond, eqb, ltb, List, length, get_or, Some, None, inl, inr, subst, sym, ap, ◌∙◌, arith}
+use Rattle.std.proofs.Common.{suc, ◌≡◌, ℕ, ◌+◌, ◌*◌, ◌/◌, ◌%◌, ◌^◌, ◌<◌, ◌≤◌, true, false, cond, eqb, ltb, List, length, get_or, Some, None, inl, inr, subst, sym, ap, arith}
 use Rattle.std.specs.Prelude.{IfSome}
 use Rattle.std.proofs.lemmas.Bool.Decides.{eqb_tells, leb_tells}
 use Rattle.std.proofs.lemmas.List.{get_or_past}
@@ -13,7 +13,6 @@ use Rattle.heap_model.specs.declared.heap.Heap.{Heap}
 use Rattle.heap_model.specs.Heap.{IsHeap}
 use Rattle.heap_model.specs.graph.Growth.{stamp_of}
 use Rattle.core_machine.specs.declared.table.address.Address.{Address}
-use Rattle.core_machine.specs.declared.table.address.Address.TheVariants.{Phase, Answer, Budget, Spot, Control, Word, Spine}
 use Rattle.core_machine.specs.declared.place.Place.{Place}
 use Rattle.core_machine.specs.declared.place.Place.TheVariants as places
 use Rattle.core_machine.specs.declared.place.Making.{Making}
@@ -25,7 +24,7 @@ use Rattle.core_machine.specs.declared.place.Leaving.TheVariants.{Emptying, Part
 use Rattle.core_machine.specs.declared.seat.register.Register.{Register}
 use Rattle.core_machine.specs.declared.seat.register.Register.TheVariants.{Nil, Number, Object}
 use Rattle.core_machine.specs.seat.Commands.{source_of, field_of, fields_of}
-use Rattle.core_machine.specs.table.Layout.{at, put, InTable, table_length}
+use Rattle.core_machine.specs.table.Layout.{at, put, index_of, InTable}
 use Rattle.core_machine.specs.table.Loaded.{lead_of, first_lead, referred, IsWithinHeap, LeadWithin, FoundWithin}
 use Rattle.core_machine.specs.table.Newborn.{link_after, head_word, record_word}
 use Rattle.core_machine.specs.table.Operation.{address_of, written}
@@ -36,7 +35,7 @@ use Rattle.core_machine.specs.seat.Seat.{Seat}
 use Rattle.core_machine.specs.Moves.{move_at, making_move, reaching_move, next_move, bearing_move, is_last_birth}
 use Rattle.core_machine.specs.seat.FitsReaching.{FitsReaching}
 use Rattle.core_machine.specs.seat.Fits.{AreFragments, FitsRegister, FitsPlace, FitsWay, FitsMaking, Fits}
-use Rattle.core_machine.proofs.table_lemmas.Addresses.{at-put_same, at-put_other}
+use Rattle.core_machine.proofs.table_lemmas.Addresses.{at-put_other, index_apart, put-tells}
 use Rattle.core_machine.proofs.table_lemmas.Bits.{bool_tells}
 use Rattle.core_machine.proofs.table_lemmas.CellWords.{cell_of-cell_word}
 use Rattle.core_machine.proofs.seat_lemmas.FittingAnswers.{register_fits}
@@ -44,35 +43,16 @@ use Rattle.core_machine.proofs.table_lemmas.WithinHeap.{part_some}
 use Rattle.core_machine.proofs.table_lemmas.Wide.{fields_few, set_numbered}
 
 -- another word in the place of one
-pub leads-put : (heap : Heap) (words : List ℕ) (a : Address) (word : ℕ) → length words ≡ table_length heap → InTable heap a → FoundWithin heap a word
+pub leads-put : (heap : Heap) (words : List ℕ) (a : Address) (word : ℕ) → InTable heap a → FoundWithin heap a word
     → LeadWithin heap words → LeadWithin heap (put heap words a word)
-leads-put heap words a word table in_table led leads f p within part = by a in_table led where
-  kept : (b : Address) → InTable heap b → Word f p ≢ b → IsWithinHeap heap (lead_of p (at heap (put heap words b word) (Word f p)))
-  kept b there apart = subst (λ (w : ℕ). IsWithinHeap heap (lead_of p w)) (sym (at-put_other heap words b (Word f p) word there (within, part) apart)) (leads f p within part)
-
-  by : (b : Address) → InTable heap b → FoundWithin heap b word → IsWithinHeap heap (lead_of p (at heap (put heap words b word) (Word f p)))
-  by Phase there ok = kept Phase there (λ e. cc)
-  by (Answer n) there ok = kept (Answer n) there (λ e. cc)
-  by Budget there ok = kept Budget there (λ e. cc)
-  by Spot there ok = kept Spot there (λ e. cc)
-  by (Control g) there ok = kept (Control g) there (λ e. cc)
-  by (Spine h o) there ok = kept (Spine h o) there (λ e. cc)
-  by (Word x y) there ok =
-      elim (eqb_tells f x) as (λ _. IsWithinHeap heap (lead_of p (at heap (put heap words (Word x y) word) (Word f p)))) [
-        | inl one ↦ elim (eqb_tells p y) as (λ _. IsWithinHeap heap (lead_of p (at heap (put heap words (Word x y) word) (Word f p)))) [
-          | inl two ↦ let here : Word f p ≡ Word x y = ap (λ (n : ℕ). Word n p) one.1 ∙ ap (λ (n : ℕ). Word x n) two.1 in
-              let now : at heap (put heap words (Word x y) word) (Word f p) ≡ word = ap (at heap (put heap words (Word x y) word)) here ∙ at-put_same heap words (Word x y) word table there in
-              subst (λ (w : ℕ). IsWithinHeap heap (lead_of p w)) (sym now) (subst (λ (n : ℕ). IsWithinHeap heap (lead_of n word)) (sym two.1) ok)
-          | inr other ↦ kept (Word x y) there (λ e. other.1 (parts e))
-        ]
-        | inr other ↦ kept (Word x y) there (λ e. other.1 (fragments e))
-      ]
-    where
-      parts : Word f p ≡ Word x y → p ≡ y
-      parts e = cc
-
-      fragments : Word f p ≡ Word x y → f ≡ x
-      fragments e = cc
+leads-put heap words a word in_table led leads b there =
+    elim (eqb_tells (index_of heap a) (index_of heap b)) as (λ _. FoundWithin heap b (at heap (put heap words a word) b)) [
+      | inl one ↦
+          subst (λ (c : Address). FoundWithin heap c (at heap (put heap words a word) c)) (index_apart heap a b in_table there one.1)
+          (put-tells (FoundWithin heap a) heap words a word led (leads a in_table))
+      | inr other ↦
+          subst (FoundWithin heap b) (sym (at-put_other heap words a b word in_table there (λ same. other.1 (sym (ap (index_of heap) same))))) (leads b there)
+    ]
 
 -- where the word of a cell leads
 pub cell_lead : (part : ℕ) (kind : Kind) (value stamp : ℕ) → value < 2 ^ 30 → stamp < 2 ^ 32
@@ -180,13 +160,3 @@ pub written_leads : (heap : Heap) (number : ℕ) (seat : Seat) (found : ℕ) →
     → IfSome (next_move heap number seat) (λ move. FoundWithin heap (address_of move.step) found)
     → IfSome (next_move heap number seat) (λ move. FoundWithin heap (address_of move.step) (written move.step found))
 written_leads heap number seat found limits few fits led = leads_at heap number seat found seat.place limits few fits fits.at_place fits.way_at_place led
-
--- a word of the table that leads within the heap
-pub found-leads : (heap : Heap) (words : List ℕ) (a : Address) → InTable heap a → LeadWithin heap words → FoundWithin heap a (at heap words a)
-found-leads heap words Phase there leads = tt
-found-leads heap words (Answer n) there leads = tt
-found-leads heap words Budget there leads = tt
-found-leads heap words Spot there leads = tt
-found-leads heap words (Control g) there leads = tt
-found-leads heap words (Word f p) there leads = leads f p there.0 there.1
-found-leads heap words (Spine h o) there leads = tt

@@ -17,6 +17,10 @@ pub record SeatWithRoom : Type 0 where
   pub seat : Seat
   pub spare : ℕ
 
+-- the seat lost no more room than its new entries take
+abbrev pub KeepsRoom : SeatWithRoom → SeatWithRoom → Type 0
+KeepsRoom old new = old.spare + length old.seat.mine ≤ new.spare + length new.seat.mine
+
 -- the collector's data, and for how many more entries it has room
 pub record CollectorWithRoom : Type 0 where
   pub collector : Collector

@@ -46,18 +46,8 @@ opened seat (Number n) = record seat { place = places.Telling }
 
 -- what is done with the field: a get loads it, and so does a set with the barrier on; no other command goes to one
 abbrev pub field_place : Seat → Command → Reaching
-field_place seat (commands.New d fields) = Getting
-field_place seat (commands.Array d cells) = Getting
-field_place seat (commands.Get d r i) = Getting
 field_place seat (commands.Set r i v) = if has_barrier seat then LoadingOld else Swapping
-field_place seat (commands.Num d n) = Getting
-field_place seat (commands.Nil d) = Getting
-field_place seat (commands.Copy d r) = Getting
-field_place seat (commands.Same a b) = Getting
-field_place seat (commands.Len r) = Getting
-field_place seat commands.Poll = Getting
-field_place seat commands.Collect = Getting
-field_place seat commands.Leave = Getting
+field_place seat _ = Getting
 
 -- where the way stands at a fragment: at the field, where no link leads on
 abbrev pub way_place : Seat → Reaching
@@ -78,18 +68,10 @@ field_reply field found = if nat_lt field (length_in found) then None else Some 
 
 -- the reply at the meta, where the call ends there: the length, or that there is no such field; no other command comes to a meta
 abbrev pub meta_reply : Command → ℕ → Option Reply
-meta_reply (commands.New d fields) found = None
-meta_reply (commands.Array d cells) found = None
 meta_reply (commands.Get d r i) found = field_reply i found
 meta_reply (commands.Set r i v) found = field_reply i found
-meta_reply (commands.Num d n) found = None
-meta_reply (commands.Nil d) found = None
-meta_reply (commands.Copy d r) found = None
-meta_reply (commands.Same a b) found = None
 meta_reply (commands.Len r) found = Some (Length (length_in found))
-meta_reply commands.Poll found = None
-meta_reply commands.Collect found = None
-meta_reply commands.Leave found = None
+meta_reply _ found = None
 
 -- the meta was found
 abbrev pub met : Seat → ℕ → Option Reply → Seat

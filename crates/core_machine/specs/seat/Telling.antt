@@ -1,7 +1,7 @@
 -- The calls that look at no word: one load of the phase, at which their reply stands.
 use Rattle.std.specs.Prelude.{Bool, if◌then◌else◌, List, slice_set}
 use Rattle.heap_model.specs.declared.command.Command.{Command}
-use Rattle.heap_model.specs.declared.command.Command.TheVariants.{New, Array, Get, Set, Num, Nil, Copy, Same, Len, Poll, Collect, Leave}
+use Rattle.heap_model.specs.declared.command.Command.TheVariants.{Num, Nil, Copy, Same}
 use Rattle.heap_model.specs.declared.reply.Reply.{Reply}
 use Rattle.heap_model.specs.declared.reply.Reply.TheVariants.{Done, Yes, No, NoObject}
 use Rattle.core_machine.specs.declared.seat.register.Register.{Register}
@@ -15,33 +15,18 @@ answer_of same = if same then Yes else No
 
 -- the reply of a command that looks at no word: get, set and len do so where their register holds no object, and the others never
 abbrev pub local_reply : List Register → Command → Reply
-local_reply registers (New d fields) = NoObject
-local_reply registers (Array d cells) = NoObject
-local_reply registers (Get d r i) = NoObject
-local_reply registers (Set r i v) = NoObject
 local_reply registers (Num d n) = Done
 local_reply registers (Nil d) = Done
 local_reply registers (Copy d r) = Done
 local_reply registers (Same a b) = answer_of (is_same_value (value_of (register_in registers a)) (value_of (register_in registers b)))
-local_reply registers (Len r) = NoObject
-local_reply registers Poll = NoObject
-local_reply registers Collect = NoObject
-local_reply registers Leave = NoObject
+local_reply registers _ = NoObject
 
 -- the registers after it
 abbrev pub local_registers : List Register → Command → List Register
-local_registers registers (New d fields) = registers
-local_registers registers (Array d cells) = registers
-local_registers registers (Get d r i) = registers
-local_registers registers (Set r i v) = registers
 local_registers registers (Num d n) = slice_set registers d (held.Number n)
 local_registers registers (Nil d) = slice_set registers d held.Nil
 local_registers registers (Copy d r) = slice_set registers d (register_in registers r)
-local_registers registers (Same a b) = registers
-local_registers registers (Len r) = registers
-local_registers registers Poll = registers
-local_registers registers Collect = registers
-local_registers registers Leave = registers
+local_registers registers _ = registers
 
 -- the reply was told
 abbrev pub told : Seat → Seat

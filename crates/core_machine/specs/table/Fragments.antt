@@ -1,7 +1,8 @@
 -- Lists of fragments, and their bits in the control words of the groups.
-use Rattle.std.specs.Prelude.{ℕ, ◌+◌, ◌*◌, ◌/◌, ◌%◌, ◌^◌, ◌==◌, Bool, not, if◌then◌else◌, List, [], ◌∷◌, fold, filter, bit_or}
+use Rattle.std.specs.Prelude.{ℕ, ◌+◌, ◌*◌, ◌/◌, ◌==◌, Bool, not, if◌then◌else◌, List, [], ◌∷◌, fold, filter, bit_or}
 use Rattle.std.specs.List.{range_with_len}
-use Rattle.std.specs.Int.{bit_at}
+pub use Rattle.heap_words.specs.Control.{is_clear}
+use Rattle.heap_words.specs.Control.{place_bit}
 use Rattle.heap_model.specs.Limits.{group_fragments}
 
 -- the fragment is one of the group's sixteen
@@ -22,11 +23,7 @@ part_out group fragments = filter (out_of_group group) fragments
 
 -- the bits of these fragments, each by its place in its group
 unfoldable pub mask : List ℕ → ℕ
-mask fragments = fold (λ bits fragment. bit_or bits (2 ^ (fragment % 16))) 0 fragments
-
--- the fragment's taken bit isn't set in the control word
-abbrev pub is_clear : ℕ → ℕ → Bool
-is_clear word fragment = bit_at word (fragment % 16) == 0
+mask fragments = fold (λ bits fragment. bit_or bits (place_bit fragment)) 0 fragments
 
 -- of the first fragments of a group those whose taken bit isn't set, the lowest first
 unfoldable pub clear_among : ℕ → ℕ → ℕ → List ℕ

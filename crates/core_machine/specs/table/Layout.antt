@@ -9,7 +9,8 @@ use Rattle.core_machine.specs.declared.table.address.Address.TheVariants.{Phase,
 abbrev pub table_length : Heap → ℕ
 table_length heap = 19 + 65 * heap.groups + 4 * heap.spine
 
--- where a word stands: the phase, sixteen answers, the budget, the spot, the control words, the fragments, the two halves
+-- where a word stands: the phase, sixteen answers, the budget, the spot, the control words, the fragments, and the words of the two
+-- halves by turns; a spine word whose offset is too large stands past the end of the table, in no other's place
 abbrev pub index_of : Heap → Address → ℕ
 index_of heap Phase = 0
 index_of heap (Answer seat) = 1 + seat
@@ -17,9 +18,9 @@ index_of heap Budget = 17
 index_of heap Spot = 18
 index_of heap (Control group) = 19 + group
 index_of heap (Word fragment part) = 19 + heap.groups + 4 * fragment + part
-index_of heap (Spine half offset) = 19 + 65 * heap.groups + 2 * heap.spine * half + offset
+index_of heap (Spine half offset) = 19 + 65 * heap.groups + 2 * offset + half
 
--- the heap has such a word
+-- the address is one of the heap's; of a spine word the offset is left open, since past the end of the table 0 is read and nothing written
 abbrev pub InTable : Heap → Address → Type 0
 InTable heap Phase = Unit {0}
 InTable heap (Answer seat) = seat < most_seats
@@ -27,13 +28,18 @@ InTable heap Budget = Unit {0}
 InTable heap Spot = Unit {0}
 InTable heap (Control group) = group < heap.groups
 InTable heap (Word fragment part) = (fragment < group_fragments * heap.groups) × (part < 4)
-InTable heap (Spine half offset) = (half < 2) × (offset < 2 * heap.spine)
+InTable heap (Spine half offset) = half < 2
 
--- the word at an address
+-- the table has a word at the address
+abbrev pub HasWord : Heap → Address → Type 0
+HasWord heap (Spine half offset) = (half < 2) × (offset < 2 * heap.spine)
+HasWord heap address = InTable heap address
+
+-- the word at an address; 0 past the end of the table
 unfoldable pub at : Heap → List ℕ → Address → ℕ
 at heap words address = slice_index words (index_of heap address)
 
--- the words with another one at an address
+-- the words with another one at an address; as they are past the end of the table
 unfoldable pub put : Heap → List ℕ → Address → ℕ → List ℕ
 put heap words address word = slice_set words (index_of heap address) word
 

@@ -1,9 +1,11 @@
 -- What a word that was loaded tells.
-use Rattle.std.specs.Prelude.{ℕ, ◌-◌, ◌*◌, ◌<◌, ◌%◌, ◌^◌, ◌==◌, nat_lt, if◌then◌else◌, List, Option, Some, None, IfSome, unwrap_or}
+use Rattle.std.specs.Prelude.{ℕ, ◌-◌, ◌*◌, ◌<◌, ◌==◌, if◌then◌else◌, List, Option, Some, None, IfSome, unwrap_or}
 use Rattle.heap_words.specs.declared.cell.Cell.{Cell}
 use Rattle.heap_words.specs.declared.kind.Kind.{Kind}
 use Rattle.heap_words.specs.declared.kind.Kind.TheVariants as kinds
 use Rattle.heap_words.specs.Cell.{cell_of}
+pub use Rattle.heap_words.specs.Meta.{meta_lead, length_in}
+use Rattle.heap_words.specs.Name.{name_in}
 use Rattle.heap_model.specs.declared.heap.Heap.{Heap}
 use Rattle.heap_model.specs.declared.id.Id.{Id}
 use Rattle.heap_model.specs.declared.id.Id.TheVariants.{Board, Made}
@@ -12,7 +14,7 @@ use Rattle.core_machine.specs.declared.table.address.Address.{Address}
 use Rattle.core_machine.specs.declared.table.address.Address.TheVariants.{Phase, Answer, Budget, Spot, Control, Word, Spine}
 use Rattle.core_machine.specs.declared.seat.register.Register.{Register}
 use Rattle.core_machine.specs.declared.seat.register.Register.TheVariants.{Nil, Number}
-use Rattle.core_machine.specs.table.Layout.{at}
+use Rattle.core_machine.specs.table.Layout.{at, InTable}
 
 -- what a cell of this kind and value refers to
 abbrev pub referred : Kind → ℕ → Option ℕ
@@ -24,10 +26,6 @@ referred kinds.Fixed value = None
 -- the first fragment of the object that a field refers to
 abbrev pub head_in : ℕ → Option ℕ
 head_in word = referred (cell_of word).kind (cell_of word).value
-
--- where a record's meta leads: to its second fragment, where it has one; an array's leads nowhere
-abbrev pub meta_lead : Cell → Option ℕ
-meta_lead cell = if nat_lt cell.value (2 ^ 29) then (if cell.stamp == 0 then None else Some cell.stamp) else None
 
 -- where a fragment's first word of this kind leads
 abbrev pub first_lead : Kind → Cell → Option ℕ
@@ -44,16 +42,12 @@ lead_of part word = if part == 0 then first_lead (cell_of word).kind (cell_of wo
 abbrev pub link_in : ℕ → ℕ
 link_in word = unwrap_or (lead_of 0 word) 0
 
--- the length in a meta
-abbrev pub length_in : ℕ → ℕ
-length_in word = (cell_of word).value % 2 ^ 13
-
--- the id in a name: an owner has at most eight bits
+-- the id in a name
 abbrev pub id_of_owner : ℕ → ℕ → Id
 id_of_owner owner count = if owner == 0 then Board else Made (owner - 1) count
 
 abbrev pub id_in : ℕ → Id
-id_in word = id_of_owner ((cell_of word).value % 2 ^ 8) (cell_of word).stamp
+id_in word = id_of_owner (name_in word).owner (name_in word).count
 
 -- the stamp of a field
 abbrev pub stamp_in : ℕ → ℕ
@@ -73,17 +67,21 @@ plain_in word = plain_register (cell_of word).kind (cell_of word).value
 abbrev pub IsWithinHeap : Heap → Option ℕ → Type 0
 IsWithinHeap heap fragment = IfSome fragment (λ f. f < group_fragments * heap.groups)
 
--- every word of a fragment leads to a fragment of the heap, or nowhere
-abbrev pub LeadWithin : Heap → List ℕ → Type 0
-LeadWithin heap words = (fragment part : ℕ) → fragment < group_fragments * heap.groups → part < 4
-    → IsWithinHeap heap (lead_of part (at heap words (Word fragment part)))
+-- the fragment that a spine word names
+abbrev pub payload_in : ℕ → ℕ
+payload_in word = (cell_of word).value
 
--- the word that was found at the address leads within the heap, where it stands in a fragment
+-- the word that was found at the address leads within the heap: a fragment's word to one of its fragments or nowhere, and a spine word
+-- names one
 abbrev pub FoundWithin : Heap → Address → ℕ → Type 0
 FoundWithin heap (Word fragment part) found = IsWithinHeap heap (lead_of part found)
+FoundWithin heap (Spine half offset) found = payload_in found < group_fragments * heap.groups
 FoundWithin heap Phase found = Unit {0}
 FoundWithin heap (Answer seat) found = Unit {0}
 FoundWithin heap Budget found = Unit {0}
 FoundWithin heap Spot found = Unit {0}
 FoundWithin heap (Control group) found = Unit {0}
-FoundWithin heap (Spine half offset) found = Unit {0}
+
+-- every word leads within the heap
+abbrev pub LeadWithin : Heap → List ℕ → Type 0
+LeadWithin heap words = (address : Address) → InTable heap address → FoundWithin heap address (at heap words address)

@@ -1,6 +1,7 @@
 -- Which word each step touches, and what it does with it.
-use Rattle.std.specs.Prelude.{ℕ, ◌+◌, ◌-◌, ◌*◌, ◌/◌, ◌%◌, ◌^◌, Bool, true, false, bit_and, bit_or}
+use Rattle.std.specs.Prelude.{ℕ, ◌/◌, bit_and, bit_or}
 use Rattle.heap_words.specs.declared.phase.TheConstants.{LEFT}
+pub use Rattle.heap_words.specs.Control.{all_taken, all_but, untaken, birth_bits, shade_bit}
 use Rattle.heap_model.specs.Limits.{group_fragments}
 use Rattle.core_machine.specs.declared.table.address.Address.{Address}
 use Rattle.core_machine.specs.declared.table.address.Address.TheVariants as addresses
@@ -16,23 +17,6 @@ use Rattle.core_machine.specs.declared.step.AnsweringStep.{AnsweringStep}
 use Rattle.core_machine.specs.declared.step.AnsweringStep.TheVariants.{AnswerStore, LeaveStore}
 use Rattle.core_machine.specs.declared.step.TurningStep.{TurningStep}
 use Rattle.core_machine.specs.declared.step.TurningStep.TheVariants.{LookLoad, AdvanceStore}
-
--- the taken bits of all sixteen fragments of a group
-abbrev pub all_taken : ℕ
-all_taken = 2 ^ 16 - 1
-
--- all bits of a word but these
-abbrev pub all_but : ℕ → ℕ
-all_but bits = 2 ^ 64 - 1 - bits
-
--- the control word without these taken bits
-abbrev pub untaken : ℕ → ℕ → ℕ
-untaken bits word = bit_and word (all_but bits)
-
--- the bits that a birth sets: born, and where births are black marked and scanned too
-abbrev pub birth_bits : Bool → ℕ → ℕ
-birth_bits false bits = bits * 2 ^ 16
-birth_bits true bits = bits * 2 ^ 16 + bits * 2 ^ 32 + bits * 2 ^ 48
 
 -- the word that a step of making touches
 abbrev pub making_address : MakingStep → Address
@@ -76,10 +60,6 @@ making_operation (GiveBack group bits) = And (all_but bits)
 making_operation (NewbornStore fragment part word) = Store word
 making_operation (Birth group bits black) = Or (birth_bits black bits)
 making_operation (LastBirth group bits black) = Or (birth_bits black bits)
-
--- the bit that a shade sets: the fragment is marked
-abbrev pub shade_bit : ℕ → ℕ
-shade_bit fragment = 2 ^ (32 + fragment % 16)
 
 -- what a step of reaching does with its word
 abbrev pub reaching_operation : ReachingStep → Operation

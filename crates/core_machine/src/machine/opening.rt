@@ -3,7 +3,7 @@ ghost use Rattle.std.specs.List.{range_with_len};
 ghost use Rattle.heap_model.specs.Limits.{board_fragments, most_seats};
 ghost use Rattle.core_machine.specs.declared.table.address.Address.{Address};
 ghost use Rattle.heap_model.specs.Heap.{IsHeap};
-ghost use Rattle.core_machine.specs.table.Layout.{at, put, InTable, table_length};
+ghost use Rattle.core_machine.specs.table.Layout.{at, InTable, table_length};
 ghost use Rattle.core_machine.specs.machine.Opening.{IsOpening, opening_word, opening_seat, with_left, with_board};
 
 use crate::collector::CollectorParty;
@@ -11,6 +11,7 @@ use crate::machine::Machine;
 use crate::seat::SeatParty;
 use crate::table::address::Address;
 use crate::table::newborn::Newborn;
+use crate::table::words::store;
 use heap_model::limits::{BOARD_FIELDS, BOARD_FRAGMENTS, MOST_SEATS};
 use heap_model::{Heap, Memory};
 use heap_words::{Group, LEFT, Name, Spot};
@@ -113,16 +114,4 @@ fn store_board(words: &mut [u64], heap: &Heap)
         let word = board.word(fragment as usize, part);
         store(words, heap, Address::Word { fragment, part }, word);
     }
-}
-
-/// Writes a word of the table.
-fn store(words: &mut [u64], heap: &Heap, address: Address, word: u64)
-    requires limits { IsHeap heap.now }
-    requires table { length words.old ≡ table_length heap.now }
-    requires within { InTable heap.now address }
-    ensures put { words.new ≡ put heap.now words.old address word }
-    ensures table { length words.new ≡ table_length heap.now }
-{
-    let index = address.index(heap);
-    words[index] = word;
 }

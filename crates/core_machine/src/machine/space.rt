@@ -1,14 +1,15 @@
-ghost use Rattle.std.specs.Prelude.{◌≡◌, ◌*◌, ◌<◌, ◌≤◌, length};
+ghost use Rattle.std.specs.Prelude.{◌≡◌, ℕ, ◌*◌, ◌≤◌, length};
 ghost use Rattle.heap_model.specs.Heap.{IsHeap};
-ghost use Rattle.heap_model.specs.Limits.{group_fragments, most_groups};
+ghost use Rattle.heap_model.specs.Limits.{group_fragments};
 ghost use Rattle.core_machine.specs.machine.Calls.{free_fragments};
 ghost use Rattle.core_machine.specs.table.Fragments.{clear_in};
 ghost use Rattle.core_machine.specs.table.Layout.{table_length};
 
 use crate::machine::Machine;
 use crate::table::address::Address;
-use crate::table::fragments::{Hand, add_clear};
+use crate::table::words::load;
 use heap_model::Heap;
+use heap_words::Group;
 
 impl Machine {
     /// How many fragments have no taken bit.
@@ -29,19 +30,17 @@ fn free_in(words: &[u64], heap: &Heap) -> usize
 {
     let mut free = 0;
     for group in 0..heap.groups {
-        let word = words[Address::Control(group).index(heap)];
-        free += count_clear(group, word);
+        let word = load(words, heap, Address::Control(group));
+        free += count_clear(word);
     }
     free
 }
 
-/// How many fragments of the group have no taken bit in its control word.
-fn count_clear(group: u16, word: u64) -> usize
-    requires { group < most_groups }
-    ensures count { result ≡ length (clear_in group word) }
+/// How many fragments of a group have no taken bit in its control word.
+#[tactic(auto, using(crate::proofs::table_lemmas::Counting::clear_zeros, crate::proofs::table_lemmas::Counting::few_zeros))]
+fn count_clear(word: u64) -> usize
+    ensures count { (group : ℕ) → result ≡ length (clear_in group word) }
     ensures few { result ≤ group_fragments }
 {
-    let mut clear = Hand::new();
-    add_clear(&mut clear, group, word);
-    clear.len()
+    Group::read(word).taken.count_zeros() as usize
 }

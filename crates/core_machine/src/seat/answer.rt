@@ -1,4 +1,4 @@
-ghost use Rattle.std.specs.Prelude.{◌≡◌, ◌+◌, ◌<◌, ◌≤◌, length, slice_index_or};
+ghost use Rattle.std.specs.Prelude.{◌≡◌, ◌<◌, ◌≤◌, length, slice_index_or};
 ghost use Rattle.heap_model.specs.Limits.{register_count, most_reserve};
 ghost use Rattle.core_machine.specs.declared.step.Step.TheVariants.{Making as Makes};
 ghost use Rattle.core_machine.specs.declared.place.Place.TheVariants.{Leaving as Leaves};
@@ -6,6 +6,7 @@ ghost use Rattle.core_machine.specs.seat.Registers.{heads as heads_of};
 ghost use Rattle.core_machine.specs.seat.Polling.{roots, shades_on as shades_on_of, shaded_more, leaving as leaving_of};
 ghost use Rattle.core_machine.specs.seat.AnsweringMoves.{poll_move, answer_move, empty_move, leave_move};
 ghost use Rattle.core_machine.specs.Moves.{seat_after};
+ghost use Rattle.core_machine.specs.machine.Value.{KeepsRoom};
 
 use crate::place::{Leaving, Place, Polling};
 use crate::seat::SeatParty;
@@ -87,7 +88,7 @@ impl SeatParty {
     pub(crate) fn learn_phase(&mut self, number: u8, found: u64)
         requires { 0 < self.old.spare }
         ensures seat { self.new.seat ≡ seat_after (poll_move number self.old.seat) found }
-        ensures spare { self.old.spare + length self.old.seat.mine ≤ self.new.spare + length self.new.seat.mine }
+        ensures spare { KeepsRoom self.old self.new }
     {
         if found != self.answered {
             self.asked = found;
@@ -113,7 +114,7 @@ impl SeatParty {
     pub(crate) fn learn_answer(&mut self, number: u8)
         requires { 1 < self.old.spare }
         ensures seat { self.new.seat ≡ seat_after (answer_move number self.old.seat) 0 }
-        ensures spare { self.old.spare + length self.old.seat.mine ≤ self.new.spare + length self.new.seat.mine }
+        ensures spare { KeepsRoom self.old self.new }
     {
         let phase = self.asked;
         self.answered = phase;
@@ -147,7 +148,7 @@ impl SeatParty {
         requires few { length self.old.seat.reserve ≤ most_reserve }
         requires spare { 0 < self.old.spare }
         ensures seat { self.new.seat ≡ seat_after (empty_move number self.old.seat) 0 }
-        ensures spare { self.old.spare + length self.old.seat.mine ≤ self.new.spare + length self.new.seat.mine }
+        ensures spare { KeepsRoom self.old self.new }
     {
         let count = self.reserve.len() as u32;
         self.reserve = Reserve::new();
@@ -162,7 +163,7 @@ impl SeatParty {
     pub(crate) fn learn_leave(&mut self, number: u8)
         requires { 0 < self.old.spare }
         ensures seat { self.new.seat ≡ seat_after (leave_move number self.old.seat) 0 }
-        ensures spare { self.old.spare + length self.old.seat.mine ≤ self.new.spare + length self.new.seat.mine }
+        ensures spare { KeepsRoom self.old self.new }
     {
         self.registers = [Register::Nil; REGISTER_COUNT];
         self.left = true;

@@ -1,14 +1,15 @@
-ghost use Rattle.std.specs.Prelude.{◌≡◌, ℕ, ◌+◌, ◌*◌, ◌/◌, ◌%◌, ◌<◌, ◌≤◌, ◌^◌, length};
+ghost use Rattle.std.specs.Prelude.{◌≡◌, ℕ, ◌*◌, ◌/◌, ◌%◌, ◌<◌, ◌^◌, length};
 ghost use Rattle.heap_model.specs.Limits.{register_count, most_seats};
 ghost use Rattle.core_machine.specs.declared.step.Step.TheVariants.{Making as Makes};
 ghost use Rattle.core_machine.specs.seat.Commands.{fields_of, target_of};
 ghost use Rattle.core_machine.specs.seat.Fits.{HasBody};
 ghost use Rattle.core_machine.specs.seat.Making.{stored_more, newborn_word as newborn_word_of};
 ghost use Rattle.core_machine.specs.Moves.{due_store, bearing_move, last_birth_move, bears_black as bears_black_of, seat_after};
+ghost use Rattle.core_machine.specs.machine.Value.{KeepsRoom};
 
 use crate::place::{Making, Place};
 use crate::seat::SeatParty;
-use crate::seat::commands::{fields, target};
+use crate::seat::commands::Parts;
 use crate::seat::register::Register;
 use crate::step::MakingStep;
 use crate::table::fragments::{Hand, all_in, last_group, mask_in, rest_of};
@@ -29,7 +30,7 @@ impl SeatParty {
             owner: number + 1,
             count: self.made,
         };
-        let fields = fields(&self.command);
+        let fields = Parts::of(&self.command).fields;
         let fragments = self.body.as_slice();
         Newborn {
             name,
@@ -102,7 +103,7 @@ impl SeatParty {
         requires registers { target_of self.old.seat.command < register_count }
         requires spare { 0 < self.old.spare }
         ensures seat { self.new.seat ≡ seat_after (bearing_move number self.old.seat) 0 }
-        ensures spare { self.old.spare + length self.old.seat.mine ≤ self.new.spare + length self.new.seat.mine }
+        ensures spare { KeepsRoom self.old self.new }
     {
         let group = last_group(self.hand.as_slice());
         if all_in(self.hand.as_slice(), group) {
@@ -119,14 +120,14 @@ impl SeatParty {
         requires registers { target_of self.old.seat.command < register_count }
         requires spare { 0 < self.old.spare }
         ensures seat { self.new.seat ≡ seat_after (last_birth_move number self.old.seat) 0 }
-        ensures spare { self.old.spare + length self.old.seat.mine ≤ self.new.spare + length self.new.seat.mine }
+        ensures spare { KeepsRoom self.old self.new }
     {
         let id = Id::Made {
             seat: number,
             count: self.made,
         };
         let head = self.body[0];
-        self.registers[target(&self.command) as usize] = Register::Object { head, id };
+        self.registers[Parts::of(&self.command).target as usize] = Register::Object { head, id };
         self.made += 1;
         self.reply(number, Reply::Made(id));
     }

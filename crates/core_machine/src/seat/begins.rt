@@ -7,6 +7,7 @@ ghost use Rattle.core_machine.specs.machine.Machine.{MayBegin, begun};
 
 use crate::place::{Place, Polling};
 use crate::seat::SeatParty;
+use crate::seat::commands::Parts;
 use heap_model::limits::STAMP_LIMIT;
 use heap_model::{Command, Heap};
 
@@ -50,16 +51,7 @@ impl SeatParty {
         match command {
             Command::New { .. } => self.made < u32::MAX,
             Command::Set { .. } => self.sets < MOST_SETS,
-            Command::Array { .. }
-            | Command::Get { .. }
-            | Command::Num { .. }
-            | Command::Nil { .. }
-            | Command::Copy { .. }
-            | Command::Same { .. }
-            | Command::Len { .. }
-            | Command::Poll
-            | Command::Collect
-            | Command::Leave => true,
+            _ => true,
         }
     }
 
@@ -74,7 +66,9 @@ impl SeatParty {
         self.command = command;
         match command {
             Command::New { .. } => self.go_on(heap),
-            Command::Get { r, .. } | Command::Set { r, .. } | Command::Len { r } => self.open(r),
+            Command::Get { .. } | Command::Set { .. } | Command::Len { .. } => {
+                self.open(Parts::of(&command).object);
+            }
             Command::Poll => self.place = Place::Polling(Polling::Asking),
             Command::Leave => self.go(),
             Command::Num { .. }

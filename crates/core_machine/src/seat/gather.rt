@@ -6,6 +6,7 @@ ghost use Rattle.core_machine.specs.seat.Fits.{Gathers, Refuses};
 ghost use Rattle.core_machine.specs.seat.Seat.{need};
 ghost use Rattle.core_machine.specs.seat.Making.{next_group as next_group_of, last_claimed, goes_on, settled, returning as returning_of};
 ghost use Rattle.core_machine.specs.Moves.{claim_move, give_back_move, refusal_move, seat_after, first_part};
+ghost use Rattle.core_machine.specs.machine.Value.{KeepsRoom};
 
 use crate::place::{Making, Place};
 use crate::seat::SeatParty;
@@ -81,7 +82,7 @@ impl SeatParty {
         requires gathers { Gathers heap.now self.old.seat }
         requires spare { 0 < self.old.spare }
         ensures seat { self.new.seat ≡ seat_after (claim_move heap.now number self.old.seat) found }
-        ensures spare { self.old.spare + length self.old.seat.mine ≤ self.new.spare + length self.new.seat.mine }
+        ensures spare { KeepsRoom self.old self.new }
     {
         let group = self.next_group(heap);
         let before = self.hand.len();
@@ -115,7 +116,7 @@ impl SeatParty {
         requires some { 0 < length self.old.seat.hand }
         requires spare { 0 < self.old.spare }
         ensures seat { self.new.seat ≡ seat_after (give_back_move number self.old.seat) 0 }
-        ensures spare { self.old.spare + length self.old.seat.mine ≤ self.new.spare + length self.new.seat.mine }
+        ensures spare { KeepsRoom self.old self.new }
     {
         let group = first_group(self.hand.as_slice());
         let count = count_in(self.hand.as_slice(), group);
@@ -132,7 +133,7 @@ impl SeatParty {
     pub(crate) fn learn_refusal(&mut self, number: u8)
         requires { 0 < self.old.spare }
         ensures seat { self.new.seat ≡ seat_after (refusal_move number self.old.seat) 0 }
-        ensures spare { self.old.spare + length self.old.seat.mine ≤ self.new.spare + length self.new.seat.mine }
+        ensures spare { KeepsRoom self.old self.new }
     {
         let given: u16 = self.given;
         let found = self.reserve.len() as u32 + u32::from(given);

@@ -1,4 +1,4 @@
-ghost use Rattle.std.specs.Prelude.{◌≡◌, ◌+◌, ◌<◌, ◌≤◌, length, IfSome};
+ghost use Rattle.std.specs.Prelude.{◌≡◌, ◌<◌, ◌≤◌, length, IfSome};
 ghost use Rattle.heap_model.specs.Heap.{IsHeap};
 ghost use Rattle.heap_model.specs.Limits.{register_count, most_reserve};
 ghost use Rattle.core_machine.specs.seat.Fits.{Fits, FitsMaking, FitsPolling};
@@ -6,6 +6,7 @@ ghost use Rattle.core_machine.specs.seat.FitsReaching.{FitsReaching};
 ghost use Rattle.core_machine.specs.table.Loaded.{FoundWithin};
 ghost use Rattle.core_machine.specs.Moves.{next_move, seat_moved, seat_after, making_move, reaching_move, polling_move, leaving_move};
 ghost use Rattle.core_machine.specs.table.Operation.{address_of};
+ghost use Rattle.core_machine.specs.machine.Value.{KeepsRoom};
 
 use crate::place::{Leaving, Making, Place, Polling, Reaching};
 use crate::seat::SeatParty;
@@ -20,7 +21,7 @@ impl SeatParty {
         requires at_place { FitsMaking heap.now self.old.seat place }
         requires spare { 0 < self.old.spare }
         ensures seat { self.new.seat ≡ seat_after (making_move heap.now number self.old.seat place) found }
-        ensures spare { self.old.spare + length self.old.seat.mine ≤ self.new.spare + length self.new.seat.mine }
+        ensures spare { KeepsRoom self.old self.new }
     {
         match place {
             Making::Gathering => self.learn_claim(heap, number, found),
@@ -40,7 +41,7 @@ impl SeatParty {
         requires found { FoundWithin heap.now (address_of (reaching_move heap.now number self.old.seat place).step) found }
         requires spare { 0 < self.old.spare }
         ensures seat { self.new.seat ≡ seat_after (reaching_move heap.now number self.old.seat place) found }
-        ensures spare { self.old.spare + length self.old.seat.mine ≤ self.new.spare + length self.new.seat.mine }
+        ensures spare { KeepsRoom self.old self.new }
     {
         match place {
             Reaching::Opening => self.learn_meta(number, found),
@@ -60,7 +61,7 @@ impl SeatParty {
         requires at_place { FitsPolling self.old.seat place }
         requires spare { 1 < self.old.spare }
         ensures seat { self.new.seat ≡ seat_after (polling_move number self.old.seat place) found }
-        ensures spare { self.old.spare + length self.old.seat.mine ≤ self.new.spare + length self.new.seat.mine }
+        ensures spare { KeepsRoom self.old self.new }
     {
         match place {
             Polling::Asking => self.learn_phase(number, found),
@@ -74,7 +75,7 @@ impl SeatParty {
         requires few { length self.old.seat.reserve ≤ most_reserve }
         requires spare { 0 < self.old.spare }
         ensures seat { self.new.seat ≡ seat_after (leaving_move number self.old.seat place) 0 }
-        ensures spare { self.old.spare + length self.old.seat.mine ≤ self.new.spare + length self.new.seat.mine }
+        ensures spare { KeepsRoom self.old self.new }
     {
         match place {
             Leaving::Emptying => self.learn_empty(number),
@@ -90,7 +91,7 @@ impl SeatParty {
         requires found { IfSome (next_move heap.now number self.old.seat) (λ move. FoundWithin heap.now (address_of move.step) found) }
         requires spare { 1 < self.old.spare }
         ensures seat { self.new.seat ≡ seat_moved self.old.seat (next_move heap.now number self.old.seat) found }
-        ensures spare { self.old.spare + length self.old.seat.mine ≤ self.new.spare + length self.new.seat.mine }
+        ensures spare { KeepsRoom self.old self.new }
     {
         match self.place {
             Place::Idle => (),

@@ -1,4 +1,4 @@
-ghost use Rattle.std.specs.Prelude.{◌≡◌, ◌+◌, ◌<◌, ◌≤◌, ◌^◌, length, IfSome, slice_set};
+ghost use Rattle.std.specs.Prelude.{◌≡◌, ◌+◌, ◌<◌, ◌^◌, IfSome, slice_set};
 ghost use Rattle.heap_model.specs.Limits.{register_count, most_seats, stamp_limit};
 ghost use Rattle.core_machine.specs.seat.Seat.{with_entries};
 ghost use Rattle.core_machine.specs.seat.Commands.{target_of, source_of};
@@ -7,10 +7,11 @@ ghost use Rattle.core_machine.specs.seat.Reaching.{got, old_done, new_place as n
 ghost use Rattle.core_machine.specs.seat.ReachingMoves.{got_adds, name_move, old_move, swap_move, loaded_head as loaded_head_of, new_register as new_register_of, new_word as new_word_of};
 ghost use Rattle.core_machine.specs.seat.Registers.{head_of, IsSmall};
 ghost use Rattle.core_machine.specs.Moves.{seat_after};
+ghost use Rattle.core_machine.specs.machine.Value.{KeepsRoom};
 
 use crate::place::{Place, Reaching};
 use crate::seat::SeatParty;
-use crate::seat::commands::{field, source, target};
+use crate::seat::commands::Parts;
 use crate::seat::register::Register;
 use crate::table::loaded::{head_in, id_in, plain_in, stamp_in};
 use heap_model::limits::STAMP_LIMIT;
@@ -43,7 +44,7 @@ impl SeatParty {
         requires { source_of self.now.seat.command < register_count }
         ensures { result ≡ new_register_of self.now.seat }
     {
-        self.registers[source(&self.command) as usize]
+        self.registers[Parts::of(&self.command).source as usize]
     }
 
     /// The new word of the field.
@@ -64,7 +65,7 @@ impl SeatParty {
         ensures seat { self.new.seat ≡ record self.old.seat { registers = slice_set self.old.seat.registers (target_of self.old.seat.command) register } }
         ensures spare { self.new.spare ≡ self.old.spare }
     {
-        self.registers[target(&self.command) as usize] = register;
+        self.registers[Parts::of(&self.command).target as usize] = register;
     }
 
     /// Learns the field of a get.
@@ -72,7 +73,7 @@ impl SeatParty {
         requires target { target_of self.old.seat.command < register_count }
         requires spare { 0 < self.old.spare }
         ensures seat { self.new.seat ≡ with_entries (got self.old.seat found (head_in_of found)) (got_adds number self.old.seat found (head_in_of found)) }
-        ensures spare { self.old.spare + length self.old.seat.mine ≤ self.new.spare + length self.new.seat.mine }
+        ensures spare { KeepsRoom self.old self.new }
     {
         if head_in(found).is_some() {
             self.loaded = found;
@@ -96,7 +97,7 @@ impl SeatParty {
         requires head { IfSome (head_in_of self.old.seat.loaded) (λ head. head < 2 ^ 16) }
         requires spare { 0 < self.old.spare }
         ensures seat { self.new.seat ≡ seat_after (name_move number self.old.seat) found }
-        ensures spare { self.old.spare + length self.old.seat.mine ≤ self.new.spare + length self.new.seat.mine }
+        ensures spare { KeepsRoom self.old self.new }
     {
         let head = self.loaded_head();
         let stamp = stamp_in(self.loaded);
@@ -140,7 +141,7 @@ impl SeatParty {
         requires sets { self.old.seat.sets < stamp_limit }
         requires spare { 0 < self.old.spare }
         ensures seat { self.new.seat ≡ seat_after (swap_move number self.old.seat) found }
-        ensures spare { self.old.spare + length self.old.seat.mine ≤ self.new.spare + length self.new.seat.mine }
+        ensures spare { KeepsRoom self.old self.new }
     {
         self.sets += 1;
         self.reply(number, Reply::Was(stamp_in(found)));

@@ -1,8 +1,9 @@
-ghost use Rattle.std.specs.Prelude.{◌≡◌, ◌+◌, ◌<◌, ◌≤◌, length};
+ghost use Rattle.std.specs.Prelude.{◌≡◌, ◌<◌};
 ghost use Rattle.heap_model.specs.Command.{IsCommand};
 ghost use Rattle.core_machine.specs.seat.Telling.{local_reply as local_reply_of, local_registers, answer_of};
 ghost use Rattle.core_machine.specs.seat.AnsweringMoves.{telling_move};
 ghost use Rattle.core_machine.specs.Moves.{seat_after};
+ghost use Rattle.core_machine.specs.machine.Value.{KeepsRoom};
 
 use crate::seat::SeatParty;
 use crate::seat::register::Register;
@@ -28,14 +29,7 @@ impl SeatParty {
                 let b = self.registers[b as usize].value();
                 answer(a == b)
             },
-            Command::Get { .. }
-            | Command::Set { .. }
-            | Command::Len { .. }
-            | Command::New { .. }
-            | Command::Array { .. }
-            | Command::Poll
-            | Command::Collect
-            | Command::Leave => Reply::NoObject,
+            _ => Reply::NoObject,
         }
     }
 
@@ -49,15 +43,7 @@ impl SeatParty {
             Command::Num { d, n } => self.registers[d as usize] = Register::Number(n),
             Command::Nil { d } => self.registers[d as usize] = Register::Nil,
             Command::Copy { d, r } => self.registers[d as usize] = self.registers[r as usize],
-            Command::Same { .. }
-            | Command::Get { .. }
-            | Command::Set { .. }
-            | Command::Len { .. }
-            | Command::New { .. }
-            | Command::Array { .. }
-            | Command::Poll
-            | Command::Collect
-            | Command::Leave => (),
+            _ => (),
         }
     }
 
@@ -66,7 +52,7 @@ impl SeatParty {
         requires command { IsCommand self.old.seat.command }
         requires spare { 0 < self.old.spare }
         ensures seat { self.new.seat ≡ seat_after (telling_move number self.old.seat) 0 }
-        ensures spare { self.old.spare + length self.old.seat.mine ≤ self.new.spare + length self.new.seat.mine }
+        ensures spare { KeepsRoom self.old self.new }
     {
         let reply = self.local_reply();
         self.change_register();

@@ -1,4 +1,4 @@
-ghost use Rattle.std.specs.Prelude.{◌≡◌, ◌+◌, ◌*◌, ◌<◌, ◌≤◌, ◌^◌, length, IfSome};
+ghost use Rattle.std.specs.Prelude.{◌≡◌, ◌*◌, ◌<◌, ◌≤◌, ◌^◌, IfSome};
 ghost use Rattle.heap_model.specs.Limits.{last_index, register_count};
 ghost use Rattle.core_machine.specs.seat.Commands.{field_of};
 ghost use Rattle.core_machine.specs.table.Loaded.{lead_of};
@@ -6,14 +6,16 @@ ghost use Rattle.core_machine.specs.seat.Reaching.{row_of, part_of, has_barrier 
 ghost use Rattle.core_machine.specs.seat.ReachingMoves.{open_move, field_part as field_part_of};
 ghost use Rattle.core_machine.specs.seat.Registers.{register_in};
 ghost use Rattle.core_machine.specs.Moves.{seat_after};
+ghost use Rattle.core_machine.specs.machine.Value.{KeepsRoom};
 
 use crate::place::{Place, Reaching};
 use crate::seat::SeatParty;
-use crate::seat::commands::field;
+use crate::seat::commands::Parts;
 use crate::seat::register::Register;
-use crate::table::loaded::{length_in, link_in};
+use crate::table::loaded::link_in;
 use heap_model::phase_plan::{BARRIERS, CLEARING, CYCLE_PHASES};
 use heap_model::{Command, Reply};
+use heap_words::Meta;
 
 /// The row in which a field stands: 0 is the object's first fragment, 1 its second.
 fn row(field: u32) -> u16
@@ -35,7 +37,7 @@ fn part(field: u32) -> u8
 fn field_reply(field: u32, found: u64) -> Option<Reply>
     ensures { result ≡ field_reply_of field found }
 {
-    if field < u32::from(length_in(found)) {
+    if field < u32::from(Meta::length_in(found)) {
         None
     } else {
         Some(Reply::NoField)
@@ -47,17 +49,9 @@ fn meta_reply(command: &Command, found: u64) -> Option<Reply>
     ensures { result ≡ meta_reply_of command.now found }
 {
     match *command {
-        Command::Len { .. } => Some(Reply::Length(length_in(found))),
+        Command::Len { .. } => Some(Reply::Length(Meta::length_in(found))),
         Command::Get { i, .. } | Command::Set { i, .. } => field_reply(i, found),
-        Command::New { .. }
-        | Command::Array { .. }
-        | Command::Num { .. }
-        | Command::Nil { .. }
-        | Command::Copy { .. }
-        | Command::Same { .. }
-        | Command::Poll
-        | Command::Collect
-        | Command::Leave => None,
+        _ => None,
     }
 }
 
@@ -74,7 +68,7 @@ impl SeatParty {
             return;
         };
         self.reached = head;
-        self.links = row(field(&self.command));
+        self.links = row(Parts::of(&self.command).field);
         self.place = Place::Reaching(Reaching::Opening);
     }
 
@@ -83,7 +77,7 @@ impl SeatParty {
         requires { field_of self.now.seat.command ≤ last_index }
         ensures { result ≡ field_part_of self.now.seat }
     {
-        part(field(&self.command))
+        part(Parts::of(&self.command).field)
     }
 
     /// Whether a set has to shade what it takes out and what it puts in.
@@ -101,17 +95,7 @@ impl SeatParty {
         match self.command {
             Command::Set { .. } if self.has_barrier() => Reaching::LoadingOld,
             Command::Set { .. } => Reaching::Swapping,
-            Command::Get { .. }
-            | Command::New { .. }
-            | Command::Array { .. }
-            | Command::Num { .. }
-            | Command::Nil { .. }
-            | Command::Copy { .. }
-            | Command::Same { .. }
-            | Command::Len { .. }
-            | Command::Poll
-            | Command::Collect
-            | Command::Leave => Reaching::Getting,
+            _ => Reaching::Getting,
         }
     }
 
@@ -144,7 +128,7 @@ impl SeatParty {
         requires leads { IfSome (lead_of 0 found) (λ fragment. fragment < 2 ^ 16) }
         requires spare { 0 < self.old.spare }
         ensures seat { self.new.seat ≡ seat_after (open_move number self.old.seat) found }
-        ensures spare { self.old.spare + length self.old.seat.mine ≤ self.new.spare + length self.new.seat.mine }
+        ensures spare { KeepsRoom self.old self.new }
     {
         let Some(reply) = meta_reply(&self.command, found) else {
             self.learn_link(found);

@@ -1,5 +1,5 @@
-ghost use Rattle.std.specs.Prelude.{◌≡◌, ◌<◌};
-ghost use Rattle.core_machine.specs.table.Layout.{index_of, InTable, table_length};
+ghost use Rattle.std.specs.Prelude.{◌≡◌, ◌<◌, ◌↔◌};
+ghost use Rattle.core_machine.specs.table.Layout.{index_of, InTable, HasWord, table_length};
 ghost use Rattle.heap_model.specs.Heap.{IsHeap};
 
 use heap_model::Heap;
@@ -24,12 +24,12 @@ pub enum Address {
 }
 
 impl Address {
-    /// Where the word stands in the table.
+    /// Where the word stands in the table; past its end where a spine word's offset is too large.
     pub fn index(&self, heap: &Heap) -> usize
         requires limits { IsHeap heap.now }
         requires in_table { InTable heap.now self.now }
         ensures index { result ≡ index_of heap.now self.now }
-        ensures within { result < table_length heap.now }
+        ensures within { HasWord heap.now self.now ↔ result < table_length heap.now }
     {
         let groups = heap.groups as usize;
         match *self {
@@ -40,9 +40,7 @@ impl Address {
             Address::Control(group) => 19 + group as usize,
             Address::Word { fragment, part } => 19 + groups + 4 * fragment as usize + part as usize,
             Address::Spine { half, offset } => {
-                let space = 2 * heap.spine as usize;
-                let half = if half == 0 { 0 } else { space };
-                19 + 65 * groups + half + offset as usize
+                19 + 65 * groups + 2 * offset as usize + half as usize
             }
         }
     }

@@ -6,6 +6,7 @@ ghost use Rattle.core_machine.specs.table.Fragments.{in_group, part_in, part_out
 
 use arrayvec::ArrayVec;
 use heap_model::limits::{GROUP_FRAGMENTS, MOST_RESERVE};
+use heap_words::{is_clear, place_bit};
 
 /// The most fragments that a seat keeps between two calls, and one more.
 pub const MOST_KEPT: usize = MOST_RESERVE as usize + 1;
@@ -23,24 +24,24 @@ pub type Reserve = ArrayVec<u16, MOST_KEPT>;
 pub type Hand = ArrayVec<u16, MOST_HELD>;
 
 /// The bits of those fragments that are of this group.
-#[tactic(auto, using(crate::proofs::table_lemmas::Bits::one_shl_16), unfolding(crate::specs::table::Fragments::mask))]
+#[tactic(auto, unfolding(crate::specs::table::Fragments::mask))]
 pub fn mask_in(fragments: &[u16], group: u16) -> u16
     ensures { result ≡ mask_of (part_in group fragments.now) }
 {
     fragments
         .iter()
         .filter(|fragment| **fragment / GROUP_FRAGMENTS == group)
-        .fold(0, |bits, fragment| bits | 1 << (*fragment % 16))
+        .fold(0, |bits, fragment| bits | place_bit(*fragment))
 }
 
 /// The bits of these fragments.
-#[tactic(auto, using(crate::proofs::table_lemmas::Bits::one_shl_16), unfolding(crate::specs::table::Fragments::mask))]
+#[tactic(auto, unfolding(crate::specs::table::Fragments::mask))]
 pub fn mask(fragments: &[u16]) -> u16
     ensures { result ≡ mask_of fragments.now }
 {
     fragments
         .iter()
-        .fold(0, |bits, fragment| bits | 1 << (*fragment % 16))
+        .fold(0, |bits, fragment| bits | place_bit(*fragment))
 }
 
 /// How many of the fragments are of this group.
@@ -85,8 +86,9 @@ pub fn add_clear(hand: &mut Hand, group: u16, word: u64)
     ensures few { length hand.new.items ≤ length hand.old.items + group_fragments }
 {
     for place in 0..GROUP_FRAGMENTS {
-        if word >> place & 1 == 0 {
-            hand.push(GROUP_FRAGMENTS * group + place);
+        let fragment = GROUP_FRAGMENTS * group + place;
+        if is_clear(word, fragment) {
+            hand.push(fragment);
         }
     }
 }

@@ -1,15 +1,9 @@
 ghost use Rattle.std.specs.Prelude.{◌≡◌, ◌<◌, ◌^◌, IfSome};
-ghost use Rattle.core_machine.specs.table.Loaded.{head_in as head_in_of, lead_of, link_in as link_in_of, length_in as length_in_of, id_in as id_in_of, stamp_in as stamp_in_of, plain_in as plain_in_of};
+ghost use Rattle.core_machine.specs.table.Loaded.{head_in as head_in_of, lead_of, link_in as link_in_of, id_in as id_in_of, stamp_in as stamp_in_of, plain_in as plain_in_of};
 
 use crate::seat::register::Register;
 use heap_model::Id;
-use heap_words::{Cell, Kind};
-
-/// The lengths that a meta can have are below this.
-const TOO_LONG: u32 = 1 << 13;
-
-/// What is added to the length in an array's meta.
-const ARRAY: u32 = 1 << 29;
+use heap_words::{Cell, Kind, Meta, Name};
 
 /// The first fragment of the object that a field refers to.
 pub fn head_in(word: u64) -> Option<u32>
@@ -29,8 +23,8 @@ fn first_lead(word: u64) -> Option<u32>
     let cell = Cell::read(word);
     match cell.kind {
         Kind::Reference => Some(cell.value),
-        Kind::Fixed if cell.value < ARRAY && cell.stamp != 0 => Some(cell.stamp),
-        Kind::Fixed | Kind::Nil | Kind::Number => None,
+        Kind::Fixed => Meta::lead(&cell),
+        Kind::Nil | Kind::Number => None,
     }
 }
 
@@ -45,25 +39,17 @@ pub fn link_in(word: u64) -> u16
     }
 }
 
-/// The length in a meta.
-pub fn length_in(word: u64) -> u16
-    ensures { result ≡ length_in_of word }
-{
-    (Cell::read(word).value % TOO_LONG) as u16
-}
-
 /// The id in a name.
 pub fn id_in(word: u64) -> Id
     ensures { result ≡ id_in_of word }
 {
-    let cell = Cell::read(word);
-    let owner = (cell.value % 256) as u8;
-    if owner == 0 {
+    let name = Name::told(word);
+    if name.owner == 0 {
         Id::Board
     } else {
         Id::Made {
-            seat: owner - 1,
-            count: cell.stamp,
+            seat: name.owner - 1,
+            count: name.count,
         }
     }
 }

@@ -80,6 +80,6 @@ fn has_word(heap: &Heap, address: &Address) -> bool
         Address::Answer(seat) => seat < 16,
         Address::Control(group) => group < heap.groups,
         Address::Word { fragment, part } => (fragment as u32) < 16 * heap.groups as u32 && part < 4,
-        Address::Spine { half, offset } => half < 2 && offset < 2 * heap.spine as u32,
+        Address::Spine { half, .. } => half < 2,
     }
 }

@@ -3,6 +3,7 @@ use std::test::Fail;
 
 /// Where each word stands in the table, and what it is at the opening: the seats 0 and 1 have answered phase 0 and no other
 /// seat is there, no spine word is granted and the next stands first in half 0, and the board is in the fragments 0 to 10.
+/// The table ends at 165, and past its end 0 is read.
 const OPENING: &[&str] = &[
     "free => 21",
     "phase => 0",
@@ -22,7 +23,9 @@ const OPENING: &[&str] = &[
     "word 9 0 => 8000000a00000000 at 57",
     "word 10 0 => 0 at 61",
     "word 11 0 => 0 at 65",
+    "spine 7 0 => 0 at 163",
     "spine 7 1 => 0 at 164",
+    "spine 8 0 => 0 at 165",
 ];
 
 #[test]

@@ -12,5 +12,5 @@ returns-clause-open c =
     let made : c.store-2.new.words ≡ put heap (put heap left Spot spot_word_of) (Control 0) board_group =
     rw (c.store-2.ensures.put, c.store.ensures.put, c.pack.ensures, c.pack-2.ensures) refl in
     λ a within. opens heap c.args.words.now left c.store_board.new.words c.requires.limits.some_group c.leave_without_seats.ensures.table a within
-    (at-zeros heap c.args.words.now a c.requires.zeros within) (c.leave_without_seats.ensures.left a within)
+    (at-zeros heap c.args.words.now a c.requires.zeros) (c.leave_without_seats.ensures.left a within)
     (c.store_board.ensures.board a within ∙ ap (λ (words : List ℕ). with_board 44 a (at heap words a)) made)

@@ -1,4 +1,4 @@
-use Rattle.std.proofs.Common.{◌≡◌, ℕ, ◌+◌, length, slice_index, sym, ap, ◌∙◌, arith}
+use Rattle.std.proofs.Common.{◌≡◌, ℕ, ◌+◌, length, sym, ap, ◌∙◌, arith}
 use Rattle.core_machine.specs.declared.table.address.Address.TheVariants.{Control}
 use Rattle.core_machine.specs.table.Fragments.{clear_in}
 use Rattle.core_machine.specs.table.Layout.{at}
@@ -15,7 +15,7 @@ loop-group-preserved c =
     let group = c.loop-group.group in
     let words = c.args.words.now in
     let clear = λ (g : ℕ). length (clear_in g (at c.args.heap.now words (Control g))) in
-    let count : c.count_clear-free.result ≡ clear group = c.count_clear-free.ensures.count ∙ ap (λ (i : ℕ). length (clear_in group (slice_index words i))) c.index.ensures.index in
+    let count : c.count_clear-free.result ≡ clear group = c.count_clear-free.ensures.count group ∙ ap (λ (word : ℕ). length (clear_in group word)) c.load-word.ensures in
     record {
       counted = ap (λ (n : ℕ). n + c.count_clear-free.result) c.loop-group.invariant.counted ∙ ap (λ (n : ℕ). sum_upto group clear + n) count ∙ sym (sum_upto-more group clear);
       few = omega (arith, c.loop-group.invariant.few, c.count_clear-free.ensures.few);

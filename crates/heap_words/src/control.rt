@@ -1,0 +1,47 @@
+ghost use Rattle.std.specs.Prelude.{◌≡◌};
+ghost use Rattle.heap_words.specs.Control.{place_bit as place_bit_of, is_clear as is_clear_in, all_but as all_but_of, birth_bits as birth_bits_of, shade_bit as shade_bit_of};
+
+/// The taken bits of all sixteen fragments of a group.
+pub const ALL_TAKEN: u64 = 0xffff;
+
+/// The bit of a fragment among the sixteen of its group.
+#[tactic(auto, using(crate::proofs::Fields::place_shift))]
+pub fn place_bit(fragment: u16) -> u16
+    ensures { result ≡ place_bit_of fragment }
+{
+    1 << (fragment % 16)
+}
+
+/// Whether the fragment's taken bit isn't set in its group's control word.
+#[tactic(auto, using(crate::proofs::Fields::place_test))]
+pub fn is_clear(word: u64, fragment: u16) -> bool
+    ensures { result ≡ is_clear_in word fragment }
+{
+    word >> (fragment % 16) & 1 == 0
+}
+
+/// All bits of a control word but these taken ones.
+pub fn all_but(bits: u16) -> u64
+    ensures { result ≡ all_but_of bits }
+{
+    !u64::from(bits)
+}
+
+/// The bits that a birth sets: where births are black, marked and scanned too.
+pub fn birth_bits(black: bool, bits: u16) -> u64
+    ensures { result ≡ birth_bits_of black bits }
+{
+    let born = u64::from(bits) << 16;
+    if black {
+        born + (born << 16) + (born << 32)
+    } else {
+        born
+    }
+}
+
+/// The bit that a shade sets: the fragment is marked.
+pub fn shade_bit(fragment: u16) -> u64
+    ensures { result ≡ shade_bit_of fragment }
+{
+    1 << (32 + fragment % 16)
+}
