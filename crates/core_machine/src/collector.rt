@@ -1,6 +1,6 @@
 ghost use Rattle.std.specs.Prelude.{◌≡◌, ◌+◌, ◌-◌, ◌<◌, ◌≤◌, ◌^◌, length, OnOk, OnErr};
 ghost use Rattle.core_machine.specs.declared.step.Step.TheVariants.{Turning as Turns};
-ghost use Rattle.core_machine.specs.collector.Collector.{opening_collector, next_turn, collector_after, turn_answer, MayTurn, has_answered as has_answered_of, advance_turn, looked_on};
+ghost use Rattle.core_machine.specs.collector.Collector.{opening_collector, next_turn, collector_after, has_answered as has_answered_of, advance_turn, looked_on};
 ghost use Rattle.core_machine.specs.seat.Fits.{CollectorFits};
 
 use crate::collector::stage::Stage;
@@ -134,9 +134,9 @@ impl CollectorParty {
     pub fn learn(&mut self, heap: &Heap, found: u64) -> Turn
         requires fits { CollectorFits heap.now self.old.collector }
         requires spare { 1 < self.old.spare }
-        ensures may { MayTurn self.old.collector self.old.collector.stage }
+        ensures may { (next_turn heap.now self.old.collector).may }
         ensures collector { self.new.collector ≡ collector_after (next_turn heap.now self.old.collector) found }
-        ensures answer { result ≡ turn_answer self.old.collector self.old.collector.stage found }
+        ensures answer { result ≡ (next_turn heap.now self.old.collector).answer found }
         ensures spare { self.old.spare + length self.old.collector.log ≤ self.new.spare + length self.new.collector.log }
     {
         let _all = self.log.capacity();

@@ -2,7 +2,7 @@
 use Rattle.std.proofs.Common.{◌≡◌, ℕ, List, refl, subst, sym, ap, ◌∙◌}
 use Rattle.heap_model.specs.declared.heap.Heap.{Heap}
 use Rattle.core_machine.specs.declared.step.Step.{Step}
-use Rattle.core_machine.specs.collector.Collector.{Collector, next_turn, collector_after, MayTurn}
+use Rattle.core_machine.specs.collector.Collector.{Collector, next_turn, collector_after}
 use Rattle.core_machine.specs.table.Layout.{put}
 use Rattle.core_machine.specs.table.Operation.{address_of, written}
 use Rattle.core_machine.specs.machine.Machine.{found_by, after, Turns}
@@ -34,6 +34,6 @@ module _ (heap : Heap) (words : List ℕ) (parties : List SeatWithRoom) (collect
       (now_is ∙ ap (λ (s : Step). put heap words (address_of s) (written s found)) (sym same)) next_is
 
   -- the turn leaves a machine
-  pub turn_machine : (now : List ℕ) (next : Collector) → MayTurn collector collector.stage → state_of now parties next ≡ after heap (state_of words parties collector) Turns
+  pub turn_machine : (now : List ℕ) (next : Collector) → (next_turn heap collector).may → state_of now parties next ≡ after heap (state_of words parties collector) Turns
       → IsMachine heap (state_of words parties collector) → IsMachine heap (state_of now parties next)
   turn_machine now next may state machine = subst (IsMachine heap) (sym state) (machine_after heap (state_of words parties collector) Turns machine may)

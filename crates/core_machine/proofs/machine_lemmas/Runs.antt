@@ -10,7 +10,7 @@ use Rattle.heap_model.specs.declared.command.Command.{Command}
 use Rattle.heap_model.specs.declared.entry.Entry.{Entry}
 use Rattle.core_machine.specs.table.Layout.{put, InTable}
 use Rattle.core_machine.specs.table.Loaded.{LeadWithin, FoundWithin}
-use Rattle.core_machine.specs.collector.Collector.{next_turn, MayTurn}
+use Rattle.core_machine.specs.collector.Collector.{next_turn}
 use Rattle.core_machine.specs.table.Operation.{address_of, written}
 use Rattle.core_machine.specs.seat.Seat.{Seat, nobody}
 use Rattle.core_machine.specs.declared.step.Step.{Step}
@@ -22,7 +22,7 @@ use Rattle.core_machine.specs.machine.Calls.{call_events}
 use Rattle.core_machine.proofs.table_lemmas.Addresses.{length-put, All-put, at-lt}
 use Rattle.core_machine.proofs.table_lemmas.Wide.{written_wide}
 use Rattle.core_machine.proofs.seat_lemmas.FittingMoves.{fits_begun, fits_moved, move_in_table}
-use Rattle.core_machine.proofs.collector_lemmas.FittingTurns.{fits_turn, turn_in_table, turn_wide, turn_leads}
+use Rattle.core_machine.proofs.collector_lemmas.FittingTurns.{turn_stands}
 use Rattle.core_machine.proofs.table_lemmas.Leading.{leads-put, written_leads, found-leads}
 
 pub Run-more : (heap : Heap) (state : State) (events : List Event) (event : Event) → Run heap state events → Can heap (after_all heap state events) event
@@ -85,19 +85,20 @@ machine_moved heap state q (Some move) machine within fits wide leads there =
     (fits found small led)
 
 -- the collector's turn leaves a machine
-machine_turned : (heap : Heap) (state : State) → IsMachine heap state → MayTurn state.collector state.collector.stage → IsMachine heap (turned heap state (next_turn heap state.collector))
+machine_turned : (heap : Heap) (state : State) → IsMachine heap state → (next_turn heap state.collector).may → IsMachine heap (turned heap state (next_turn heap state.collector))
 machine_turned heap state machine may =
     let step = (next_turn heap state.collector).step in
     let found = found_by heap state step in
-    let there = turn_in_table heap state.collector machine.limits machine.collector_fit in
+    let stands = turn_stands heap state.collector machine.limits machine.collector_fit in
+    let there = stands.step.in_table in
     record {
       limits = machine.limits;
       table = length-put heap state.words (address_of step) (written step found) ∙ machine.table;
-      wide = All-put heap state.words (address_of step) (written step found) (turn_wide heap state.collector found machine.collector_fit (at-lt heap state.words (address_of step) machine.wide)) machine.wide;
-      leads = leads-put heap state.words (address_of step) (written step found) machine.table there (turn_leads heap state.collector (written step found)) machine.leads;
+      wide = All-put heap state.words (address_of step) (written step found) (stands.step.wide found (at-lt heap state.words (address_of step) machine.wide)) machine.wide;
+      leads = leads-put heap state.words (address_of step) (written step found) machine.table there (stands.step.leads found (found-leads heap state.words (address_of step) there machine.leads)) machine.leads;
       seated = machine.seated;
       fit = machine.fit;
-      collector_fit = fits_turn heap state.collector found machine.limits machine.collector_fit may;
+      collector_fit = stands.fits found may;
     }
 
 -- who has a move is a seat
