@@ -16,8 +16,8 @@ use Rattle.core_machine.specs.machine.Machine.{State, seat_at, found_by, begun, 
 use Rattle.core_machine.specs.seat.Fits.{IsAtRest, FitsPlace}
 use Rattle.core_machine.specs.machine.Value.{MachineValue, IsMachine, log_of, spare_of, SpendsRoom}
 use Rattle.core_machine.proofs.seat_lemmas.Fitting.{goes_on_cases, need_of_record}
-use Rattle.core_machine.proofs.call_lemmas.Owing.{owes, steps_left, Nears, nears}
-use Rattle.core_machine.proofs.call_lemmas.Awaits.{Adds, adds_at}
+use Rattle.core_machine.proofs.call_lemmas.Owes.{owes, steps_left}
+use Rattle.core_machine.proofs.moves.MoveStands.{MoveStands}
 use Rattle.core_machine.specs.seat.Commands.{IsServed}
 use Rattle.core_machine.specs.declared.seat.register.Register.{Register}
 use Rattle.core_machine.specs.declared.seat.register.Register.TheVariants.{Nil, Number, Object}
@@ -27,7 +27,7 @@ use Rattle.core_machine.specs.seat.Polling.{leaving}
 use Rattle.heap_model.specs.Command.{IsCommand}
 use Rattle.heap_model.specs.declared.command.Command.TheVariants as commands
 use Rattle.heap_model.specs.declared.command.Command.TheVariants.{New, Array, Get, Set, Num, Copy, Same, Len, Poll, Collect, Leave}
-use Rattle.core_machine.proofs.machine_lemmas.Runs.{seat_at-set, machine_after}
+use Rattle.core_machine.proofs.machine_lemmas.Runs.{seat_at-set, machine_after, moves_stand}
 use Rattle.core_machine.proofs.call_lemmas.Calling.{begun_mine}
 
 -- a seat's entries are those of its party
@@ -37,23 +37,17 @@ log_of_seat machine number within =
     rw other refl
 
 -- what a move leaves of room and steps, where its entries are the party's new ones
-room_by : (heap : Heap) (now : State) (number : ℕ) (move : Option Move) (step : Step) (seat : Seat) (owed steps : ℕ) → number < length now.seats
+room_by : (heap : Heap) (now : State) (number : ℕ) (move : Option Move) (step : Step) (seat : Seat) → number < length now.seats
     → option_map (λ m. m.step) move ≡ Some step → seat ≡ seat_at (moved heap now number move) number
-    → IfSome move (λ m. Nears heap (seat_after m (found_by heap now m.step)) owed steps (length (m.adds (found_by heap now m.step))))
-    → IfSome move (Adds heap now number (seat_at now number))
-    → (steps_left heap seat < steps) × ((added : ℕ) × (owes seat + added ≤ owed) × (length seat.mine ≡ length (seat_at now number).mine + added))
-room_by heap now number None step seat owed steps within due is nears_ adds = cc
-room_by heap now number (Some m) step seat owed steps within due is nears_ adds =
+    → IfSome move (MoveStands heap number (seat_at now number) (seat_at now number).place)
+    → (steps_left heap seat < steps_left heap (seat_at now number)) × ((added : ℕ) × (owes seat + added ≤ owes (seat_at now number)) × (length seat.mine ≡ length (seat_at now number).mine + added))
+room_by heap now number None step seat within due is stands = cc
+room_by heap now number (Some m) step seat within due is stands =
     let found = found_by heap now m.step in
     let here : seat ≡ seat_after m found = is ∙ seat_at-set now.seats number (seat_after m found) within in
     let long = length-append (m.told found).mine (m.adds found) in
-    rw here (nears_.fewer, (length (m.adds found), nears_.paid, omega (arith, ap (length {A = Entry}) adds.kept)))
-
--- what holds of a move at every word holds at the word that is found
-each_found : (heap : Heap) (now : State) (move : Option Move) (P : Move → ℕ → Type 0) → ((found : ℕ) → IfSome move (λ m. P m found))
-    → IfSome move (λ m. P m (found_by heap now m.step))
-each_found heap now None P each = tt
-each_found heap now (Some m) P each = each (found_by heap now m.step)
+    let near = stands.near found in
+    rw here (near.fewer, (length (m.adds found), near.paid, omega (arith, ap (length {A = Entry}) (stands.adds now).kept)))
 
 pub step_room : (old new : MachineValue) (number : ℕ) (step : Step) → IsMachine old.heap old.state → number < length old.state.seats
     → due_step old.heap number (seat_at old.state number) ≡ Some step → new.state ≡ after old.heap old.state (Steps number) → SpendsRoom old new number
@@ -62,9 +56,8 @@ pub step_room : (old new : MachineValue) (number : ℕ) (step : Step) → IsMach
 step_room old new number step machine within due is spends room =
     let seat = seat_at old.state number in
     let move = next_move old.heap number seat in
-    let found_nears = nears_found old.heap number old.state machine within in
-    let by = room_by old.heap old.state number move step (seat_at new.state number) (owes seat) (steps_left old.heap seat) within due
-    (ap (λ (s : State). seat_at s number) is) found_nears (adds_at old.heap old.state number seat seat.place refl) in
+    let by = room_by old.heap old.state number move step (seat_at new.state number) within due
+    (ap (λ (s : State). seat_at s number) is) (moves_stand old.heap old.state number machine within) in
     let some : IsSome move = some_due move step due in
     let after_ = machine_after old.heap old.state (Steps number) machine some in
     let still : number < length new.state.seats = omega (arith, ap (λ (s : State). length s.seats) is, after_.seated, machine.seated) in
@@ -75,12 +68,6 @@ step_room old new number step machine within due is spends room =
     some_due : (move : Option Move) (step : Step) → option_map (λ m. m.step) move ≡ Some step → IsSome move
     some_due None step e = cc
     some_due (Some m) step e = refl
-
-    nears_found : (heap : Heap) (number : ℕ) (now : State) → IsMachine heap now → number < length now.seats
-        → IfSome (next_move heap number (seat_at now number)) (λ m. Nears heap (seat_after m (found_by heap now m.step)) (owes (seat_at now number)) (steps_left heap (seat_at now number)) (length (m.adds (found_by heap now m.step))))
-    nears_found heap number now machine within =
-        each_found heap now (next_move heap number (seat_at now number)) (λ m found. Nears heap (seat_after m found) (owes (seat_at now number)) (steps_left heap (seat_at now number)) (length (m.adds found)))
-        (λ found. nears heap number (seat_at now number) found (machine.fit number within))
 
 -- room that is spent step by step
 pub spends_on : (first second third : MachineValue) (number : ℕ) → SpendsRoom first second number → SpendsRoom second third number → SpendsRoom first third number

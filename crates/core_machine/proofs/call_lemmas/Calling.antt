@@ -17,8 +17,8 @@ use Rattle.core_machine.proofs.call_lemmas.Stages.{Stage}
 use Rattle.core_machine.proofs.call_lemmas.PlayingOn.{stage_moved}
 use Rattle.core_machine.proofs.call_lemmas.PlayingBegins.{stage_begun}
 use Rattle.core_machine.proofs.call_lemmas.Saying.{Says}
-use Rattle.core_machine.proofs.call_lemmas.SayingMoves.{says_begun, says_moved}
-use Rattle.core_machine.proofs.call_lemmas.Awaits.{Adds, adds_at}
+use Rattle.core_machine.proofs.call_lemmas.SayingBegins.{says_begun}
+use Rattle.core_machine.proofs.moves.MoveStands.{MoveStands}
 use Rattle.core_machine.specs.seat.Awaiting.{awaited}
 use Rattle.core_machine.specs.seat.Commands.{IsServed}
 use Rattle.core_machine.specs.declared.seat.register.Register.{Register}
@@ -27,7 +27,7 @@ use Rattle.core_machine.specs.seat.Registers.{register_in}
 use Rattle.core_machine.specs.seat.Reaching.{opened}
 use Rattle.heap_model.specs.declared.command.Command.TheVariants as commands
 use Rattle.heap_model.specs.declared.command.Command.TheVariants.{New, Array, Get, Set, Num, Copy, Same, Len, Poll, Collect, Leave}
-use Rattle.core_machine.proofs.machine_lemmas.Runs.{Run-more, after_all-more, history-more, call_events-more, seat_at-set, machine_after}
+use Rattle.core_machine.proofs.machine_lemmas.Runs.{Run-more, after_all-more, history-more, call_events-more, seat_at-set, machine_after, moves_stand}
 
 -- a call is under way, and no other party made a step since its begin
 pub record Playing (heap : Heap) (old now : State) (number : ℕ) (command : Command) : Type 0 where
@@ -90,13 +90,14 @@ playing_begun heap old number command machine can =
 more_by : (heap : Heap) (old now : State) (number : ℕ) (command : Command) (told : List Entry) (move : Option Move)
     → number < length now.seats → (seat_at now number).mine ++ awaited heap now.words number (seat_at now number) ≡ (seat_at old number).mine ++ told
     → IfSome move (λ m. Stage heap old (stepped heap now number m) number command (told ++ m.shows now.words (found_by heap now m.step)) (seat_after m (found_by heap now m.step)) (seat_after m (found_by heap now m.step)).place)
-    → IfSome move (Adds heap now number (seat_at now number)) → IsSome move
+    → IfSome move (MoveStands heap number (seat_at now number) (seat_at now number).place) → IsSome move
     → ((seat_at (moved heap now number move) number).mine ++ awaited heap (moved heap now number move).words number (seat_at (moved heap now number move) number) ≡ (seat_at old number).mine ++ (told ++ shown heap now move))
     × Stage heap old (moved heap now number move) number command (told ++ shown heap now move) (seat_at (moved heap now number move) number) (seat_at (moved heap now number move) number).place
-more_by heap old now number command told None within mine stage adds some = cc
-more_by heap old now number command told (Some m) within mine stage adds some =
+more_by heap old now number command told None within mine stage stands some = cc
+more_by heap old now number command told (Some m) within mine stage stands some =
     let found = found_by heap now m.step in
     let here : seat_at (stepped heap now number m) number ≡ seat_after m found = seat_at-set now.seats number (seat_after m found) within in
+    let adds = stands.adds now in
     let shows_ = m.shows now.words found in
     let next = seat_after m found in
     let then_ = awaited heap (stepped heap now number m).words number next in
@@ -110,12 +111,13 @@ more_by heap old now number command told (Some m) within mine stage adds some =
 
 -- what a move leaves of what is said
 says_by : (heap : Heap) (old : Seat) (now : State) (number : ℕ) (command : Command) (told : List Entry) (move : Option Move) → number < length now.seats → IsSome move
-    → IfSome move (λ m. (found : ℕ) → Says old number command (seat_after m found) (told ++ m.shows now.words found) (seat_after m found).place)
+    → IfSome move (MoveStands heap number (seat_at now number) (seat_at now number).place) → Says old number command (seat_at now number) told (seat_at now number).place
     → Says old number command (seat_at (moved heap now number move) number) (told ++ shown heap now move) (seat_at (moved heap now number move) number).place
-says_by heap old now number command told None within some says = cc
-says_by heap old now number command told (Some m) within some says =
+says_by heap old now number command told None within some stands says = cc
+says_by heap old now number command told (Some m) within some stands says =
     let found = found_by heap now m.step in
-    subst (λ (s : Seat). Says old number command s (told ++ m.shows now.words found) s.place) (sym (seat_at-set now.seats number (seat_after m found) within)) (says found)
+    subst (λ (s : Seat). Says old number command s (told ++ m.shows now.words found) s.place) (sym (seat_at-set now.seats number (seat_after m found) within))
+    (stands.says old command now.words told says found)
 
 pub playing_more : (heap : Heap) (old now : State) (number : ℕ) (command : Command) → ((a : Address) → InTable heap a → at heap old.words a < 2 ^ 64)
     → Playing heap old now number command → IsSome (next_move heap number (seat_at now number))
@@ -125,9 +127,10 @@ playing_more heap old now number command small playing some =
     let more = call_events-more number command playing.steps in
     let next = after heap now (Steps number) in
     let machine = machine_after heap now (Steps number) playing.machine some in
+    let stands = moves_stand heap now number playing.machine playing.within in
     let left = more_by heap old now number command playing.told (next_move heap number (seat_at now number)) playing.within playing.mine
     (stage_moved heap old number command now playing.told playing.within playing.machine small playing.stage)
-    (adds_at heap now number (seat_at now number) (seat_at now number).place refl) some in
+    stands some in
     record {
       steps = playing.steps + 1;
       can = subst (Run heap old) (sym more) (Run-more heap old events (Steps number) playing.can (subst (λ (s : State). Can heap s (Steps number)) playing.ends some));
@@ -140,6 +143,5 @@ playing_more heap old now number command small playing some =
           ∙ ap (λ (s : State). playing.told ++ entries heap s (Steps number)) (sym playing.ends);
       mine = left.0;
       stage = left.1;
-      says = says_by heap (seat_at old number) now number command playing.told (next_move heap number (seat_at now number)) playing.within some
-          (says_moved (seat_at old number) number command heap now.words (seat_at now number) playing.told playing.says);
+      says = says_by heap (seat_at old number) now number command playing.told (next_move heap number (seat_at now number)) playing.within some stands playing.says;
     }

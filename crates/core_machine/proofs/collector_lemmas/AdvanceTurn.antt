@@ -1,5 +1,5 @@
 -- The next phase begins.
-use Rattle.std.proofs.Common.{ℕ, ◌+◌, [], ◌∷◌, length-append, arith}
+use Rattle.std.proofs.Common.{◌+◌, [], ◌∷◌, length-append, arith}
 use Rattle.heap_model.specs.declared.entry.Entry.TheVariants.{Advance}
 use Rattle.core_machine.specs.declared.collector.stage.Stage.TheVariants as stages
 use Rattle.core_machine.specs.collector.Collector.{advance_turn}

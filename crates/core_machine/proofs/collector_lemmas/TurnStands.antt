@@ -1,5 +1,5 @@
 -- What is asked of each turn of the collector.
-use Rattle.std.proofs.Common.{◌≡◌, ℕ, [], ◌++◌, length-append, arith}
+use Rattle.std.proofs.Common.{◌≡◌, ℕ, [], length-append, arith}
 use Rattle.heap_model.specs.declared.calls.collector_calls.Turn.{Turn as TurnAnswer}
 use Rattle.heap_model.specs.declared.heap.Heap.{Heap}
 use Rattle.heap_model.specs.Heap.{IsHeap}

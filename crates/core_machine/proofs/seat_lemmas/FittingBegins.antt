@@ -1,5 +1,5 @@
 -- A seat whose data fit together begins a call.
-use Rattle.std.proofs.Common.{◌≡◌, ℕ, List, [], ◌∷◌, None, refl, subst, sym, ap, arith}
+use Rattle.std.proofs.Common.{◌≡◌, ℕ, List, [], ◌∷◌, None, refl, subst, sym, ap, arith, append-nil, ◌/◌}
 use Rattle.std.specs.Prelude.{IsSome}
 use Rattle.heap_model.specs.declared.heap.Heap.{Heap}
 use Rattle.heap_model.specs.declared.command.Command.{Command}
@@ -19,8 +19,31 @@ use Rattle.core_machine.specs.machine.Machine.{MayBegin, begun}
 use Rattle.core_machine.specs.seat.FitsReaching.{NamesObject}
 use Rattle.core_machine.specs.seat.Fits.{FitsRegister, FitsPlace, FitsWay, FitsAnswer, IsAtRest, IsLocal, Fits}
 use Rattle.core_machine.proofs.seat_lemmas.Aside.{IsAside, gone_aside, aside_idle}
-use Rattle.core_machine.proofs.seat_lemmas.FittingAnswers.{register_fits}
-use Rattle.core_machine.proofs.seat_lemmas.FittingMaking.{fits_begun_new}
+use Rattle.core_machine.proofs.table_lemmas.WithinHeap.{register_fits}
+use Rattle.std.proofs.lemmas.List.Elements.{All-drop}
+use Rattle.heap_model.specs.declared.command.Command.TheVariants.{New}
+use Rattle.core_machine.proofs.seat_lemmas.Fitting.{fits_goes_on}
+use Rattle.heap_model.specs.account.Space.{need_of}
+
+-- a record is to be made
+fits_begun_new : (heap : Heap) (seat : Seat) (d fields : ℕ) → Fits heap seat → MayBegin seat (New d fields) → Fits heap (begun heap seat (New d fields))
+fits_begun_new heap seat d fields fits may =
+    let rest : IsAtRest seat = subst (FitsPlace heap seat) may.idle fits.at_place in
+    fits_goes_on heap (record seat { command = New d fields }) record {
+      registers_whole = fits.own.registers_whole;
+      cursor_within = fits.own.cursor_within;
+      small_reserve = fits.own.small_reserve;
+      reserve_of_cursor = fits.own.reserve_of_cursor;
+      hand_within = fits.hand.hand_within;
+      makes = record { a_record = tt; in_range = may.in_range; numbered = may.numbered };
+      no_body = rest.no_body;
+      none_stored = rest.none_stored;
+      none_given = rest.none_given;
+      tried_within = omega (arith, rest.none_tried);
+      few = rw rest.empty_hand (omega (arith, fits.own.small_reserve));
+      rest_of_last = rw (rest.none_tried, rest.empty_hand, append-nil seat.reserve) (All-drop (λ fragment. fragment / 16 ≡ seat.cursor) (need_of (New d fields)) seat.reserve fits.own.reserve_of_cursor);
+      aside = aside_idle heap seat fits may.idle may.present;
+    }
 
 module _ (heap : Heap) (seat : Seat) (command : Command) (fits : Fits heap seat) (may : MayBegin seat command) where
   rest : IsAtRest seat

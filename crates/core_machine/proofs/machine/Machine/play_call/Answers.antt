@@ -7,7 +7,7 @@ use Rattle.core_machine.proofs.table_lemmas.Addresses.{at-lt}
 use Rattle.core_machine.proofs.call_lemmas.Calling.{Playing, playing_begun, playing_more}
 use Rattle.core_machine.proofs.call_lemmas.CallRoom.{step_room, spends_on, spends_begun, room_for}
 use Rattle.core_machine.proofs.call_lemmas.CallEnd.{none_left, some_due, call_over, call_replies}
-use Rattle.core_machine.proofs.call_lemmas.Owing.{steps_left}
+use Rattle.core_machine.proofs.call_lemmas.Owes.{steps_left}
 use Rattle.core_machine.proofs.machine.Machine.play_call.Goals as goal
 
 pub loop-step-init : goal.loop-step-init
