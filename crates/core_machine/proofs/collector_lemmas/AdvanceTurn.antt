@@ -2,10 +2,9 @@
 use Rattle.std.proofs.Common.{◌+◌, [], ◌∷◌, length-append, arith}
 use Rattle.heap_model.specs.declared.entry.Entry.TheVariants.{Advance}
 use Rattle.core_machine.specs.declared.collector.stage.Stage.TheVariants as stages
-use Rattle.core_machine.specs.collector.Collector.{advance_turn}
 use Rattle.core_machine.proofs.collector_lemmas.TurnStands.{StageStands}
 
-pub advance_stands : StageStands stages.Advancing (λ heap. advance_turn)
+pub advance_stands : StageStands stages.Advancing
 advance_stands heap collector limits fits advancing is = record {
   step = record { in_table = tt; wide = λ found small. omega (arith, fits.phase_within); leads = λ found led. tt };
   fits = λ found may. record {

@@ -5,7 +5,7 @@ use Rattle.heap_model.specs.declared.heap.Heap.{Heap}
 use Rattle.core_machine.specs.declared.collector.stage.Stage.TheVariants as stages
 use Rattle.core_machine.specs.declared.step.Step.TheVariants.{Turning}
 use Rattle.core_machine.specs.declared.step.TurningStep.TheVariants as turning
-use Rattle.core_machine.specs.collector.Collector.{Collector, has_answered, looked_all, looked_on, looked_at, look_answer, look_turn}
+use Rattle.core_machine.specs.collector.Collector.{Collector, has_answered, looked_all, looked_on, looked_at, look_answer}
 use Rattle.core_machine.specs.collector.FitsTurns.{CollectorFits}
 use Rattle.core_machine.proofs.collector_lemmas.TurnStands.{StageStands, quiet_stands}
 use Rattle.core_machine.proofs.table_lemmas.Bits.{bool_tells}
@@ -34,7 +34,7 @@ module _ (heap : Heap) (collector : Collector) (fits : CollectorFits heap collec
     | inr no_ ↦ rw no_ fits
   ]
 
-pub look_stands : StageStands stages.Looking look_turn
+pub look_stands : StageStands stages.Looking
 look_stands heap collector limits fits looking within =
     quiet_stands heap (turning.LookLoad collector.looked) (looked_at heap collector) (look_answer collector)
     (load_stands heap (Turning (turning.LookLoad collector.looked)) refl (omega (arith, within, limits.seats_fit))) (fits_looked_at heap collector fits looking within)

@@ -6,7 +6,7 @@ use Rattle.heap_model.specs.Heap.{IsHeap}
 use Rattle.core_machine.specs.declared.collector.stage.Stage.{Stage}
 use Rattle.core_machine.specs.declared.step.Step.TheVariants.{Turning}
 use Rattle.core_machine.specs.declared.step.TurningStep.{TurningStep}
-use Rattle.core_machine.specs.collector.Collector.{Collector, Turn, quiet_turn, collector_after}
+use Rattle.core_machine.specs.collector.Collector.{Collector, Turn, quiet_turn, turn_at, collector_after}
 use Rattle.core_machine.specs.collector.FitsTurns.{FitsStage, CollectorFits}
 use Rattle.core_machine.proofs.table_lemmas.StepStands.{StepStands}
 
@@ -16,9 +16,9 @@ pub record TurnStands (heap : Heap) (turn : Turn) : Type 0 where
   pub fits : (found : ℕ) → turn.may → CollectorFits heap (collector_after turn found)
 
 -- so stands the turn that is due at this stage
-abbrev pub StageStands : Stage → (Heap → Collector → Turn) → Type 0
-StageStands stage turn = (heap : Heap) (collector : Collector) → IsHeap heap → CollectorFits heap collector → collector.stage ≡ stage
-    → FitsStage heap.seats collector.phase collector.looked stage → TurnStands heap (turn heap collector)
+abbrev pub StageStands : Stage → Type 0
+StageStands stage = (heap : Heap) (collector : Collector) → IsHeap heap → CollectorFits heap collector → collector.stage ≡ stage
+    → FitsStage heap.seats collector.phase collector.looked stage → TurnStands heap (turn_at heap collector stage)
 
 -- a turn that adds no entry
 pub quiet_stands : (heap : Heap) (step : TurningStep) (told : ℕ → Collector) (answer : ℕ → TurnAnswer) → StepStands heap (Turning step)

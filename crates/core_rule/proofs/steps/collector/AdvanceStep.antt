@@ -22,7 +22,7 @@ use Rattle.core_rule.specs.Counts.{is_collectors}
 use Rattle.core_rule.specs.Cycle.{HeapInCycle}
 use Rattle.core_rule.specs.Rule.{Rule, HeapStands, SeatStands}
 use Rattle.core_rule.proofs.words.Addresses.{at-put_apart}
-use Rattle.core_rule.proofs.steps.TurnSteps.{TurnKeeps, turn_steps}
+use Rattle.core_rule.proofs.steps.TurnSteps.{StageKeeps, TurnKeeps, turn_steps}
 use Rattle.core_rule.proofs.cycle.CycleFrames.{cycle_told}
 use Rattle.core_rule.proofs.frames.EntryFrames.{fragments_phase, heap_past, seat_past}
 use Rattle.core_rule.proofs.colours.LeadsFrames.{leads_apart}
@@ -97,9 +97,8 @@ module _ (heap : Heap) (state : State) (book : Book) (rule : Rule heap state boo
       (cycle_next heap state.words words book.owner book.colour (phase book.history) (answered r book.history) (has_left r book.history) r (seat_at state r) early
       (at-put_apart heap state.words Phase (Answer r) next (λ e. omega (arith, e))) leads_on stands.fits (all_answered r below) stands.cycle)) stands
 
-  -- the begin of the next phase keeps the rule
-  pub advance_keeps : TurnKeeps heap state book (advance_turn state.collector)
-  advance_keeps machine =
+  advance_kept : TurnKeeps heap state book (advance_turn state.collector)
+  advance_kept machine =
       turn_steps heap state book words (collector_after (advance_turn state.collector) 0) later (Advance next ∷ []) rule machine refl heap_on
       (λ r below stands. seat_on r below)
       record {
@@ -107,3 +106,7 @@ module _ (heap : Heap) (state : State) (book : Book) (rule : Rule heap state boo
         phase_told = told ∙ sym grown;
         looked = λ q none below present. absurd (omega (arith, none));
       }
+
+-- the begin of the next phase keeps the rule
+pub advance_keeps : StageKeeps stages.Advancing
+advance_keeps = advance_kept

@@ -9,7 +9,7 @@ use Rattle.heap_model.specs.account.PhaseCounts.{phase, answered, has_left}
 use Rattle.core_machine.specs.declared.table.address.Address.TheVariants.{Answer}
 use Rattle.core_machine.specs.declared.collector.stage.Stage.{Stage}
 use Rattle.core_machine.specs.declared.collector.stage.Stage.TheVariants as stages
-use Rattle.core_machine.specs.collector.Collector.{Collector, has_answered, looked_all, looked_on, looked_at, look_turn}
+use Rattle.core_machine.specs.collector.Collector.{Collector, has_answered, looked_all, looked_on, looked_at}
 use Rattle.core_machine.specs.seat.Fits.{FitsStage}
 use Rattle.core_machine.specs.table.Layout.{at}
 use Rattle.core_machine.specs.machine.Machine.{seat_at}
@@ -39,7 +39,7 @@ module _ (heap : Heap) (collector : Collector) (history : List Entry) (stands : 
   all_seen : HasSeen heap.seats → CollectorStands heap (looked_all heap collector) history
   all_seen all = elim (eqb_tells (collector.phase % 7) 3) as (λ _. CollectorStands heap (looked_all heap collector) history) [
     | inl third ↦ rw third.0 (stands_seen collector.stage 0 (λ q none below present. absurd (omega (arith, none))))
-    | inr other ↦ rw other.0 (stands_seen stages.Advancing heap.seats all)
+    | inr other ↦ rw other.0 (stands_seen _ heap.seats all)
   ]
 
   module _ (seen : has_left collector.looked history ≡ false → answered collector.looked history ≡ phase history) where
@@ -67,7 +67,7 @@ module _ (heap : Heap) (collector : Collector) (history : List Entry) (stands : 
       by false seen = stands
 
 -- a look at a seat's answer keeps the rule
-pub look_keeps : StageKeeps stages.Looking look_turn
+pub look_keeps : StageKeeps stages.Looking
 look_keeps heap state book rule looking machine =
     let collector : Collector = state.collector in
     let q : ℕ = collector.looked in
