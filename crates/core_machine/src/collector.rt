@@ -1,6 +1,6 @@
 ghost use Rattle.std.specs.Prelude.{◌≡◌, ◌+◌, ◌-◌, ◌<◌, ◌≤◌, ◌^◌, length, OnOk, OnErr};
 ghost use Rattle.core_machine.specs.declared.step.Step.TheVariants.{Turning as Turns};
-ghost use Rattle.core_machine.specs.collector.Collector.{opening_collector, next_turn, collector_after, has_answered as has_answered_of, advance_turn, looked_on};
+ghost use Rattle.core_machine.specs.collector.Collector.{opening_collector, next_turn, collector_after, has_answered as has_answered_of, advance_turn, look_answer, looked_at, looked_on};
 ghost use Rattle.core_machine.specs.seat.Fits.{CollectorFits};
 
 use crate::collector::stage::Stage;
@@ -96,6 +96,24 @@ impl CollectorParty {
         word == self.phase || word == LEFT
     }
 
+    /// Looks at a seat's word.
+    fn look(&mut self, heap: &Heap, found: u64) -> Turn
+        requires { self.old.collector.looked < heap.now.seats }
+        ensures collector { self.new.collector ≡ looked_at heap.now self.old.collector found }
+        ensures answer { result ≡ look_answer self.old.collector found }
+        ensures spare { self.new.spare ≡ self.old.spare }
+    {
+        if !self.has_answered(found) {
+            return Turn::Waits {
+                seat: self.looked,
+                answered: found,
+                phase: self.phase,
+            };
+        }
+        self.look_on(heap);
+        Turn::Stepped
+    }
+
     /// One more seat has answered.
     fn look_on(&mut self, heap: &Heap)
         requires { self.old.collector.looked < heap.now.seats }
@@ -140,18 +158,10 @@ impl CollectorParty {
         ensures spare { self.old.spare + length self.old.collector.log ≤ self.new.spare + length self.new.collector.log }
     {
         let _all = self.log.capacity();
-        let Stage::Looking = self.stage else {
-            self.advance();
-            return Turn::Stepped;
-        };
-        if !self.has_answered(found) {
-            return Turn::Waits {
-                seat: self.looked,
-                answered: found,
-                phase: self.phase,
-            };
+        match self.stage {
+            Stage::Looking => return self.look(heap, found),
+            Stage::Advancing => self.advance(),
         }
-        self.look_on(heap);
         Turn::Stepped
     }
 }
