@@ -17,7 +17,7 @@ use Rattle.core_machine.specs.seat.Fits.{IsAtRest, FitsPlace}
 use Rattle.core_machine.specs.machine.Value.{MachineValue, IsMachine, log_of, spare_of, SpendsRoom}
 use Rattle.core_machine.proofs.seat_lemmas.Fitting.{goes_on_cases, need_of_record}
 use Rattle.core_machine.proofs.call_lemmas.Owes.{owes, steps_left}
-use Rattle.core_machine.proofs.moves.MoveStands.{MoveStands}
+use Rattle.core_machine.proofs.moves.Standing.{MoveStands}
 use Rattle.core_machine.specs.seat.Commands.{IsServed}
 use Rattle.core_machine.specs.declared.seat.register.Register.{Register}
 use Rattle.core_machine.specs.declared.seat.register.Register.TheVariants.{Nil, Number, Object}

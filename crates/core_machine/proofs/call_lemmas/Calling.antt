@@ -18,7 +18,7 @@ use Rattle.core_machine.proofs.call_lemmas.PlayingOn.{stage_moved}
 use Rattle.core_machine.proofs.call_lemmas.PlayingBegins.{stage_begun}
 use Rattle.core_machine.proofs.call_lemmas.Saying.{Says}
 use Rattle.core_machine.proofs.call_lemmas.SayingBegins.{says_begun}
-use Rattle.core_machine.proofs.moves.MoveStands.{MoveStands}
+use Rattle.core_machine.proofs.moves.Standing.{MoveStands}
 use Rattle.core_machine.specs.seat.Awaiting.{awaited}
 use Rattle.core_machine.specs.seat.Commands.{IsServed}
 use Rattle.core_machine.specs.declared.seat.register.Register.{Register}

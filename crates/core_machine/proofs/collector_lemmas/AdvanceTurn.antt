@@ -2,7 +2,7 @@
 use Rattle.std.proofs.Common.{◌+◌, [], ◌∷◌, length-append, arith}
 use Rattle.heap_model.specs.declared.entry.Entry.TheVariants.{Advance}
 use Rattle.core_machine.specs.declared.collector.stage.Stage.TheVariants as stages
-use Rattle.core_machine.proofs.collector_lemmas.TurnStands.{StageStands}
+use Rattle.core_machine.proofs.collector_lemmas.Standing.{StageStands}
 
 pub advance_stands : StageStands stages.Advancing
 advance_stands heap collector limits fits advancing is = record {

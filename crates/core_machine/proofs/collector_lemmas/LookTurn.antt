@@ -7,7 +7,7 @@ use Rattle.core_machine.specs.declared.step.Step.TheVariants.{Turning}
 use Rattle.core_machine.specs.declared.step.TurningStep.TheVariants as turning
 use Rattle.core_machine.specs.collector.Collector.{Collector, has_answered, looked_all, looked_on, looked_at, look_answer}
 use Rattle.core_machine.specs.collector.FitsTurns.{CollectorFits}
-use Rattle.core_machine.proofs.collector_lemmas.TurnStands.{StageStands, quiet_stands}
+use Rattle.core_machine.proofs.collector_lemmas.Standing.{StageStands, quiet_stands}
 use Rattle.core_machine.proofs.table_lemmas.Bits.{bool_tells}
 use Rattle.core_machine.proofs.table_lemmas.StepStands.{load_stands}
 

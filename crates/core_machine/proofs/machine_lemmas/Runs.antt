@@ -19,12 +19,12 @@ use Rattle.core_machine.specs.machine.Machine.{State, seat_at, found_by, Event, 
 use Rattle.core_machine.specs.seat.Fits.{Fits}
 use Rattle.core_machine.specs.machine.Value.{IsMachine}
 use Rattle.core_machine.specs.machine.Calls.{call_events}
-use Rattle.core_machine.proofs.moves.MoveStands.{MoveStands}
-use Rattle.core_machine.proofs.moves.Moves.{move_stands}
+use Rattle.core_machine.proofs.moves.Standing.{MoveStands}
+use Rattle.core_machine.proofs.moves.{move_stands}
 use Rattle.core_machine.proofs.table_lemmas.Addresses.{length-put, All-put, at-lt}
 use Rattle.core_machine.proofs.seat_lemmas.FittingBegins.{fits_begun}
 use Rattle.core_machine.proofs.seat_lemmas.FittingEntries.{fits_entries}
-use Rattle.core_machine.proofs.collector_lemmas.FittingTurns.{turn_stands}
+use Rattle.core_machine.proofs.collector_lemmas.{turn_stands}
 use Rattle.core_machine.proofs.table_lemmas.Leading.{leads-put, found-leads}
 
 pub Run-more : (heap : Heap) (state : State) (events : List Event) (event : Event) → Run heap state events → Can heap (after_all heap state events) event

@@ -25,7 +25,7 @@ use Rattle.core_machine.proofs.table_lemmas.Masks.{mask-lt}
 use Rattle.core_machine.proofs.table_lemmas.Wide.{fields_few}
 use Rattle.core_machine.specs.declared.place.Place.TheVariants as places
 use Rattle.heap_model.specs.declared.reply.Reply.TheVariants as replies
-use Rattle.core_machine.proofs.moves.MoveStands.{IsAt, MoveStands, PlaceStands, aside_at}
+use Rattle.core_machine.proofs.moves.Standing.{IsAt, MoveStands, PlaceStands, aside_at}
 use Rattle.core_machine.proofs.call_lemmas.Awaits.{plain}
 use Rattle.core_machine.proofs.table_lemmas.Filters.{out_shorter}
 use Rattle.core_machine.proofs.table_lemmas.Wide.{record_wide, fragment_small, birth_wide}

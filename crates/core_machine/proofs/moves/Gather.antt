@@ -28,7 +28,7 @@ use Rattle.core_machine.proofs.call_lemmas.Saying.{IsGoing, Says, on, ends}
 use Rattle.std.proofs.lemmas.Nat.{and_le_r, or_lt}
 use Rattle.heap_model.specs.declared.command.Command.TheVariants as commands
 use Rattle.core_machine.specs.declared.place.Place.TheVariants as places
-use Rattle.core_machine.proofs.moves.MoveStands.{PlaceStands, present_at, aside_at}
+use Rattle.core_machine.proofs.moves.Standing.{PlaceStands, present_at, aside_at}
 use Rattle.core_machine.proofs.call_lemmas.Awaits.{plain, after_words, goes_on_mine}
 use Rattle.core_machine.proofs.seat_lemmas.Fitting.{next_within}
 use Rattle.core_machine.proofs.table_lemmas.StepStands.{load_stands}

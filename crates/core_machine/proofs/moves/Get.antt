@@ -27,7 +27,7 @@ use Rattle.core_machine.proofs.call_lemmas.Saying.{IsGoing, HasReplied, Says, re
 use Rattle.heap_model.specs.declared.command.Command.TheVariants as commands
 use Rattle.heap_words.specs.declared.kind.Kind.TheVariants as kinds
 use Rattle.core_machine.specs.declared.place.Place.TheVariants as places
-use Rattle.core_machine.proofs.moves.MoveStands.{PlaceStands, rests_at}
+use Rattle.core_machine.proofs.moves.Standing.{PlaceStands, rests_at}
 use Rattle.core_machine.proofs.call_lemmas.Awaits.{after_words}
 use Rattle.core_machine.proofs.table_lemmas.StepStands.{load_stands}
 use Rattle.core_machine.proofs.table_lemmas.WithinHeap.{part_small}

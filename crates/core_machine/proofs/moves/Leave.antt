@@ -21,7 +21,7 @@ use Rattle.std.proofs.lemmas.Nat.{and_le_r}
 use Rattle.heap_model.specs.declared.command.Command.TheVariants as commands
 use Rattle.core_machine.specs.declared.place.Place.TheVariants as places
 use Rattle.heap_model.specs.declared.reply.Reply.TheVariants as replies
-use Rattle.core_machine.proofs.moves.MoveStands.{PlaceStands, aside_at}
+use Rattle.core_machine.proofs.moves.Standing.{PlaceStands, aside_at}
 use Rattle.core_machine.proofs.call_lemmas.Awaits.{plain}
 use Rattle.core_machine.specs.seat.AnsweringMoves.{empty_move, leave_move}
 

@@ -22,7 +22,7 @@ use Rattle.core_machine.proofs.call_lemmas.Saying.{Says, on, ends}
 use Rattle.heap_model.specs.declared.command.Command.TheVariants as commands
 use Rattle.core_machine.specs.declared.place.Place.TheVariants as places
 use Rattle.heap_model.specs.declared.reply.Reply.TheVariants as replies
-use Rattle.core_machine.proofs.moves.MoveStands.{IsAt, PlaceStands, present_at}
+use Rattle.core_machine.proofs.moves.Standing.{IsAt, PlaceStands, present_at}
 use Rattle.core_machine.proofs.call_lemmas.Awaits.{plain, after_words}
 use Rattle.core_machine.proofs.table_lemmas.StepStands.{load_stands, shade_stands}
 use Rattle.core_machine.specs.declared.step.Step.TheVariants.{PollLoad}

@@ -25,7 +25,7 @@ use Rattle.heap_model.specs.graph.Growth.{stamp_of}
 use Rattle.core_machine.proofs.table_lemmas.Wide.{set_numbered}
 use Rattle.heap_model.specs.declared.command.Command.TheVariants as commands
 use Rattle.core_machine.specs.declared.place.Place.TheVariants as places
-use Rattle.core_machine.proofs.moves.MoveStands.{PlaceStands, rests_at}
+use Rattle.core_machine.proofs.moves.Standing.{PlaceStands, rests_at}
 use Rattle.core_machine.proofs.call_lemmas.Awaits.{plain, after_words}
 use Rattle.core_machine.proofs.table_lemmas.StepStands.{load_stands, shade_stands}
 use Rattle.core_machine.proofs.table_lemmas.Wide.{register_wide}

@@ -17,7 +17,7 @@ use Rattle.heap_model.specs.Command.{IsCommand}
 use Rattle.core_machine.proofs.call_lemmas.Saying.{ends}
 use Rattle.heap_model.specs.declared.command.Command.TheVariants as commands
 use Rattle.core_machine.specs.declared.place.Place.TheVariants as places
-use Rattle.core_machine.proofs.moves.MoveStands.{PlaceStands, present_at}
+use Rattle.core_machine.proofs.moves.Standing.{PlaceStands, present_at}
 use Rattle.core_machine.proofs.call_lemmas.Awaits.{plain}
 use Rattle.core_machine.proofs.table_lemmas.StepStands.{load_stands}
 use Rattle.core_machine.proofs.table_lemmas.WithinHeap.{register_fits}

@@ -25,7 +25,7 @@ use Rattle.core_machine.specs.seat.Awaiting.{awaited_at, awaited}
 use Rattle.core_machine.proofs.call_lemmas.Saying.{IsGoing, Says, on, ends}
 use Rattle.heap_model.specs.declared.command.Command.TheVariants as commands
 use Rattle.core_machine.specs.declared.place.Place.TheVariants as places
-use Rattle.core_machine.proofs.moves.MoveStands.{PlaceStands, rests_at}
+use Rattle.core_machine.proofs.moves.Standing.{PlaceStands, rests_at}
 use Rattle.core_machine.proofs.call_lemmas.Awaits.{plain, after_words}
 use Rattle.core_machine.proofs.table_lemmas.StepStands.{load_stands}
 use Rattle.core_machine.specs.seat.ReachingMoves.{open_move, walk_move}

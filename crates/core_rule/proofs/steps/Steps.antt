@@ -11,8 +11,6 @@ use Rattle.core_machine.specs.declared.place.Place.{Place}
 use Rattle.core_machine.specs.declared.place.Place.TheVariants as places
 use Rattle.core_machine.specs.declared.place.Polling.TheVariants.{Asking, Shading, Answering}
 use Rattle.core_machine.specs.declared.place.Reaching.TheVariants.{Opening, Walking, Getting, Naming, LoadingOld, ShadingOld, ShadingNew, Swapping}
-use Rattle.core_machine.specs.declared.collector.stage.Stage.{Stage}
-use Rattle.core_machine.specs.declared.collector.stage.Stage.TheVariants as stages
 use Rattle.core_machine.specs.machine.Machine.{State, seat_at, moved, shown, after, Begins, Can}
 use Rattle.core_machine.specs.Moves.{move_at, is_last_birth, last_birth_move, birth_move}
 use Rattle.core_machine.specs.machine.Value.{IsMachine}
@@ -21,9 +19,8 @@ use Rattle.core_rule.specs.Rule.{Rule}
 use Rattle.core_rule.proofs.steps.Assemble.{Keeps, MoveKeeps}
 use Rattle.core_rule.proofs.entries.Begins.{begins}
 use Rattle.core_rule.proofs.runs.Runs.{EachStepKeeps, EachBeginKeeps, EachTurnKeeps}
-use Rattle.core_rule.proofs.steps.TurnSteps.{StageKeeps}
 use Rattle.core_rule.proofs.steps.access
-use Rattle.core_rule.proofs.steps.collector
+use Rattle.core_rule.proofs.steps.collector.{turn_keeps_at}
 use Rattle.core_rule.proofs.steps.handshake
 use Rattle.core_rule.proofs.steps.making
 
@@ -70,10 +67,6 @@ begins_at heap state book q command rule here can machine = access.BeginOthers.b
 pub each_begin_keeps : EachBeginKeeps
 each_begin_keeps heap state book q command rule can machine = begins_at heap state book q command rule (rw (← rule.machine.seated) can.0) can machine
 
--- each turn of the collector keeps the rule, by its stage
-turn_keeps_at : (stage : Stage) → StageKeeps stage
-turn_keeps_at stages.Looking = collector.LookStep.look_keeps
-turn_keeps_at stages.Advancing = collector.AdvanceStep.advance_keeps
-
+-- each turn of the collector keeps the rule
 pub each_turn_keeps : EachTurnKeeps
 each_turn_keeps heap state book rule may machine = turn_keeps_at state.collector.stage heap state book rule refl machine
