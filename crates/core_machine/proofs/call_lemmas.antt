@@ -11,5 +11,4 @@ pub mod PlayingOn
 pub mod RepliesAlone
 pub mod Restoring
 pub mod Saying
-pub mod SayingBegins
 pub mod Stages

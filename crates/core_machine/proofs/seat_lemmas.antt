@@ -2,6 +2,5 @@
 pub mod Aside
 pub mod FieldPlaces
 pub mod Fitting
-pub mod FittingBegins
 pub mod FittingEntries
 pub mod FittingReaching

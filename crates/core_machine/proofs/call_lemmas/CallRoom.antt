@@ -1,5 +1,5 @@
 -- A call that is made by itself has room for its entries, and comes to an end.
-use Rattle.std.proofs.Common.{◌≡◌, ℕ, ◌+◌, ◌*◌, ◌<◌, ◌≤◌, eqb, false, List, [], ◌∷◌, length, Option, Some, None, refl, sym, ap, subst, ◌∙◌, length-append, arith}
+use Rattle.std.proofs.Common.{◌≡◌, ℕ, ◌+◌, ◌*◌, ◌<◌, ◌≤◌, eqb, false, length, Option, Some, None, refl, sym, ap, subst, ◌∙◌, length-append, arith}
 use Rattle.std.specs.Prelude.{IsSome, IfSome, option_map}
 use Rattle.core_machine.specs.declared.step.Step.{Step}
 use Rattle.std.proofs.lemmas.Bool.{ne_eqb}
@@ -8,27 +8,14 @@ use Rattle.heap_model.specs.declared.heap.Heap.{Heap}
 use Rattle.heap_model.specs.declared.command.Command.{Command}
 use Rattle.heap_model.specs.declared.entry.Entry.{Entry}
 use Rattle.heap_model.specs.account.Space.{need_of}
-use Rattle.core_machine.specs.declared.place.Place.TheVariants as places
 use Rattle.core_machine.specs.seat.Seat.{Seat, need}
-use Rattle.core_machine.specs.seat.Making.{goes_on}
 use Rattle.core_machine.specs.Moves.{Move, next_move, due_step, seat_after}
 use Rattle.core_machine.specs.machine.Machine.{State, seat_at, found_by, begun, Begins, Steps, Can, after, moved}
-use Rattle.core_machine.specs.seat.Fits.{IsAtRest, FitsPlace}
 use Rattle.core_machine.specs.machine.Value.{MachineValue, IsMachine, log_of, spare_of, SpendsRoom}
-use Rattle.core_machine.proofs.seat_lemmas.Fitting.{goes_on_cases, need_of_record}
 use Rattle.core_machine.proofs.call_lemmas.Owes.{owes, steps_left}
 use Rattle.core_machine.proofs.moves.Standing.{MoveStands}
-use Rattle.core_machine.specs.seat.Commands.{IsServed}
-use Rattle.core_machine.specs.declared.seat.register.Register.{Register}
-use Rattle.core_machine.specs.declared.seat.register.Register.TheVariants.{Nil, Number, Object}
-use Rattle.core_machine.specs.seat.Registers.{register_in}
-use Rattle.core_machine.specs.seat.Reaching.{opened}
-use Rattle.core_machine.specs.seat.Polling.{leaving}
-use Rattle.heap_model.specs.Command.{IsCommand}
-use Rattle.heap_model.specs.declared.command.Command.TheVariants as commands
-use Rattle.heap_model.specs.declared.command.Command.TheVariants.{New, Array, Get, Set, Num, Copy, Same, Len, Poll, Collect, Leave}
 use Rattle.core_machine.proofs.machine_lemmas.Runs.{seat_at-set, machine_after, moves_stand}
-use Rattle.core_machine.proofs.call_lemmas.Calling.{begun_mine}
+use Rattle.core_machine.proofs.moves.{begin_stands}
 
 -- a seat's entries are those of its party
 pub log_of_seat : (machine : MachineValue) (number : ℕ) → number < length machine.state.seats → log_of machine number ≡ (seat_at machine.state number).mine
@@ -77,47 +64,18 @@ spends_on first second third number one two = record {
 }
 
 -- a begin spends none
-pub spends_begun : (old new : MachineValue) (number : ℕ) (command : Command) → number < length old.state.seats → IsServed command
+pub spends_begun : (old new : MachineValue) (number : ℕ) (command : Command) → IsMachine old.heap old.state → Can old.heap old.state (Begins number command)
     → new ≡ record old { state = after old.heap old.state (Begins number command) } → SpendsRoom old new number
-spends_begun old new number command within served is =
+spends_begun old new number command machine can is =
+    let within = can.0 in
     let seat = seat_at old.state number in
     let begun_ = begun old.heap seat command in
     let now : MachineValue = record old { state = after old.heap old.state (Begins number command) } in
     let here : seat_at now.state number ≡ begun_ = seat_at-set old.state.seats number begun_ within in
     let still : number < length now.state.seats = omega (arith, within, length-set old.state.seats number begun_) in
     let same : (log_of now number) ≡ (log_of old number) =
-    log_of_seat now number still ∙ ap (λ (s : Seat). s.mine) here ∙ (begun_mine old.heap old.state.words number seat command served).0 ∙ sym (log_of_seat old number within) in
+    log_of_seat now number still ∙ ap (λ (s : Seat). s.mine) here ∙ (begin_stands old.heap number seat command machine.limits (machine.fit number within) can.1).kept ∙ sym (log_of_seat old number within) in
     subst (λ (m : MachineValue). SpendsRoom old m number) (sym is) (record { own = omega (arith, ap (length {A = Entry}) same); others = λ other apart. refl })
-
--- what is owed where a call is begun
-owes_goes_on : (heap : Heap) (seat : Seat) (command : Command) → 1 ≤ need_of command → 0 < heap.groups → seat.tried ≡ 0
-    → owes (goes_on heap (record seat { command = command })) ≤ 2 * need_of command + 2
-owes_goes_on heap seat command some groups none =
-    goes_on_cases (λ s. owes s ≤ 2 * need_of command + 2) heap (record seat { command = command }) (λ enough. omega arith) (λ few left. omega arith) (λ few all. absurd (omega arith))
-
-owes_opened : (seat : Seat) (register : Register) → owes (opened seat register) ≤ 2
-owes_opened seat Nil = omega arith
-owes_opened seat (Number n) = omega arith
-owes_opened seat (Object head id) = omega arith
-
-owes_leaving : (seat : Seat) (reserve : List ℕ) → owes (record seat { place = places.Leaving (leaving reserve) }) ≤ 2
-owes_leaving seat [] = omega arith
-owes_leaving seat (fragment ∷ more) = omega arith
-
-owes_begun : (heap : Heap) (seat : Seat) (command : Command) → IsServed command → IsCommand command → 0 < heap.groups → seat.tried ≡ 0
-    → owes (begun heap seat command) ≤ 2 * need_of command + 2
-owes_begun heap seat (New d fields) served range groups none = owes_goes_on heap seat (New d fields) (need_of_record (New d fields) tt range).0 groups none
-owes_begun heap seat (Array d cells) served range groups none = absurd served
-owes_begun heap seat (Get d r i) served range groups none = owes_opened (record seat { command = Get d r i }) (register_in seat.registers r)
-owes_begun heap seat (Set r i v) served range groups none = owes_opened (record seat { command = Set r i v }) (register_in seat.registers r)
-owes_begun heap seat (Len r) served range groups none = owes_opened (record seat { command = Len r }) (register_in seat.registers r)
-owes_begun heap seat (Num d n) served range groups none = omega arith
-owes_begun heap seat (commands.Nil d) served range groups none = omega arith
-owes_begun heap seat (Copy d r) served range groups none = omega arith
-owes_begun heap seat (Same a b) served range groups none = omega arith
-owes_begun heap seat Poll served range groups none = omega arith
-owes_begun heap seat Collect served range groups none = absurd served
-owes_begun heap seat Leave served range groups none = owes_leaving (record seat { command = Leave }) seat.reserve
 
 -- a call owes no more than twice its need and two when it is begun
 pub room_begun : (heap : Heap) (old : State) (number : ℕ) (command : Command) → IsMachine heap old → Can heap old (Begins number command)
@@ -126,9 +84,8 @@ room_begun heap old number command machine can =
     let seat = seat_at old number in
     let begun_ = begun heap seat command in
     let here : seat_at (after heap old (Begins number command)) number ≡ begun_ = seat_at-set old.seats number begun_ can.0 in
-    let rest : IsAtRest seat = subst (FitsPlace heap seat) can.1.idle (machine.fit number can.0).at_place in
     subst (λ (s : Seat). owes s ≤ 2 * need_of command + 2) (sym here)
-    (owes_begun heap seat command can.1.served can.1.in_range (omega (arith, machine.limits.some_group)) rest.none_tried)
+    (begin_stands heap number seat command machine.limits (machine.fit number can.0) can.1).owed
 
 -- a machine whose call has begun has room for it
 pub room_for : (old new : MachineValue) (number : ℕ) (command : Command) → IsMachine old.heap old.state → Can old.heap old.state (Begins number command)

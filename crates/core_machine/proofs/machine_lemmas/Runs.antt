@@ -20,9 +20,8 @@ use Rattle.core_machine.specs.seat.Fits.{Fits}
 use Rattle.core_machine.specs.machine.Value.{IsMachine}
 use Rattle.core_machine.specs.machine.Calls.{call_events}
 use Rattle.core_machine.proofs.moves.Standing.{MoveStands}
-use Rattle.core_machine.proofs.moves.{move_stands}
+use Rattle.core_machine.proofs.moves.{move_stands, begin_stands}
 use Rattle.core_machine.proofs.table_lemmas.Addresses.{length-put, All-put, at-lt}
-use Rattle.core_machine.proofs.seat_lemmas.FittingBegins.{fits_begun}
 use Rattle.core_machine.proofs.seat_lemmas.FittingEntries.{fits_entries}
 use Rattle.core_machine.proofs.collector_lemmas.{turn_stands}
 use Rattle.core_machine.proofs.table_lemmas.Leading.{leads-put, found-leads}
@@ -138,7 +137,7 @@ due_within_table heap state q step machine within due =
 -- every event leaves a machine
 pub machine_after : (heap : Heap) (state : State) (event : Event) → IsMachine heap state → Can heap state event → IsMachine heap (after heap state event)
 machine_after heap state (Begins q command) machine can =
-    machine_with heap state state.words q (begun heap (seat_at state q) command) machine can.0 refl machine.wide machine.leads (fits_begun heap (seat_at state q) command (machine.fit q can.0) can.1)
+    machine_with heap state state.words q (begun heap (seat_at state q) command) machine can.0 refl machine.wide machine.leads (begin_stands heap q (seat_at state q) command machine.limits (machine.fit q can.0) can.1).fits
 machine_after heap state (Steps q) machine can =
     let within = mover_within heap state q can in
     machine_moved heap state q (next_move heap q (seat_at state q)) machine within (moves_stand heap state q machine within)

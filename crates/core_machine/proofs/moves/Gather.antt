@@ -1,5 +1,5 @@
 -- What a call claims for a new object, gives back, and tells where too little is had.
-use Rattle.std.proofs.Common.{◌≡◌, ℕ, ◌+◌, ◌-◌, ◌*◌, ◌/◌, ◌^◌, ◌<◌, ◌≤◌, false, [], length, inl, inr, refl, arith, eqb, List, ◌∷◌, ◌++◌, drop, subst, sym, length-append, append_assoc, ◌≢◌, length-take}
+use Rattle.std.proofs.Common.{◌≡◌, ℕ, ◌+◌, ◌-◌, ◌*◌, ◌/◌, ◌^◌, ◌<◌, ◌≤◌, false, [], length, inl, inr, refl, arith, eqb, List, ◌∷◌, ◌++◌, drop, subst, sym, length-append, append_assoc, ◌≢◌, length-take, append-nil}
 use Rattle.heap_model.specs.declared.heap.Heap.{Heap}
 use Rattle.core_machine.specs.declared.place.Making.TheVariants.{Gathering, Returning, Refusing}
 use Rattle.core_machine.specs.table.Operation.{all_taken}
@@ -7,8 +7,8 @@ use Rattle.core_machine.specs.seat.Seat.{Seat, need, with_entries}
 use Rattle.core_machine.specs.seat.Making.{claimed, given_back, next_group, first_group, returning, gathered, goes_on}
 use Rattle.core_machine.specs.seat.Telling.{told}
 use Rattle.core_machine.specs.Moves.{takes_some}
-use Rattle.core_machine.specs.seat.Fits.{Fits, Gathers, Refuses}
-use Rattle.core_machine.proofs.seat_lemmas.Aside.{IsAside, gone_aside, fits_over, fits_hand}
+use Rattle.core_machine.specs.seat.Fits.{Fits, Gathers, Refuses, FitsPlace, IsAtRest}
+use Rattle.core_machine.proofs.seat_lemmas.Aside.{IsAside, gone_aside, fits_over, fits_hand, aside_idle}
 use Rattle.core_machine.proofs.table_lemmas.Owned.{group_within, clear_in-group, within_group}
 use Rattle.std.specs.List.{All, AllByRecursion}
 use Rattle.std.proofs.lemmas.Bool.Decides.{eqb_tells}
@@ -16,11 +16,11 @@ use Rattle.std.proofs.lemmas.List.Filters.{length-filter_both}
 use Rattle.std.proofs.lemmas.List.Elements.{All-append, All-drop, All-filter}
 use Rattle.std.proofs.Math.Seq.{drop-append-add}
 use Rattle.core_machine.specs.table.Fragments.{clear_in, part_out, in_group, out_of_group, part_in, mask}
-use Rattle.core_machine.specs.machine.Machine.{found_by}
+use Rattle.core_machine.specs.machine.Machine.{found_by, MayBegin, begun}
 use Rattle.core_machine.proofs.table_lemmas.Clear.{length-clear_among}
 use Rattle.core_machine.proofs.seat_lemmas.Fitting.{need_of_record, fits_goes_on, fits_returning, goes_on_cases, returning_cases}
 use Rattle.heap_model.specs.declared.command.Command.{Command}
-use Rattle.core_machine.proofs.call_lemmas.Owes.{Nears}
+use Rattle.core_machine.proofs.call_lemmas.Owes.{Nears, owes}
 use Rattle.heap_model.specs.declared.entry.Entry.{Entry}
 use Rattle.core_machine.specs.seat.Awaiting.{awaited}
 use Rattle.core_machine.specs.machine.Calls.{IsBeside}
@@ -28,13 +28,15 @@ use Rattle.core_machine.proofs.call_lemmas.Saying.{IsGoing, Says, on, ends}
 use Rattle.std.proofs.lemmas.Nat.{and_le_r, or_lt}
 use Rattle.heap_model.specs.declared.command.Command.TheVariants as commands
 use Rattle.core_machine.specs.declared.place.Place.TheVariants as places
-use Rattle.core_machine.proofs.moves.Standing.{PlaceStands, present_at, aside_at}
+use Rattle.core_machine.proofs.moves.Standing.{PlaceStands, present_at, aside_at, CommandStands, going_ready, rest_ready}
 use Rattle.core_machine.proofs.call_lemmas.Awaits.{plain, after_words, goes_on_mine}
 use Rattle.core_machine.proofs.seat_lemmas.Fitting.{next_within}
 use Rattle.core_machine.proofs.table_lemmas.StepStands.{load_stands}
 use Rattle.core_machine.specs.declared.step.Step.TheVariants.{PollLoad}
 use Rattle.core_machine.specs.seat.MakingMoves.{claim_move, first_part, give_back_move, refusal_move}
 use Rattle.core_machine.proofs.table_lemmas.Filters.{out_shorter}
+use Rattle.heap_model.specs.declared.command.Command.TheVariants.{New}
+use Rattle.heap_model.specs.account.Space.{need_of}
 
 -- what is past the need after a claim is of the group that was claimed
 claimed_rest : (group need : ℕ) (reserve hand more : List ℕ) → length reserve + length hand ≤ need
@@ -175,3 +177,41 @@ refusal_stands heap number seat here = record {
   adds = λ now. plain heap now number seat (refusal_move number seat) refl (rw here.placed refl) refl refl;
   says = λ old command words told is found. ends old number command seat _ told [] _ is (omega arith) (omega arith) refl tt;
 }
+
+-- a record is to be made
+fits_gathers : (heap : Heap) (seat : Seat) (d fields : ℕ) → Fits heap seat → MayBegin seat (New d fields) → Fits heap (begun heap seat (New d fields))
+fits_gathers heap seat d fields fits may =
+    let rest : IsAtRest seat = subst (FitsPlace heap seat) may.idle fits.at_place in
+    fits_goes_on heap (record seat { command = New d fields }) record {
+      registers_whole = fits.own.registers_whole;
+      cursor_within = fits.own.cursor_within;
+      small_reserve = fits.own.small_reserve;
+      reserve_of_cursor = fits.own.reserve_of_cursor;
+      hand_within = fits.hand.hand_within;
+      makes = record { a_record = tt; in_range = may.in_range; numbered = may.numbered };
+      no_body = rest.no_body;
+      none_stored = rest.none_stored;
+      none_given = rest.none_given;
+      tried_within = omega (arith, rest.none_tried);
+      few = rw rest.empty_hand (omega (arith, fits.own.small_reserve));
+      rest_of_last = rw (rest.none_tried, rest.empty_hand, append-nil seat.reserve) (All-drop (λ fragment. fragment / 16 ≡ seat.cursor) (need_of (New d fields)) seat.reserve fits.own.reserve_of_cursor);
+      aside = aside_idle heap seat fits may.idle may.present;
+    }
+
+-- the making of a record begins
+pub gather_begins : (d fields : ℕ) → CommandStands (New d fields)
+gather_begins d fields heap number seat ready =
+    let next = record seat { command = New d fields } in
+    let rest = rest_ready heap number seat (New d fields) ready in
+    let some = need_of_record (New d fields) tt ready.may.in_range in
+    let going : (s : Seat) → s.command ≡ New d fields → s.made ≡ seat.made → s.sets ≡ seat.sets → s.left ≡ seat.left → IsGoing seat number (New d fields) s []
+    = going_ready heap number seat (New d fields) ready in
+    record {
+      fits = fits_gathers heap seat d fields ready.fits ready.may;
+      kept = goes_on_mine heap next;
+      awaits = λ words. goes_on_cases (λ s. awaited heap words number s ≡ []) heap next (λ enough. refl) (λ few left. refl) (λ few all. refl);
+      says = goes_on_cases (λ s. Says seat number (New d fields) s [] s.place) heap next
+          (λ enough. (going _ refl refl refl refl, λ e. cc)) (λ few left. (going _ refl refl refl refl, λ e. cc)) (λ few all. (going _ refl refl refl refl, λ e. cc));
+      owed = goes_on_cases (λ s. owes s ≤ 2 * need_of (New d fields) + 2) heap next (λ enough. omega arith) (λ few left. omega arith)
+          (λ few all. absurd (omega (arith, all, rest.none_tried, ready.limits.some_group)));
+    }

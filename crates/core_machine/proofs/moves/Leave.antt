@@ -4,7 +4,7 @@ use Rattle.heap_model.specs.declared.heap.Heap.{Heap}
 use Rattle.core_machine.specs.declared.place.Leaving.TheVariants.{Emptying, Parting}
 use Rattle.core_machine.specs.declared.seat.register.Register.TheVariants.{Nil}
 use Rattle.core_machine.specs.seat.Seat.{Seat}
-use Rattle.core_machine.specs.seat.Polling.{emptied, parted}
+use Rattle.core_machine.specs.seat.Polling.{emptied, parted, leaving}
 use Rattle.core_machine.specs.seat.Fits.{IsAtRest, Fits, FitsRegister}
 use Rattle.core_machine.proofs.seat_lemmas.Aside.{IsAside, gone_aside, fits_over}
 use Rattle.std.specs.List.{All}
@@ -21,7 +21,7 @@ use Rattle.std.proofs.lemmas.Nat.{and_le_r}
 use Rattle.heap_model.specs.declared.command.Command.TheVariants as commands
 use Rattle.core_machine.specs.declared.place.Place.TheVariants as places
 use Rattle.heap_model.specs.declared.reply.Reply.TheVariants as replies
-use Rattle.core_machine.proofs.moves.Standing.{PlaceStands, aside_at}
+use Rattle.core_machine.proofs.moves.Standing.{PlaceStands, aside_at, BeginStands, CommandStands, aside_ready, going_ready, rest_ready, resting_begins}
 use Rattle.core_machine.proofs.call_lemmas.Awaits.{plain}
 use Rattle.core_machine.specs.seat.AnsweringMoves.{empty_move, leave_move}
 
@@ -81,3 +81,16 @@ leave_stands heap number seat here = record {
     leave = λ a_leave. ap (λ (c : Command). told ++ Said number c replies.Done ∷ []) (is.0.same ∙ a_leave) ∙ ap (λ (es : List Entry). es ++ Said number commands.Leave replies.Done ∷ []) is.2;
   };
 }
+
+-- a leave begins
+pub leave_begins : CommandStands commands.Leave
+leave_begins heap number seat ready = by seat.reserve refl where
+  by : (reserve : List ℕ) → seat.reserve ≡ reserve → BeginStands heap number seat commands.Leave (record seat { command = commands.Leave; place = places.Leaving (leaving reserve) })
+  by [] is =
+      let aside = aside_ready heap number seat commands.Leave ready in
+      resting_begins heap number seat commands.Leave ready (places.Leaving Parting) (rest_ready heap number seat commands.Leave ready, refl, is) aside.nowhere aside.silent (λ words. refl)
+      (going_ready heap number seat commands.Leave ready _ refl refl refl refl, refl, rw is refl) (omega arith)
+  by (fragment ∷ more) is =
+      let aside = aside_ready heap number seat commands.Leave ready in
+      resting_begins heap number seat commands.Leave ready (places.Leaving Emptying) (rest_ready heap number seat commands.Leave ready, refl, rw is (omega arith)) aside.nowhere aside.silent (λ words. refl)
+      (going_ready heap number seat commands.Leave ready _ refl refl refl refl, refl, (refl, refl, λ none. absurd (omega (arith, none, ap (length {A = ℕ}) is)))) (omega arith)

@@ -22,7 +22,7 @@ use Rattle.core_machine.proofs.call_lemmas.Saying.{Says, on, ends}
 use Rattle.heap_model.specs.declared.command.Command.TheVariants as commands
 use Rattle.core_machine.specs.declared.place.Place.TheVariants as places
 use Rattle.heap_model.specs.declared.reply.Reply.TheVariants as replies
-use Rattle.core_machine.proofs.moves.Standing.{IsAt, PlaceStands, present_at}
+use Rattle.core_machine.proofs.moves.Standing.{IsAt, PlaceStands, present_at, CommandStands, aside_ready, going_ready, rest_ready, resting_begins}
 use Rattle.core_machine.proofs.call_lemmas.Awaits.{plain, after_words}
 use Rattle.core_machine.proofs.table_lemmas.StepStands.{load_stands, shade_stands}
 use Rattle.core_machine.specs.declared.step.Step.TheVariants.{PollLoad}
@@ -159,3 +159,10 @@ answer_stands heap number seat here = record {
   adds = λ now. plain heap now number seat (answer_move number seat) refl (rw here.placed refl) refl refl;
   says = λ old command words told is found. ends old number command seat _ told (Answers number seat.asked ∷ []) _ is (omega arith) (omega arith) refl (refl, tt);
 }
+
+-- a poll begins
+pub poll_begins : CommandStands commands.Poll
+poll_begins heap number seat ready =
+    let aside = aside_ready heap number seat commands.Poll ready in
+    resting_begins heap number seat commands.Poll ready (places.Polling Asking) (rest_ready heap number seat commands.Poll ready) aside.nowhere (aside.silent, refl) (λ words. refl)
+    (going_ready heap number seat commands.Poll ready _ refl refl refl refl, λ e. cc) (omega arith)

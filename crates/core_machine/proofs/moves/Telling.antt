@@ -1,12 +1,12 @@
 -- A call that looks at no word tells its reply.
-use Rattle.std.proofs.Common.{◌≡◌, false, [], length, refl, arith, List, ◌∙◌}
+use Rattle.std.proofs.Common.{ℕ, ◌≡◌, false, [], length, refl, arith, List, ◌∙◌, ◌≢◌}
 use Rattle.heap_model.specs.declared.heap.Heap.{Heap}
 use Rattle.core_machine.specs.declared.seat.register.Register.TheVariants.{Nil, Number}
 use Rattle.core_machine.specs.seat.Seat.{Seat}
 use Rattle.core_machine.specs.seat.Registers.{register_in}
 use Rattle.core_machine.specs.seat.Telling.{told, local_registers}
 use Rattle.core_machine.specs.Moves.{telling_move}
-use Rattle.core_machine.specs.seat.Fits.{Fits, FitsRegister}
+use Rattle.core_machine.specs.seat.Fits.{Fits, FitsRegister, IsLocal}
 use Rattle.core_machine.proofs.seat_lemmas.Aside.{gone_aside, fits_over}
 use Rattle.std.specs.List.{All}
 use Rattle.std.proofs.lemmas.List.{length-set}
@@ -17,7 +17,7 @@ use Rattle.heap_model.specs.Command.{IsCommand}
 use Rattle.core_machine.proofs.call_lemmas.Saying.{ends}
 use Rattle.heap_model.specs.declared.command.Command.TheVariants as commands
 use Rattle.core_machine.specs.declared.place.Place.TheVariants as places
-use Rattle.core_machine.proofs.moves.Standing.{PlaceStands, present_at}
+use Rattle.core_machine.proofs.moves.Standing.{PlaceStands, present_at, BeginStands, IsReady, aside_ready, going_ready, rest_ready, resting_begins}
 use Rattle.core_machine.proofs.call_lemmas.Awaits.{plain}
 use Rattle.core_machine.proofs.table_lemmas.StepStands.{load_stands}
 use Rattle.core_machine.proofs.table_lemmas.WithinHeap.{register_fits}
@@ -52,3 +52,11 @@ telling_stands heap number seat here = record {
   adds = λ now. plain heap now number seat (telling_move number seat) refl (rw here.placed refl) refl refl;
   says = λ old command words told is found. ends old number command seat _ told [] _ is (omega arith) (omega arith) refl tt;
 }
+
+-- a call begins that looks at no word
+pub tell_begins : (command : Command) → command ≢ commands.Leave → (heap : Heap) (number : ℕ) (seat : Seat) → IsReady heap seat command → IsLocal seat.registers command
+    → BeginStands heap number seat command (record seat { command = command; place = places.Telling })
+tell_begins command stays heap number seat ready local =
+    let aside = aside_ready heap number seat command ready in
+    resting_begins heap number seat command ready places.Telling (rest_ready heap number seat command ready, ready.may.in_range, local) aside.nowhere aside.silent (λ words. refl)
+    (going_ready heap number seat command ready _ refl refl refl refl, stays) (omega arith)

@@ -1,34 +1,32 @@
 -- The way to a field.
-use Rattle.std.proofs.Common.{◌≡◌, ℕ, ◌+◌, ◌-◌, ◌*◌, ◌<◌, ◌≤◌, [], length, inl, inr, refl, arith, List, ◌++◌, subst, sym, Option, Some, None, ◌⊎◌, ◌≢◌}
+use Rattle.std.proofs.Common.{◌≡◌, ℕ, ◌+◌, ◌-◌, ◌*◌, ◌<◌, ◌≤◌, [], inl, inr, refl, arith, List, ◌++◌, subst, sym, Option, Some, None, ◌⊎◌, ◌≢◌}
 use Rattle.std.specs.Prelude.{unwrap_or}
 use Rattle.heap_model.specs.declared.heap.Heap.{Heap}
-use Rattle.core_machine.specs.declared.place.Reaching.TheVariants.{Opening, Walking}
+use Rattle.core_machine.specs.declared.place.Reaching.TheVariants.{Walking}
 use Rattle.core_machine.specs.table.Loaded.{lead_of, link_in, IsWithinHeap}
 use Rattle.core_machine.specs.seat.Seat.{Seat, with_entries}
 use Rattle.core_machine.specs.seat.Commands.{field_of}
-use Rattle.core_machine.specs.seat.Reaching.{onward, meta_reply, met, reaching, row_of, has_barrier, field_place, way_place, stepped_on}
+use Rattle.core_machine.specs.seat.Reaching.{onward, reaching, row_of, has_barrier, field_place, way_place, stepped_on}
 use Rattle.core_machine.specs.seat.Telling.{told}
-use Rattle.core_machine.specs.seat.ReachingMoves.{said_some}
-use Rattle.core_machine.specs.seat.FitsReaching.{FitsReaching, IsGet, IsSet, NamesObject, NamesField, WorksOnObject, Opens}
+use Rattle.core_machine.specs.seat.FitsReaching.{FitsReaching, IsGet, IsSet, NamesField, WorksOnObject}
 use Rattle.core_machine.specs.seat.Fits.{Fits}
 use Rattle.core_machine.proofs.table_lemmas.Bits.{bool_tells}
-use Rattle.core_machine.proofs.seat_lemmas.FittingReaching.{Rests, fits_reaching, fits_closed}
+use Rattle.core_machine.proofs.seat_lemmas.FittingReaching.{Rests, fits_reaching}
 use Rattle.std.proofs.lemmas.Bool.Decides.{eqb_tells}
-use Rattle.heap_model.specs.declared.command.Command.TheVariants.{Get, Set, Len}
+use Rattle.heap_model.specs.declared.command.Command.TheVariants.{Get, Set}
 use Rattle.core_machine.specs.machine.Machine.{found_by}
 use Rattle.heap_model.specs.declared.command.Command.{Command}
-use Rattle.heap_model.specs.declared.reply.Reply.{Reply}
 use Rattle.core_machine.proofs.seat_lemmas.FieldPlaces.{field_cases}
 use Rattle.core_machine.proofs.call_lemmas.Owes.{reaching_steps, Nears}
 use Rattle.heap_model.specs.declared.entry.Entry.{Entry}
 use Rattle.core_machine.specs.seat.Awaiting.{awaited_at, awaited}
-use Rattle.core_machine.proofs.call_lemmas.Saying.{IsGoing, Says, on, ends}
+use Rattle.core_machine.proofs.call_lemmas.Saying.{IsGoing, Says, on}
 use Rattle.heap_model.specs.declared.command.Command.TheVariants as commands
 use Rattle.core_machine.specs.declared.place.Place.TheVariants as places
 use Rattle.core_machine.proofs.moves.Standing.{PlaceStands, rests_at}
 use Rattle.core_machine.proofs.call_lemmas.Awaits.{plain, after_words}
 use Rattle.core_machine.proofs.table_lemmas.StepStands.{load_stands}
-use Rattle.core_machine.specs.seat.ReachingMoves.{open_move, walk_move}
+use Rattle.core_machine.specs.seat.ReachingMoves.{walk_move}
 
 -- a link that leads within the heap, or to fragment 0 where there is none
 unwrap_within : (heap : Heap) (fragment : Option ℕ) → 0 < heap.groups → IsWithinHeap heap fragment → unwrap_or fragment 0 < 16 * heap.groups
@@ -67,7 +65,7 @@ way_fits heap seat reached links rests works names empty within fewer =
     less some (inr none) = absurd (some none)
 
 -- the way went on by a link that leads within the heap
-fits_onward : (heap : Heap) (seat : Seat) (found : ℕ) → Rests heap seat → WorksOnObject seat → NamesField seat.command → seat.loaded ≡ 0
+pub fits_onward : (heap : Heap) (seat : Seat) (found : ℕ) → Rests heap seat → WorksOnObject seat → NamesField seat.command → seat.loaded ≡ 0
     → seat.links ≤ row_of (field_of seat.command) → IsWithinHeap heap (lead_of 0 found) → Fits heap (onward seat found)
 fits_onward heap seat found rests works names empty fewer led =
     elim (eqb_tells seat.links 0) as (λ _. Fits heap (onward seat found)) [
@@ -75,20 +73,6 @@ fits_onward heap seat found rests works names empty fewer led =
       | inr some ↦ rw some.0 (way_fits heap seat (link_in found) (seat.links - 1) rests works names empty
           (unwrap_within heap (lead_of 0 found) (omega (arith, rests.fits.own.cursor_within)) led) (inl (omega (arith, some.1, fewer))))
     ]
-
--- where the call doesn't end at the meta, it names a field
-met_names : (command : Command) (found : ℕ) → NamesObject command → meta_reply command found ≡ None → NamesField command
-met_names (Get d r i) found names none = tt
-met_names (Set r i v) found names none = tt
-met_names (Len r) found names none = cc
-met_names _ found names none = absurd names
-
--- the meta was found
-fits_met : (heap : Heap) (seat : Seat) (found : ℕ) (reply : Option Reply) → Rests heap seat → Opens seat → meta_reply seat.command found ≡ reply
-    → IsWithinHeap heap (lead_of 0 found) → Fits heap (met seat found reply)
-fits_met heap seat found None rests is none led =
-    fits_onward heap seat found rests is.works (met_names seat.command found is.names none) is.none_loaded (omega (arith, is.whole_way)) led
-fits_met heap seat found (Some reply) rests is some led = fits_closed heap seat seat.registers seat.sets rests rests.fits.own.registers_whole rests.fits.own.registers_fit
 
 -- few steps are left where the field was reached
 field_few : (links : ℕ) (seat : Seat) (command : Command) → reaching_steps links (field_place seat command) ≤ 4
@@ -102,7 +86,7 @@ way_few seat =
     ]
 
 -- the way went on
-nears_onward : (heap : Heap) (seat : Seat) (found steps : ℕ) → seat.links + 4 < steps ⊎ ((0 < seat.links) × (seat.links + 4 ≡ steps))
+pub nears_onward : (heap : Heap) (seat : Seat) (found steps : ℕ) → seat.links + 4 < steps ⊎ ((0 < seat.links) × (seat.links + 4 ≡ steps))
     → Nears heap (with_entries (onward seat found) []) 1 steps 0
 nears_onward heap seat found steps more =
     elim (eqb_tells seat.links 0) as (λ _. Nears heap (with_entries (onward seat found) []) 1 steps 0) [
@@ -120,11 +104,6 @@ nears_onward heap seat found steps more =
     some_more some few (inl l) = omega (arith, some)
     some_more some few (inr e) = omega (arith, some, e.0, e.1)
 
-nears_met : (heap : Heap) (number : ℕ) (seat : Seat) (found : ℕ) (reply : Option Reply)
-    → Nears heap (with_entries (met seat found reply) (said_some number seat reply)) 1 (seat.links + 5) (length (said_some number seat reply))
-nears_met heap number seat found None = nears_onward heap seat found (seat.links + 5) (inl (omega arith))
-nears_met heap number seat found (Some reply) = record { fewer = omega arith; paid = omega arith }
-
 -- no way awaits a name
 field_awaits : (heap : Heap) (words : List ℕ) (number : ℕ) (seat s : Seat) (command : Command) → awaited_at heap words number s (places.Reaching (field_place seat command)) ≡ []
 field_awaits heap words number seat s command = field_cases (λ p. awaited_at heap words number s (places.Reaching p) ≡ []) seat command refl (λ on. refl) (λ off. refl)
@@ -133,21 +112,15 @@ way_awaits : (heap : Heap) (words : List ℕ) (number : ℕ) (seat s : Seat) →
 way_awaits heap words number seat s =
     elim (eqb_tells seat.links 0) as (λ _. awaited_at heap words number s (places.Reaching (way_place seat)) ≡ []) [ inl none ↦ rw none.0 (field_awaits heap words number seat s seat.command) | inr some ↦ rw some.0 refl ]
 
-onward_awaits : (heap : Heap) (words : List ℕ) (number : ℕ) (seat : Seat) (found : ℕ) (more : List Entry) → awaited heap words number (with_entries (onward seat found) more) ≡ []
+pub onward_awaits : (heap : Heap) (words : List ℕ) (number : ℕ) (seat : Seat) (found : ℕ) (more : List Entry) → awaited heap words number (with_entries (onward seat found) more) ≡ []
 onward_awaits heap words number seat found more =
     elim (eqb_tells seat.links 0) as (λ _. awaited heap words number (with_entries (onward seat found) more) ≡ []) [
       | inl none ↦ let way = way_awaits heap words number seat (with_entries (reaching seat (way_place seat)) more) in rw none.0 (rw none.0 at way)
       | inr some ↦ rw some.0 (way_awaits heap words number (stepped_on seat found) (with_entries (reaching (stepped_on seat found) (way_place (stepped_on seat found))) more))
     ]
 
-onward_mine : (seat : Seat) (found : ℕ) → (onward seat found).mine ≡ seat.mine
+pub onward_mine : (seat : Seat) (found : ℕ) → (onward seat found).mine ≡ seat.mine
 onward_mine seat found = elim (eqb_tells seat.links 0) as (λ _. (onward seat found).mine ≡ seat.mine) [ inl none ↦ rw none.0 refl | inr some ↦ rw some.0 refl ]
-
-module _ (heap : Heap) (number : ℕ) (seat : Seat) where
-  met_adds : (words : List ℕ) (found : ℕ) (reply : Option Reply)
-      → ((met seat found reply).mine ≡ seat.mine) × (awaited heap words number (with_entries (met seat found reply) (said_some number seat reply)) ≡ [])
-  met_adds words found None = (onward_mine seat found, onward_awaits heap words number seat found [])
-  met_adds words found (Some reply) = (refl, refl)
 
 module _ (old : Seat) (number : ℕ) (command : Command) where
   -- the way goes on
@@ -158,7 +131,7 @@ module _ (old : Seat) (number : ℕ) (command : Command) where
   way_says seat next told is =
       elim (eqb_tells seat.links 0) as (λ _. Says old number command next told (places.Reaching (way_place seat))) [ inl none ↦ rw none.0 (field_says seat next told seat.command is) | inr some ↦ rw some.0 is ]
 
-  onward_says : (seat : Seat) (told : List Entry) (found : ℕ) → IsGoing old number command seat told × (command ≢ commands.Leave) → Says old number command (with_entries (onward seat found) []) (told ++ []) (onward seat found).place
+  pub onward_says : (seat : Seat) (told : List Entry) (found : ℕ) → IsGoing old number command seat told × (command ≢ commands.Leave) → Says old number command (with_entries (onward seat found) []) (told ++ []) (onward seat found).place
   onward_says seat told found is =
       elim (eqb_tells seat.links 0) as (λ _. Says old number command (with_entries (onward seat found) []) (told ++ []) (onward seat found).place) [
         | inl none ↦
@@ -169,25 +142,6 @@ module _ (old : Seat) (number : ℕ) (command : Command) where
             let next = with_entries (reaching (stepped_on seat found) (way_place (stepped_on seat found))) [] in
             rw some.0 (way_says (stepped_on seat found) next (told ++ []) (on old number command seat next told [] is.0 refl refl refl refl tt, is.1))
       ]
-
-  met_says : (seat : Seat) (told : List Entry) (found : ℕ) (reply : Option Reply) → IsGoing old number command seat told × (command ≢ commands.Leave)
-      → Says old number command (with_entries (met seat found reply) (said_some number seat reply)) (told ++ said_some number seat reply) (met seat found reply).place
-  met_says seat told found None is = onward_says seat told found is
-  met_says seat told found (Some reply) is = ends old number command seat _ told [] reply is (omega arith) (omega arith) refl tt
-
--- the meta is loaded
-pub open_stands : PlaceStands (places.Reaching Opening)
-open_stands heap number seat here =
-    let move = open_move number seat in
-    record {
-      step = load_stands heap move.step refl (here.fits.way.reached_within, omega arith);
-      fits = λ found small led. fits_met heap seat found (meta_reply seat.command found) (rests_at heap number seat Opening here) here.way refl led;
-      near = λ found. nears_met heap number seat found (meta_reply seat.command found);
-      adds = λ now. let found = found_by heap now move.step in
-          let by = met_adds heap number seat (after_words heap now number seat move) found (meta_reply seat.command found) in
-          plain heap now number seat move by.0 (rw here.placed refl) by.1 refl;
-      says = λ old command words told is found. met_says old number command seat told found (meta_reply seat.command found) is;
-    }
 
 -- a link is loaded
 pub walk_stands : PlaceStands (places.Reaching Walking)

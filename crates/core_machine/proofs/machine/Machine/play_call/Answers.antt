@@ -21,7 +21,7 @@ loop-step-init c =
       playing = subst (λ (s : State). Playing old.heap old.state s c.args.seat c.args.command.now) (sym begun_)
           (playing_begun old.heap old.state c.args.seat c.args.command.now start c.requires.can);
       room = room_for old c.begin.new.self c.args.seat c.args.command.now start c.requires.can c.begin.ensures c.requires.room;
-      spent = spends_begun old c.begin.new.self c.args.seat c.args.command.now c.requires.can.0 c.requires.can.1.served c.begin.ensures;
+      spent = spends_begun old c.begin.new.self c.args.seat c.args.command.now start c.requires.can c.begin.ensures;
     }
 
 pub loop-step-smaller : goal.loop-step-smaller
