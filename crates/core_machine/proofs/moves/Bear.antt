@@ -1,36 +1,34 @@
 -- How a new object gets its words, and is born.
 use Rattle.std.proofs.Common.{◌≡◌, ℕ, ◌+◌, ◌-◌, ◌*◌, ◌/◌, ◌^◌, ◌<◌, ◌≤◌, false, [], length, inl, inr, refl, arith, List, ◌∷◌, ◌++◌, set, get_or, subst, sym, ap, ◌∙◌, ◌%◌, bit_or}
-use Rattle.heap_model.specs.declared.heap.Heap.{Heap}
-use Rattle.core_machine.specs.declared.place.Making.TheVariants.{Storing, Bearing}
-use Rattle.core_machine.specs.declared.seat.register.Register.TheVariants.{Object}
-use Rattle.core_machine.specs.table.Operation.{birth_bits}
-use Rattle.core_machine.specs.seat.Seat.{Seat, with_entries}
-use Rattle.core_machine.specs.seat.Commands.{target_of, fields_of}
-use Rattle.core_machine.specs.seat.Making.{stored_more, born, made_last, last_group, storing, next_id, next_name}
-use Rattle.core_machine.specs.Moves.{seat_after, bearing_move, is_last_birth, birth_move, last_birth_move, bears_black}
-use Rattle.core_machine.specs.seat.Fits.{HasBody, FitsMaking, Fits, FitsRegister}
-use Rattle.core_machine.proofs.seat_lemmas.Aside.{IsAside, gone_aside, fits_over, fits_hand}
-use Rattle.core_machine.proofs.table_lemmas.Bits.{bool_tells}
-use Rattle.core_machine.proofs.table_lemmas.Owned.{group_within}
-use Rattle.std.specs.List.{list_all}
 use Rattle.std.proofs.lemmas.Bool.Decides.{eqb_tells}
 use Rattle.std.proofs.lemmas.List.{length-set}
 use Rattle.std.proofs.lemmas.List.Elements.{All-filter, All-set}
+use Rattle.std.specs.List.{list_all}
+use Rattle.heap_model.specs.declared.heap.Heap.{Heap}
+use Rattle.heap_model.specs.declared.reply.Reply.TheVariants as replies
+use Rattle.core_machine.specs.Moves.{seat_after, bearing_move, is_last_birth, birth_move, last_birth_move, bears_black}
+use Rattle.core_machine.specs.declared.place.Making.TheVariants.{Storing, Bearing}
+use Rattle.core_machine.specs.declared.place.Place.TheVariants as places
+use Rattle.core_machine.specs.declared.seat.register.Register.TheVariants.{Object}
+use Rattle.core_machine.specs.seat.Commands.{target_of, fields_of}
+use Rattle.core_machine.specs.seat.Fits.{HasBody, FitsMaking, Fits, FitsRegister}
+use Rattle.core_machine.specs.seat.Making.{stored_more, born, made_last, last_group, storing, next_id, next_name}
+use Rattle.core_machine.specs.seat.MakingMoves.{store_move, last_part}
+use Rattle.core_machine.specs.seat.Seat.{Seat, with_entries}
 use Rattle.core_machine.specs.table.Fragments.{part_out, in_group, out_of_group, mask}
-use Rattle.core_machine.proofs.table_lemmas.Filters.{length-filter_le}
-use Rattle.core_machine.proofs.seat_lemmas.Fitting.{need_of_record}
+use Rattle.core_machine.specs.table.Operation.{birth_bits}
+use Rattle.core_machine.proofs.call_lemmas.Awaits.{plain}
 use Rattle.core_machine.proofs.call_lemmas.Owes.{Nears}
 use Rattle.core_machine.proofs.call_lemmas.Saying.{Says, on, ends}
-use Rattle.core_machine.proofs.table_lemmas.Masks.{mask-lt}
-use Rattle.core_machine.proofs.table_lemmas.Wide.{fields_few}
-use Rattle.core_machine.specs.declared.place.Place.TheVariants as places
-use Rattle.heap_model.specs.declared.reply.Reply.TheVariants as replies
 use Rattle.core_machine.proofs.moves.Standing.{IsAt, MoveStands, PlaceStands, aside_at}
-use Rattle.core_machine.proofs.call_lemmas.Awaits.{plain}
-use Rattle.core_machine.proofs.table_lemmas.Filters.{out_shorter}
-use Rattle.core_machine.proofs.table_lemmas.Wide.{record_wide, fragment_small, birth_wide}
+use Rattle.core_machine.proofs.seat_lemmas.Aside.{IsAside, gone_aside, fits_over, fits_hand}
+use Rattle.core_machine.proofs.seat_lemmas.Fitting.{need_of_record}
+use Rattle.core_machine.proofs.table_lemmas.Bits.{bool_tells}
+use Rattle.core_machine.proofs.table_lemmas.Filters.{length-filter_le, out_shorter}
 use Rattle.core_machine.proofs.table_lemmas.Leading.{record_leads}
-use Rattle.core_machine.specs.seat.MakingMoves.{store_move, last_part}
+use Rattle.core_machine.proofs.table_lemmas.Masks.{mask-lt}
+use Rattle.core_machine.proofs.table_lemmas.Owned.{group_within}
+use Rattle.core_machine.proofs.table_lemmas.Wide.{fields_few, record_wide, fragment_small, birth_wide}
 
 fits_storing : (heap : Heap) (seat : Seat) → HasBody seat → seat.hand ≡ seat.body → seat.stored ≤ 4 * length seat.body
     → FitsMaking heap seat (storing seat.stored seat.body)

@@ -1,42 +1,40 @@
 -- What a call claims for a new object, gives back, and tells where too little is had.
 use Rattle.std.proofs.Common.{◌≡◌, ℕ, ◌+◌, ◌-◌, ◌*◌, ◌/◌, ◌^◌, ◌<◌, ◌≤◌, false, [], length, inl, inr, refl, arith, eqb, List, ◌∷◌, ◌++◌, drop, subst, sym, length-append, append_assoc, ◌≢◌, length-take, append-nil}
-use Rattle.heap_model.specs.declared.heap.Heap.{Heap}
-use Rattle.core_machine.specs.declared.place.Making.TheVariants.{Gathering, Returning, Refusing}
-use Rattle.core_machine.specs.table.Operation.{all_taken}
-use Rattle.core_machine.specs.seat.Seat.{Seat, need, with_entries}
-use Rattle.core_machine.specs.seat.Making.{claimed, given_back, next_group, first_group, returning, gathered, goes_on}
-use Rattle.core_machine.specs.seat.Telling.{told}
-use Rattle.core_machine.specs.Moves.{takes_some}
-use Rattle.core_machine.specs.seat.Fits.{Fits, Gathers, Refuses, FitsPlace, IsAtRest}
-use Rattle.core_machine.proofs.seat_lemmas.Aside.{IsAside, gone_aside, fits_over, fits_hand, aside_idle}
-use Rattle.core_machine.proofs.table_lemmas.Owned.{group_within, clear_in-group, within_group}
-use Rattle.std.specs.List.{All, AllByRecursion}
-use Rattle.std.proofs.lemmas.Bool.Decides.{eqb_tells}
-use Rattle.std.proofs.lemmas.List.Filters.{length-filter_both}
-use Rattle.std.proofs.lemmas.List.Elements.{All-append, All-drop, All-filter}
 use Rattle.std.proofs.Math.Seq.{drop-append-add}
-use Rattle.core_machine.specs.table.Fragments.{clear_in, part_out, in_group, out_of_group, part_in, mask}
-use Rattle.core_machine.specs.machine.Machine.{found_by, MayBegin, begun}
-use Rattle.core_machine.proofs.table_lemmas.Clear.{length-clear_among}
-use Rattle.core_machine.proofs.seat_lemmas.Fitting.{need_of_record, fits_goes_on, fits_returning, goes_on_cases, returning_cases}
-use Rattle.heap_model.specs.declared.command.Command.{Command}
-use Rattle.core_machine.proofs.call_lemmas.Owes.{Nears, owes}
-use Rattle.heap_model.specs.declared.entry.Entry.{Entry}
-use Rattle.core_machine.specs.seat.Awaiting.{awaited}
-use Rattle.core_machine.specs.machine.Calls.{IsBeside}
-use Rattle.core_machine.proofs.call_lemmas.Saying.{IsGoing, Says, on, ends}
+use Rattle.std.proofs.lemmas.Bool.Decides.{eqb_tells}
+use Rattle.std.proofs.lemmas.List.Elements.{All-append, All-drop, All-filter}
+use Rattle.std.proofs.lemmas.List.Filters.{length-filter_both}
 use Rattle.std.proofs.lemmas.Nat.{and_le_r, or_lt}
-use Rattle.heap_model.specs.declared.command.Command.TheVariants as commands
-use Rattle.core_machine.specs.declared.place.Place.TheVariants as places
-use Rattle.core_machine.proofs.moves.Standing.{PlaceStands, present_at, aside_at, CommandStands, going_ready, rest_ready}
-use Rattle.core_machine.proofs.call_lemmas.Awaits.{plain, after_words, goes_on_mine}
-use Rattle.core_machine.proofs.seat_lemmas.Fitting.{next_within}
-use Rattle.core_machine.proofs.table_lemmas.StepStands.{load_stands}
-use Rattle.core_machine.specs.declared.step.Step.TheVariants.{PollLoad}
-use Rattle.core_machine.specs.seat.MakingMoves.{claim_move, first_part, give_back_move, refusal_move}
-use Rattle.core_machine.proofs.table_lemmas.Filters.{out_shorter}
-use Rattle.heap_model.specs.declared.command.Command.TheVariants.{New}
+use Rattle.std.specs.List.{All, AllByRecursion}
 use Rattle.heap_model.specs.account.Space.{need_of}
+use Rattle.heap_model.specs.declared.command.Command.{Command}
+use Rattle.heap_model.specs.declared.command.Command.TheVariants.{New}
+use Rattle.heap_model.specs.declared.command.Command.TheVariants as commands
+use Rattle.heap_model.specs.declared.entry.Entry.{Entry}
+use Rattle.heap_model.specs.declared.heap.Heap.{Heap}
+use Rattle.core_machine.specs.Moves.{takes_some}
+use Rattle.core_machine.specs.declared.place.Making.TheVariants.{Gathering, Returning, Refusing}
+use Rattle.core_machine.specs.declared.place.Place.TheVariants as places
+use Rattle.core_machine.specs.declared.step.Step.TheVariants.{PollLoad}
+use Rattle.core_machine.specs.machine.Calls.{IsBeside}
+use Rattle.core_machine.specs.machine.Machine.{found_by, MayBegin, begun}
+use Rattle.core_machine.specs.seat.Awaiting.{awaited}
+use Rattle.core_machine.specs.seat.Fits.{Fits, Gathers, Refuses, FitsPlace, IsAtRest}
+use Rattle.core_machine.specs.seat.Making.{claimed, given_back, next_group, first_group, returning, gathered, goes_on}
+use Rattle.core_machine.specs.seat.MakingMoves.{claim_move, first_part, give_back_move, refusal_move}
+use Rattle.core_machine.specs.seat.Seat.{Seat, need, with_entries}
+use Rattle.core_machine.specs.table.Fragments.{clear_in, part_out, in_group, out_of_group, part_in, mask}
+use Rattle.core_machine.specs.table.Operation.{all_taken}
+use Rattle.core_machine.proofs.call_lemmas.Awaits.{plain, after_words, goes_on_mine}
+use Rattle.core_machine.proofs.call_lemmas.Owes.{Nears, owes}
+use Rattle.core_machine.proofs.call_lemmas.Saying.{IsGoing, Says, on, ends}
+use Rattle.core_machine.proofs.moves.Standing.{PlaceStands, present_at, aside_at, CommandStands, going_ready, rest_ready}
+use Rattle.core_machine.proofs.seat_lemmas.Aside.{IsAside, gone_aside, fits_over, fits_hand, aside_idle}
+use Rattle.core_machine.proofs.seat_lemmas.Fitting.{need_of_record, fits_goes_on, fits_returning, goes_on_cases, returning_cases, next_within}
+use Rattle.core_machine.proofs.table_lemmas.Clear.{length-clear_among}
+use Rattle.core_machine.proofs.table_lemmas.Filters.{out_shorter}
+use Rattle.core_machine.proofs.table_lemmas.Owned.{group_within, clear_in-group, within_group}
+use Rattle.core_machine.proofs.table_lemmas.StepStands.{load_stands}
 
 -- what is past the need after a claim is of the group that was claimed
 claimed_rest : (group need : ℕ) (reserve hand more : List ℕ) → length reserve + length hand ≤ need

@@ -1,37 +1,34 @@
 -- A get loads its field, and the name of what that refers to.
 use Rattle.std.proofs.Common.{◌≡◌, ℕ, ◌^◌, ◌<◌, [], length, refl, arith, List, ◌++◌, subst, sym, append-nil, Option, Some, None, ◌≢◌}
 use Rattle.std.specs.Prelude.{IsSome}
+use Rattle.heap_words.specs.Cell.{cell_of}
+use Rattle.heap_words.specs.declared.kind.Kind.{Kind}
+use Rattle.heap_words.specs.declared.kind.Kind.TheVariants as kinds
+use Rattle.heap_model.specs.declared.command.Command.{Command}
+use Rattle.heap_model.specs.declared.command.Command.TheVariants as commands
+use Rattle.heap_model.specs.declared.entry.Entry.{Entry}
 use Rattle.heap_model.specs.declared.heap.Heap.{Heap}
+use Rattle.core_machine.specs.declared.place.Place.TheVariants as places
 use Rattle.core_machine.specs.declared.place.Reaching.TheVariants.{Getting, Naming}
 use Rattle.core_machine.specs.declared.seat.register.Register.TheVariants.{Object}
-use Rattle.core_machine.specs.table.Loaded.{head_in, id_in, plain_in, plain_register, IsWithinHeap}
-use Rattle.core_machine.specs.seat.Seat.{Seat, with_entries}
-use Rattle.core_machine.specs.seat.Commands.{field_of}
-use Rattle.core_machine.specs.seat.Reaching.{got}
-use Rattle.core_machine.specs.seat.Telling.{told}
-use Rattle.core_machine.specs.seat.ReachingMoves.{loaded_head, got_adds, field_part, got_shows, get_move}
-use Rattle.core_machine.specs.seat.FitsReaching.{Gets}
-use Rattle.core_machine.specs.seat.Fits.{Fits, FitsRegister}
-use Rattle.core_machine.proofs.seat_lemmas.FittingReaching.{Rests, fits_reaching, fits_filled}
-use Rattle.core_machine.proofs.table_lemmas.WithinHeap.{head_leads, some_within}
-use Rattle.core_machine.specs.machine.Machine.{found_by}
-use Rattle.heap_words.specs.declared.kind.Kind.{Kind}
-use Rattle.heap_words.specs.Cell.{cell_of}
-use Rattle.heap_model.specs.declared.command.Command.{Command}
-use Rattle.core_machine.proofs.call_lemmas.Owes.{Nears}
-use Rattle.heap_model.specs.declared.entry.Entry.{Entry}
 use Rattle.core_machine.specs.declared.table.address.Address.TheVariants.{Word}
+use Rattle.core_machine.specs.machine.Machine.{found_by}
 use Rattle.core_machine.specs.seat.Awaiting.{awaited}
-use Rattle.core_machine.proofs.table_lemmas.Addresses.{put-at}
-use Rattle.core_machine.proofs.call_lemmas.Saying.{IsGoing, HasReplied, Says, replies_, ends}
-use Rattle.heap_model.specs.declared.command.Command.TheVariants as commands
-use Rattle.heap_words.specs.declared.kind.Kind.TheVariants as kinds
-use Rattle.core_machine.specs.declared.place.Place.TheVariants as places
-use Rattle.core_machine.proofs.moves.Standing.{PlaceStands, rests_at}
+use Rattle.core_machine.specs.seat.Commands.{field_of}
+use Rattle.core_machine.specs.seat.Fits.{Fits, FitsRegister}
+use Rattle.core_machine.specs.seat.FitsReaching.{Gets}
+use Rattle.core_machine.specs.seat.Reaching.{got}
+use Rattle.core_machine.specs.seat.ReachingMoves.{loaded_head, got_adds, field_part, got_shows, get_move, name_move}
+use Rattle.core_machine.specs.seat.Seat.{Seat, with_entries}
+use Rattle.core_machine.specs.table.Loaded.{head_in, id_in, plain_in, plain_register, IsWithinHeap}
 use Rattle.core_machine.proofs.call_lemmas.Awaits.{after_words}
+use Rattle.core_machine.proofs.call_lemmas.Owes.{Nears}
+use Rattle.core_machine.proofs.call_lemmas.Saying.{IsGoing, HasReplied, Says, replies_, ends}
+use Rattle.core_machine.proofs.moves.Standing.{PlaceStands, rests_at}
+use Rattle.core_machine.proofs.seat_lemmas.FittingReaching.{Rests, fits_reaching, fits_filled}
+use Rattle.core_machine.proofs.table_lemmas.Addresses.{put-at}
 use Rattle.core_machine.proofs.table_lemmas.StepStands.{load_stands}
-use Rattle.core_machine.proofs.table_lemmas.WithinHeap.{part_small}
-use Rattle.core_machine.specs.seat.ReachingMoves.{name_move}
+use Rattle.core_machine.proofs.table_lemmas.WithinHeap.{head_leads, some_within, part_small}
 
 -- a number in a word has thirty bits
 plain_fits : (heap : Heap) (kind : Kind) (value : ℕ) → value < 2 ^ 30 → FitsRegister heap (plain_register kind value)

@@ -1,29 +1,29 @@
 -- A seat gives back its reserve, and leaves.
 use Rattle.std.proofs.Common.{◌≡◌, ℕ, ◌-◌, ◌/◌, ◌^◌, [], length, inl, inr, refl, arith, List, ◌∷◌, ◌++◌, ap, ◌∙◌, true, replicate}
-use Rattle.heap_model.specs.declared.heap.Heap.{Heap}
-use Rattle.core_machine.specs.declared.place.Leaving.TheVariants.{Emptying, Parting}
-use Rattle.core_machine.specs.declared.seat.register.Register.TheVariants.{Nil}
-use Rattle.core_machine.specs.seat.Seat.{Seat}
-use Rattle.core_machine.specs.seat.Polling.{emptied, parted, leaving}
-use Rattle.core_machine.specs.seat.Fits.{IsAtRest, Fits, FitsRegister}
-use Rattle.core_machine.proofs.seat_lemmas.Aside.{IsAside, gone_aside, fits_over}
-use Rattle.std.specs.List.{All}
 use Rattle.std.proofs.lemmas.Bool.Decides.{eqb_tells}
 use Rattle.std.proofs.lemmas.List.{length-replicate}
 use Rattle.std.proofs.lemmas.List.Elements.{All-nil, All-replicate}
-use Rattle.core_machine.specs.table.Fragments.{mask}
+use Rattle.std.proofs.lemmas.Nat.{and_le_r}
+use Rattle.std.specs.List.{All}
+use Rattle.heap_model.specs.calls.SeatCalls.{last_gives}
 use Rattle.heap_model.specs.declared.command.Command.{Command}
+use Rattle.heap_model.specs.declared.command.Command.TheVariants as commands
 use Rattle.heap_model.specs.declared.entry.Entry.{Entry}
 use Rattle.heap_model.specs.declared.entry.Entry.TheVariants.{Said, GivesBack}
-use Rattle.heap_model.specs.calls.SeatCalls.{last_gives}
-use Rattle.core_machine.proofs.call_lemmas.Saying.{on, replies_}
-use Rattle.std.proofs.lemmas.Nat.{and_le_r}
-use Rattle.heap_model.specs.declared.command.Command.TheVariants as commands
-use Rattle.core_machine.specs.declared.place.Place.TheVariants as places
+use Rattle.heap_model.specs.declared.heap.Heap.{Heap}
 use Rattle.heap_model.specs.declared.reply.Reply.TheVariants as replies
-use Rattle.core_machine.proofs.moves.Standing.{PlaceStands, aside_at, BeginStands, CommandStands, aside_ready, going_ready, rest_ready, resting_begins}
-use Rattle.core_machine.proofs.call_lemmas.Awaits.{plain}
+use Rattle.core_machine.specs.declared.place.Leaving.TheVariants.{Emptying, Parting}
+use Rattle.core_machine.specs.declared.place.Place.TheVariants as places
+use Rattle.core_machine.specs.declared.seat.register.Register.TheVariants.{Nil}
 use Rattle.core_machine.specs.seat.AnsweringMoves.{empty_move, leave_move}
+use Rattle.core_machine.specs.seat.Fits.{IsAtRest, Fits, FitsRegister}
+use Rattle.core_machine.specs.seat.Polling.{emptied, parted, leaving}
+use Rattle.core_machine.specs.seat.Seat.{Seat}
+use Rattle.core_machine.specs.table.Fragments.{mask}
+use Rattle.core_machine.proofs.call_lemmas.Awaits.{plain}
+use Rattle.core_machine.proofs.call_lemmas.Saying.{on, replies_}
+use Rattle.core_machine.proofs.moves.Standing.{PlaceStands, aside_at, BeginStands, CommandStands, aside_ready, going_ready, rest_ready, resting_begins}
+use Rattle.core_machine.proofs.seat_lemmas.Aside.{IsAside, gone_aside, fits_over}
 
 -- the reserve was given back
 fits_emptied : (heap : Heap) (seat : Seat) → Fits heap seat → IsAside heap seat → IsAtRest seat → seat.command ≡ commands.Leave → Fits heap (emptied seat)

@@ -1,37 +1,35 @@
 -- A call opens an object, by its meta.
 use Rattle.std.proofs.Common.{◌≡◌, ℕ, ◌+◌, [], length, inl, refl, arith, List, ◌++◌, subst, sym, Option, Some, None, ◌≢◌, ap}
-use Rattle.heap_model.specs.declared.heap.Heap.{Heap}
-use Rattle.core_machine.specs.declared.place.Reaching.TheVariants.{Opening}
-use Rattle.core_machine.specs.table.Loaded.{lead_of, IsWithinHeap}
-use Rattle.core_machine.specs.seat.Seat.{Seat, with_entries}
-use Rattle.core_machine.specs.seat.Reaching.{meta_reply, met, opened}
-use Rattle.core_machine.specs.seat.Telling.{told}
-use Rattle.core_machine.specs.seat.ReachingMoves.{said_some}
-use Rattle.core_machine.specs.seat.FitsReaching.{NamesObject, NamesField, Opens}
-use Rattle.core_machine.specs.seat.Fits.{Fits, FitsRegister, IsLocal}
-use Rattle.core_machine.specs.declared.seat.register.Register.TheVariants.{Nil, Number, Object}
-use Rattle.core_machine.proofs.seat_lemmas.FittingReaching.{Rests, fits_closed}
-use Rattle.heap_model.specs.declared.command.Command.TheVariants.{Get, Set, Len}
-use Rattle.core_machine.specs.machine.Machine.{found_by}
+use Rattle.std.specs.Prelude.{IsSome}
 use Rattle.heap_model.specs.declared.command.Command.{Command}
-use Rattle.heap_model.specs.declared.reply.Reply.{Reply}
-use Rattle.core_machine.proofs.call_lemmas.Owes.{Nears}
-use Rattle.heap_model.specs.declared.entry.Entry.{Entry}
-use Rattle.core_machine.specs.seat.Awaiting.{awaited}
-use Rattle.core_machine.proofs.call_lemmas.Saying.{IsGoing, Says, ends}
+use Rattle.heap_model.specs.declared.command.Command.TheVariants.{Get, Set, Len}
 use Rattle.heap_model.specs.declared.command.Command.TheVariants as commands
+use Rattle.heap_model.specs.declared.entry.Entry.{Entry}
+use Rattle.heap_model.specs.declared.heap.Heap.{Heap}
+use Rattle.heap_model.specs.declared.reply.Reply.{Reply}
 use Rattle.core_machine.specs.declared.place.Place.TheVariants as places
-use Rattle.core_machine.proofs.moves.Standing.{PlaceStands, rests_at, BeginStands, IsReady, aside_ready, going_ready, rest_ready}
+use Rattle.core_machine.specs.declared.place.Reaching.TheVariants.{Opening}
+use Rattle.core_machine.specs.declared.seat.register.Register.{Register}
+use Rattle.core_machine.specs.declared.seat.register.Register.TheVariants.{Nil, Number, Object}
+use Rattle.core_machine.specs.machine.Machine.{found_by}
+use Rattle.core_machine.specs.seat.Awaiting.{awaited}
+use Rattle.core_machine.specs.seat.Commands.{object_of}
+use Rattle.core_machine.specs.seat.Fits.{Fits, FitsRegister, IsLocal}
+use Rattle.core_machine.specs.seat.FitsReaching.{NamesObject, NamesField, Opens}
+use Rattle.core_machine.specs.seat.Reaching.{meta_reply, met, opened}
+use Rattle.core_machine.specs.seat.ReachingMoves.{said_some, open_move}
+use Rattle.core_machine.specs.seat.Registers.{head_of, register_in}
+use Rattle.core_machine.specs.seat.Seat.{Seat, with_entries}
+use Rattle.core_machine.specs.table.Loaded.{lead_of, IsWithinHeap}
 use Rattle.core_machine.proofs.call_lemmas.Awaits.{plain, after_words}
-use Rattle.core_machine.proofs.table_lemmas.StepStands.{load_stands}
-use Rattle.core_machine.specs.seat.ReachingMoves.{open_move}
+use Rattle.core_machine.proofs.call_lemmas.Owes.{Nears}
+use Rattle.core_machine.proofs.call_lemmas.Saying.{IsGoing, Says, ends}
+use Rattle.core_machine.proofs.moves.Standing.{PlaceStands, rests_at, BeginStands, IsReady, aside_ready, going_ready, rest_ready}
 use Rattle.core_machine.proofs.moves.Telling.{tell_begins}
 use Rattle.core_machine.proofs.moves.Way.{fits_onward, nears_onward, onward_awaits, onward_mine, onward_says}
-use Rattle.std.specs.Prelude.{IsSome}
-use Rattle.core_machine.specs.declared.seat.register.Register.{Register}
 use Rattle.core_machine.proofs.seat_lemmas.Aside.{gone_aside}
-use Rattle.core_machine.specs.seat.Registers.{head_of, register_in}
-use Rattle.core_machine.specs.seat.Commands.{object_of}
+use Rattle.core_machine.proofs.seat_lemmas.FittingReaching.{Rests, fits_closed}
+use Rattle.core_machine.proofs.table_lemmas.StepStands.{load_stands}
 use Rattle.core_machine.proofs.table_lemmas.WithinHeap.{register_fits}
 
 -- where the call doesn't end at the meta, it names a field

@@ -1,32 +1,31 @@
 -- A poll, and the answer to a new phase.
 use Rattle.std.proofs.Common.{◌≡◌, ℕ, ◌+◌, ◌-◌, ◌^◌, ◌<◌, ◌≤◌, false, [], length, inl, inr, refl, arith, List, ◌∷◌, ◌++◌, get_or, suc, ◌≢◌}
+use Rattle.std.proofs.lemmas.Bool.Decides.{eqb_tells, leb_tells}
+use Rattle.heap_model.specs.declared.command.Command.TheVariants as commands
+use Rattle.heap_model.specs.declared.entry.Entry.{Entry}
+use Rattle.heap_model.specs.declared.entry.Entry.TheVariants.{Answers}
 use Rattle.heap_model.specs.declared.heap.Heap.{Heap}
+use Rattle.heap_model.specs.declared.reply.Reply.TheVariants as replies
+use Rattle.core_machine.specs.Moves.{seat_after}
 use Rattle.core_machine.specs.declared.place.Place.{Place}
+use Rattle.core_machine.specs.declared.place.Place.TheVariants as places
 use Rattle.core_machine.specs.declared.place.Polling.{Polling}
 use Rattle.core_machine.specs.declared.place.Polling.TheVariants.{Asking, Shading, Answering}
-use Rattle.core_machine.specs.seat.Seat.{Seat, over, with_entries, replied}
-use Rattle.core_machine.specs.seat.Polling.{phase_found, shaded_more, answer_stored, roots, shades_on}
-use Rattle.core_machine.specs.Moves.{seat_after}
-use Rattle.core_machine.specs.seat.FitsReaching.{HasNoWay}
-use Rattle.core_machine.specs.seat.Fits.{FitsPlace, FitsWay, FitsAnswer, IsAtRest, Fits}
-use Rattle.core_machine.proofs.seat_lemmas.Aside.{gone_aside, fits_over}
-use Rattle.core_machine.proofs.table_lemmas.WithinHeap.{roots_within, few_roots}
-use Rattle.std.proofs.lemmas.Bool.Decides.{eqb_tells, leb_tells}
-use Rattle.core_machine.specs.machine.Machine.{found_by}
-use Rattle.core_machine.specs.seat.AnsweringMoves.{poll_move, poll_adds}
-use Rattle.core_machine.proofs.call_lemmas.Owes.{Nears}
-use Rattle.heap_model.specs.declared.entry.Entry.{Entry}
-use Rattle.core_machine.specs.seat.Awaiting.{awaited}
-use Rattle.heap_model.specs.declared.entry.Entry.TheVariants.{Answers}
-use Rattle.core_machine.proofs.call_lemmas.Saying.{Says, on, ends}
-use Rattle.heap_model.specs.declared.command.Command.TheVariants as commands
-use Rattle.core_machine.specs.declared.place.Place.TheVariants as places
-use Rattle.heap_model.specs.declared.reply.Reply.TheVariants as replies
-use Rattle.core_machine.proofs.moves.Standing.{IsAt, PlaceStands, present_at, CommandStands, aside_ready, going_ready, rest_ready, resting_begins}
-use Rattle.core_machine.proofs.call_lemmas.Awaits.{plain, after_words}
-use Rattle.core_machine.proofs.table_lemmas.StepStands.{load_stands, shade_stands}
 use Rattle.core_machine.specs.declared.step.Step.TheVariants.{PollLoad}
-use Rattle.core_machine.specs.seat.AnsweringMoves.{root_move, answer_move}
+use Rattle.core_machine.specs.machine.Machine.{found_by}
+use Rattle.core_machine.specs.seat.AnsweringMoves.{poll_move, poll_adds, root_move, answer_move}
+use Rattle.core_machine.specs.seat.Awaiting.{awaited}
+use Rattle.core_machine.specs.seat.Fits.{FitsPlace, FitsWay, FitsAnswer, IsAtRest, Fits}
+use Rattle.core_machine.specs.seat.FitsReaching.{HasNoWay}
+use Rattle.core_machine.specs.seat.Polling.{phase_found, shaded_more, answer_stored, roots, shades_on}
+use Rattle.core_machine.specs.seat.Seat.{Seat, over, with_entries, replied}
+use Rattle.core_machine.proofs.call_lemmas.Awaits.{plain, after_words}
+use Rattle.core_machine.proofs.call_lemmas.Owes.{Nears}
+use Rattle.core_machine.proofs.call_lemmas.Saying.{Says, on, ends}
+use Rattle.core_machine.proofs.moves.Standing.{IsAt, PlaceStands, present_at, CommandStands, aside_ready, going_ready, rest_ready, resting_begins}
+use Rattle.core_machine.proofs.seat_lemmas.Aside.{gone_aside, fits_over}
+use Rattle.core_machine.proofs.table_lemmas.StepStands.{load_stands, shade_stands}
+use Rattle.core_machine.proofs.table_lemmas.WithinHeap.{roots_within, few_roots}
 
 -- a call that answers the phase leaves these alone
 pub record Polls (heap : Heap) (seat : Seat) : Type 0 where

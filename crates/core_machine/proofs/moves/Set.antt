@@ -1,37 +1,33 @@
 -- A set, with the barrier on or off.
 use Rattle.std.proofs.Common.{◌≡◌, ℕ, ◌+◌, ◌*◌, ◌^◌, ◌<◌, ◌≤◌, [], refl, arith, List, ◌++◌, subst, sym, true, Option, Some, None, ◌≢◌}
 use Rattle.std.specs.Prelude.{IsSome, unwrap_or}
+use Rattle.heap_model.specs.declared.command.Command.{Command}
+use Rattle.heap_model.specs.declared.command.Command.TheVariants as commands
+use Rattle.heap_model.specs.declared.entry.Entry.{Entry}
 use Rattle.heap_model.specs.declared.heap.Heap.{Heap}
+use Rattle.heap_model.specs.graph.Growth.{stamp_of}
+use Rattle.core_machine.specs.declared.place.Place.TheVariants as places
 use Rattle.core_machine.specs.declared.place.Reaching.TheVariants.{LoadingOld, ShadingOld, ShadingNew, Swapping}
-use Rattle.core_machine.specs.table.Loaded.{head_in, IsWithinHeap}
-use Rattle.core_machine.specs.seat.Seat.{Seat, with_entries}
+use Rattle.core_machine.specs.machine.Machine.{found_by}
+use Rattle.core_machine.specs.seat.Awaiting.{awaited}
 use Rattle.core_machine.specs.seat.Commands.{field_of, source_of}
-use Rattle.core_machine.specs.seat.Registers.{register_in, head_of}
-use Rattle.core_machine.specs.seat.Reaching.{part_of, old_done, old_found, reaching, has_barrier, new_place}
-use Rattle.core_machine.specs.seat.Telling.{told}
-use Rattle.core_machine.specs.seat.ReachingMoves.{loaded_head}
-use Rattle.core_machine.specs.seat.FitsReaching.{Sets}
 use Rattle.core_machine.specs.seat.Fits.{Fits, FitsRegister}
+use Rattle.core_machine.specs.seat.FitsReaching.{Sets}
+use Rattle.core_machine.specs.seat.Reaching.{part_of, old_done, old_found, reaching, has_barrier, new_place}
+use Rattle.core_machine.specs.seat.ReachingMoves.{loaded_head, new_register, old_move, shade_old_move, shade_new_move, swap_move}
+use Rattle.core_machine.specs.seat.Registers.{register_in, head_of}
+use Rattle.core_machine.specs.seat.Seat.{Seat, with_entries}
+use Rattle.core_machine.specs.table.Loaded.{head_in, IsWithinHeap}
+use Rattle.core_machine.proofs.call_lemmas.Awaits.{plain, after_words}
+use Rattle.core_machine.proofs.call_lemmas.Owes.{Nears}
+use Rattle.core_machine.proofs.call_lemmas.Saying.{IsGoing, Says, on, ends}
+use Rattle.core_machine.proofs.moves.Standing.{PlaceStands, rests_at}
 use Rattle.core_machine.proofs.seat_lemmas.Aside.{gone_aside}
 use Rattle.core_machine.proofs.seat_lemmas.FittingReaching.{Rests, fits_reaching, fits_closed}
-use Rattle.core_machine.proofs.table_lemmas.WithinHeap.{head_leads, some_within, head_within, part_some}
-use Rattle.core_machine.specs.machine.Machine.{found_by}
-use Rattle.heap_model.specs.declared.command.Command.{Command}
-use Rattle.core_machine.proofs.call_lemmas.Owes.{Nears}
-use Rattle.heap_model.specs.declared.entry.Entry.{Entry}
-use Rattle.core_machine.specs.seat.Awaiting.{awaited}
-use Rattle.core_machine.proofs.call_lemmas.Saying.{IsGoing, Says, on, ends}
-use Rattle.heap_model.specs.graph.Growth.{stamp_of}
-use Rattle.core_machine.proofs.table_lemmas.Wide.{set_numbered}
-use Rattle.heap_model.specs.declared.command.Command.TheVariants as commands
-use Rattle.core_machine.specs.declared.place.Place.TheVariants as places
-use Rattle.core_machine.proofs.moves.Standing.{PlaceStands, rests_at}
-use Rattle.core_machine.proofs.call_lemmas.Awaits.{plain, after_words}
-use Rattle.core_machine.proofs.table_lemmas.StepStands.{load_stands, shade_stands}
-use Rattle.core_machine.proofs.table_lemmas.Wide.{register_wide}
 use Rattle.core_machine.proofs.table_lemmas.Leading.{register_leads}
-use Rattle.core_machine.proofs.table_lemmas.WithinHeap.{part_small, register_fits}
-use Rattle.core_machine.specs.seat.ReachingMoves.{new_register, old_move, shade_old_move, shade_new_move, swap_move}
+use Rattle.core_machine.proofs.table_lemmas.StepStands.{load_stands, shade_stands}
+use Rattle.core_machine.proofs.table_lemmas.Wide.{set_numbered, register_wide}
+use Rattle.core_machine.proofs.table_lemmas.WithinHeap.{head_leads, some_within, head_within, part_some, part_small, register_fits}
 
 -- a set goes on to its new value
 fits_old_done : (heap : Heap) (seat : Seat) (loaded : ℕ) → Rests heap seat → Sets seat → has_barrier seat ≡ true → IsWithinHeap heap (head_in loaded)

@@ -1,15 +1,17 @@
 -- What is asked of each move of a seat, and of each begin.
 use Rattle.std.proofs.Common.{◌≡◌, ℕ, ◌<◌, ◌^◌, false, List, length, refl, subst, ◌+◌, ◌*◌, ◌≤◌, []}
 use Rattle.std.specs.Prelude.{IfSome}
+use Rattle.heap_model.specs.Heap.{IsHeap}
+use Rattle.heap_model.specs.account.Space.{need_of}
 use Rattle.heap_model.specs.declared.command.Command.{Command}
 use Rattle.heap_model.specs.declared.entry.Entry.{Entry}
 use Rattle.heap_model.specs.declared.heap.Heap.{Heap}
-use Rattle.heap_model.specs.Heap.{IsHeap}
+use Rattle.core_machine.specs.Moves.{Move, move_at, seat_after}
 use Rattle.core_machine.specs.declared.place.Place.{Place}
 use Rattle.core_machine.specs.declared.place.Place.TheVariants as places
 use Rattle.core_machine.specs.declared.place.Reaching.{Reaching}
 use Rattle.core_machine.specs.machine.Machine.{State, MayBegin, begun}
-use Rattle.core_machine.specs.Moves.{Move, move_at, seat_after}
+use Rattle.core_machine.specs.seat.Awaiting.{awaited, awaited_at}
 use Rattle.core_machine.specs.seat.Fits.{Fits, FitsPlace, FitsWay, FitsAnswer, IsSilent, IsAtRest}
 use Rattle.core_machine.specs.seat.FitsReaching.{IsNowhere}
 use Rattle.core_machine.specs.seat.Seat.{Seat}
@@ -21,8 +23,6 @@ use Rattle.core_machine.proofs.call_lemmas.Saying.{Says, Leads, IsGoing}
 use Rattle.core_machine.proofs.seat_lemmas.Aside.{IsAside, present_busy, aside_idle, gone_aside}
 use Rattle.core_machine.proofs.seat_lemmas.FittingReaching.{Rests}
 use Rattle.core_machine.proofs.table_lemmas.StepStands.{StepStands}
-use Rattle.core_machine.specs.seat.Awaiting.{awaited, awaited_at}
-use Rattle.heap_model.specs.account.Space.{need_of}
 
 -- a seat whose data fit together stands at this place
 pub record IsAt (heap : Heap) (number : ℕ) (seat : Seat) (place : Place) : Type 0 where

@@ -1,27 +1,27 @@
 -- A call that looks at no word tells its reply.
 use Rattle.std.proofs.Common.{ℕ, ◌≡◌, false, [], length, refl, arith, List, ◌∙◌, ◌≢◌}
-use Rattle.heap_model.specs.declared.heap.Heap.{Heap}
-use Rattle.core_machine.specs.declared.seat.register.Register.TheVariants.{Nil, Number}
-use Rattle.core_machine.specs.seat.Seat.{Seat}
-use Rattle.core_machine.specs.seat.Registers.{register_in}
-use Rattle.core_machine.specs.seat.Telling.{told, local_registers}
-use Rattle.core_machine.specs.Moves.{telling_move}
-use Rattle.core_machine.specs.seat.Fits.{Fits, FitsRegister, IsLocal}
-use Rattle.core_machine.proofs.seat_lemmas.Aside.{gone_aside, fits_over}
-use Rattle.std.specs.List.{All}
 use Rattle.std.proofs.lemmas.List.{length-set}
 use Rattle.std.proofs.lemmas.List.Elements.{All-set}
-use Rattle.heap_model.specs.declared.command.Command.{Command}
-use Rattle.core_machine.specs.declared.seat.register.Register.{Register}
+use Rattle.std.specs.List.{All}
 use Rattle.heap_model.specs.Command.{IsCommand}
-use Rattle.core_machine.proofs.call_lemmas.Saying.{ends}
+use Rattle.heap_model.specs.declared.command.Command.{Command}
 use Rattle.heap_model.specs.declared.command.Command.TheVariants as commands
+use Rattle.heap_model.specs.declared.heap.Heap.{Heap}
+use Rattle.core_machine.specs.Moves.{telling_move}
 use Rattle.core_machine.specs.declared.place.Place.TheVariants as places
-use Rattle.core_machine.proofs.moves.Standing.{PlaceStands, present_at, BeginStands, IsReady, aside_ready, going_ready, rest_ready, resting_begins}
+use Rattle.core_machine.specs.declared.seat.register.Register.{Register}
+use Rattle.core_machine.specs.declared.seat.register.Register.TheVariants.{Nil, Number}
+use Rattle.core_machine.specs.declared.step.Step.TheVariants.{PollLoad}
+use Rattle.core_machine.specs.seat.Fits.{Fits, FitsRegister, IsLocal}
+use Rattle.core_machine.specs.seat.Registers.{register_in}
+use Rattle.core_machine.specs.seat.Seat.{Seat}
+use Rattle.core_machine.specs.seat.Telling.{told, local_registers}
 use Rattle.core_machine.proofs.call_lemmas.Awaits.{plain}
+use Rattle.core_machine.proofs.call_lemmas.Saying.{ends}
+use Rattle.core_machine.proofs.moves.Standing.{PlaceStands, present_at, BeginStands, IsReady, aside_ready, going_ready, rest_ready, resting_begins}
+use Rattle.core_machine.proofs.seat_lemmas.Aside.{gone_aside, fits_over}
 use Rattle.core_machine.proofs.table_lemmas.StepStands.{load_stands}
 use Rattle.core_machine.proofs.table_lemmas.WithinHeap.{register_fits}
-use Rattle.core_machine.specs.declared.step.Step.TheVariants.{PollLoad}
 
 -- the registers after a command that looks at no word
 local_fit : (heap : Heap) (registers : List Register) (command : Command) → IsCommand command → All (FitsRegister heap) registers

@@ -1,32 +1,31 @@
 -- The way to a field.
 use Rattle.std.proofs.Common.{◌≡◌, ℕ, ◌+◌, ◌-◌, ◌*◌, ◌<◌, ◌≤◌, [], inl, inr, refl, arith, List, ◌++◌, subst, sym, Option, Some, None, ◌⊎◌, ◌≢◌}
-use Rattle.std.specs.Prelude.{unwrap_or}
-use Rattle.heap_model.specs.declared.heap.Heap.{Heap}
-use Rattle.core_machine.specs.declared.place.Reaching.TheVariants.{Walking}
-use Rattle.core_machine.specs.table.Loaded.{lead_of, link_in, IsWithinHeap}
-use Rattle.core_machine.specs.seat.Seat.{Seat, with_entries}
-use Rattle.core_machine.specs.seat.Commands.{field_of}
-use Rattle.core_machine.specs.seat.Reaching.{onward, reaching, row_of, has_barrier, field_place, way_place, stepped_on}
-use Rattle.core_machine.specs.seat.Telling.{told}
-use Rattle.core_machine.specs.seat.FitsReaching.{FitsReaching, IsGet, IsSet, NamesField, WorksOnObject}
-use Rattle.core_machine.specs.seat.Fits.{Fits}
-use Rattle.core_machine.proofs.table_lemmas.Bits.{bool_tells}
-use Rattle.core_machine.proofs.seat_lemmas.FittingReaching.{Rests, fits_reaching}
 use Rattle.std.proofs.lemmas.Bool.Decides.{eqb_tells}
-use Rattle.heap_model.specs.declared.command.Command.TheVariants.{Get, Set}
-use Rattle.core_machine.specs.machine.Machine.{found_by}
+use Rattle.std.specs.Prelude.{unwrap_or}
 use Rattle.heap_model.specs.declared.command.Command.{Command}
-use Rattle.core_machine.proofs.seat_lemmas.FieldPlaces.{field_cases}
-use Rattle.core_machine.proofs.call_lemmas.Owes.{reaching_steps, Nears}
-use Rattle.heap_model.specs.declared.entry.Entry.{Entry}
-use Rattle.core_machine.specs.seat.Awaiting.{awaited_at, awaited}
-use Rattle.core_machine.proofs.call_lemmas.Saying.{IsGoing, Says, on}
+use Rattle.heap_model.specs.declared.command.Command.TheVariants.{Get, Set}
 use Rattle.heap_model.specs.declared.command.Command.TheVariants as commands
+use Rattle.heap_model.specs.declared.entry.Entry.{Entry}
+use Rattle.heap_model.specs.declared.heap.Heap.{Heap}
 use Rattle.core_machine.specs.declared.place.Place.TheVariants as places
-use Rattle.core_machine.proofs.moves.Standing.{PlaceStands, rests_at}
-use Rattle.core_machine.proofs.call_lemmas.Awaits.{plain, after_words}
-use Rattle.core_machine.proofs.table_lemmas.StepStands.{load_stands}
+use Rattle.core_machine.specs.declared.place.Reaching.TheVariants.{Walking}
+use Rattle.core_machine.specs.machine.Machine.{found_by}
+use Rattle.core_machine.specs.seat.Awaiting.{awaited_at, awaited}
+use Rattle.core_machine.specs.seat.Commands.{field_of}
+use Rattle.core_machine.specs.seat.Fits.{Fits}
+use Rattle.core_machine.specs.seat.FitsReaching.{FitsReaching, IsGet, IsSet, NamesField, WorksOnObject}
+use Rattle.core_machine.specs.seat.Reaching.{onward, reaching, row_of, has_barrier, field_place, way_place, stepped_on}
 use Rattle.core_machine.specs.seat.ReachingMoves.{walk_move}
+use Rattle.core_machine.specs.seat.Seat.{Seat, with_entries}
+use Rattle.core_machine.specs.table.Loaded.{lead_of, link_in, IsWithinHeap}
+use Rattle.core_machine.proofs.call_lemmas.Awaits.{plain, after_words}
+use Rattle.core_machine.proofs.call_lemmas.Owes.{reaching_steps, Nears}
+use Rattle.core_machine.proofs.call_lemmas.Saying.{IsGoing, Says, on}
+use Rattle.core_machine.proofs.moves.Standing.{PlaceStands, rests_at}
+use Rattle.core_machine.proofs.seat_lemmas.FieldPlaces.{field_cases}
+use Rattle.core_machine.proofs.seat_lemmas.FittingReaching.{Rests, fits_reaching}
+use Rattle.core_machine.proofs.table_lemmas.Bits.{bool_tells}
+use Rattle.core_machine.proofs.table_lemmas.StepStands.{load_stands}
 
 -- a link that leads within the heap, or to fragment 0 where there is none
 unwrap_within : (heap : Heap) (fragment : Option ℕ) → 0 < heap.groups → IsWithinHeap heap fragment → unwrap_or fragment 0 < 16 * heap.groups
