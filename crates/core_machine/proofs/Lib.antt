@@ -1,5 +1,6 @@
 pub mod call_lemmas
 pub mod collector_lemmas
 pub mod machine_lemmas
+pub mod moves
 pub mod seat_lemmas
 pub mod table_lemmas

@@ -5,14 +5,10 @@ pub mod CallRoom
 pub mod Calling
 pub mod Claiming
 pub mod Owes
-pub mod Owing
-pub mod OwingMaking
 pub mod Playing
 pub mod PlayingBegins
 pub mod PlayingOn
 pub mod RepliesAlone
 pub mod Restoring
 pub mod Saying
-pub mod SayingReaching
-pub mod SayingMoves
 pub mod Stages

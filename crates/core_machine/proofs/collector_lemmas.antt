@@ -1,3 +1,22 @@
--- The collector's turns.
-pub mod FittingTurns
+-- The collector's own data go on fitting together, a file for each turn, and a turn leaves a machine.
+pub mod AdvanceTurn
+pub mod LookTurn
 pub mod Turning
+pub mod Standing
+use Rattle.std.proofs.Common.{refl}
+use Rattle.heap_model.specs.declared.heap.Heap.{Heap}
+use Rattle.heap_model.specs.Heap.{IsHeap}
+use Rattle.core_machine.specs.declared.collector.stage.Stage.{Stage}
+use Rattle.core_machine.specs.declared.collector.stage.Stage.TheVariants as stages
+use Rattle.core_machine.specs.collector.Collector.{Collector, next_turn}
+use Rattle.core_machine.specs.collector.FitsTurns.{CollectorFits}
+use Rattle.core_machine.proofs.collector_lemmas.Standing.{StageStands, TurnStands}
+
+-- each turn stands, by its stage
+stands_at : (stage : Stage) → StageStands stage
+stands_at stages.Looking = LookTurn.look_stands
+stands_at stages.Advancing = AdvanceTurn.advance_stands
+
+-- the turn that is due
+pub turn_stands : (heap : Heap) (collector : Collector) → IsHeap heap → CollectorFits heap collector → TurnStands heap (next_turn heap collector)
+turn_stands heap collector limits fits = stands_at collector.stage heap collector limits fits refl fits.at_stage

@@ -2,9 +2,5 @@
 pub mod Aside
 pub mod FieldPlaces
 pub mod Fitting
-pub mod FittingAnswers
-pub mod FittingBegins
 pub mod FittingEntries
-pub mod FittingMaking
-pub mod FittingMoves
 pub mod FittingReaching

@@ -9,5 +9,6 @@ pub mod Free
 pub mod Leading
 pub mod Masks
 pub mod Owned
+pub mod StepStands
 pub mod Wide
 pub mod WithinHeap

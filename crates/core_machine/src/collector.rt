@@ -1,6 +1,6 @@
 ghost use Rattle.std.specs.Prelude.{◌≡◌, ◌+◌, ◌-◌, ◌<◌, ◌≤◌, ◌^◌, length, OnOk, OnErr};
 ghost use Rattle.core_machine.specs.declared.step.Step.TheVariants.{Turning as Turns};
-ghost use Rattle.core_machine.specs.collector.Collector.{opening_collector, next_turn, collector_after, turn_answer, MayTurn, has_answered as has_answered_of, advance_turn, looked_on};
+ghost use Rattle.core_machine.specs.collector.Collector.{opening_collector, next_turn, collector_after, has_answered as has_answered_of, advance_turn, look_answer, looked_at, looked_on};
 ghost use Rattle.core_machine.specs.seat.Fits.{CollectorFits};
 
 use crate::collector::stage::Stage;
@@ -82,6 +82,24 @@ impl CollectorParty {
         word == self.phase || word == LEFT
     }
 
+    /// Looks at a seat's word.
+    fn look(&mut self, heap: &Heap, found: u64) -> Turn
+        requires { self.old.collector.looked < heap.now.seats }
+        ensures collector { self.new.collector ≡ looked_at heap.now self.old.collector found }
+        ensures answer { result ≡ look_answer self.old.collector found }
+        ensures spare { self.new.spare ≡ self.old.spare }
+    {
+        if !self.has_answered(found) {
+            return Turn::Waits {
+                seat: self.looked,
+                answered: found,
+                phase: self.phase,
+            };
+        }
+        self.look_on(heap);
+        Turn::Stepped
+    }
+
     /// One more seat has answered.
     fn look_on(&mut self, heap: &Heap)
         requires { self.old.collector.looked < heap.now.seats }
@@ -117,24 +135,16 @@ impl CollectorParty {
     pub fn learn(&mut self, heap: &Heap, found: u64) -> Turn
         requires fits { CollectorFits heap.now self.old.collector }
         requires spare { 1 < self.old.spare }
-        ensures may { MayTurn self.old.collector self.old.collector.stage }
+        ensures may { (next_turn heap.now self.old.collector).may }
         ensures collector { self.new.collector ≡ collector_after (next_turn heap.now self.old.collector) found }
-        ensures answer { result ≡ turn_answer self.old.collector self.old.collector.stage found }
+        ensures answer { result ≡ (next_turn heap.now self.old.collector).answer found }
         ensures spare { self.old.spare + length self.old.collector.log ≤ self.new.spare + length self.new.collector.log }
     {
         let _all = self.log.spare();
-        let Stage::Looking = self.stage else {
-            self.advance();
-            return Turn::Stepped;
-        };
-        if !self.has_answered(found) {
-            return Turn::Waits {
-                seat: self.looked,
-                answered: found,
-                phase: self.phase,
-            };
+        match self.stage {
+            Stage::Looking => return self.look(heap, found),
+            Stage::Advancing => self.advance(),
         }
-        self.look_on(heap);
         Turn::Stepped
     }
 }

@@ -3,7 +3,7 @@ ghost use Rattle.heap_model.specs.account.Space.{need_of};
 ghost use Rattle.core_machine.specs.machine.Machine.{Begins, Steps, Turns, Can, after, seat_at, found_by};
 ghost use Rattle.core_machine.specs.declared.table.address.Address.TheVariants.{Phase};
 ghost use Rattle.core_machine.specs.table.Layout.{at, InTable};
-ghost use Rattle.core_machine.specs.collector.Collector.{next_turn, turn_answer};
+ghost use Rattle.core_machine.specs.collector.Collector.{next_turn};
 ghost use Rattle.core_machine.specs.Moves.{due_step};
 ghost use Rattle.core_machine.specs.machine.Value.{spare_of, log_of, due_of, event_of, IsParty, SpendsRoom, IsMachine};
 
@@ -158,8 +158,8 @@ impl Machine {
         ensures can { Can self.old.heap self.old.state Turns }
         ensures heap { self.new.heap ≡ self.old.heap }
         ensures state { self.new.state ≡ after self.old.heap self.old.state Turns }
-        ensures answer { let collector = self.old.state.collector in
-            result ≡ turn_answer collector collector.stage (found_by self.old.heap self.old.state (next_turn self.old.heap collector).step) }
+        ensures answer { let turn = next_turn self.old.heap self.old.state.collector in
+            result ≡ turn.answer (found_by self.old.heap self.old.state turn.step) }
         ensures spent { SpendsRoom self.old self.new (length self.old.state.seats) }
     {
         let step = Step::Turning(self.collector.due(&self.heap));
@@ -174,7 +174,7 @@ impl Machine {
         ensures heap { self.new.heap ≡ self.old.heap }
         ensures state { self.new.state ≡ after self.old.heap self.old.state Turns }
         ensures found { result.0 ≡ found_by self.old.heap self.old.state step.now }
-        ensures answer { result.1 ≡ turn_answer self.old.state.collector self.old.state.collector.stage result.0 }
+        ensures answer { result.1 ≡ (next_turn self.old.heap self.old.state.collector).answer result.0 }
         ensures spent { SpendsRoom self.old self.new (length self.old.state.seats) }
     {
         let heap = self.heap;

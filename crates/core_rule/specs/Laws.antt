@@ -12,7 +12,7 @@ use Rattle.heap_model.specs.account.Space.{gained, lost}
 use Rattle.heap_model.specs.declared.calls.collector_calls.Turn.TheVariants.{Waits}
 use Rattle.core_machine.specs.declared.place.Place.TheVariants.{Idle}
 use Rattle.core_machine.specs.machine.Calls.{free_fragments}
-use Rattle.core_machine.specs.collector.Collector.{next_turn, turn_answer}
+use Rattle.core_machine.specs.collector.Collector.{next_turn}
 use Rattle.core_machine.specs.machine.Machine.{State, seat_at, found_by, Event, Begins, Steps, Turns, Can, after, entries, Run, after_all, history}
 use Rattle.core_machine.specs.machine.Opening.{IsOpening}
 use Rattle.core_rule.specs.Book.{Book, Colour}
@@ -70,7 +70,7 @@ FreeIsUnused = (heap : Heap) (state : State) (book : Book) → Rule heap state b
 -- where a turn answers that it waits for a seat, that seat is there, and by the history it hasn't left and has answered the phase before the one told
 abbrev pub EachWaitIsBehind : Type 0
 EachWaitIsBehind = (heap : Heap) (state : State) (book : Book) (seat answer p : ℕ) → Rule heap state book
-    → turn_answer state.collector state.collector.stage (found_by heap state (next_turn heap state.collector).step) ≡ Waits seat answer p
+    → (next_turn heap state.collector).answer (found_by heap state (next_turn heap state.collector).step) ≡ Waits seat answer p
     → (seat < heap.seats) × IsBehind seat answer p book.history × (answer + 1 ≡ p)
 
 -- where the entry is an answer to a phase in which marking begins, each of the seat's registers that holds an object has a marked one

@@ -3,14 +3,12 @@ use Rattle.std.specs.Prelude.{◌≡◌, ℕ, ◌+◌, ◌<◌, ◌≤◌, ◌�
 use Rattle.heap_words.specs.declared.phase.TheConstants.{LEFT}
 use Rattle.heap_model.specs.declared.heap.Heap.{Heap}
 use Rattle.heap_model.specs.declared.entry.Entry.{Entry}
-use Rattle.heap_model.specs.account.PhaseCounts.{phase, answered, has_left, AllAnswered}
-use Rattle.heap_model.specs.PhasePlan.{marking}
+use Rattle.heap_model.specs.account.PhaseCounts.{phase, answered, has_left}
 use Rattle.core_machine.specs.declared.table.address.Address.TheVariants.{Answer}
 use Rattle.core_machine.specs.declared.place.Place.{Place}
 use Rattle.core_machine.specs.declared.place.Place.TheVariants as places
 use Rattle.core_machine.specs.declared.place.Polling.{Polling}
 use Rattle.core_machine.specs.declared.place.Polling.TheVariants.{Asking, Shading, Answering}
-use Rattle.core_machine.specs.declared.collector.stage.Stage.TheVariants.{Advancing}
 use Rattle.core_machine.specs.collector.Collector.{Collector}
 use Rattle.core_machine.specs.table.Layout.{at}
 use Rattle.core_rule.specs.Counts.{is_collectors}
@@ -47,11 +45,8 @@ abbrev pub AnswerStands : ℕ → ℕ → ℕ → Place → Type 0
 AnswerStands phase answer asked (places.Polling place) = PollingStands phase answer asked place
 AnswerStands phase answer asked _ = Unit {0}
 
--- the collector's entries and phase are the history's; each seat that it has seen has answered the phase or left; and all have where it goes on to
--- the next phase. It doesn't go on from the first marking yet
+-- the collector's entries and phase are the history's, and each seat that it has seen has answered the phase or left
 pub record CollectorStands (heap : Heap) (collector : Collector) (history : List Entry) : Type 0 where
   pub log : collector.log ≡ filter is_collectors history
   pub phase_told : collector.phase ≡ phase history
   pub looked : (q : ℕ) → q < collector.looked → q < heap.seats → has_left q history ≡ false → answered q history ≡ phase history
-  pub advances : collector.stage ≡ Advancing → AllAnswered heap history
-  pub goes_on : collector.stage ≡ Advancing → phase history < marking

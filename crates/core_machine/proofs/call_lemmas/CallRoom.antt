@@ -1,5 +1,5 @@
 -- A call that is made by itself has room for its entries, and comes to an end.
-use Rattle.std.proofs.Common.{◌≡◌, ℕ, ◌+◌, ◌*◌, ◌<◌, ◌≤◌, eqb, false, List, [], ◌∷◌, length, Option, Some, None, refl, sym, ap, subst, ◌∙◌, length-append, arith}
+use Rattle.std.proofs.Common.{◌≡◌, ℕ, ◌+◌, ◌*◌, ◌<◌, ◌≤◌, eqb, false, length, Option, Some, None, refl, sym, ap, subst, ◌∙◌, length-append, arith}
 use Rattle.std.specs.Prelude.{IsSome, IfSome, option_map}
 use Rattle.core_machine.specs.declared.step.Step.{Step}
 use Rattle.std.proofs.lemmas.Bool.{ne_eqb}
@@ -8,27 +8,14 @@ use Rattle.heap_model.specs.declared.heap.Heap.{Heap}
 use Rattle.heap_model.specs.declared.command.Command.{Command}
 use Rattle.heap_model.specs.declared.entry.Entry.{Entry}
 use Rattle.heap_model.specs.account.Space.{need_of}
-use Rattle.core_machine.specs.declared.place.Place.TheVariants as places
 use Rattle.core_machine.specs.seat.Seat.{Seat, need}
-use Rattle.core_machine.specs.seat.Making.{goes_on}
 use Rattle.core_machine.specs.Moves.{Move, next_move, due_step, seat_after}
 use Rattle.core_machine.specs.machine.Machine.{State, seat_at, found_by, begun, Begins, Steps, Can, after, moved}
-use Rattle.core_machine.specs.seat.Fits.{IsAtRest, FitsPlace}
 use Rattle.core_machine.specs.machine.Value.{MachineValue, IsMachine, log_of, spare_of, SpendsRoom}
-use Rattle.core_machine.proofs.seat_lemmas.Fitting.{goes_on_cases, need_of_record}
-use Rattle.core_machine.proofs.call_lemmas.Owing.{owes, steps_left, Nears, nears}
-use Rattle.core_machine.proofs.call_lemmas.Awaits.{Adds, adds_at}
-use Rattle.core_machine.specs.seat.Commands.{IsServed}
-use Rattle.core_machine.specs.declared.seat.register.Register.{Register}
-use Rattle.core_machine.specs.declared.seat.register.Register.TheVariants.{Nil, Number, Object}
-use Rattle.core_machine.specs.seat.Registers.{register_in}
-use Rattle.core_machine.specs.seat.Reaching.{opened}
-use Rattle.core_machine.specs.seat.Polling.{leaving}
-use Rattle.heap_model.specs.Command.{IsCommand}
-use Rattle.heap_model.specs.declared.command.Command.TheVariants as commands
-use Rattle.heap_model.specs.declared.command.Command.TheVariants.{New, Array, Get, Set, Num, Copy, Same, Len, Poll, Collect, Leave}
-use Rattle.core_machine.proofs.machine_lemmas.Runs.{seat_at-set, machine_after}
-use Rattle.core_machine.proofs.call_lemmas.Calling.{begun_mine}
+use Rattle.core_machine.proofs.call_lemmas.Owes.{owes, steps_left}
+use Rattle.core_machine.proofs.moves.Standing.{MoveStands}
+use Rattle.core_machine.proofs.machine_lemmas.Runs.{seat_at-set, machine_after, moves_stand}
+use Rattle.core_machine.proofs.moves.{begin_stands}
 
 -- a seat's entries are those of its party
 pub log_of_seat : (machine : MachineValue) (number : ℕ) → number < length machine.state.seats → log_of machine number ≡ (seat_at machine.state number).mine
@@ -37,23 +24,17 @@ log_of_seat machine number within =
     rw other refl
 
 -- what a move leaves of room and steps, where its entries are the party's new ones
-room_by : (heap : Heap) (now : State) (number : ℕ) (move : Option Move) (step : Step) (seat : Seat) (owed steps : ℕ) → number < length now.seats
+room_by : (heap : Heap) (now : State) (number : ℕ) (move : Option Move) (step : Step) (seat : Seat) → number < length now.seats
     → option_map (λ m. m.step) move ≡ Some step → seat ≡ seat_at (moved heap now number move) number
-    → IfSome move (λ m. Nears heap (seat_after m (found_by heap now m.step)) owed steps (length (m.adds (found_by heap now m.step))))
-    → IfSome move (Adds heap now number (seat_at now number))
-    → (steps_left heap seat < steps) × ((added : ℕ) × (owes seat + added ≤ owed) × (length seat.mine ≡ length (seat_at now number).mine + added))
-room_by heap now number None step seat owed steps within due is nears_ adds = cc
-room_by heap now number (Some m) step seat owed steps within due is nears_ adds =
+    → IfSome move (MoveStands heap number (seat_at now number) (seat_at now number).place)
+    → (steps_left heap seat < steps_left heap (seat_at now number)) × ((added : ℕ) × (owes seat + added ≤ owes (seat_at now number)) × (length seat.mine ≡ length (seat_at now number).mine + added))
+room_by heap now number None step seat within due is stands = cc
+room_by heap now number (Some m) step seat within due is stands =
     let found = found_by heap now m.step in
     let here : seat ≡ seat_after m found = is ∙ seat_at-set now.seats number (seat_after m found) within in
     let long = length-append (m.told found).mine (m.adds found) in
-    rw here (nears_.fewer, (length (m.adds found), nears_.paid, omega (arith, ap (length {A = Entry}) adds.kept)))
-
--- what holds of a move at every word holds at the word that is found
-each_found : (heap : Heap) (now : State) (move : Option Move) (P : Move → ℕ → Type 0) → ((found : ℕ) → IfSome move (λ m. P m found))
-    → IfSome move (λ m. P m (found_by heap now m.step))
-each_found heap now None P each = tt
-each_found heap now (Some m) P each = each (found_by heap now m.step)
+    let near = stands.near found in
+    rw here (near.fewer, (length (m.adds found), near.paid, omega (arith, ap (length {A = Entry}) (stands.adds now).kept)))
 
 pub step_room : (old new : MachineValue) (number : ℕ) (step : Step) → IsMachine old.heap old.state → number < length old.state.seats
     → due_step old.heap number (seat_at old.state number) ≡ Some step → new.state ≡ after old.heap old.state (Steps number) → SpendsRoom old new number
@@ -62,9 +43,8 @@ pub step_room : (old new : MachineValue) (number : ℕ) (step : Step) → IsMach
 step_room old new number step machine within due is spends room =
     let seat = seat_at old.state number in
     let move = next_move old.heap number seat in
-    let found_nears = nears_found old.heap number old.state machine within in
-    let by = room_by old.heap old.state number move step (seat_at new.state number) (owes seat) (steps_left old.heap seat) within due
-    (ap (λ (s : State). seat_at s number) is) found_nears (adds_at old.heap old.state number seat seat.place refl) in
+    let by = room_by old.heap old.state number move step (seat_at new.state number) within due
+    (ap (λ (s : State). seat_at s number) is) (moves_stand old.heap old.state number machine within) in
     let some : IsSome move = some_due move step due in
     let after_ = machine_after old.heap old.state (Steps number) machine some in
     let still : number < length new.state.seats = omega (arith, ap (λ (s : State). length s.seats) is, after_.seated, machine.seated) in
@@ -76,12 +56,6 @@ step_room old new number step machine within due is spends room =
     some_due None step e = cc
     some_due (Some m) step e = refl
 
-    nears_found : (heap : Heap) (number : ℕ) (now : State) → IsMachine heap now → number < length now.seats
-        → IfSome (next_move heap number (seat_at now number)) (λ m. Nears heap (seat_after m (found_by heap now m.step)) (owes (seat_at now number)) (steps_left heap (seat_at now number)) (length (m.adds (found_by heap now m.step))))
-    nears_found heap number now machine within =
-        each_found heap now (next_move heap number (seat_at now number)) (λ m found. Nears heap (seat_after m found) (owes (seat_at now number)) (steps_left heap (seat_at now number)) (length (m.adds found)))
-        (λ found. nears heap number (seat_at now number) found (machine.fit number within))
-
 -- room that is spent step by step
 pub spends_on : (first second third : MachineValue) (number : ℕ) → SpendsRoom first second number → SpendsRoom second third number → SpendsRoom first third number
 spends_on first second third number one two = record {
@@ -90,47 +64,18 @@ spends_on first second third number one two = record {
 }
 
 -- a begin spends none
-pub spends_begun : (old new : MachineValue) (number : ℕ) (command : Command) → number < length old.state.seats → IsServed command
+pub spends_begun : (old new : MachineValue) (number : ℕ) (command : Command) → IsMachine old.heap old.state → Can old.heap old.state (Begins number command)
     → new ≡ record old { state = after old.heap old.state (Begins number command) } → SpendsRoom old new number
-spends_begun old new number command within served is =
+spends_begun old new number command machine can is =
+    let within = can.0 in
     let seat = seat_at old.state number in
     let begun_ = begun old.heap seat command in
     let now : MachineValue = record old { state = after old.heap old.state (Begins number command) } in
     let here : seat_at now.state number ≡ begun_ = seat_at-set old.state.seats number begun_ within in
     let still : number < length now.state.seats = omega (arith, within, length-set old.state.seats number begun_) in
     let same : (log_of now number) ≡ (log_of old number) =
-    log_of_seat now number still ∙ ap (λ (s : Seat). s.mine) here ∙ (begun_mine old.heap old.state.words number seat command served).0 ∙ sym (log_of_seat old number within) in
+    log_of_seat now number still ∙ ap (λ (s : Seat). s.mine) here ∙ (begin_stands old.heap number seat command machine.limits (machine.fit number within) can.1).kept ∙ sym (log_of_seat old number within) in
     subst (λ (m : MachineValue). SpendsRoom old m number) (sym is) (record { own = omega (arith, ap (length {A = Entry}) same); others = λ other apart. refl })
-
--- what is owed where a call is begun
-owes_goes_on : (heap : Heap) (seat : Seat) (command : Command) → 1 ≤ need_of command → 0 < heap.groups → seat.tried ≡ 0
-    → owes (goes_on heap (record seat { command = command })) ≤ 2 * need_of command + 2
-owes_goes_on heap seat command some groups none =
-    goes_on_cases (λ s. owes s ≤ 2 * need_of command + 2) heap (record seat { command = command }) (λ enough. omega arith) (λ few left. omega arith) (λ few all. absurd (omega arith))
-
-owes_opened : (seat : Seat) (register : Register) → owes (opened seat register) ≤ 2
-owes_opened seat Nil = omega arith
-owes_opened seat (Number n) = omega arith
-owes_opened seat (Object head id) = omega arith
-
-owes_leaving : (seat : Seat) (reserve : List ℕ) → owes (record seat { place = places.Leaving (leaving reserve) }) ≤ 2
-owes_leaving seat [] = omega arith
-owes_leaving seat (fragment ∷ more) = omega arith
-
-owes_begun : (heap : Heap) (seat : Seat) (command : Command) → IsServed command → IsCommand command → 0 < heap.groups → seat.tried ≡ 0
-    → owes (begun heap seat command) ≤ 2 * need_of command + 2
-owes_begun heap seat (New d fields) served range groups none = owes_goes_on heap seat (New d fields) (need_of_record (New d fields) tt range).0 groups none
-owes_begun heap seat (Array d cells) served range groups none = absurd served
-owes_begun heap seat (Get d r i) served range groups none = owes_opened (record seat { command = Get d r i }) (register_in seat.registers r)
-owes_begun heap seat (Set r i v) served range groups none = owes_opened (record seat { command = Set r i v }) (register_in seat.registers r)
-owes_begun heap seat (Len r) served range groups none = owes_opened (record seat { command = Len r }) (register_in seat.registers r)
-owes_begun heap seat (Num d n) served range groups none = omega arith
-owes_begun heap seat (commands.Nil d) served range groups none = omega arith
-owes_begun heap seat (Copy d r) served range groups none = omega arith
-owes_begun heap seat (Same a b) served range groups none = omega arith
-owes_begun heap seat Poll served range groups none = omega arith
-owes_begun heap seat Collect served range groups none = absurd served
-owes_begun heap seat Leave served range groups none = owes_leaving (record seat { command = Leave }) seat.reserve
 
 -- a call owes no more than twice its need and two when it is begun
 pub room_begun : (heap : Heap) (old : State) (number : ℕ) (command : Command) → IsMachine heap old → Can heap old (Begins number command)
@@ -139,9 +84,8 @@ room_begun heap old number command machine can =
     let seat = seat_at old number in
     let begun_ = begun heap seat command in
     let here : seat_at (after heap old (Begins number command)) number ≡ begun_ = seat_at-set old.seats number begun_ can.0 in
-    let rest : IsAtRest seat = subst (FitsPlace heap seat) can.1.idle (machine.fit number can.0).at_place in
     subst (λ (s : Seat). owes s ≤ 2 * need_of command + 2) (sym here)
-    (owes_begun heap seat command can.1.served can.1.in_range (omega (arith, machine.limits.some_group)) rest.none_tried)
+    (begin_stands heap number seat command machine.limits (machine.fit number can.0) can.1).owed
 
 -- a machine whose call has begun has room for it
 pub room_for : (old new : MachineValue) (number : ℕ) (command : Command) → IsMachine old.heap old.state → Can old.heap old.state (Begins number command)

@@ -12,22 +12,14 @@ use Rattle.core_machine.specs.Moves.{Move, next_move, seat_after}
 use Rattle.core_machine.specs.machine.Machine.{State, seat_at, found_by, stepped, begun, Begins, Steps, Can, after, moved, shown, entries, Run, after_all, history}
 use Rattle.core_machine.specs.machine.Calls.{call_events}
 use Rattle.core_machine.specs.machine.Value.{IsMachine}
-use Rattle.core_machine.proofs.seat_lemmas.Fitting.{goes_on_cases}
 use Rattle.core_machine.proofs.call_lemmas.Stages.{Stage}
 use Rattle.core_machine.proofs.call_lemmas.PlayingOn.{stage_moved}
 use Rattle.core_machine.proofs.call_lemmas.PlayingBegins.{stage_begun}
 use Rattle.core_machine.proofs.call_lemmas.Saying.{Says}
-use Rattle.core_machine.proofs.call_lemmas.SayingMoves.{says_begun, says_moved}
-use Rattle.core_machine.proofs.call_lemmas.Awaits.{Adds, adds_at}
+use Rattle.core_machine.proofs.moves.{begin_stands}
+use Rattle.core_machine.proofs.moves.Standing.{MoveStands}
 use Rattle.core_machine.specs.seat.Awaiting.{awaited}
-use Rattle.core_machine.specs.seat.Commands.{IsServed}
-use Rattle.core_machine.specs.declared.seat.register.Register.{Register}
-use Rattle.core_machine.specs.declared.seat.register.Register.TheVariants.{Nil, Number, Object}
-use Rattle.core_machine.specs.seat.Registers.{register_in}
-use Rattle.core_machine.specs.seat.Reaching.{opened}
-use Rattle.heap_model.specs.declared.command.Command.TheVariants as commands
-use Rattle.heap_model.specs.declared.command.Command.TheVariants.{New, Array, Get, Set, Num, Copy, Same, Len, Poll, Collect, Leave}
-use Rattle.core_machine.proofs.machine_lemmas.Runs.{Run-more, after_all-more, history-more, call_events-more, seat_at-set, machine_after}
+use Rattle.core_machine.proofs.machine_lemmas.Runs.{Run-more, after_all-more, history-more, call_events-more, seat_at-set, machine_after, moves_stand}
 
 -- a call is under way, and no other party made a step since its begin
 pub record Playing (heap : Heap) (old now : State) (number : ℕ) (command : Command) : Type 0 where
@@ -42,29 +34,6 @@ pub record Playing (heap : Heap) (old now : State) (number : ℕ) (command : Com
   pub stage : Stage heap old now number command told (seat_at now number) (seat_at now number).place
   pub says : Says (seat_at old number) number command (seat_at now number) told (seat_at now number).place
 
-opened_mine : (heap : Heap) (words : List ℕ) (number : ℕ) (seat : Seat) (register : Register)
-    → ((opened seat register).mine ≡ seat.mine) × (awaited heap words number (opened seat register) ≡ [])
-opened_mine heap words number seat Nil = (refl, refl)
-opened_mine heap words number seat (Number n) = (refl, refl)
-opened_mine heap words number seat (Object head id) = (refl, refl)
-
--- a begin adds no entry, and awaits none
-pub begun_mine : (heap : Heap) (words : List ℕ) (number : ℕ) (seat : Seat) (command : Command) → IsServed command
-    → ((begun heap seat command).mine ≡ seat.mine) × (awaited heap words number (begun heap seat command) ≡ [])
-begun_mine heap words number seat (New d fields) served =
-    goes_on_cases (λ s. (s.mine ≡ seat.mine) × (awaited heap words number s ≡ [])) heap (record seat { command = New d fields }) (λ enough. (refl, refl)) (λ few left. (refl, refl)) (λ few all. (refl, refl))
-begun_mine heap words number seat (Array d cells) served = absurd served
-begun_mine heap words number seat (Get d r i) served = opened_mine heap words number (record seat { command = Get d r i }) (register_in seat.registers r)
-begun_mine heap words number seat (Set r i v) served = opened_mine heap words number (record seat { command = Set r i v }) (register_in seat.registers r)
-begun_mine heap words number seat (Len r) served = opened_mine heap words number (record seat { command = Len r }) (register_in seat.registers r)
-begun_mine heap words number seat (Num d n) served = (refl, refl)
-begun_mine heap words number seat (commands.Nil d) served = (refl, refl)
-begun_mine heap words number seat (Copy d r) served = (refl, refl)
-begun_mine heap words number seat (Same a b) served = (refl, refl)
-begun_mine heap words number seat Poll served = (refl, refl)
-begun_mine heap words number seat Collect served = absurd served
-begun_mine heap words number seat Leave served = (refl, refl)
-
 pub playing_begun : (heap : Heap) (old : State) (number : ℕ) (command : Command) → IsMachine heap old → Can heap old (Begins number command)
     → Playing heap old (after heap old (Begins number command)) number command
 playing_begun heap old number command machine can =
@@ -72,7 +41,7 @@ playing_begun heap old number command machine can =
     let begun_ = begun heap seat command in
     let now = after heap old (Begins number command) in
     let here : seat_at now number ≡ begun_ = seat_at-set old.seats number begun_ can.0 in
-    let by = begun_mine heap now.words number seat command can.1.served in
+    let stands = begin_stands heap number seat command machine.limits (machine.fit number can.0) can.1 in
     record {
       steps = 0;
       can = (can, tt);
@@ -81,22 +50,23 @@ playing_begun heap old number command machine can =
       within = omega (arith, can.0, length-set old.seats number begun_);
       told = [];
       shows = refl;
-      mine = subst (λ (s : Seat). s.mine ++ awaited heap now.words number s ≡ seat.mine ++ []) (sym here) (rw (by.0, by.1) refl);
+      mine = subst (λ (s : Seat). s.mine ++ awaited heap now.words number s ≡ seat.mine ++ []) (sym here) (rw (stands.kept, stands.awaits now.words) refl);
       stage = subst (λ (s : Seat). Stage heap old now number command [] s s.place) (sym here) (stage_begun heap old number now (machine.fit number can.0) can.1.idle refl command can.1.served);
-      says = subst (λ (s : Seat). Says seat number command s [] s.place) (sym here) (says_begun heap seat number command can.1.served);
+      says = subst (λ (s : Seat). Says seat number command s [] s.place) (sym here) stands.says;
     }
 
 -- what a move leaves: the entries and the stage
 more_by : (heap : Heap) (old now : State) (number : ℕ) (command : Command) (told : List Entry) (move : Option Move)
     → number < length now.seats → (seat_at now number).mine ++ awaited heap now.words number (seat_at now number) ≡ (seat_at old number).mine ++ told
     → IfSome move (λ m. Stage heap old (stepped heap now number m) number command (told ++ m.shows now.words (found_by heap now m.step)) (seat_after m (found_by heap now m.step)) (seat_after m (found_by heap now m.step)).place)
-    → IfSome move (Adds heap now number (seat_at now number)) → IsSome move
+    → IfSome move (MoveStands heap number (seat_at now number) (seat_at now number).place) → IsSome move
     → ((seat_at (moved heap now number move) number).mine ++ awaited heap (moved heap now number move).words number (seat_at (moved heap now number move) number) ≡ (seat_at old number).mine ++ (told ++ shown heap now move))
     × Stage heap old (moved heap now number move) number command (told ++ shown heap now move) (seat_at (moved heap now number move) number) (seat_at (moved heap now number move) number).place
-more_by heap old now number command told None within mine stage adds some = cc
-more_by heap old now number command told (Some m) within mine stage adds some =
+more_by heap old now number command told None within mine stage stands some = cc
+more_by heap old now number command told (Some m) within mine stage stands some =
     let found = found_by heap now m.step in
     let here : seat_at (stepped heap now number m) number ≡ seat_after m found = seat_at-set now.seats number (seat_after m found) within in
+    let adds = stands.adds now in
     let shows_ = m.shows now.words found in
     let next = seat_after m found in
     let then_ = awaited heap (stepped heap now number m).words number next in
@@ -110,12 +80,13 @@ more_by heap old now number command told (Some m) within mine stage adds some =
 
 -- what a move leaves of what is said
 says_by : (heap : Heap) (old : Seat) (now : State) (number : ℕ) (command : Command) (told : List Entry) (move : Option Move) → number < length now.seats → IsSome move
-    → IfSome move (λ m. (found : ℕ) → Says old number command (seat_after m found) (told ++ m.shows now.words found) (seat_after m found).place)
+    → IfSome move (MoveStands heap number (seat_at now number) (seat_at now number).place) → Says old number command (seat_at now number) told (seat_at now number).place
     → Says old number command (seat_at (moved heap now number move) number) (told ++ shown heap now move) (seat_at (moved heap now number move) number).place
-says_by heap old now number command told None within some says = cc
-says_by heap old now number command told (Some m) within some says =
+says_by heap old now number command told None within some stands says = cc
+says_by heap old now number command told (Some m) within some stands says =
     let found = found_by heap now m.step in
-    subst (λ (s : Seat). Says old number command s (told ++ m.shows now.words found) s.place) (sym (seat_at-set now.seats number (seat_after m found) within)) (says found)
+    subst (λ (s : Seat). Says old number command s (told ++ m.shows now.words found) s.place) (sym (seat_at-set now.seats number (seat_after m found) within))
+    (stands.says old command now.words told says found)
 
 pub playing_more : (heap : Heap) (old now : State) (number : ℕ) (command : Command) → ((a : Address) → InTable heap a → at heap old.words a < 2 ^ 64)
     → Playing heap old now number command → IsSome (next_move heap number (seat_at now number))
@@ -125,9 +96,10 @@ playing_more heap old now number command small playing some =
     let more = call_events-more number command playing.steps in
     let next = after heap now (Steps number) in
     let machine = machine_after heap now (Steps number) playing.machine some in
+    let stands = moves_stand heap now number playing.machine playing.within in
     let left = more_by heap old now number command playing.told (next_move heap number (seat_at now number)) playing.within playing.mine
     (stage_moved heap old number command now playing.told playing.within playing.machine small playing.stage)
-    (adds_at heap now number (seat_at now number) (seat_at now number).place refl) some in
+    stands some in
     record {
       steps = playing.steps + 1;
       can = subst (Run heap old) (sym more) (Run-more heap old events (Steps number) playing.can (subst (λ (s : State). Can heap s (Steps number)) playing.ends some));
@@ -140,6 +112,5 @@ playing_more heap old now number command small playing some =
           ∙ ap (λ (s : State). playing.told ++ entries heap s (Steps number)) (sym playing.ends);
       mine = left.0;
       stage = left.1;
-      says = says_by heap (seat_at old number) now number command playing.told (next_move heap number (seat_at now number)) playing.within some
-          (says_moved (seat_at old number) number command heap now.words (seat_at now number) playing.told playing.says);
+      says = says_by heap (seat_at old number) now number command playing.told (next_move heap number (seat_at now number)) playing.within some stands playing.says;
     }

@@ -33,7 +33,7 @@ use Rattle.core_machine.proofs.table_lemmas.Bits.{bool_tells}
 use Rattle.core_machine.proofs.table_lemmas.Free.{sum_zero, free-claimed, clear_in-claimed}
 use Rattle.core_machine.proofs.seat_lemmas.Fitting.{goes_on_cases, returning_cases}
 use Rattle.core_machine.proofs.table_lemmas.Owned.{group_within}
-use Rattle.core_machine.proofs.call_lemmas.Owing.{out_shorter}
+use Rattle.core_machine.proofs.table_lemmas.Filters.{out_shorter}
 use Rattle.core_machine.proofs.call_lemmas.Restoring.{Claims, claims_none, claims_more, claims_less, claims_over}
 use Rattle.core_machine.proofs.machine_lemmas.Runs.{seat_at-set}
 use Rattle.core_machine.proofs.call_lemmas.Stages.{WhileGathering, WhileReturning, WhileMaking, StageOf, Stage}

@@ -1,29 +1,21 @@
 -- What a call that is made by itself has told and counted so far, by its place.
-use Rattle.std.proofs.Common.{◌≡◌, ◌≢◌, ℕ, ◌+◌, ◌≤◌, List, [], ◌∷◌, ◌++◌, length, inl, inr, refl, sym, ap, subst, ◌∙◌, append_assoc, arith}
+use Rattle.std.proofs.Common.{◌≡◌, ◌≢◌, ℕ, ◌+◌, ◌≤◌, List, [], ◌∷◌, ◌++◌, length, sym, ap, ◌∙◌, append_assoc, arith}
 use Rattle.std.specs.List.{AllByRecursion}
-use Rattle.std.proofs.lemmas.Bool.Decides.{eqb_tells}
-use Rattle.heap_model.specs.declared.heap.Heap.{Heap}
 use Rattle.heap_model.specs.declared.command.Command.{Command}
 use Rattle.heap_model.specs.declared.command.Command.TheVariants as commands
 use Rattle.heap_model.specs.declared.entry.Entry.{Entry}
 use Rattle.heap_model.specs.declared.entry.Entry.TheVariants.{Said}
 use Rattle.heap_model.specs.declared.reply.Reply.{Reply}
-use Rattle.heap_model.specs.declared.reply.Reply.TheVariants as replies
 use Rattle.heap_model.specs.calls.SeatCalls.{last_gives, leave_entries}
 use Rattle.core_machine.specs.declared.place.Place.{Place}
 use Rattle.core_machine.specs.declared.place.Place.TheVariants as places
-use Rattle.core_machine.specs.declared.place.Making.{Making}
-use Rattle.core_machine.specs.declared.place.Making.TheVariants.{Gathering, Returning, Refusing, Storing, Bearing}
 use Rattle.core_machine.specs.declared.place.Reaching.TheVariants.{Naming}
 use Rattle.core_machine.specs.declared.place.Leaving.{Leaving}
 use Rattle.core_machine.specs.declared.place.Leaving.TheVariants.{Emptying, Parting}
 use Rattle.core_machine.specs.machine.Calls.{IsBeside, CountsCall}
-use Rattle.core_machine.specs.table.Fragments.{clear_in}
-use Rattle.core_machine.specs.seat.Making.{goes_on, next_group, next_id}
-use Rattle.core_machine.specs.seat.Seat.{Seat, with_entries}
-use Rattle.core_machine.specs.Moves.{Move, seat_after, making_move, bearing_move, birth_move, last_birth_move, is_last_birth, takes_some}
-use Rattle.core_machine.proofs.table_lemmas.Bits.{bool_tells}
-use Rattle.core_machine.proofs.seat_lemmas.Fitting.{goes_on_cases}
+use Rattle.core_machine.specs.seat.Seat.{Seat}
+use Rattle.core_machine.specs.Moves.{Move, seat_after}
+use Rattle.core_machine.specs.machine.Machine.{after}
 
 -- what is beside comes after what is
 beside_more : (number : ℕ) (told more : List Entry) → AllByRecursion (IsBeside number) told → AllByRecursion (IsBeside number) more → AllByRecursion (IsBeside number) (told ++ more)
@@ -105,26 +97,3 @@ module _ (old : Seat) (number : ℕ) (command : Command) where
     };
     leave = λ a_leave. absurd (stays a_leave);
   }
-
-  goes_on_says : (heap : Heap) (seat next : Seat) (told more : List Entry) → IsGoing seat told × (command ≢ commands.Leave) → next.command ≡ seat.command → next.made ≡ seat.made → next.sets ≡ seat.sets → next.left ≡ seat.left
-      → AllByRecursion (IsBeside number) more → Says (with_entries (goes_on heap next) more) (told ++ more) (goes_on heap next).place
-  goes_on_says heap seat next told more (is, stays) same made sets left beside =
-      goes_on_cases (λ s. Says (with_entries s more) (told ++ more) s.place) heap next
-      (λ enough. (on seat _ told more is same made sets left beside, stays))
-      (λ few more_. (on seat _ told more is same made sets left beside, stays))
-      (λ few all. (on seat _ told more is same made sets left beside, stays))
-
-  took : (count : ℕ) → AllByRecursion (IsBeside number) (takes_some number count)
-  took count = elim (eqb_tells count 0) as (λ _. AllByRecursion (IsBeside number) (takes_some number count)) [ inl none ↦ rw none.0 tt | inr some ↦ rw some.0 (refl, tt) ]
-
-  pub says_making : (heap : Heap) (words : List ℕ) (seat : Seat) (told : List Entry) (place : Making) → seat.place ≡ places.Making place → IsGoing seat told × (command ≢ commands.Leave) → Leads seat told words (making_move heap number seat place)
-  says_making heap words seat told Gathering here is found =
-      goes_on_says heap seat (record seat { hand = seat.hand ++ clear_in (next_group heap seat) found; tried = seat.tried + 1 }) told (takes_some number (length (clear_in (next_group heap seat) found))) is refl refl refl refl (took (length (clear_in (next_group heap seat) found)))
-  says_making heap words seat told Returning here is found = (on seat _ told _ is.0 refl refl refl refl (refl, tt), is.1)
-  says_making heap words seat told Refusing here is found = ends seat _ told [] _ is (omega arith) (omega arith) refl tt
-  says_making heap words seat told Storing here is found = (on seat _ told [] is.0 refl refl refl refl tt, is.1)
-  says_making heap words seat told Bearing here is found =
-      elim (bool_tells (is_last_birth seat)) as (λ _. Says (seat_after (bearing_move number seat) found) (told ++ (bearing_move number seat).shows words found) (seat_after (bearing_move number seat) found).place) [
-        | inl last ↦ rw last (ends seat (seat_after (last_birth_move number seat) found) told [] (replies.Made (next_id number seat)) is (omega arith) (omega arith) refl tt)
-        | inr more ↦ rw more (subst (Says (seat_after (birth_move seat) found) (told ++ [])) (sym here) (on seat (seat_after (birth_move seat) found) told [] is.0 refl refl refl refl tt, is.1))
-      ]

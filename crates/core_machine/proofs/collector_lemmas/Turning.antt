@@ -2,7 +2,7 @@
 use Rattle.std.proofs.Common.{◌≡◌, ℕ, List, refl, subst, sym}
 use Rattle.heap_model.specs.declared.heap.Heap.{Heap}
 use Rattle.core_machine.specs.declared.step.Step.{Step}
-use Rattle.core_machine.specs.collector.Collector.{Collector, next_turn, collector_after, MayTurn}
+use Rattle.core_machine.specs.collector.Collector.{Collector, next_turn, collector_after}
 use Rattle.core_machine.specs.table.Layout.{put}
 use Rattle.core_machine.specs.table.Operation.{address_of, written}
 use Rattle.core_machine.specs.machine.Machine.{found_by, after, Turns}
@@ -24,6 +24,6 @@ module _ (heap : Heap) (words : List ℕ) (parties : List SeatWithRoom) (collect
   -- the turn leaves a machine
   pub turn_machine : (found : ℕ) (now : List ℕ) (next : Collector) → found ≡ found_by heap (state_of words parties collector) step
       → now ≡ put heap words (address_of step) (written step found) → next ≡ collector_after (next_turn heap collector) found
-      → MayTurn collector collector.stage → IsMachine heap (state_of words parties collector) → IsMachine heap (state_of now parties next)
+      → (next_turn heap collector).may → IsMachine heap (state_of words parties collector) → IsMachine heap (state_of now parties next)
   turn_machine found now next is now_is next_is may machine =
       subst (IsMachine heap) (sym (turn_leaves found now next is now_is next_is)) (machine_after heap (state_of words parties collector) Turns machine may)

@@ -10,20 +10,21 @@ use Rattle.heap_model.specs.declared.command.Command.{Command}
 use Rattle.heap_model.specs.declared.entry.Entry.{Entry}
 use Rattle.core_machine.specs.table.Layout.{put, InTable}
 use Rattle.core_machine.specs.table.Loaded.{LeadWithin, FoundWithin}
-use Rattle.core_machine.specs.collector.Collector.{next_turn, MayTurn}
+use Rattle.core_machine.specs.collector.Collector.{next_turn}
 use Rattle.core_machine.specs.table.Operation.{address_of, written}
 use Rattle.core_machine.specs.seat.Seat.{Seat, nobody}
 use Rattle.core_machine.specs.declared.step.Step.{Step}
-use Rattle.core_machine.specs.Moves.{Move, next_move, due_step, seat_moved, seat_after}
+use Rattle.core_machine.specs.Moves.{Move, next_move, due_step, seat_after}
 use Rattle.core_machine.specs.machine.Machine.{State, seat_at, found_by, Event, Begins, Steps, Turns, turned, Can, after, moved, entries, Run, after_all, history, begun}
 use Rattle.core_machine.specs.seat.Fits.{Fits}
 use Rattle.core_machine.specs.machine.Value.{IsMachine}
 use Rattle.core_machine.specs.machine.Calls.{call_events}
+use Rattle.core_machine.proofs.moves.Standing.{MoveStands}
+use Rattle.core_machine.proofs.moves.{move_stands, begin_stands}
 use Rattle.core_machine.proofs.table_lemmas.Addresses.{length-put, All-put, at-lt}
-use Rattle.core_machine.proofs.table_lemmas.Wide.{written_wide}
-use Rattle.core_machine.proofs.seat_lemmas.FittingMoves.{fits_begun, fits_moved, move_in_table}
-use Rattle.core_machine.proofs.collector_lemmas.FittingTurns.{fits_turn, turn_in_table, turn_wide, turn_leads}
-use Rattle.core_machine.proofs.table_lemmas.Leading.{leads-put, written_leads}
+use Rattle.core_machine.proofs.seat_lemmas.FittingEntries.{fits_entries}
+use Rattle.core_machine.proofs.collector_lemmas.{turn_stands}
+use Rattle.core_machine.proofs.table_lemmas.Leading.{leads-put}
 
 pub Run-more : (heap : Heap) (state : State) (events : List Event) (event : Event) → Run heap state events → Can heap (after_all heap state events) event
     → Run heap state (events ++ event ∷ [])
@@ -68,36 +69,41 @@ machine_with heap state words q seat machine within same wide leads fits =
       collector_fit = machine.collector_fit;
     }
 
+-- each move of one of the seats stands
+pub moves_stand : (heap : Heap) (state : State) (q : ℕ) → IsMachine heap state → q < length state.seats
+    → IfSome (next_move heap q (seat_at state q)) (MoveStands heap q (seat_at state q) (seat_at state q).place)
+moves_stand heap state q machine within =
+    move_stands heap q (seat_at state q) machine.limits (omega (arith, within, machine.seated, machine.limits.seats_fit)) (machine.fit q within)
+
 machine_moved : (heap : Heap) (state : State) (q : ℕ) (move : Option Move) → IsMachine heap state → q < length state.seats
-    → ((found : ℕ) → found < 2 ^ 64 → IfSome move (λ m. FoundWithin heap (address_of m.step) found) → Fits heap (seat_moved (seat_at state q) move found))
-    → ((found : ℕ) → found < 2 ^ 64 → IfSome move (λ m. written m.step found < 2 ^ 64))
-    → ((found : ℕ) → IfSome move (λ m. FoundWithin heap (address_of m.step) found) → IfSome move (λ m. FoundWithin heap (address_of m.step) (written m.step found)))
-    → IfSome move (λ m. InTable heap (address_of m.step)) → IsMachine heap (moved heap state q move)
-machine_moved heap state q None machine within fits wide leads there = machine
-machine_moved heap state q (Some move) machine within fits wide leads there =
+    → IfSome move (MoveStands heap q (seat_at state q) (seat_at state q).place) → IsMachine heap (moved heap state q move)
+machine_moved heap state q None machine within stands = machine
+machine_moved heap state q (Some move) machine within stands =
     let found = found_by heap state move.step in
+    let there = stands.step.in_table in
     let small = at-lt heap state.words (address_of move.step) machine.wide in
     let led = machine.leads (address_of move.step) there in
     machine_with heap state (put heap state.words (address_of move.step) (written move.step found)) q (seat_after move found) machine within
     (length-put heap state.words (address_of move.step) (written move.step found))
-    (All-put heap state.words (address_of move.step) (written move.step found) (wide found small) machine.wide)
-    (leads-put heap state.words (address_of move.step) (written move.step found) there (leads found led) machine.leads)
-    (fits found small led)
+    (All-put heap state.words (address_of move.step) (written move.step found) (stands.step.wide found small) machine.wide)
+    (leads-put heap state.words (address_of move.step) (written move.step found) there (stands.step.leads found led) machine.leads)
+    (fits_entries heap (move.told found) (move.adds found) (stands.fits found small led))
 
 -- the collector's turn leaves a machine
-machine_turned : (heap : Heap) (state : State) → IsMachine heap state → MayTurn state.collector state.collector.stage → IsMachine heap (turned heap state (next_turn heap state.collector))
+machine_turned : (heap : Heap) (state : State) → IsMachine heap state → (next_turn heap state.collector).may → IsMachine heap (turned heap state (next_turn heap state.collector))
 machine_turned heap state machine may =
     let step = (next_turn heap state.collector).step in
     let found = found_by heap state step in
-    let there = turn_in_table heap state.collector machine.limits machine.collector_fit in
+    let stands = turn_stands heap state.collector machine.limits machine.collector_fit in
+    let there = stands.step.in_table in
     record {
       limits = machine.limits;
       table = length-put heap state.words (address_of step) (written step found) ∙ machine.table;
-      wide = All-put heap state.words (address_of step) (written step found) (turn_wide heap state.collector found machine.collector_fit (at-lt heap state.words (address_of step) machine.wide)) machine.wide;
-      leads = leads-put heap state.words (address_of step) (written step found) there (turn_leads heap state.collector (written step found)) machine.leads;
+      wide = All-put heap state.words (address_of step) (written step found) (stands.step.wide found (at-lt heap state.words (address_of step) machine.wide)) machine.wide;
+      leads = leads-put heap state.words (address_of step) (written step found) there (stands.step.leads found (machine.leads (address_of step) there)) machine.leads;
       seated = machine.seated;
       fit = machine.fit;
-      collector_fit = fits_turn heap state.collector found machine.limits machine.collector_fit may;
+      collector_fit = stands.fits found may;
     }
 
 -- who has a move is a seat
@@ -112,11 +118,12 @@ mover_within heap state q some =
     none e = cc
 
 -- the due step touches a word of the table, and finds one there that leads within the heap
-due_at_move : (heap : Heap) (state : State) (move : Option Move) (step : Step) → IsMachine heap state → option_map (λ m. m.step) move ≡ Some step
-    → IfSome move (λ m. InTable heap (address_of m.step))
+due_at_move : (heap : Heap) (state : State) (q : ℕ) (move : Option Move) (step : Step) → IsMachine heap state → option_map (λ m. m.step) move ≡ Some step
+    → IfSome move (MoveStands heap q (seat_at state q) (seat_at state q).place)
     → InTable heap (address_of step) × IfSome move (λ m. FoundWithin heap (address_of m.step) (found_by heap state step))
-due_at_move heap state None step machine due there = cc
-due_at_move heap state (Some move) step machine due there =
+due_at_move heap state q None step machine due stands = cc
+due_at_move heap state q (Some move) step machine due stands =
+    let there = stands.step.in_table in
     let same : move.step ≡ step = cc in (
       subst (λ (s : Step). InTable heap (address_of s)) same there,
       subst (λ (s : Step). FoundWithin heap (address_of move.step) (found_by heap state s)) same (machine.leads (address_of move.step) there),
@@ -125,19 +132,13 @@ due_at_move heap state (Some move) step machine due there =
 pub due_within_table : (heap : Heap) (state : State) (q : ℕ) (step : Step) → IsMachine heap state → q < length state.seats → due_step heap q (seat_at state q) ≡ Some step
     → InTable heap (address_of step) × IfSome (next_move heap q (seat_at state q)) (λ m. FoundWithin heap (address_of m.step) (found_by heap state step))
 due_within_table heap state q step machine within due =
-    due_at_move heap state (next_move heap q (seat_at state q)) step machine due
-    (move_in_table heap q (seat_at state q) (omega (arith, within, machine.seated, machine.limits.seats_fit)) (machine.fit q within))
+    due_at_move heap state q (next_move heap q (seat_at state q)) step machine due (moves_stand heap state q machine within)
 
 -- every event leaves a machine
 pub machine_after : (heap : Heap) (state : State) (event : Event) → IsMachine heap state → Can heap state event → IsMachine heap (after heap state event)
 machine_after heap state (Begins q command) machine can =
-    machine_with heap state state.words q (begun heap (seat_at state q) command) machine can.0 refl machine.wide machine.leads (fits_begun heap (seat_at state q) command (machine.fit q can.0) can.1)
+    machine_with heap state state.words q (begun heap (seat_at state q) command) machine can.0 refl machine.wide machine.leads (begin_stands heap q (seat_at state q) command machine.limits (machine.fit q can.0) can.1).fits
 machine_after heap state (Steps q) machine can =
     let within = mover_within heap state q can in
-    let few : q < 16 = omega (arith, within, machine.seated, machine.limits.seats_fit) in
-    let fits = machine.fit q within in
-    machine_moved heap state q (next_move heap q (seat_at state q)) machine within (λ found small led. fits_moved heap q (seat_at state q) found fits small led)
-    (λ found small. written_wide heap q (seat_at state q) found machine.limits few fits small)
-    (λ found led. written_leads heap q (seat_at state q) found machine.limits few fits led)
-    (move_in_table heap q (seat_at state q) few fits)
+    machine_moved heap state q (next_move heap q (seat_at state q)) machine within (moves_stand heap state q machine within)
 machine_after heap state Turns machine can = machine_turned heap state machine can

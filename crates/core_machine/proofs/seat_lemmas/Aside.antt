@@ -5,7 +5,6 @@ use Rattle.std.proofs.lemmas.List.Elements.{All-nil}
 use Rattle.heap_model.specs.declared.heap.Heap.{Heap}
 use Rattle.core_machine.specs.declared.place.Place.{Place}
 use Rattle.core_machine.specs.declared.place.Place.TheVariants as places
-use Rattle.core_machine.specs.declared.place.Making.{Making}
 use Rattle.core_machine.specs.declared.seat.register.Register.{Register}
 use Rattle.core_machine.specs.table.Loaded.{head_in, IsWithinHeap}
 use Rattle.core_machine.specs.seat.Seat.{Seat, over}
@@ -38,18 +37,6 @@ present_busy heap seat place fits here busy = by seat.left (λ gone. busy (sym h
   by : (left : Bool) → (left ≡ true → ⊥) → left ≡ false
   by false no_ = refl
   by true no_ = absurd (no_ refl)
-
--- while an object is made
-pub aside_making : (heap : Heap) (seat : Seat) (place : Making) → Fits heap seat → seat.place ≡ places.Making place → IsAside heap seat
-aside_making heap seat place fits here = record {
-  registers_fit = fits.own.registers_fit;
-  reached_within = fits.way.reached_within;
-  loaded_within = fits.way.loaded_within;
-  asked_small = fits.asked_small;
-  nowhere = subst (FitsWay seat) here fits.way_at_place;
-  silent = subst (FitsAnswer seat) here fits.answer_at_place;
-  present = present_busy heap seat (places.Making place) fits here (λ e. cc);
-}
 
 -- while no call is in flight
 pub aside_idle : (heap : Heap) (seat : Seat) → Fits heap seat → seat.place ≡ places.Idle → seat.left ≡ false → IsAside heap seat

@@ -13,7 +13,7 @@ use Rattle.core_machine.specs.declared.place.Making.{Making}
 use Rattle.core_machine.specs.declared.place.Making.TheVariants.{Gathering, Returning, Refusing}
 use Rattle.core_machine.specs.seat.Commands.{IsRecord}
 use Rattle.core_machine.specs.seat.Seat.{Seat, need}
-use Rattle.core_machine.specs.seat.Making.{gathered, settled, refused, returning, goes_on, last_claimed}
+use Rattle.core_machine.specs.seat.Making.{gathered, settled, refused, returning, goes_on, last_claimed, next_group}
 use Rattle.core_machine.specs.seat.Fits.{AreFragments, MakesRecord, Refuses, FitsMaking, Fits}
 use Rattle.core_machine.proofs.seat_lemmas.Aside.{IsAside, gone_aside}
 use Rattle.core_machine.proofs.table_lemmas.Owned.{within_group}
@@ -142,3 +142,7 @@ fits_goes_on heap seat is =
     let long = length-append seat.reserve seat.hand in
     goes_on_cases (Fits heap) heap seat (λ enough. fits_settled heap seat is enough) (λ few left. fits_gathering heap seat is left (omega arith))
     (λ few all. fits_refused heap seat is (omega (arith, is.tried_within)) (omega arith))
+
+-- the group that is claimed next
+pub next_within : (heap : Heap) (seat : Seat) → seat.cursor < heap.groups → next_group heap seat < heap.groups
+next_within heap seat within = omega arith

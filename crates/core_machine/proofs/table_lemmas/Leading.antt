@@ -10,37 +10,17 @@ use Rattle.heap_words.specs.declared.kind.Kind.TheVariants as kinds
 use Rattle.heap_words.specs.Cell.{cell_word}
 use Rattle.heap_words.specs.Name.{name_word}
 use Rattle.heap_model.specs.declared.heap.Heap.{Heap}
-use Rattle.heap_model.specs.Heap.{IsHeap}
-use Rattle.heap_model.specs.graph.Growth.{stamp_of}
 use Rattle.core_machine.specs.declared.table.address.Address.{Address}
-use Rattle.core_machine.specs.declared.place.Place.{Place}
-use Rattle.core_machine.specs.declared.place.Place.TheVariants as places
-use Rattle.core_machine.specs.declared.place.Making.{Making}
-use Rattle.core_machine.specs.declared.place.Making.TheVariants.{Gathering, Returning, Refusing, Storing, Bearing}
-use Rattle.core_machine.specs.declared.place.Reaching.{Reaching}
-use Rattle.core_machine.specs.declared.place.Reaching.TheVariants.{Opening, Walking, Getting, Naming, LoadingOld, ShadingOld, ShadingNew, Swapping}
-use Rattle.core_machine.specs.declared.place.Polling.TheVariants.{Asking, Shading, Answering}
-use Rattle.core_machine.specs.declared.place.Leaving.TheVariants.{Emptying, Parting}
+use Rattle.core_machine.specs.declared.table.address.Address.TheVariants.{Phase, Answer, Budget, Spot, Control, Word, Spine}
 use Rattle.core_machine.specs.declared.seat.register.Register.{Register}
 use Rattle.core_machine.specs.declared.seat.register.Register.TheVariants.{Nil, Number, Object}
-use Rattle.core_machine.specs.seat.Commands.{source_of, field_of, fields_of}
 use Rattle.core_machine.specs.table.Layout.{at, put, index_of, InTable}
 use Rattle.core_machine.specs.table.Loaded.{lead_of, first_lead, referred, IsWithinHeap, LeadWithin, FoundWithin}
 use Rattle.core_machine.specs.table.Newborn.{link_after, head_word, record_word}
-use Rattle.core_machine.specs.table.Operation.{address_of, written}
-use Rattle.core_machine.specs.seat.Making.{next_name}
-use Rattle.core_machine.specs.seat.Reaching.{part_of}
-use Rattle.core_machine.specs.seat.Registers.{register_in, register_word}
-use Rattle.core_machine.specs.seat.Seat.{Seat}
-use Rattle.core_machine.specs.Moves.{move_at, making_move, reaching_move, next_move, bearing_move, is_last_birth}
-use Rattle.core_machine.specs.seat.FitsReaching.{FitsReaching}
-use Rattle.core_machine.specs.seat.Fits.{AreFragments, FitsRegister, FitsPlace, FitsWay, FitsMaking, Fits}
+use Rattle.core_machine.specs.seat.Registers.{register_word}
+use Rattle.core_machine.specs.seat.Fits.{AreFragments, FitsRegister}
 use Rattle.core_machine.proofs.table_lemmas.Addresses.{at-put_other, index_apart, put-tells}
-use Rattle.core_machine.proofs.table_lemmas.Bits.{bool_tells}
 use Rattle.core_machine.proofs.table_lemmas.CellWords.{cell_of-cell_word}
-use Rattle.core_machine.proofs.seat_lemmas.FittingAnswers.{register_fits}
-use Rattle.core_machine.proofs.table_lemmas.WithinHeap.{part_some}
-use Rattle.core_machine.proofs.table_lemmas.Wide.{fields_few, set_numbered}
 
 -- another word in the place of one
 pub leads-put : (heap : Heap) (words : List ℕ) (a : Address) (word : ℕ) → InTable heap a → FoundWithin heap a word
@@ -62,7 +42,7 @@ cell_lead part kind value stamp small short =
     ap (λ (c : Cell). cond (eqb part 0) (first_lead c.kind c) (referred c.kind c.value)) (cell_of-cell_word kind value stamp small short)
 
 -- a register's word leads to its object
-register_leads : (heap : Heap) (register : Register) (stamp part : ℕ) → eqb part 0 ≡ false → 16 * heap.groups ≤ 2 ^ 16 → FitsRegister heap register → stamp < 2 ^ 32
+pub register_leads : (heap : Heap) (register : Register) (stamp part : ℕ) → eqb part 0 ≡ false → 16 * heap.groups ≤ 2 ^ 16 → FitsRegister heap register → stamp < 2 ^ 32
     → IsWithinHeap heap (lead_of part (register_word register stamp))
 register_leads heap Nil stamp part some few fit small = subst (IsWithinHeap heap) (sym (cell_lead part kinds.Nil 0 stamp (omega arith) small)) (rw some tt)
 register_leads heap (Number n) stamp part some few fit small = subst (IsWithinHeap heap) (sym (cell_lead part kinds.Number n stamp fit small)) (rw some tt)
@@ -117,46 +97,3 @@ record_leads heap name fields fragments k part owner count few some small each =
       ])
     ]
 
-making_leads : (heap : Heap) (number : ℕ) (seat : Seat) (found : ℕ) (place : Making) → IsHeap heap → number < 16 → Fits heap seat → FitsMaking heap seat place
-    → FoundWithin heap (address_of (making_move heap number seat place).step) (written (making_move heap number seat place).step found)
-making_leads heap number seat found Gathering limits few fits is = tt
-making_leads heap number seat found Returning limits few fits is = tt
-making_leads heap number seat found Refusing limits few fits is = tt
-making_leads heap number seat found Storing limits few fits is =
-    record_leads heap (next_name number seat) (fields_of seat.command) seat.body (seat.stored / 4) (seat.stored % 4) (omega arith) (omega (arith, is.0.makes.numbered))
-    (omega (arith, fields_few seat.command is.0.makes.a_record is.0.makes.in_range)) (omega (arith, fits.own.cursor_within)) (omega (arith, limits.groups_fit)) fits.hand.body_within
-making_leads heap number seat found Bearing limits few fits is =
-    elim (bool_tells (is_last_birth seat)) as (λ _. FoundWithin heap (address_of (bearing_move number seat).step) (written (bearing_move number seat).step found)) [ inl last ↦ rw last tt | inr more ↦ rw more tt ]
-
-reaching_leads : (heap : Heap) (number : ℕ) (seat : Seat) (found : ℕ) (place : Reaching) → IsHeap heap → number < 16 → Fits heap seat → FitsReaching seat place
-    → FoundWithin heap (address_of (reaching_move heap number seat place).step) found
-    → FoundWithin heap (address_of (reaching_move heap number seat place).step) (written (reaching_move heap number seat place).step found)
-reaching_leads heap number seat found Opening limits few fits is led = led
-reaching_leads heap number seat found Walking limits few fits is led = led
-reaching_leads heap number seat found Getting limits few fits is led = led
-reaching_leads heap number seat found Naming limits few fits is led = led
-reaching_leads heap number seat found LoadingOld limits few fits is led = led
-reaching_leads heap number seat found ShadingOld limits few fits is led = tt
-reaching_leads heap number seat found ShadingNew limits few fits is led = tt
-reaching_leads heap number seat found Swapping limits few fits is led =
-    register_leads heap (register_in seat.registers (source_of seat.command)) (stamp_of number (seat.sets + 1)) (part_of (field_of seat.command)) (part_some (field_of seat.command))
-    (omega (arith, limits.groups_fit)) (register_fits heap seat.registers (source_of seat.command) fits.own.registers_fit) (omega (arith, few, set_numbered seat.command seat.made seat.sets is.0.1 is.0.0.numbered))
-
-leads_at : (heap : Heap) (number : ℕ) (seat : Seat) (found : ℕ) (place : Place) → IsHeap heap → number < 16 → Fits heap seat → FitsPlace heap seat place → FitsWay seat place
-    → IfSome (move_at heap number seat place) (λ move. FoundWithin heap (address_of move.step) found)
-    → IfSome (move_at heap number seat place) (λ move. FoundWithin heap (address_of move.step) (written move.step found))
-leads_at heap number seat found places.Idle limits few fits is way led = tt
-leads_at heap number seat found (places.Making place) limits few fits is way led = making_leads heap number seat found place limits few fits is
-leads_at heap number seat found places.Telling limits few fits is way led = tt
-leads_at heap number seat found (places.Reaching place) limits few fits is way led = reaching_leads heap number seat found place limits few fits way led
-leads_at heap number seat found (places.Polling Asking) limits few fits is way led = tt
-leads_at heap number seat found (places.Polling Shading) limits few fits is way led = tt
-leads_at heap number seat found (places.Polling Answering) limits few fits is way led = tt
-leads_at heap number seat found (places.Leaving Emptying) limits few fits is way led = tt
-leads_at heap number seat found (places.Leaving Parting) limits few fits is way led = tt
-
--- the word that the due step writes leads within the heap where the one found does
-pub written_leads : (heap : Heap) (number : ℕ) (seat : Seat) (found : ℕ) → IsHeap heap → number < 16 → Fits heap seat
-    → IfSome (next_move heap number seat) (λ move. FoundWithin heap (address_of move.step) found)
-    → IfSome (next_move heap number seat) (λ move. FoundWithin heap (address_of move.step) (written move.step found))
-written_leads heap number seat found limits few fits led = leads_at heap number seat found seat.place limits few fits fits.at_place fits.way_at_place led

@@ -1,17 +1,18 @@
 -- What leads within the heap, where something leads on.
-use Rattle.std.proofs.Common.{zero, suc, ◌≡◌, ℕ, ◌*◌, ◌%◌, ◌<◌, ◌≤◌, false, eqb, List, [], ◌∷◌, length, get_or, Option, Some, None, inl, inr, arith}
+use Rattle.std.proofs.Common.{zero, suc, ◌≡◌, ℕ, ◌*◌, ◌%◌, ◌<◌, ◌≤◌, false, eqb, List, [], ◌∷◌, length, get_or, Option, Some, None, inl, inr, arith, subst, sym}
 use Rattle.std.specs.Prelude.{IsSome, unwrap_or}
 use Rattle.std.specs.List.{All}
-use Rattle.std.proofs.lemmas.Bool.Decides.{eqb_tells}
+use Rattle.std.proofs.lemmas.Bool.Decides.{eqb_tells, leb_tells}
 use Rattle.heap_model.specs.declared.heap.Heap.{Heap}
 use Rattle.core_machine.specs.declared.seat.register.Register.{Register}
 use Rattle.core_machine.specs.declared.seat.register.Register.TheVariants.{Nil, Number, Object}
 use Rattle.core_machine.specs.table.Loaded.{head_in, lead_of, IsWithinHeap}
 use Rattle.core_machine.specs.seat.Reaching.{part_of}
-use Rattle.core_machine.specs.seat.Registers.{head_of, heads}
+use Rattle.core_machine.specs.seat.Registers.{head_of, heads, register_in}
 use Rattle.core_machine.specs.seat.Polling.{roots}
 use Rattle.core_machine.specs.seat.Seat.{Seat}
 use Rattle.core_machine.specs.seat.Fits.{FitsRegister, Fits}
+use Rattle.std.proofs.lemmas.List.{get_or_past}
 
 -- a field doesn't stand in a fragment's first word
 pub part_some : (i : ℕ) → eqb (part_of i) 0 ≡ false
@@ -59,3 +60,15 @@ pub few_roots : (seat : Seat) → length (roots seat) ≤ length seat.registers
 few_roots seat =
     let few = few_heads seat.registers in
     elim (eqb_tells (seat.asked % 7) 3) as (λ _. length (roots seat) ≤ length seat.registers) [ inl third ↦ rw third.0 few | inr other ↦ rw other.0 (omega arith) ]
+
+-- one of the registers
+pub register_fits : (heap : Heap) (registers : List Register) (r : ℕ) → All (FitsRegister heap) registers → FitsRegister heap (register_in registers r)
+register_fits heap registers r fit =
+    elim (leb_tells (suc r) (length registers)) as (λ _. FitsRegister heap (register_in registers r)) [
+      | inl within ↦ fit r Nil within.1
+      | inr past ↦ subst (FitsRegister heap) (sym (get_or_past registers r Nil (omega (arith, past.1)))) tt
+    ]
+
+-- a field stands in a word of its fragment
+pub part_small : (i : ℕ) → part_of i < 4
+part_small i = omega arith

@@ -8,10 +8,11 @@ use Rattle.heap_model.specs.declared.entry.Entry.{Entry}
 use Rattle.heap_model.specs.declared.entry.Entry.TheVariants.{Advance}
 use Rattle.heap_model.specs.PhasePlan.{cycle_phases, marking}
 use Rattle.core_machine.specs.declared.collector.stage.Stage.{Stage}
-use Rattle.core_machine.specs.declared.collector.stage.Stage.TheVariants.{Looking, Advancing}
+use Rattle.core_machine.specs.declared.collector.stage.Stage.TheVariants as stages
 use Rattle.core_machine.specs.declared.step.Step.{Step}
 use Rattle.core_machine.specs.declared.step.Step.TheVariants.{Turning}
-use Rattle.core_machine.specs.declared.step.TurningStep.TheVariants.{LookLoad, AdvanceStore}
+use Rattle.core_machine.specs.declared.step.TurningStep.{TurningStep}
+use Rattle.core_machine.specs.declared.step.TurningStep.TheVariants as turning
 
 pub record Collector : Type 0 where
   -- the phase
@@ -25,7 +26,7 @@ pub record Collector : Type 0 where
 
 -- the collector at the opening
 abbrev pub opening_collector : Collector
-opening_collector = record { phase = 0; stage = Looking; looked = 0; log = [] }
+opening_collector = record { phase = 0; stage = stages.Looking; looked = 0; log = [] }
 
 -- the seat with this word has answered the phase, or has left
 abbrev pub has_answered : ℕ → ℕ → Bool
@@ -34,7 +35,7 @@ has_answered phase word = if word == phase then true else word == LEFT
 -- every seat has answered. Where marking begins the work is still to come: the collector looks from seat 0 again
 abbrev pub looked_all : Heap → Collector → Collector
 looked_all heap collector =
-    if collector.phase % cycle_phases == marking then record collector { looked = 0 } else record collector { looked = heap.seats; stage = Advancing }
+    if collector.phase % cycle_phases == marking then record collector { looked = 0 } else record collector { looked = heap.seats; stage = stages.Advancing }
 
 -- one more seat has answered
 abbrev pub looked_on : Heap → Collector → Collector
@@ -47,29 +48,47 @@ looked_at heap collector found = if has_answered collector.phase found then look
 
 -- the next phase has begun
 abbrev pub advanced : Collector → Collector
-advanced collector = record collector { phase = collector.phase + 1; stage = Looking; looked = 0 }
+advanced collector = record collector { phase = collector.phase + 1; stage = stages.Looking; looked = 0 }
 
-pub record Turn : Type 0 where
+-- what one turn of the collector does: each turn is a row that says all of it
+pub record Turn : Type 1 where
   -- the step that is due
   pub step : Step
   -- the collector after it, by the word found; its entries are left as they are
   pub told : ℕ → Collector
   -- what it adds to the collector's entries and to the history
   pub adds : List Entry
+  -- what it answers, by the word found. No turn ends a cycle yet
+  pub answer : ℕ → TurnAnswer
+  -- under which condition it may be made
+  pub may : Type 0
+
+-- a turn that adds no entry, and that may always be made
+abbrev pub quiet_turn : TurningStep → (ℕ → Collector) → (ℕ → TurnAnswer) → Turn
+quiet_turn step told answer = record { step = Turning step; told = told; adds = []; answer = answer; may = Unit {0} }
+
+-- it waits where the seat hasn't answered
+abbrev pub look_answer : Collector → ℕ → TurnAnswer
+look_answer collector found =
+    if has_answered collector.phase found then Stepped else Waits collector.looked found collector.phase
 
 abbrev pub look_turn : Heap → Collector → Turn
-look_turn heap collector = record { step = Turning (LookLoad collector.looked); told = looked_at heap collector; adds = [] }
+look_turn heap collector =
+    quiet_turn (turning.LookLoad collector.looked) (looked_at heap collector) (look_answer collector)
 
+-- below the last two numbers of a word there is one left for the next phase
 abbrev pub advance_turn : Collector → Turn
 advance_turn collector = record {
-  step = Turning (AdvanceStore (collector.phase + 1));
+  step = Turning (turning.AdvanceStore (collector.phase + 1));
   told = λ found. advanced collector;
   adds = Advance (collector.phase + 1) ∷ [];
+  answer = λ found. Stepped;
+  may = collector.phase < 2 ^ 64 - 2;
 }
 
 abbrev pub turn_at : Heap → Collector → Stage → Turn
-turn_at heap collector Looking = look_turn heap collector
-turn_at heap collector Advancing = advance_turn collector
+turn_at heap collector stages.Looking = look_turn heap collector
+turn_at heap collector stages.Advancing = advance_turn collector
 
 -- the collector's next turn
 abbrev pub next_turn : Heap → Collector → Turn
@@ -78,14 +97,3 @@ next_turn heap collector = turn_at heap collector collector.stage
 -- the collector after a turn that found this word
 abbrev pub collector_after : Turn → ℕ → Collector
 collector_after turn found = record (turn.told found) { log = (turn.told found).log ++ turn.adds }
-
--- what a turn answers that found this word: it waits where the seat hasn't answered. No turn ends a cycle yet
-abbrev pub turn_answer : Collector → Stage → ℕ → TurnAnswer
-turn_answer collector Looking found =
-    if has_answered collector.phase found then Stepped else Waits collector.looked found collector.phase
-turn_answer collector Advancing found = Stepped
-
--- a turn may be made: below the last two numbers of a word there is one left for the next phase
-abbrev pub MayTurn : Collector → Stage → Type 0
-MayTurn collector Looking = Unit {0}
-MayTurn collector Advancing = collector.phase < 2 ^ 64 - 2

@@ -17,7 +17,7 @@ use Rattle.core_machine.specs.seat.Reaching.{opened}
 use Rattle.core_machine.specs.seat.Registers.{register_in}
 use Rattle.core_machine.specs.seat.Polling.{leaving}
 use Rattle.core_machine.specs.Moves.{Move, next_move, seat_after}
-pub use Rattle.core_machine.specs.collector.Collector.{Collector, Turn, next_turn, collector_after, MayTurn}
+pub use Rattle.core_machine.specs.collector.Collector.{Collector, Turn, next_turn, collector_after}
 
 -- the words of the table, the seats in their order, and the collector
 pub record State : Type 0 where
@@ -84,7 +84,7 @@ pub data Event : Type 0 where
 abbrev pub Can : Heap → State → Event → Type 0
 Can heap state (Begins number command) = (number < length state.seats) × MayBegin (seat_at state number) command
 Can heap state (Steps number) = IsSome (next_move heap number (seat_at state number))
-Can heap state Turns = MayTurn state.collector state.collector.stage
+Can heap state Turns = (next_turn heap state.collector).may
 
 abbrev pub moved : Heap → State → ℕ → Option Move → State
 moved heap state number None = state

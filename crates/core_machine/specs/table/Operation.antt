@@ -16,7 +16,7 @@ use Rattle.core_machine.specs.declared.step.ReachingStep.TheVariants.{WalkLoad, 
 use Rattle.core_machine.specs.declared.step.AnsweringStep.{AnsweringStep}
 use Rattle.core_machine.specs.declared.step.AnsweringStep.TheVariants.{AnswerStore, LeaveStore}
 use Rattle.core_machine.specs.declared.step.TurningStep.{TurningStep}
-use Rattle.core_machine.specs.declared.step.TurningStep.TheVariants.{LookLoad, AdvanceStore}
+use Rattle.core_machine.specs.declared.step.TurningStep.TheVariants as turning
 
 -- the word that a step of making touches
 abbrev pub making_address : MakingStep → Address
@@ -42,8 +42,8 @@ answering_address (LeaveStore seat) = addresses.Answer seat
 
 -- the word that a step of the collector touches
 abbrev pub turning_address : TurningStep → Address
-turning_address (LookLoad seat) = addresses.Answer seat
-turning_address (AdvanceStore phase) = addresses.Phase
+turning_address (turning.LookLoad seat) = addresses.Answer seat
+turning_address (turning.AdvanceStore phase) = addresses.Phase
 
 -- the word that a step touches
 abbrev pub address_of : Step → Address
@@ -77,8 +77,8 @@ answering_operation (LeaveStore seat) = Store LEFT
 
 -- what a step of the collector does with its word
 abbrev pub turning_operation : TurningStep → Operation
-turning_operation (LookLoad seat) = Load
-turning_operation (AdvanceStore phase) = Store phase
+turning_operation (turning.LookLoad seat) = Load
+turning_operation (turning.AdvanceStore phase) = Store phase
 
 -- what a step does with its word
 abbrev pub operation_of : Step → Operation

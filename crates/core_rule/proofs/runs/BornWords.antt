@@ -7,7 +7,7 @@ use Rattle.heap_model.specs.declared.heap.Heap.{Heap}
 use Rattle.heap_model.specs.account.PhaseCounts.{answered}
 use Rattle.heap_model.specs.PhasePlan.{black_births, sweep}
 use Rattle.core_machine.specs.declared.collector.stage.Stage.{Stage}
-use Rattle.core_machine.specs.declared.collector.stage.Stage.TheVariants.{Looking, Advancing}
+use Rattle.core_machine.specs.declared.collector.stage.Stage.TheVariants as stages
 use Rattle.core_machine.specs.declared.place.Leaving.TheVariants.{Emptying, Parting}
 use Rattle.core_machine.specs.declared.place.Making.TheVariants.{Gathering, Returning, Storing, Bearing}
 use Rattle.core_machine.specs.declared.place.Place.{Place}
@@ -160,8 +160,8 @@ module _ (heap : Heap) (state : State) (book : Book) (rule : Rule heap state boo
 
   -- a turn bears nothing
   turn_bears_none : (stage : Stage) → ¬ IsBorn heap (turned heap state (turn_at heap state.collector stage)).words f
-  turn_bears_none Looking born = load_bears_none _ born
-  turn_bears_none Advancing born = word_bears_none _ (at-put_apart heap words Phase (Control (f / 16)) _ (λ e. omega (arith, e))) born
+  turn_bears_none stages.Advancing born = word_bears_none _ (at-put_apart heap words Phase (Control (f / 16)) _ (λ e. omega (arith, e))) born
+  turn_bears_none _ born = load_bears_none _ born
 
 pub each_birth_has_its_colour : EachBirthHasItsColour
 each_birth_has_its_colour heap state book (Begins q command) f rule can within unborn born = absurd (unborn born)

@@ -8,7 +8,7 @@ use Rattle.heap_model.specs.declared.reply.Reply.{Reply}
 use Rattle.heap_model.specs.declared.reply.Reply.TheVariants.{Phase}
 use Rattle.heap_model.specs.PhasePlan.{cycle_phases, marking}
 use Rattle.core_machine.specs.declared.collector.stage.Stage.{Stage}
-use Rattle.core_machine.specs.declared.collector.stage.Stage.TheVariants.{Looking, Advancing}
+use Rattle.core_machine.specs.declared.collector.stage.Stage.TheVariants as stages
 use Rattle.core_machine.specs.declared.place.Leaving.TheVariants.{Emptying, Parting}
 use Rattle.core_machine.specs.declared.place.Making.TheVariants.{Gathering, Returning, Refusing, Bearing}
 use Rattle.core_machine.specs.declared.place.Place.{Place}
@@ -89,8 +89,8 @@ module _ (heap : Heap) (state : State) (colour : ℕ → Colour) where
 
   -- a turn shows no answer
   turn_marked : (stage : Stage) → AreMarked (turn_at heap state.collector stage).adds
-  turn_marked Looking = none_marked
-  turn_marked Advancing = one_marked _ tt
+  turn_marked stages.Advancing = one_marked _ tt
+  turn_marked _ = none_marked
 
 pub each_answer_is_marked : EachAnswerIsMarked
 each_answer_is_marked heap state book (Begins q command) rule can = none_marked heap state book.colour

@@ -120,7 +120,7 @@ opening_rule heap state fits machine opens = record {
       (opening_seat_stands heap state.words q (subst (Fits heap) (opening_seat_at heap state q opens below) (machine.fit q (rw machine.seated below))) below
       (opens.words_open (Answer q) (omega (arith, below, fits.seats_fit)) ∙ opening_answer heap q below));
   collector_stands = subst (λ (c : Collector). CollectorStands heap c []) (sym opens.nothing_done)
-      record { log = refl; phase_told = refl; looked = λ q less. absurd (omega (arith, less)); advances = λ advancing. absurd (cc); goes_on = λ advancing. absurd (cc) };
+      record { log = refl; phase_told = refl; looked = λ q less. absurd (omega (arith, less)) };
 }
 
 pub opening_stands : (heap : Heap) (state : State) → IsHeap heap → IsOpening heap state → StandsFor heap state [] []

@@ -15,7 +15,7 @@ use Rattle.heap_model.specs.account.Effects.{is_of}
 use Rattle.heap_model.specs.graph.State.{opening}
 use Rattle.core_machine.specs.declared.place.Place.TheVariants as places
 use Rattle.core_machine.specs.declared.collector.stage.Stage.{Stage}
-use Rattle.core_machine.specs.declared.collector.stage.Stage.TheVariants.{Looking, Advancing}
+use Rattle.core_machine.specs.declared.collector.stage.Stage.TheVariants as stages
 use Rattle.core_machine.specs.collector.Collector.{Collector, turn_at}
 use Rattle.core_machine.specs.machine.Machine.{State, seat_at, moved, Event, Begins, Steps, Turns, Can, after, entries, Run, history}
 use Rattle.core_machine.specs.Moves.{Move, move_at, next_move}
@@ -112,8 +112,8 @@ begin_plays stays begin heap state book q command plays alone can =
 
 -- what a turn of the collector adds may stand in a play
 turn_may : (heap : Heap) (before : List Entry) (collector : Collector) (stage : Stage) → MayPlay heap before (turn_at heap collector stage).adds
-turn_may heap before collector Looking = tt
-turn_may heap before collector Advancing = (plain_keeps heap before (Advance (collector.phase + 1)) (advancing (collector.phase + 1)), tt)
+turn_may heap before collector stages.Advancing = (plain_keeps heap before (Advance (collector.phase + 1)) (advancing (collector.phase + 1)), tt)
+turn_may heap before collector _ = tt
 
 turn_plays : MachineStays → EachTurnKeeps → (heap : Heap) (state : State) (book : Book) → PlaysOn heap state book → AllIdle state → Can heap state Turns
     → PlaysNext heap (after heap state Turns) book.history (entries heap state Turns)

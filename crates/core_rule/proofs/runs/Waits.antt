@@ -8,8 +8,8 @@ use Rattle.heap_model.specs.declared.heap.Heap.{Heap}
 use Rattle.heap_model.specs.account.Phases.{IsBehind}
 use Rattle.core_machine.specs.declared.table.address.Address.TheVariants.{Answer}
 use Rattle.core_machine.specs.declared.collector.stage.Stage.{Stage}
-use Rattle.core_machine.specs.declared.collector.stage.Stage.TheVariants.{Looking, Advancing}
-use Rattle.core_machine.specs.collector.Collector.{Collector, has_answered, turn_at, turn_answer}
+use Rattle.core_machine.specs.declared.collector.stage.Stage.TheVariants as stages
+use Rattle.core_machine.specs.collector.Collector.{Collector, has_answered, turn_at}
 use Rattle.core_machine.specs.seat.Fits.{FitsStage}
 use Rattle.core_machine.specs.table.Layout.{at}
 use Rattle.core_machine.specs.machine.Machine.{State, found_by, seat_at}
@@ -44,9 +44,9 @@ module _ (heap : Heap) (state : State) (book : Book) (rule : Rule heap state boo
   word = at heap state.words (Answer q)
 
   -- the seat that was looked at is
-  looked_behind : collector.stage ≡ Looking → has_answered collector.phase word ≡ false → IsOneBehind heap book.history q word collector.phase
+  looked_behind : collector.stage ≡ stages.Looking → has_answered collector.phase word ≡ false → IsOneBehind heap book.history q word collector.phase
   looked_behind looking none =
-      let below : q < heap.seats = subst (FitsStage heap collector) looking rule.machine.collector_fit.at_stage in
+      let below : q < heap.seats = subst (FitsStage heap.seats collector.phase q) looking rule.machine.collector_fit.at_stage in
       let seat : Seat = seat_at state q in
       let told = (rule.seats_stand q below).cycle.answers_told in
       let here = rule.collector_stands.phase_told in
@@ -64,9 +64,8 @@ module _ (heap : Heap) (state : State) (book : Book) (rule : Rule heap state boo
 
   -- so the one that a turn waits for is
   waits_behind : (seat answer p : ℕ) (stage : Stage) → collector.stage ≡ stage
-      → turn_answer collector stage (found_by heap state (turn_at heap collector stage).step) ≡ Waits seat answer p → IsOneBehind heap book.history seat answer p
-  waits_behind seat answer p Advancing advancing waits = absurd (cc waits)
-  waits_behind seat answer p Looking looking waits = by (has_answered collector.phase word) refl waits
+      → (turn_at heap collector stage).answer (found_by heap state (turn_at heap collector stage).step) ≡ Waits seat answer p → IsOneBehind heap book.history seat answer p
+  waits_behind seat answer p stages.Looking looking waits = by (has_answered collector.phase word) refl waits
     where
       by : (b : Bool) → has_answered collector.phase word ≡ b → (if b then Stepped else Waits q word collector.phase) ≡ Waits seat answer p → IsOneBehind heap book.history seat answer p
       by true seen same = absurd (cc same)
@@ -75,6 +74,7 @@ module _ (heap : Heap) (state : State) (book : Book) (rule : Rule heap state boo
           let what : answer ≡ word = cc same in
           let when : p ≡ collector.phase = cc same in
           rw (which, what, when) (looked_behind looking none)
+  waits_behind seat answer p _ stage waits = absurd (cc waits)
 
 pub each_wait_is_behind : EachWaitIsBehind
 each_wait_is_behind heap state book seat answer p rule waits = waits_behind heap state book rule seat answer p state.collector.stage refl waits

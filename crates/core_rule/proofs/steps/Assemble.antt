@@ -39,17 +39,13 @@ collector_stays : (heap : Heap) (collector : Collector) (before added now : List
     → CollectorStands heap collector before → CollectorStands heap collector now
 collector_stays heap collector before added now grown none few stands =
     let same : phase now ≡ phase before = ap phase grown ∙ seats_phase before added none in
-    let still : (q : ℕ) → q < heap.seats → (has_left q before ≡ false → answered q before ≡ phase before) → has_left q now ≡ false → answered q now ≡ phase now
-    = λ q below answers present.
-    let was = answers (was_present q before added (ap (has_left q) (sym grown) ∙ present)) in
-    let more : answered q before ≤ answered q now = subst (λ es. answered q before ≤ answered q es) (sym grown) (answers_grow q before added) in
-    omega (arith, few q below present, was, same, more) in
     record {
       log = rw (grown, filter-append is_collectors before added, none, append-nil (filter is_collectors before)) stands.log;
       phase_told = stands.phase_told ∙ sym same;
-      looked = λ q less below. still q below (stands.looked q less below);
-      advances = λ advancing q below. still q below (stands.advances advancing q below);
-      goes_on = λ advancing. omega (arith, same, stands.goes_on advancing);
+      looked = λ q less below present.
+          let was = stands.looked q less below (was_present q before added (ap (has_left q) (sym grown) ∙ present)) in
+          let more : answered q before ≤ answered q now = subst (λ es. answered q before ≤ answered q es) (sym grown) (answers_grow q before added) in
+          omega (arith, few q below present, was, same, more);
     }
 
 -- a seat that hasn't left has answered no later phase than has begun

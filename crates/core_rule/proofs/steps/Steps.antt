@@ -11,73 +11,49 @@ use Rattle.core_machine.specs.declared.place.Place.{Place}
 use Rattle.core_machine.specs.declared.place.Place.TheVariants as places
 use Rattle.core_machine.specs.declared.place.Polling.TheVariants.{Asking, Shading, Answering}
 use Rattle.core_machine.specs.declared.place.Reaching.TheVariants.{Opening, Walking, Getting, Naming, LoadingOld, ShadingOld, ShadingNew, Swapping}
-use Rattle.core_machine.specs.declared.collector.stage.Stage.{Stage}
-use Rattle.core_machine.specs.declared.collector.stage.Stage.TheVariants.{Looking, Advancing}
-use Rattle.core_machine.specs.collector.Collector.{turn_at}
 use Rattle.core_machine.specs.machine.Machine.{State, seat_at, moved, shown, after, Begins, Can}
 use Rattle.core_machine.specs.Moves.{move_at, is_last_birth, last_birth_move, birth_move}
 use Rattle.core_machine.specs.machine.Value.{IsMachine}
 use Rattle.core_rule.specs.Book.{Book}
 use Rattle.core_rule.specs.Rule.{Rule}
-use Rattle.core_rule.proofs.steps.collector.AdvanceStep.{advance_keeps}
-use Rattle.core_rule.proofs.steps.handshake.AnswerStep.{answer_keeps}
 use Rattle.core_rule.proofs.steps.Assemble.{Keeps, MoveKeeps}
-use Rattle.core_rule.proofs.steps.access.BeginOthers.{begin_others_keep}
 use Rattle.core_rule.proofs.entries.Begins.{begins}
-use Rattle.core_rule.proofs.steps.making.BeginStep.{begin_keeps}
-use Rattle.core_rule.proofs.steps.making.BirthStep.{birth_keeps}
-use Rattle.core_rule.proofs.steps.making.ClaimStep.{claim_keeps}
-use Rattle.core_rule.proofs.steps.handshake.EmptyStep.{empty_keeps}
-use Rattle.core_rule.proofs.steps.access.GetStep.{get_keeps}
-use Rattle.core_rule.proofs.steps.making.GiveBackStep.{give_back_keeps}
-use Rattle.core_rule.proofs.steps.making.LastBirthStep.{last_birth_keeps}
-use Rattle.core_rule.proofs.steps.handshake.LeaveStep.{leave_keeps}
-use Rattle.core_rule.proofs.steps.collector.LookStep.{look_keeps}
-use Rattle.core_rule.proofs.steps.access.NameStep.{name_keeps}
-use Rattle.core_rule.proofs.steps.access.OldStep.{old_keeps}
-use Rattle.core_rule.proofs.steps.access.OnwardStep.{walk_keeps}
-use Rattle.core_rule.proofs.steps.access.OpenStep.{open_keeps}
-use Rattle.core_rule.proofs.steps.handshake.PollStep.{poll_keeps}
-use Rattle.core_rule.proofs.steps.making.RefusalStep.{refusal_keeps}
-use Rattle.core_rule.proofs.steps.handshake.RootStep.{root_keeps}
 use Rattle.core_rule.proofs.runs.Runs.{EachStepKeeps, EachBeginKeeps, EachTurnKeeps}
-use Rattle.core_rule.proofs.steps.access.ShadeNewStep.{shade_new_keeps}
-use Rattle.core_rule.proofs.steps.access.ShadeOldStep.{shade_old_keeps}
-use Rattle.core_rule.proofs.steps.making.StoreStep.{store_keeps}
-use Rattle.core_rule.proofs.steps.TurnSteps.{TurnKeeps}
-use Rattle.core_rule.proofs.steps.access.SwapStep.{swap_keeps}
-use Rattle.core_rule.proofs.steps.access.TellingStep.{telling_keeps}
+use Rattle.core_rule.proofs.steps.access
+use Rattle.core_rule.proofs.steps.collector.{turn_keeps_at}
+use Rattle.core_rule.proofs.steps.handshake
+use Rattle.core_rule.proofs.steps.making
 
 module _ (heap : Heap) (state : State) (book : Book) (q : ℕ) (rule : Rule heap state book) (here : q < heap.seats) where
   -- the step due at this place keeps the rule
   keeps_at : (place : Place) → (seat_at state q).place ≡ place → IsMachine heap (moved heap state q (move_at heap q (seat_at state q) place))
       → Keeps heap (moved heap state q (move_at heap q (seat_at state q) place)) book book.begun (shown heap state (move_at heap q (seat_at state q) place))
   keeps_at places.Idle placed machine = record { now = book; grown = sym (append-nil book.history); calls = refl; rule = rule }
-  keeps_at (places.Making Gathering) placed machine = claim_keeps heap state book q rule here placed machine
-  keeps_at (places.Making Returning) placed machine = give_back_keeps heap state book q rule here placed machine
-  keeps_at (places.Making Refusing) placed machine = refusal_keeps heap state book q rule here placed machine
-  keeps_at (places.Making Storing) placed machine = store_keeps heap state book q rule here placed machine
+  keeps_at (places.Making Gathering) placed machine = making.ClaimStep.claim_keeps heap state book q rule here placed machine
+  keeps_at (places.Making Returning) placed machine = making.GiveBackStep.give_back_keeps heap state book q rule here placed machine
+  keeps_at (places.Making Refusing) placed machine = making.RefusalStep.refusal_keeps heap state book q rule here placed machine
+  keeps_at (places.Making Storing) placed machine = making.StoreStep.store_keeps heap state book q rule here placed machine
   keeps_at (places.Making Bearing) placed machine =
       bearing (is_last_birth (seat_at state q)) refl machine
     where
       bearing : (last : Bool) → is_last_birth (seat_at state q) ≡ last
           → MoveKeeps heap state book q (if last then last_birth_move q (seat_at state q) else birth_move (seat_at state q))
-      bearing true last whole = last_birth_keeps heap state book q rule here placed last whole
-      bearing false more whole = birth_keeps heap state book q rule here placed more whole
-  keeps_at places.Telling placed machine = telling_keeps heap state book q rule here placed machine
-  keeps_at (places.Reaching Opening) placed machine = open_keeps heap state book q rule here placed machine
-  keeps_at (places.Reaching Walking) placed machine = walk_keeps heap state book q rule here placed machine
-  keeps_at (places.Reaching Getting) placed machine = get_keeps heap state book q rule here placed machine
-  keeps_at (places.Reaching Naming) placed machine = name_keeps heap state book q rule here placed machine
-  keeps_at (places.Reaching LoadingOld) placed machine = old_keeps heap state book q rule here placed machine
-  keeps_at (places.Reaching ShadingOld) placed machine = shade_old_keeps heap state book q rule here placed machine
-  keeps_at (places.Reaching ShadingNew) placed machine = shade_new_keeps heap state book q rule here placed machine
-  keeps_at (places.Reaching Swapping) placed machine = swap_keeps heap state book q rule here placed machine
-  keeps_at (places.Polling Asking) placed machine = poll_keeps heap state book q rule here placed machine
-  keeps_at (places.Polling Shading) placed machine = root_keeps heap state book q rule here placed machine
-  keeps_at (places.Polling Answering) placed machine = answer_keeps heap state book q rule here placed machine
-  keeps_at (places.Leaving Emptying) placed machine = empty_keeps heap state book q rule here placed machine
-  keeps_at (places.Leaving Parting) placed machine = leave_keeps heap state book q rule here placed machine
+      bearing true last whole = making.LastBirthStep.last_birth_keeps heap state book q rule here placed last whole
+      bearing false more whole = making.BirthStep.birth_keeps heap state book q rule here placed more whole
+  keeps_at places.Telling placed machine = access.TellingStep.telling_keeps heap state book q rule here placed machine
+  keeps_at (places.Reaching Opening) placed machine = access.OpenStep.open_keeps heap state book q rule here placed machine
+  keeps_at (places.Reaching Walking) placed machine = access.OnwardStep.walk_keeps heap state book q rule here placed machine
+  keeps_at (places.Reaching Getting) placed machine = access.GetStep.get_keeps heap state book q rule here placed machine
+  keeps_at (places.Reaching Naming) placed machine = access.NameStep.name_keeps heap state book q rule here placed machine
+  keeps_at (places.Reaching LoadingOld) placed machine = access.OldStep.old_keeps heap state book q rule here placed machine
+  keeps_at (places.Reaching ShadingOld) placed machine = access.ShadeOldStep.shade_old_keeps heap state book q rule here placed machine
+  keeps_at (places.Reaching ShadingNew) placed machine = access.ShadeNewStep.shade_new_keeps heap state book q rule here placed machine
+  keeps_at (places.Reaching Swapping) placed machine = access.SwapStep.swap_keeps heap state book q rule here placed machine
+  keeps_at (places.Polling Asking) placed machine = handshake.PollStep.poll_keeps heap state book q rule here placed machine
+  keeps_at (places.Polling Shading) placed machine = handshake.RootStep.root_keeps heap state book q rule here placed machine
+  keeps_at (places.Polling Answering) placed machine = handshake.AnswerStep.answer_keeps heap state book q rule here placed machine
+  keeps_at (places.Leaving Emptying) placed machine = handshake.EmptyStep.empty_keeps heap state book q rule here placed machine
+  keeps_at (places.Leaving Parting) placed machine = handshake.LeaveStep.leave_keeps heap state book q rule here placed machine
 
 pub each_step_keeps : EachStepKeeps
 each_step_keeps heap state book q rule here machine = keeps_at heap state book q rule here (seat_at state q).place refl machine
@@ -85,16 +61,12 @@ each_step_keeps heap state book q rule here machine = keeps_at heap state book q
 -- so does the begin of a call
 begins_at : (heap : Heap) (state : State) (book : Book) (q : ℕ) (command : Command) → Rule heap state book → q < heap.seats → Can heap state (Begins q command)
     → IsMachine heap (after heap state (Begins q command)) → Keeps heap (after heap state (Begins q command)) book (begins q (length book.history) book.begun) []
-begins_at heap state book q (commands.New d fields) rule here can machine = begin_keeps heap state book q (commands.New d fields) rule here can.1 tt machine
-begins_at heap state book q command rule here can machine = begin_others_keep heap state book q command rule here can.1 (λ made. made) machine
+begins_at heap state book q (commands.New d fields) rule here can machine = making.BeginStep.begin_keeps heap state book q (commands.New d fields) rule here can.1 tt machine
+begins_at heap state book q command rule here can machine = access.BeginOthers.begin_others_keep heap state book q command rule here can.1 (λ made. made) machine
 
 pub each_begin_keeps : EachBeginKeeps
 each_begin_keeps heap state book q command rule can machine = begins_at heap state book q command rule (rw (← rule.machine.seated) can.0) can machine
 
 -- each turn of the collector keeps the rule
 pub each_turn_keeps : EachTurnKeeps
-each_turn_keeps heap state book rule may machine = at_stage state.collector.stage refl machine
-  where
-    at_stage : (stage : Stage) → state.collector.stage ≡ stage → TurnKeeps heap state book (turn_at heap state.collector stage)
-    at_stage Looking looking after = look_keeps heap state book rule looking after
-    at_stage Advancing advancing after = advance_keeps heap state book rule advancing after
+each_turn_keeps heap state book rule may machine = turn_keeps_at state.collector.stage heap state book rule refl machine

@@ -5,7 +5,7 @@ use Rattle.heap_model.specs.declared.entry.Entry.{Entry}
 use Rattle.heap_model.specs.declared.heap.Heap.{Heap}
 use Rattle.core_machine.specs.declared.table.address.Address.{Address}
 use Rattle.core_machine.specs.declared.collector.stage.Stage.{Stage}
-use Rattle.core_machine.specs.collector.Collector.{Collector, Turn}
+use Rattle.core_machine.specs.collector.Collector.{Collector, Turn, turn_at}
 use Rattle.core_machine.specs.table.Layout.{at, put}
 use Rattle.core_machine.specs.machine.Machine.{State, seat_at, turned}
 use Rattle.core_machine.specs.machine.Value.{IsMachine}
@@ -20,8 +20,8 @@ abbrev pub TurnKeeps : Heap → State → Book → Turn → Type 0
 TurnKeeps heap state book turn = IsMachine heap (turned heap state turn) → Keeps heap (turned heap state turn) book book.begun turn.adds
 
 -- so does the turn that is due at this stage
-abbrev pub StageKeeps : Stage → (Heap → Collector → Turn) → Type 0
-StageKeeps stage turn = (heap : Heap) (state : State) (book : Book) → Rule heap state book → state.collector.stage ≡ stage → TurnKeeps heap state book (turn heap state.collector)
+abbrev pub StageKeeps : Stage → Type 0
+StageKeeps stage = (heap : Heap) (state : State) (book : Book) → Rule heap state book → state.collector.stage ≡ stage → TurnKeeps heap state book (turn_at heap state.collector stage)
 
 -- the state after a turn
 abbrev pub after_turn : State → List ℕ → Collector → State

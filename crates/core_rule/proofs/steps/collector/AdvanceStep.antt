@@ -10,8 +10,9 @@ use Rattle.heap_model.specs.account.PhaseCounts.{phase, answered, has_left, AllA
 use Rattle.heap_model.specs.graph.State.{State as Graph, opening}
 use Rattle.heap_model.proofs.Histories.{graph_after-more}
 use Rattle.core_machine.specs.declared.table.address.Address.TheVariants.{Answer, Phase}
-use Rattle.core_machine.specs.declared.collector.stage.Stage.TheVariants.{Advancing}
+use Rattle.core_machine.specs.declared.collector.stage.Stage.TheVariants as stages
 use Rattle.core_machine.specs.collector.Collector.{advance_turn, collector_after}
+use Rattle.core_machine.specs.collector.FitsTurns.{FitsStage, HasLooked}
 use Rattle.core_machine.specs.table.Layout.{put}
 use Rattle.core_machine.specs.machine.Machine.{State, seat_at}
 use Rattle.core_machine.proofs.table_lemmas.Addresses.{at-put_same}
@@ -21,7 +22,7 @@ use Rattle.core_rule.specs.Counts.{is_collectors}
 use Rattle.core_rule.specs.Cycle.{HeapInCycle}
 use Rattle.core_rule.specs.Rule.{Rule, HeapStands, SeatStands}
 use Rattle.core_rule.proofs.words.Addresses.{at-put_apart}
-use Rattle.core_rule.proofs.steps.TurnSteps.{TurnKeeps, turn_steps}
+use Rattle.core_rule.proofs.steps.TurnSteps.{StageKeeps, TurnKeeps, turn_steps}
 use Rattle.core_rule.proofs.cycle.CycleFrames.{cycle_told}
 use Rattle.core_rule.proofs.frames.EntryFrames.{fragments_phase, heap_past, seat_past}
 use Rattle.core_rule.proofs.colours.LeadsFrames.{leads_apart}
@@ -36,7 +37,7 @@ use Rattle.core_rule.proofs.frames.SeatFrames.{with_entry}
 abbrev begun_phase : Book → ℕ → Book
 begun_phase book p = with_entry book (Advance p)
 
-module _ (heap : Heap) (state : State) (book : Book) (rule : Rule heap state book) (advancing : state.collector.stage ≡ Advancing) where
+module _ (heap : Heap) (state : State) (book : Book) (rule : Rule heap state book) (advancing : state.collector.stage ≡ stages.Advancing) where
   abbrev next : ℕ
   next = state.collector.phase + 1
 
@@ -46,12 +47,15 @@ module _ (heap : Heap) (state : State) (book : Book) (rule : Rule heap state boo
   abbrev later : Book
   later = begun_phase book next
 
+  has_looked : HasLooked heap.seats state.collector.phase state.collector.looked
+  has_looked = subst (FitsStage heap.seats state.collector.phase state.collector.looked) advancing rule.machine.collector_fit.at_stage
+
   early : phase book.history < 3
-  early = rule.collector_stands.goes_on advancing
+  early = omega (arith, has_looked.goes_on, rule.collector_stands.phase_told, rule.heap_stands.cycle.so_far)
 
   -- all have answered
   all_answered : AllAnswered heap book.history
-  all_answered = rule.collector_stands.advances advancing
+  all_answered q below present = rule.collector_stands.looked q (omega (arith, below, has_looked.all)) below present
 
   told : next ≡ phase book.history + 1
   told = ap (λ p. p + 1) rule.collector_stands.phase_told
@@ -93,15 +97,16 @@ module _ (heap : Heap) (state : State) (book : Book) (rule : Rule heap state boo
       (cycle_next heap state.words words book.owner book.colour (phase book.history) (answered r book.history) (has_left r book.history) r (seat_at state r) early
       (at-put_apart heap state.words Phase (Answer r) next (λ e. omega (arith, e))) leads_on stands.fits (all_answered r below) stands.cycle)) stands
 
-  -- the begin of the next phase keeps the rule
-  pub advance_keeps : TurnKeeps heap state book (advance_turn state.collector)
-  advance_keeps machine =
+  advance_kept : TurnKeeps heap state book (advance_turn state.collector)
+  advance_kept machine =
       turn_steps heap state book words (collector_after (advance_turn state.collector) 0) later (Advance next ∷ []) rule machine refl heap_on
       (λ r below stands. seat_on r below)
       record {
         log = rw (filter-append is_collectors book.history (Advance next ∷ []), rule.collector_stands.log) refl;
         phase_told = told ∙ sym grown;
         looked = λ q none below present. absurd (omega (arith, none));
-        advances = λ on. absurd (cc (on));
-        goes_on = λ on. absurd (cc (on));
       }
+
+-- the begin of the next phase keeps the rule
+pub advance_keeps : StageKeeps stages.Advancing
+advance_keeps = advance_kept

@@ -7,8 +7,9 @@ use Rattle.heap_model.specs.declared.entry.Entry.{Entry}
 use Rattle.heap_model.specs.declared.heap.Heap.{Heap}
 use Rattle.heap_model.specs.account.PhaseCounts.{phase, answered, has_left}
 use Rattle.core_machine.specs.declared.table.address.Address.TheVariants.{Answer}
-use Rattle.core_machine.specs.declared.collector.stage.Stage.TheVariants.{Looking}
-use Rattle.core_machine.specs.collector.Collector.{Collector, has_answered, looked_all, looked_on, looked_at, look_turn}
+use Rattle.core_machine.specs.declared.collector.stage.Stage.{Stage}
+use Rattle.core_machine.specs.declared.collector.stage.Stage.TheVariants as stages
+use Rattle.core_machine.specs.collector.Collector.{Collector, has_answered, looked_all, looked_on, looked_at}
 use Rattle.core_machine.specs.seat.Fits.{FitsStage}
 use Rattle.core_machine.specs.table.Layout.{at}
 use Rattle.core_machine.specs.machine.Machine.{seat_at}
@@ -26,30 +27,24 @@ word_tells p answer near early seen = elim (eqb_tells answer p) [
   ]
 ]
 
-module _ (heap : Heap) (collector : Collector) (history : List Entry) (stands : CollectorStands heap collector history) (looking : collector.stage ≡ Looking)
-    (early : phase history ≤ 3) where
+module _ (heap : Heap) (collector : Collector) (history : List Entry) (stands : CollectorStands heap collector history) where
+  -- it has seen so many seats, at whatever stage it stands then
+  abbrev HasSeen : ℕ → Type 0
+  HasSeen n = (q : ℕ) → q < n → q < heap.seats → has_left q history ≡ false → answered q history ≡ phase history
+
+  stands_seen : (stage : Stage) (looked : ℕ) → HasSeen looked → CollectorStands heap (record collector { stage = stage; looked = looked }) history
+  stands_seen stage looked seen = record { log = stands.log; phase_told = stands.phase_told; looked = seen }
+
   -- it looks from seat 0 again, or goes on to the next phase
-  all_seen : ((q : ℕ) → q < heap.seats → has_left q history ≡ false → answered q history ≡ phase history) → CollectorStands heap (looked_all heap collector) history
+  all_seen : HasSeen heap.seats → CollectorStands heap (looked_all heap collector) history
   all_seen all = elim (eqb_tells (collector.phase % 7) 3) as (λ _. CollectorStands heap (looked_all heap collector) history) [
-    | inl third ↦ rw third.0 (record {
-      log = stands.log;
-      phase_told = stands.phase_told;
-      looked = λ q none below present. absurd (omega (arith, none));
-      advances = λ on. absurd (cc (on, looking));
-      goes_on = λ on. absurd (cc (on, looking));
-    })
-    | inr other ↦ rw other.0 (record {
-      log = stands.log;
-      phase_told = stands.phase_told;
-      looked = λ q less below present. all q below present;
-      advances = λ on. all;
-      goes_on = λ on. omega (arith, other.1, early, stands.phase_told);
-    })
+    | inl third ↦ rw third.0 (stands_seen collector.stage 0 (λ q none below present. absurd (omega (arith, none))))
+    | inr other ↦ rw other.0 (stands_seen _ heap.seats all)
   ]
 
   module _ (seen : has_left collector.looked history ≡ false → answered collector.looked history ≡ phase history) where
     -- the seats up to this one have answered
-    more_seen : (q : ℕ) → q < collector.looked + 1 → q < heap.seats → has_left q history ≡ false → answered q history ≡ phase history
+    more_seen : HasSeen (collector.looked + 1)
     more_seen q less below present = elim (eqb_tells q collector.looked) [
       | inl here ↦ subst (λ n. has_left n history ≡ false → answered n history ≡ phase history) (sym here.1) seen present
       | inr other ↦ stands.looked q (omega (arith, less, other.1)) below present
@@ -57,14 +52,8 @@ module _ (heap : Heap) (collector : Collector) (history : List Entry) (stands : 
 
     on_seen : CollectorStands heap (looked_on heap collector) history
     on_seen = elim (leb_tells (suc (collector.looked + 1)) heap.seats) as (λ _. CollectorStands heap (looked_on heap collector) history) [
-      | inl more ↦ rw more.0 (record {
-        log = stands.log;
-        phase_told = stands.phase_told;
-        looked = more_seen;
-        advances = λ on. absurd (cc (on, looking));
-        goes_on = λ on. absurd (cc (on, looking));
-      })
-      | inr last ↦ rw last.0 (all_seen (λ q below present. more_seen q (omega (arith, last.1, below)) below present))
+      | inl more ↦ rw more.0 (stands_seen collector.stage (collector.looked + 1) more_seen)
+      | inr last ↦ rw last.0 (all_seen (λ q within below present. more_seen q (omega (arith, last.1, below)) below present))
     ]
 
   -- one more seat was looked at
@@ -78,12 +67,12 @@ module _ (heap : Heap) (collector : Collector) (history : List Entry) (stands : 
       by false seen = stands
 
 -- a look at a seat's answer keeps the rule
-pub look_keeps : StageKeeps Looking look_turn
+pub look_keeps : StageKeeps stages.Looking
 look_keeps heap state book rule looking machine =
     let collector : Collector = state.collector in
     let q : ℕ = collector.looked in
     let found : ℕ = at heap state.words (Answer q) in
-    let below : q < heap.seats = subst (FitsStage heap collector) looking rule.machine.collector_fit.at_stage in
+    let below : q < heap.seats = subst (FitsStage heap.seats collector.phase q) looking rule.machine.collector_fit.at_stage in
     let stands = rule.seats_stand q below in
     let told = stands.cycle.answers_told in
     let early : phase book.history ≤ 3 = rule.heap_stands.cycle.so_far in
@@ -91,4 +80,4 @@ look_keeps heap state book rule looking machine =
     = λ seen present. word_tells (phase book.history) (answered q book.history) (few_answers heap state.words book q (seat_at state q) stands present) early
     (subst (λ w. has_answered (phase book.history) w ≡ true) (told.word ∙ rw (sym told.leaves ∙ present) (sym told.told))
     (subst (λ p. has_answered p found ≡ true) rule.collector_stands.phase_told seen)) in
-    load_turns heap state book (Answer q) (looked_at heap collector found) rule machine (look_seen heap collector book.history rule.collector_stands looking early found tells)
+    load_turns heap state book (Answer q) (looked_at heap collector found) rule machine (look_seen heap collector book.history rule.collector_stands found tells)

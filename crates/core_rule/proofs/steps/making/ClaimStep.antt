@@ -21,7 +21,7 @@ use Rattle.core_machine.specs.Moves.{claim_move, takes_some, seat_after}
 use Rattle.core_machine.specs.table.Operation.{all_taken}
 use Rattle.core_machine.specs.seat.Seat.{Seat}
 use Rattle.core_machine.proofs.table_lemmas.Owned.{clear_in-group}
-use Rattle.core_machine.proofs.seat_lemmas.FittingMaking.{next_within}
+use Rattle.core_machine.proofs.seat_lemmas.Fitting.{next_within}
 use Rattle.core_rule.specs.ControlWords.{Bits}
 use Rattle.core_rule.specs.Counts.{AreUsed}
 use Rattle.core_rule.specs.Gathers.{GathersRight}

@@ -7,7 +7,7 @@ use Rattle.core_machine.proofs.table_lemmas.Addresses.{at-lt}
 use Rattle.core_machine.proofs.call_lemmas.Calling.{Playing, playing_begun, playing_more}
 use Rattle.core_machine.proofs.call_lemmas.CallRoom.{step_room, spends_on, spends_begun, room_for}
 use Rattle.core_machine.proofs.call_lemmas.CallEnd.{none_left, some_due, call_over, call_replies}
-use Rattle.core_machine.proofs.call_lemmas.Owing.{steps_left}
+use Rattle.core_machine.proofs.call_lemmas.Owes.{steps_left}
 use Rattle.core_machine.proofs.machine.Machine.play_call.Goals as goal
 
 pub loop-step-init : goal.loop-step-init
@@ -21,7 +21,7 @@ loop-step-init c =
       playing = subst (λ (s : State). Playing old.heap old.state s c.args.seat c.args.command.now) (sym begun_)
           (playing_begun old.heap old.state c.args.seat c.args.command.now start c.requires.can);
       room = room_for old c.begin.new.self c.args.seat c.args.command.now start c.requires.can c.begin.ensures c.requires.room;
-      spent = spends_begun old c.begin.new.self c.args.seat c.args.command.now c.requires.can.0 c.requires.can.1.served c.begin.ensures;
+      spent = spends_begun old c.begin.new.self c.args.seat c.args.command.now start c.requires.can c.begin.ensures;
     }
 
 pub loop-step-smaller : goal.loop-step-smaller

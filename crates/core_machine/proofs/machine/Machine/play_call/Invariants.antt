@@ -4,7 +4,7 @@ use Rattle.core_machine.specs.table.Layout.{at, InTable}
 use Rattle.core_machine.specs.machine.Machine.{seat_at}
 use Rattle.core_machine.specs.machine.Value.{spare_of, SpendsRoom}
 use Rattle.core_machine.proofs.call_lemmas.Calling.{Playing}
-use Rattle.core_machine.proofs.call_lemmas.Owing.{owes, steps_left}
+use Rattle.core_machine.proofs.call_lemmas.Owes.{owes, steps_left}
 use Rattle.core_machine.proofs.machine.Machine.play_call.Given as goal
 
 abbrev pub invariant-loop-step : goal.invariant-loop-step

@@ -1,0 +1,215 @@
+-- What a call claims for a new object, gives back, and tells where too little is had.
+use Rattle.std.proofs.Common.{◌≡◌, ℕ, ◌+◌, ◌-◌, ◌*◌, ◌/◌, ◌^◌, ◌<◌, ◌≤◌, false, [], length, inl, inr, refl, arith, eqb, List, ◌∷◌, ◌++◌, drop, subst, sym, length-append, append_assoc, ◌≢◌, length-take, append-nil}
+use Rattle.std.proofs.Math.Seq.{drop-append-add}
+use Rattle.std.proofs.lemmas.Bool.Decides.{eqb_tells}
+use Rattle.std.proofs.lemmas.List.Elements.{All-append, All-drop, All-filter}
+use Rattle.std.proofs.lemmas.List.Filters.{length-filter_both}
+use Rattle.std.proofs.lemmas.Nat.{and_le_r, or_lt}
+use Rattle.std.specs.List.{All, AllByRecursion}
+use Rattle.heap_model.specs.account.Space.{need_of}
+use Rattle.heap_model.specs.declared.command.Command.{Command}
+use Rattle.heap_model.specs.declared.command.Command.TheVariants.{New}
+use Rattle.heap_model.specs.declared.command.Command.TheVariants as commands
+use Rattle.heap_model.specs.declared.entry.Entry.{Entry}
+use Rattle.heap_model.specs.declared.heap.Heap.{Heap}
+use Rattle.core_machine.specs.Moves.{takes_some}
+use Rattle.core_machine.specs.declared.place.Making.TheVariants.{Gathering, Returning, Refusing}
+use Rattle.core_machine.specs.declared.place.Place.TheVariants as places
+use Rattle.core_machine.specs.declared.step.Step.TheVariants.{PollLoad}
+use Rattle.core_machine.specs.machine.Calls.{IsBeside}
+use Rattle.core_machine.specs.machine.Machine.{found_by, MayBegin, begun}
+use Rattle.core_machine.specs.seat.Awaiting.{awaited}
+use Rattle.core_machine.specs.seat.Fits.{Fits, Gathers, Refuses, FitsPlace, IsAtRest}
+use Rattle.core_machine.specs.seat.Making.{claimed, given_back, next_group, first_group, returning, gathered, goes_on}
+use Rattle.core_machine.specs.seat.MakingMoves.{claim_move, first_part, give_back_move, refusal_move}
+use Rattle.core_machine.specs.seat.Seat.{Seat, need, with_entries}
+use Rattle.core_machine.specs.table.Fragments.{clear_in, part_out, in_group, out_of_group, part_in, mask}
+use Rattle.core_machine.specs.table.Operation.{all_taken}
+use Rattle.core_machine.proofs.call_lemmas.Awaits.{plain, after_words, goes_on_mine}
+use Rattle.core_machine.proofs.call_lemmas.Owes.{Nears, owes}
+use Rattle.core_machine.proofs.call_lemmas.Saying.{IsGoing, Says, on, ends}
+use Rattle.core_machine.proofs.moves.Standing.{PlaceStands, present_at, aside_at, CommandStands, going_ready, rest_ready}
+use Rattle.core_machine.proofs.seat_lemmas.Aside.{IsAside, gone_aside, fits_over, fits_hand, aside_idle}
+use Rattle.core_machine.proofs.seat_lemmas.Fitting.{need_of_record, fits_goes_on, fits_returning, goes_on_cases, returning_cases, next_within}
+use Rattle.core_machine.proofs.table_lemmas.Clear.{length-clear_among}
+use Rattle.core_machine.proofs.table_lemmas.Filters.{out_shorter}
+use Rattle.core_machine.proofs.table_lemmas.Owned.{group_within, clear_in-group, within_group}
+use Rattle.core_machine.proofs.table_lemmas.StepStands.{load_stands}
+
+-- what is past the need after a claim is of the group that was claimed
+claimed_rest : (group need : ℕ) (reserve hand more : List ℕ) → length reserve + length hand ≤ need
+    → All (λ fragment. fragment / 16 ≡ group) more → All (λ fragment. fragment / 16 ≡ group) (drop need (reserve ++ (hand ++ more)))
+claimed_rest group need reserve hand more few each =
+    let long = length-append reserve hand in
+    let past : need ≡ length (reserve ++ hand) + (need - length (reserve ++ hand)) = omega arith in
+    subst (λ (n : ℕ). All (λ fragment. fragment / 16 ≡ group) (drop n (reserve ++ (hand ++ more)))) (sym past)
+    (rw (← append_assoc reserve hand more, drop-append-add (reserve ++ hand) more (need - length (reserve ++ hand)))
+    (All-drop (λ fragment. fragment / 16 ≡ group) (need - length (reserve ++ hand)) more each))
+
+-- a group was claimed
+fits_claimed : (heap : Heap) (seat : Seat) (found : ℕ) → Fits heap seat → IsAside heap seat → Gathers heap seat → Fits heap (claimed heap seat found)
+fits_claimed heap seat found fits aside is =
+    let group = next_group heap seat in
+    let long = length-append seat.hand (clear_in group found) in
+    let some = length-clear_among group found 16 in
+    let last : seat.cursor + (seat.tried + 1) - 1 ≡ seat.cursor + seat.tried = omega arith in
+    let made_one : eqb (seat.tried + 1) 0 ≡ false = grind arith in
+    fits_goes_on heap (record seat { hand = seat.hand ++ clear_in group found; tried = seat.tried + 1 }) record {
+      registers_whole = fits.own.registers_whole;
+      cursor_within = fits.own.cursor_within;
+      small_reserve = fits.own.small_reserve;
+      reserve_of_cursor = fits.own.reserve_of_cursor;
+      hand_within = All-append (λ fragment. fragment < 16 * heap.groups) seat.hand (clear_in group found) fits.hand.hand_within
+          (within_group heap group (clear_in group found) (next_within heap seat fits.own.cursor_within) (clear_in-group group found));
+      makes = is.makes;
+      no_body = is.no_body;
+      none_stored = is.none_stored;
+      none_given = is.none_given;
+      tried_within = omega (arith, is.groups_left);
+      few = omega (arith, is.too_few);
+      rest_of_last = rw (made_one, last) (claimed_rest group (need seat) seat.reserve seat.hand (clear_in group found) (omega (arith, is.too_few)) (clear_in-group group found));
+      aside = aside;
+    }
+
+-- a claim that gets some adds one entry
+takes_few : (number count : ℕ) → (length (takes_some number count) ≤ count) × (length (takes_some number count) ≤ 1)
+takes_few number count =
+    elim (eqb_tells count 0) as (λ _. (length (takes_some number count) ≤ count) × (length (takes_some number count) ≤ 1)) [
+      | inl none ↦ rw none.0 (omega arith, omega arith)
+      | inr some ↦ rw some.0 (omega arith, omega arith)
+    ]
+
+nears_claimed : (heap : Heap) (number : ℕ) (seat : Seat) (found : ℕ) → Gathers heap seat
+    → Nears heap (with_entries (claimed heap seat found) (takes_some number (length (clear_in (next_group heap seat) found))))
+    (2 * need seat - length (gathered seat)) ((heap.groups - seat.tried) + 5 * need seat) (length (takes_some number (length (clear_in (next_group heap seat) found))))
+nears_claimed heap number seat found is =
+    let got = clear_in (next_group heap seat) found in
+    let few = takes_few number (length got) in
+    let some = need_of_record seat.command is.makes.a_record is.makes.in_range in
+    let next = record seat { hand = seat.hand ++ got; tried = seat.tried + 1 } in
+    let before = length-append seat.reserve seat.hand in
+    let all = length-append seat.reserve (seat.hand ++ got) in
+    let hand = length-append seat.hand got in
+    goes_on_cases (λ s. Nears heap (with_entries s (takes_some number (length got))) (2 * need seat - length (gathered seat)) ((heap.groups - seat.tried) + 5 * need seat) (length (takes_some number (length got))))
+    heap next
+    (λ enough. let used = length-take (need seat) (gathered next) in
+    record { fewer = omega (arith, is.groups_left, is.none_stored, used); paid = omega (arith, is.too_few, few.1, some.0) })
+    (λ lacks left. record { fewer = omega (arith, is.groups_left, lacks); paid = omega (arith, lacks, few.0, is.too_few) })
+    (λ lacks none. returning_cases
+    (λ m. Nears heap (with_entries (record next { place = places.Making m }) (takes_some number (length got))) (2 * need seat - length (gathered seat)) ((heap.groups - seat.tried) + 5 * need seat) (length (takes_some number (length got))))
+    (seat.hand ++ got)
+    (λ empty. record { fewer = omega (arith, is.groups_left, some.0); paid = omega (arith, is.too_few, few.1, some.0) })
+    (λ left. record { fewer = omega (arith, is.groups_left, lacks); paid = omega (arith, is.too_few, lacks, few.1) }))
+
+goes_on_awaits : (heap : Heap) (words : List ℕ) (number : ℕ) (seat : Seat) (more : List Entry) → awaited heap words number (with_entries (goes_on heap seat) more) ≡ []
+goes_on_awaits heap words number seat more =
+    goes_on_cases (λ s. awaited heap words number (with_entries s more) ≡ []) heap seat (λ enough. refl) (λ few left. refl) (λ few all. refl)
+
+took : (number count : ℕ) → AllByRecursion (IsBeside number) (takes_some number count)
+took number count = elim (eqb_tells count 0) as (λ _. AllByRecursion (IsBeside number) (takes_some number count)) [ inl none ↦ rw none.0 tt | inr some ↦ rw some.0 (refl, tt) ]
+
+goes_on_says : (old : Seat) (number : ℕ) (command : Command) (heap : Heap) (seat next : Seat) (told more : List Entry) → IsGoing old number command seat told × (command ≢ commands.Leave) → next.command ≡ seat.command → next.made ≡ seat.made → next.sets ≡ seat.sets → next.left ≡ seat.left
+    → AllByRecursion (IsBeside number) more → Says old number command (with_entries (goes_on heap next) more) (told ++ more) (goes_on heap next).place
+goes_on_says old number command heap seat next told more (is, stays) same made sets left beside =
+    goes_on_cases (λ s. Says old number command (with_entries s more) (told ++ more) s.place) heap next
+    (λ enough. (on old number command seat _ told more is same made sets left beside, stays))
+    (λ few more_. (on old number command seat _ told more is same made sets left beside, stays))
+    (λ few all. (on old number command seat _ told more is same made sets left beside, stays))
+
+-- a group is claimed
+pub claim_stands : PlaceStands (places.Making Gathering)
+claim_stands heap number seat here =
+    let got : ℕ → List ℕ = λ found. clear_in (next_group heap seat) found in
+    let next : ℕ → Seat = λ found. record seat { hand = seat.hand ++ got found; tried = seat.tried + 1 } in
+    let move = claim_move heap number seat in
+    record {
+      step = record { in_table = next_within heap seat here.fits.own.cursor_within; wide = λ found small. or_lt 64 found all_taken small (omega arith); leads = λ found led. tt };
+      fits = λ found small led. fits_claimed heap seat found here.fits (aside_at heap number seat (places.Making Gathering) here (λ e. cc) here.way here.answer) here.hand;
+      near = λ found. nears_claimed heap number seat found here.hand;
+      adds = λ now. let found = found_by heap now move.step in
+          plain heap now number seat move (goes_on_mine heap (next found)) (rw here.placed refl) (goes_on_awaits heap (after_words heap now number seat move) number (next found) (move.adds found)) refl;
+      says = λ old command words told is found.
+          goes_on_says old number command heap seat (next found) told (takes_some number (length (got found))) is refl refl refl refl (took number (length (got found)));
+    }
+
+-- some fragments were given back
+fits_given_back : (heap : Heap) (seat : Seat) → Fits heap seat → IsAside heap seat → Refuses heap seat → Fits heap (given_back seat)
+fits_given_back heap seat fits aside is =
+    let group = first_group seat.hand in
+    let both = length-filter_both (in_group group) (out_of_group group) (λ fragment. refl) seat.hand in
+    fits_hand heap seat (part_out group seat.hand) seat.stored seat.tried (seat.given + length (part_in group seat.hand)) (places.Making (returning (part_out group seat.hand))) fits aside
+    (All-filter (out_of_group group) (λ fragment. fragment < 16 * heap.groups) seat.hand fits.hand.hand_within)
+    (fits_returning heap (given_back seat) (part_out group seat.hand)
+    (record { makes = is.makes; no_body = is.no_body; none_stored = is.none_stored; all_tried = is.all_tried; too_few = omega (arith, is.too_few) }) refl)
+    aside.nowhere aside.silent
+
+nears_given_back : (heap : Heap) (seat : Seat) (entry : Entry) → 0 < length seat.hand
+    → Nears heap (with_entries (given_back seat) (entry ∷ [])) (length seat.hand + 1) (length seat.hand + 1) 1
+nears_given_back heap seat entry some =
+    let less = out_shorter (first_group seat.hand) seat.hand 0 some refl in
+    returning_cases (λ m. Nears heap (with_entries (record (given_back seat) { place = places.Making m }) (entry ∷ [])) (length seat.hand + 1) (length seat.hand + 1) 1)
+    (part_out (first_group seat.hand) seat.hand)
+    (λ empty. record { fewer = omega arith; paid = omega arith }) (λ left. record { fewer = omega arith; paid = omega arith })
+
+-- a group is given back
+pub give_back_stands : PlaceStands (places.Making Returning)
+give_back_stands heap number seat here = record {
+  step = record {
+    in_table = group_within heap seat.hand 0 here.hand.1 here.fits.hand.hand_within;
+    wide = λ found small. let le = and_le_r found (2 ^ 64 - 1 - mask (first_part seat)) in omega arith;
+    leads = λ found led. tt;
+  };
+  fits = λ found small led. fits_given_back heap seat here.fits (aside_at heap number seat (places.Making Returning) here (λ e. cc) here.way here.answer) here.hand.0;
+  near = λ found. nears_given_back heap seat _ here.hand.1;
+  adds = λ now. plain heap now number seat (give_back_move number seat) refl (rw here.placed refl) refl refl;
+  says = λ old command words told is found. (on old number command seat _ told _ is.0 refl refl refl refl (refl, tt), is.1);
+}
+
+-- a refusal is told
+pub refusal_stands : PlaceStands (places.Making Refusing)
+refusal_stands heap number seat here = record {
+  step = load_stands heap PollLoad refl tt;
+  fits = λ found small led. fits_over heap seat here.fits.own.registers_whole here.fits.own.registers_fit here.fits.own.cursor_within here.fits.own.small_reserve
+      here.fits.own.reserve_of_cursor (gone_aside (present_at heap number seat (places.Making Refusing) here (λ e. cc)));
+  near = λ found. record { fewer = omega arith; paid = omega arith };
+  adds = λ now. plain heap now number seat (refusal_move number seat) refl (rw here.placed refl) refl refl;
+  says = λ old command words told is found. ends old number command seat _ told [] _ is (omega arith) (omega arith) refl tt;
+}
+
+-- a record is to be made
+fits_gathers : (heap : Heap) (seat : Seat) (d fields : ℕ) → Fits heap seat → MayBegin seat (New d fields) → Fits heap (begun heap seat (New d fields))
+fits_gathers heap seat d fields fits may =
+    let rest : IsAtRest seat = subst (FitsPlace heap seat) may.idle fits.at_place in
+    fits_goes_on heap (record seat { command = New d fields }) record {
+      registers_whole = fits.own.registers_whole;
+      cursor_within = fits.own.cursor_within;
+      small_reserve = fits.own.small_reserve;
+      reserve_of_cursor = fits.own.reserve_of_cursor;
+      hand_within = fits.hand.hand_within;
+      makes = record { a_record = tt; in_range = may.in_range; numbered = may.numbered };
+      no_body = rest.no_body;
+      none_stored = rest.none_stored;
+      none_given = rest.none_given;
+      tried_within = omega (arith, rest.none_tried);
+      few = rw rest.empty_hand (omega (arith, fits.own.small_reserve));
+      rest_of_last = rw (rest.none_tried, rest.empty_hand, append-nil seat.reserve) (All-drop (λ fragment. fragment / 16 ≡ seat.cursor) (need_of (New d fields)) seat.reserve fits.own.reserve_of_cursor);
+      aside = aside_idle heap seat fits may.idle may.present;
+    }
+
+-- the making of a record begins
+pub gather_begins : (d fields : ℕ) → CommandStands (New d fields)
+gather_begins d fields heap number seat ready =
+    let next = record seat { command = New d fields } in
+    let rest = rest_ready heap number seat (New d fields) ready in
+    let some = need_of_record (New d fields) tt ready.may.in_range in
+    let going : (s : Seat) → s.command ≡ New d fields → s.made ≡ seat.made → s.sets ≡ seat.sets → s.left ≡ seat.left → IsGoing seat number (New d fields) s []
+    = going_ready heap number seat (New d fields) ready in
+    record {
+      fits = fits_gathers heap seat d fields ready.fits ready.may;
+      kept = goes_on_mine heap next;
+      awaits = λ words. goes_on_cases (λ s. awaited heap words number s ≡ []) heap next (λ enough. refl) (λ few left. refl) (λ few all. refl);
+      says = goes_on_cases (λ s. Says seat number (New d fields) s [] s.place) heap next
+          (λ enough. (going _ refl refl refl refl, λ e. cc)) (λ few left. (going _ refl refl refl refl, λ e. cc)) (λ few all. (going _ refl refl refl refl, λ e. cc));
+      owed = goes_on_cases (λ s. owes s ≤ 2 * need_of (New d fields) + 2) heap next (λ enough. omega arith) (λ few left. omega arith)
+          (λ few all. absurd (omega (arith, all, rest.none_tried, ready.limits.some_group)));
+    }

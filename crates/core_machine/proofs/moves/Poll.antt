@@ -1,0 +1,167 @@
+-- A poll, and the answer to a new phase.
+use Rattle.std.proofs.Common.{◌≡◌, ℕ, ◌+◌, ◌-◌, ◌^◌, ◌<◌, ◌≤◌, false, [], length, inl, inr, refl, arith, List, ◌∷◌, ◌++◌, get_or, suc, ◌≢◌}
+use Rattle.std.proofs.lemmas.Bool.Decides.{eqb_tells, leb_tells}
+use Rattle.heap_model.specs.declared.command.Command.TheVariants as commands
+use Rattle.heap_model.specs.declared.entry.Entry.{Entry}
+use Rattle.heap_model.specs.declared.entry.Entry.TheVariants.{Answers}
+use Rattle.heap_model.specs.declared.heap.Heap.{Heap}
+use Rattle.heap_model.specs.declared.reply.Reply.TheVariants as replies
+use Rattle.core_machine.specs.Moves.{seat_after}
+use Rattle.core_machine.specs.declared.place.Place.{Place}
+use Rattle.core_machine.specs.declared.place.Place.TheVariants as places
+use Rattle.core_machine.specs.declared.place.Polling.{Polling}
+use Rattle.core_machine.specs.declared.place.Polling.TheVariants.{Asking, Shading, Answering}
+use Rattle.core_machine.specs.declared.step.Step.TheVariants.{PollLoad}
+use Rattle.core_machine.specs.machine.Machine.{found_by}
+use Rattle.core_machine.specs.seat.AnsweringMoves.{poll_move, poll_adds, root_move, answer_move}
+use Rattle.core_machine.specs.seat.Awaiting.{awaited}
+use Rattle.core_machine.specs.seat.Fits.{FitsPlace, FitsWay, FitsAnswer, IsAtRest, Fits}
+use Rattle.core_machine.specs.seat.FitsReaching.{HasNoWay}
+use Rattle.core_machine.specs.seat.Polling.{phase_found, shaded_more, answer_stored, roots, shades_on}
+use Rattle.core_machine.specs.seat.Seat.{Seat, over, with_entries, replied}
+use Rattle.core_machine.proofs.call_lemmas.Awaits.{plain, after_words}
+use Rattle.core_machine.proofs.call_lemmas.Owes.{Nears}
+use Rattle.core_machine.proofs.call_lemmas.Saying.{Says, on, ends}
+use Rattle.core_machine.proofs.moves.Standing.{IsAt, PlaceStands, present_at, CommandStands, aside_ready, going_ready, rest_ready, resting_begins}
+use Rattle.core_machine.proofs.seat_lemmas.Aside.{gone_aside, fits_over}
+use Rattle.core_machine.proofs.table_lemmas.StepStands.{load_stands, shade_stands}
+use Rattle.core_machine.proofs.table_lemmas.WithinHeap.{roots_within, few_roots}
+
+-- a call that answers the phase leaves these alone
+pub record Polls (heap : Heap) (seat : Seat) : Type 0 where
+  fits : Fits heap seat
+  rest : IsAtRest seat
+  nowhere : HasNoWay seat.reached seat.links seat.loaded
+  present : seat.left ≡ false
+  polls : seat.command ≡ commands.Poll
+
+-- the seat with other answers, at a place that they fit
+abbrev answering : Seat → ℕ → ℕ → ℕ → Place → Seat
+answering seat answered asked shaded place = record seat { answered = answered; asked = asked; shaded = shaded; place = place }
+
+fits_answering : (heap : Heap) (seat : Seat) (answered asked shaded : ℕ) (place : Place) → Polls heap seat → asked < 2 ^ 64
+    → FitsPlace heap (answering seat answered asked shaded place) place → FitsWay (answering seat answered asked shaded place) place
+    → FitsAnswer (answering seat answered asked shaded place) place → Fits heap (answering seat answered asked shaded place)
+fits_answering heap seat answered asked shaded place polls small at_place way answer =
+    let fits = polls.fits in
+    record {
+      own = fits.own;
+      hand = fits.hand;
+      way = fits.way;
+      asked_small = small;
+      at_place = at_place;
+      way_at_place = way;
+      answer_at_place = answer;
+      gone = gone_aside polls.present;
+    }
+
+-- another answer is under way
+fits_polling : (heap : Heap) (seat : Seat) (asked shaded : ℕ) → Polls heap seat → asked < 2 ^ 64 → asked ≢ seat.answered
+    → shaded ≤ length (roots (record seat { asked = asked; shaded = shaded })) → Fits heap (shades_on (record seat { asked = asked; shaded = shaded }))
+fits_polling heap seat asked shaded polls small anew few =
+    fits_answering heap seat seat.answered asked shaded next.place polls small polls.rest polls.nowhere answer
+  where
+    next : Seat
+    next = shades_on (record seat { asked = asked; shaded = shaded })
+
+    answer : FitsAnswer next next.place
+    answer = elim (leb_tells (suc shaded) (length (roots (record seat { asked = asked; shaded = shaded })))) as (λ _. FitsAnswer next next.place) [
+      | inl more ↦ rw more.0 (record { polls = polls.polls; anew = anew }, more.1)
+      | inr all ↦ rw all.0 (record { polls = polls.polls; anew = anew }, omega (arith, all.1, few))
+    ]
+
+-- no call is in flight, with this answer
+fits_answered : (heap : Heap) (seat : Seat) (answered : ℕ) → Polls heap seat → Fits heap (over (record seat { answered = answered }))
+fits_answered heap seat answered polls =
+    let fits = polls.fits in
+    fits_over heap (record seat { answered = answered }) fits.own.registers_whole fits.own.registers_fit fits.own.cursor_within fits.own.small_reserve fits.own.reserve_of_cursor (gone_aside polls.present)
+
+-- the phase was found
+fits_phase : (heap : Heap) (seat : Seat) (found : ℕ) → Polls heap seat → found < 2 ^ 64 → seat.shaded ≡ 0 → Fits heap (phase_found seat found)
+fits_phase heap seat found polls small no_shade =
+    elim (eqb_tells found seat.answered) as (λ _. Fits heap (phase_found seat found)) [
+      | inl same ↦ rw same.0 (fits_answered heap seat seat.answered polls)
+      | inr new ↦ rw new.0 (fits_polling heap seat found seat.shaded polls small new.1 (omega (arith, no_shade)))
+    ]
+
+-- a root was shaded
+fits_shaded : (heap : Heap) (seat : Seat) → Polls heap seat → seat.asked ≢ seat.answered → seat.shaded < length (roots seat) → Fits heap (shaded_more seat)
+fits_shaded heap seat polls anew more = fits_polling heap seat seat.asked (seat.shaded + 1) polls polls.fits.asked_small anew (omega (arith, more))
+
+-- the answer was stored
+fits_stored_answer : (heap : Heap) (seat : Seat) → Polls heap seat → Fits heap (answer_stored seat)
+fits_stored_answer heap seat polls = fits_answered heap seat seat.asked polls
+
+polls_at : (heap : Heap) (number : ℕ) (seat : Seat) (place : Polling) → IsAt heap number seat (places.Polling place) → seat.command ≡ commands.Poll → Polls heap seat
+polls_at heap number seat place here polls =
+    record { fits = here.fits; rest = here.hand; nowhere = here.way; present = present_at heap number seat (places.Polling place) here (λ e. cc); polls = polls }
+
+-- an answer is under way
+nears_shades_on : (heap : Heap) (seat : Seat) (steps : ℕ) → (length (roots seat) - seat.shaded) + 1 < steps → Nears heap (with_entries (shades_on seat) []) 2 steps 0
+nears_shades_on heap seat steps more =
+    elim (leb_tells (suc seat.shaded) (length (roots seat))) as (λ _. Nears heap (with_entries (shades_on seat) []) 2 steps 0) [
+      | inl some ↦ rw some.0 (record { fewer = omega arith; paid = omega arith })
+      | inr all ↦ rw all.0 (record { fewer = omega arith; paid = omega arith })
+    ]
+
+nears_phase : (heap : Heap) (number : ℕ) (seat : Seat) (found : ℕ)
+    → Nears heap (seat_after (poll_move number seat) found) 2 (length seat.registers + 2) (length ((poll_move number seat).adds found))
+nears_phase heap number seat found =
+    let few = few_roots (record seat { asked = found }) in
+    elim (eqb_tells found seat.answered) as (λ _. Nears heap (seat_after (poll_move number seat) found) 2 (length seat.registers + 2) (length ((poll_move number seat).adds found))) [
+      | inl same ↦ rw same.0 (record { fewer = omega arith; paid = omega arith })
+      | inr new ↦ rw new.0 (nears_shades_on heap (record seat { asked = found }) (length seat.registers + 2) (omega arith))
+    ]
+
+module _ (heap : Heap) (number : ℕ) (seat : Seat) where
+  phase_adds : (words : List ℕ) (found : ℕ) (more : List Entry) → ((phase_found seat found).mine ≡ seat.mine) × (awaited heap words number (with_entries (phase_found seat found) more) ≡ [])
+  phase_adds words found more =
+      elim (eqb_tells found seat.answered) as (λ _. ((phase_found seat found).mine ≡ seat.mine) × (awaited heap words number (with_entries (phase_found seat found) more) ≡ [])) [
+        | inl same ↦ rw same.0 (refl, refl)
+        | inr new ↦ rw new.0 (refl, refl)
+      ]
+
+-- the phase is loaded
+pub poll_stands : PlaceStands (places.Polling Asking)
+poll_stands heap number seat here =
+    let move = poll_move number seat in
+    record {
+      step = load_stands heap PollLoad refl tt;
+      fits = λ found small led. fits_phase heap seat found (polls_at heap number seat Asking here here.answer.1) small here.answer.0.none_shaded;
+      near = λ found. nears_phase heap number seat found;
+      adds = λ now. let found = found_by heap now move.step in
+          let by = phase_adds heap number seat (after_words heap now number seat move) found (move.adds found) in
+          plain heap now number seat move by.0 (rw here.placed refl) by.1 refl;
+      says = λ old command words told is found.
+          elim (eqb_tells found seat.answered) as (λ _. Says old number command (with_entries (phase_found seat found) (poll_adds number seat found)) (told ++ poll_adds number seat found) (phase_found seat found).place) [
+            | inl known ↦ rw known.0 (ends old number command seat (replied number seat (replies.Phase found)) told [] (replies.Phase found) is (omega arith) (omega arith) refl tt)
+            | inr new ↦ rw new.0 (on old number command seat (with_entries (shades_on (record seat { asked = found })) []) told [] is.0 refl refl refl refl tt, is.1)
+          ];
+    }
+
+-- a root is shaded
+pub root_stands : PlaceStands (places.Polling Shading)
+root_stands heap number seat here = record {
+  step = shade_stands heap (get_or (roots seat) seat.shaded 0) (roots_within heap seat seat.shaded here.fits here.answer.1);
+  fits = λ found small led. fits_shaded heap seat (polls_at heap number seat Shading here here.answer.0.polls) here.answer.0.anew here.answer.1;
+  near = λ found. nears_shades_on heap (record seat { shaded = seat.shaded + 1 }) ((length (roots seat) - seat.shaded) + 1) (omega (arith, here.answer.1));
+  adds = λ now. plain heap now number seat (root_move seat) refl (rw here.placed refl) refl refl;
+  says = λ old command words told is found. (on old number command seat _ told [] is.0 refl refl refl refl tt, is.1);
+}
+
+-- the answer is stored
+pub answer_stands : PlaceStands (places.Polling Answering)
+answer_stands heap number seat here = record {
+  step = record { in_table = here.few; wide = λ found small. here.fits.asked_small; leads = λ found led. tt };
+  fits = λ found small led. fits_stored_answer heap seat (polls_at heap number seat Answering here here.answer.0.polls);
+  near = λ found. record { fewer = omega arith; paid = omega arith };
+  adds = λ now. plain heap now number seat (answer_move number seat) refl (rw here.placed refl) refl refl;
+  says = λ old command words told is found. ends old number command seat _ told (Answers number seat.asked ∷ []) _ is (omega arith) (omega arith) refl (refl, tt);
+}
+
+-- a poll begins
+pub poll_begins : CommandStands commands.Poll
+poll_begins heap number seat ready =
+    let aside = aside_ready heap number seat commands.Poll ready in
+    resting_begins heap number seat commands.Poll ready (places.Polling Asking) (rest_ready heap number seat commands.Poll ready) aside.nowhere (aside.silent, refl) (λ words. refl)
+    (going_ready heap number seat commands.Poll ready _ refl refl refl refl, λ e. cc) (omega arith)

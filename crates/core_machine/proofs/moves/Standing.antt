@@ -1,0 +1,133 @@
+-- What is asked of each move of a seat, and of each begin.
+use Rattle.std.proofs.Common.{◌≡◌, ℕ, ◌<◌, ◌^◌, false, List, length, refl, subst, ◌+◌, ◌*◌, ◌≤◌, []}
+use Rattle.std.specs.Prelude.{IfSome}
+use Rattle.heap_model.specs.Heap.{IsHeap}
+use Rattle.heap_model.specs.account.Space.{need_of}
+use Rattle.heap_model.specs.declared.command.Command.{Command}
+use Rattle.heap_model.specs.declared.entry.Entry.{Entry}
+use Rattle.heap_model.specs.declared.heap.Heap.{Heap}
+use Rattle.core_machine.specs.Moves.{Move, move_at, seat_after}
+use Rattle.core_machine.specs.declared.place.Place.{Place}
+use Rattle.core_machine.specs.declared.place.Place.TheVariants as places
+use Rattle.core_machine.specs.declared.place.Reaching.{Reaching}
+use Rattle.core_machine.specs.machine.Machine.{State, MayBegin, begun}
+use Rattle.core_machine.specs.seat.Awaiting.{awaited, awaited_at}
+use Rattle.core_machine.specs.seat.Fits.{Fits, FitsPlace, FitsWay, FitsAnswer, IsSilent, IsAtRest}
+use Rattle.core_machine.specs.seat.FitsReaching.{IsNowhere}
+use Rattle.core_machine.specs.seat.Seat.{Seat}
+use Rattle.core_machine.specs.table.Loaded.{FoundWithin}
+use Rattle.core_machine.specs.table.Operation.{address_of}
+use Rattle.core_machine.proofs.call_lemmas.Awaits.{Adds}
+use Rattle.core_machine.proofs.call_lemmas.Owes.{owes_at, steps_at, Nears, owes}
+use Rattle.core_machine.proofs.call_lemmas.Saying.{Says, Leads, IsGoing}
+use Rattle.core_machine.proofs.seat_lemmas.Aside.{IsAside, present_busy, aside_idle, gone_aside}
+use Rattle.core_machine.proofs.seat_lemmas.FittingReaching.{Rests}
+use Rattle.core_machine.proofs.table_lemmas.StepStands.{StepStands}
+
+-- a seat whose data fit together stands at this place
+pub record IsAt (heap : Heap) (number : ℕ) (seat : Seat) (place : Place) : Type 0 where
+  pub limits : IsHeap heap
+  pub few : number < 16
+  pub fits : Fits heap seat
+  pub placed : seat.place ≡ place
+  pub hand : FitsPlace heap seat place
+  pub way : FitsWay seat place
+  pub answer : FitsAnswer seat place
+
+pub record MoveStands (heap : Heap) (number : ℕ) (seat : Seat) (place : Place) (move : Move) : Type 0 where
+  pub step : StepStands heap move.step
+  -- the seat's data fit together after it, where the word found leads within the heap
+  pub fits : (found : ℕ) → found < 2 ^ 64 → FoundWithin heap (address_of move.step) found → Fits heap (move.told found)
+  -- fewer steps are left, and no more entries are added than were owed
+  pub near : (found : ℕ) → Nears heap (seat_after move found) (owes_at seat place) (steps_at heap seat place) (length (move.adds found))
+  -- the seat's own list, with what is awaited, grows as the history does
+  pub adds : (now : State) → Adds heap now number seat move
+  -- a call that is made by itself has told what it is to tell
+  pub says : (old : Seat) (command : Command) (words : List ℕ) (told : List Entry) → Says old number command seat told place → Leads old number command seat told words move
+
+-- so stands the move that is due at this place
+abbrev pub PlaceStands : Place → Type 0
+PlaceStands place = (heap : Heap) (number : ℕ) (seat : Seat) → IsAt heap number seat place → IfSome (move_at heap number seat place) (MoveStands heap number seat place)
+
+-- a seat with a call in flight hasn't left
+pub present_at : (heap : Heap) (number : ℕ) (seat : Seat) (place : Place) → IsAt heap number seat place → (place ≡ places.Idle → ⊥) → seat.left ≡ false
+present_at heap number seat place here busy = present_busy heap seat place here.fits here.placed busy
+
+-- at a place where nothing is reached, loaded or about to be answered
+pub aside_at : (heap : Heap) (number : ℕ) (seat : Seat) (place : Place) → IsAt heap number seat place → (place ≡ places.Idle → ⊥) → IsNowhere seat → IsSilent seat
+    → IsAside heap seat
+aside_at heap number seat place here busy nowhere silent = record {
+  registers_fit = here.fits.own.registers_fit;
+  reached_within = here.fits.way.reached_within;
+  loaded_within = here.fits.way.loaded_within;
+  asked_small = here.fits.asked_small;
+  nowhere = nowhere;
+  silent = silent;
+  present = present_at heap number seat place here busy;
+}
+
+-- at a place of reaching
+pub rests_at : (heap : Heap) (number : ℕ) (seat : Seat) (place : Reaching) → IsAt heap number seat (places.Reaching place) → Rests heap seat
+rests_at heap number seat place here = record {
+  fits = here.fits;
+  rest = here.hand;
+  silent = here.answer;
+  present = present_at heap number seat (places.Reaching place) here (λ e. cc);
+}
+
+-- a seat whose data fit together may begin this command
+pub record IsReady (heap : Heap) (seat : Seat) (command : Command) : Type 0 where
+  pub limits : IsHeap heap
+  pub fits : Fits heap seat
+  pub may : MayBegin seat command
+
+pub record BeginStands (heap : Heap) (number : ℕ) (seat : Seat) (command : Command) (begun_ : Seat) : Type 0 where
+  -- the seat's data fit together after it
+  pub fits : Fits heap begun_
+  -- it adds no entry, and awaits none
+  pub kept : begun_.mine ≡ seat.mine
+  pub awaits : (words : List ℕ) → awaited heap words number begun_ ≡ []
+  -- it has told nothing
+  pub says : Says seat number command begun_ [] begun_.place
+  -- it owes no more than twice its need and two
+  pub owed : owes begun_ ≤ 2 * need_of command + 2
+
+-- so stands the begin of this command
+abbrev pub CommandStands : Command → Type 0
+CommandStands command = (heap : Heap) (number : ℕ) (seat : Seat) → IsReady heap seat command → BeginStands heap number seat command (begun heap seat command)
+
+module _ (heap : Heap) (number : ℕ) (seat : Seat) (command : Command) (ready : IsReady heap seat command) where
+  pub rest_ready : IsAtRest seat
+  rest_ready = subst (FitsPlace heap seat) ready.may.idle ready.fits.at_place
+
+  pub aside_ready : IsAside heap seat
+  aside_ready = aside_idle heap seat ready.fits ready.may.idle ready.may.present
+
+  -- nothing was counted or told
+  pub going_ready : (next : Seat) → next.command ≡ command → next.made ≡ seat.made → next.sets ≡ seat.sets → next.left ≡ seat.left → IsGoing seat number command next []
+  going_ready next same made sets left = record { same = same; made_stays = made; sets_stay = sets; present_stays = left; beside = tt }
+
+  -- the seat at the first place of its call
+  abbrev pub placed_at : Place → Seat
+  placed_at place = record seat { command = command; place = place }
+
+  -- at a place where nothing is in the hand, reached or about to be answered
+  pub resting_begins : (place : Place) → FitsPlace heap (placed_at place) place → FitsWay (placed_at place) place → FitsAnswer (placed_at place) place
+      → ((words : List ℕ) → awaited_at heap words number (placed_at place) place ≡ []) → Says seat number command (placed_at place) [] place
+      → owes_at (placed_at place) place ≤ 2 * need_of command + 2 → BeginStands heap number seat command (placed_at place)
+  resting_begins place hand way answer awaits says owed = record {
+    fits = record {
+      own = ready.fits.own;
+      hand = ready.fits.hand;
+      way = ready.fits.way;
+      asked_small = ready.fits.asked_small;
+      at_place = hand;
+      way_at_place = way;
+      answer_at_place = answer;
+      gone = gone_aside ready.may.present;
+    };
+    kept = refl;
+    awaits = awaits;
+    says = says;
+    owed = owed;
+  }

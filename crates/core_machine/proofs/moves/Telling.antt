@@ -1,0 +1,62 @@
+-- A call that looks at no word tells its reply.
+use Rattle.std.proofs.Common.{ℕ, ◌≡◌, false, [], length, refl, arith, List, ◌∙◌, ◌≢◌}
+use Rattle.std.proofs.lemmas.List.{length-set}
+use Rattle.std.proofs.lemmas.List.Elements.{All-set}
+use Rattle.std.specs.List.{All}
+use Rattle.heap_model.specs.Command.{IsCommand}
+use Rattle.heap_model.specs.declared.command.Command.{Command}
+use Rattle.heap_model.specs.declared.command.Command.TheVariants as commands
+use Rattle.heap_model.specs.declared.heap.Heap.{Heap}
+use Rattle.core_machine.specs.Moves.{telling_move}
+use Rattle.core_machine.specs.declared.place.Place.TheVariants as places
+use Rattle.core_machine.specs.declared.seat.register.Register.{Register}
+use Rattle.core_machine.specs.declared.seat.register.Register.TheVariants.{Nil, Number}
+use Rattle.core_machine.specs.declared.step.Step.TheVariants.{PollLoad}
+use Rattle.core_machine.specs.seat.Fits.{Fits, FitsRegister, IsLocal}
+use Rattle.core_machine.specs.seat.Registers.{register_in}
+use Rattle.core_machine.specs.seat.Seat.{Seat}
+use Rattle.core_machine.specs.seat.Telling.{told, local_registers}
+use Rattle.core_machine.proofs.call_lemmas.Awaits.{plain}
+use Rattle.core_machine.proofs.call_lemmas.Saying.{ends}
+use Rattle.core_machine.proofs.moves.Standing.{PlaceStands, present_at, BeginStands, IsReady, aside_ready, going_ready, rest_ready, resting_begins}
+use Rattle.core_machine.proofs.seat_lemmas.Aside.{gone_aside, fits_over}
+use Rattle.core_machine.proofs.table_lemmas.StepStands.{load_stands}
+use Rattle.core_machine.proofs.table_lemmas.WithinHeap.{register_fits}
+
+-- the registers after a command that looks at no word
+local_fit : (heap : Heap) (registers : List Register) (command : Command) → IsCommand command → All (FitsRegister heap) registers
+    → All (FitsRegister heap) (local_registers registers command)
+local_fit heap registers (commands.Num d n) range fit = All-set (FitsRegister heap) registers d (Number n) range.1 fit
+local_fit heap registers (commands.Nil d) range fit = All-set (FitsRegister heap) registers d Nil tt fit
+local_fit heap registers (commands.Copy d r) range fit = All-set (FitsRegister heap) registers d (register_in registers r) (register_fits heap registers r fit) fit
+local_fit heap registers _ range fit = fit
+
+local_whole : (registers : List Register) (command : Command) → length (local_registers registers command) ≡ length registers
+local_whole registers (commands.Num d n) = length-set registers d (Number n)
+local_whole registers (commands.Nil d) = length-set registers d Nil
+local_whole registers (commands.Copy d r) = length-set registers d (register_in registers r)
+local_whole registers _ = refl
+
+-- the reply of a local command was told
+fits_local : (heap : Heap) (seat : Seat) → Fits heap seat → seat.left ≡ false → IsCommand seat.command → Fits heap (told seat)
+fits_local heap seat fits present range =
+    fits_over heap (record seat { registers = local_registers seat.registers seat.command }) (local_whole seat.registers seat.command ∙ fits.own.registers_whole)
+    (local_fit heap seat.registers seat.command range fits.own.registers_fit) fits.own.cursor_within fits.own.small_reserve fits.own.reserve_of_cursor (gone_aside present)
+
+-- a reply is told
+pub telling_stands : PlaceStands places.Telling
+telling_stands heap number seat here = record {
+  step = load_stands heap PollLoad refl tt;
+  fits = λ found small led. fits_local heap seat here.fits (present_at heap number seat places.Telling here (λ e. cc)) here.hand.1;
+  near = λ found. record { fewer = omega arith; paid = omega arith };
+  adds = λ now. plain heap now number seat (telling_move number seat) refl (rw here.placed refl) refl refl;
+  says = λ old command words told is found. ends old number command seat _ told [] _ is (omega arith) (omega arith) refl tt;
+}
+
+-- a call begins that looks at no word
+pub tell_begins : (command : Command) → command ≢ commands.Leave → (heap : Heap) (number : ℕ) (seat : Seat) → IsReady heap seat command → IsLocal seat.registers command
+    → BeginStands heap number seat command (record seat { command = command; place = places.Telling })
+tell_begins command stays heap number seat ready local =
+    let aside = aside_ready heap number seat command ready in
+    resting_begins heap number seat command ready places.Telling (rest_ready heap number seat command ready, ready.may.in_range, local) aside.nowhere aside.silent (λ words. refl)
+    (going_ready heap number seat command ready _ refl refl refl refl, stays) (omega arith)
