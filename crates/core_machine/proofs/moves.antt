@@ -1,5 +1,5 @@
 -- What is asked of each move of a seat, a file for each call.
-pub mod Bear
+pub mod Birth
 pub mod Gather
 pub mod Get
 pub mod Leave
@@ -7,8 +7,8 @@ pub mod Open
 pub mod Standing
 pub mod Poll
 pub mod Set
-pub mod Telling
-pub mod Way
+pub mod Local
+pub mod Walk
 use Rattle.std.proofs.Common.{ℕ, ◌<◌, refl}
 use Rattle.std.specs.Prelude.{IfSome}
 use Rattle.heap_model.specs.declared.heap.Heap.{Heap}
@@ -18,13 +18,13 @@ use Rattle.core_machine.specs.declared.place.Making.TheVariants.{Gathering, Retu
 use Rattle.core_machine.specs.declared.place.Place.{Place}
 use Rattle.core_machine.specs.declared.place.Place.TheVariants as places
 use Rattle.core_machine.specs.declared.place.Polling.TheVariants.{Asking, Shading, Answering}
-use Rattle.core_machine.specs.declared.place.Reaching.TheVariants.{Opening, Walking, Getting, Naming, LoadingOld, ShadingOld, ShadingNew, Swapping}
+use Rattle.core_machine.specs.declared.place.Access.TheVariants.{LoadingMeta, Walking, Getting, Naming, LoadingOld, ShadingOld, ShadingNew, Swapping}
 use Rattle.core_machine.specs.Moves.{next_move}
 use Rattle.core_machine.specs.seat.Fits.{Fits}
 use Rattle.core_machine.specs.seat.Seat.{Seat}
 use Rattle.heap_model.specs.declared.command.Command.{Command}
 use Rattle.heap_model.specs.declared.command.Command.TheVariants as commands
-use Rattle.core_machine.specs.machine.Machine.{MayBegin, begun}
+use Rattle.core_machine.specs.machine.Machine.{MayBegin, after_begin}
 use Rattle.core_machine.proofs.moves.Standing.{MoveStands, PlaceStands, BeginStands, CommandStands}
 
 -- each move stands, by the place
@@ -33,17 +33,17 @@ stands_at places.Idle = λ heap number seat here. tt
 stands_at (places.Making Gathering) = Gather.claim_stands
 stands_at (places.Making Returning) = Gather.give_back_stands
 stands_at (places.Making Refusing) = Gather.refusal_stands
-stands_at (places.Making Storing) = Bear.store_stands
-stands_at (places.Making Bearing) = Bear.bearing_stands
-stands_at places.Telling = Telling.telling_stands
-stands_at (places.Reaching Opening) = Open.open_stands
-stands_at (places.Reaching Walking) = Way.walk_stands
-stands_at (places.Reaching Getting) = Get.get_stands
-stands_at (places.Reaching Naming) = Get.name_stands
-stands_at (places.Reaching LoadingOld) = Set.old_stands
-stands_at (places.Reaching ShadingOld) = Set.shade_old_stands
-stands_at (places.Reaching ShadingNew) = Set.shade_new_stands
-stands_at (places.Reaching Swapping) = Set.swap_stands
+stands_at (places.Making Storing) = Birth.store_stands
+stands_at (places.Making Bearing) = Birth.bearing_stands
+stands_at places.Local = Local.telling_stands
+stands_at (places.Access LoadingMeta) = Open.open_stands
+stands_at (places.Access Walking) = Walk.walk_stands
+stands_at (places.Access Getting) = Get.get_stands
+stands_at (places.Access Naming) = Get.name_stands
+stands_at (places.Access LoadingOld) = Set.old_stands
+stands_at (places.Access ShadingOld) = Set.shade_old_stands
+stands_at (places.Access ShadingNew) = Set.shade_new_stands
+stands_at (places.Access Swapping) = Set.swap_stands
 stands_at (places.Polling Asking) = Poll.poll_stands
 stands_at (places.Polling Shading) = Poll.root_stands
 stands_at (places.Polling Answering) = Poll.answer_stands
@@ -61,10 +61,10 @@ begin_at (commands.New d fields) = Gather.gather_begins d fields
 begin_at (commands.Array d cells) = λ heap number seat ready. absurd ready.may.served
 begin_at (commands.Get d r i) = Open.open_begins (commands.Get d r i) (λ e. cc) tt
 begin_at (commands.Set r i v) = Open.open_begins (commands.Set r i v) (λ e. cc) tt
-begin_at (commands.Num d n) = λ heap number seat ready. Telling.tell_begins (commands.Num d n) (λ e. cc) heap number seat ready tt
-begin_at (commands.Nil d) = λ heap number seat ready. Telling.tell_begins (commands.Nil d) (λ e. cc) heap number seat ready tt
-begin_at (commands.Copy d r) = λ heap number seat ready. Telling.tell_begins (commands.Copy d r) (λ e. cc) heap number seat ready tt
-begin_at (commands.Same a b) = λ heap number seat ready. Telling.tell_begins (commands.Same a b) (λ e. cc) heap number seat ready tt
+begin_at (commands.Num d n) = λ heap number seat ready. Local.tell_begins (commands.Num d n) (λ e. cc) heap number seat ready tt
+begin_at (commands.Nil d) = λ heap number seat ready. Local.tell_begins (commands.Nil d) (λ e. cc) heap number seat ready tt
+begin_at (commands.Copy d r) = λ heap number seat ready. Local.tell_begins (commands.Copy d r) (λ e. cc) heap number seat ready tt
+begin_at (commands.Same a b) = λ heap number seat ready. Local.tell_begins (commands.Same a b) (λ e. cc) heap number seat ready tt
 begin_at (commands.Len r) = Open.open_begins (commands.Len r) (λ e. cc) tt
 begin_at commands.Poll = Poll.poll_begins
 begin_at commands.Collect = λ heap number seat ready. absurd ready.may.served
@@ -72,5 +72,5 @@ begin_at commands.Leave = Leave.leave_begins
 
 -- the begin of a command that may be begun
 pub begin_stands : (heap : Heap) (number : ℕ) (seat : Seat) (command : Command) → IsHeap heap → Fits heap seat → MayBegin seat command
-    → BeginStands heap number seat command (begun heap seat command)
+    → BeginStands heap number seat command (after_begin heap seat command)
 begin_stands heap number seat command limits fits may = begin_at command heap number seat record { limits = limits; fits = fits; may = may }

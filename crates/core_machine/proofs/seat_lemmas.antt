@@ -3,4 +3,4 @@ pub mod Aside
 pub mod FieldPlaces
 pub mod Fitting
 pub mod FittingEntries
-pub mod FittingReaching
+pub mod FittingAccess

@@ -5,6 +5,7 @@ use Rattle.heap_model.specs.declared.entry.Entry.{Entry}
 use Rattle.core_machine.specs.declared.step.Step.{Step}
 use Rattle.core_machine.specs.seat.Seat.{Seat, with_entries}
 
+-- one step of a seat: what it does to a word, to the seat's data and to the entries
 pub record Move : Type 0 where
   -- the step that is due
   pub step : Step

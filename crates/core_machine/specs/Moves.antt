@@ -6,15 +6,16 @@ use Rattle.core_machine.specs.declared.place.Place.TheVariants as places
 use Rattle.core_machine.specs.declared.step.Step.{Step}
 use Rattle.core_machine.specs.seat.Seat.{Seat}
 pub use Rattle.core_machine.specs.Move.{Move, plain_move, seat_after}
-pub use Rattle.core_machine.specs.seat.MakingMoves.{takes_some, claim_move, first_part, give_back_move, full_entry, refusal_move, word_store, due_store, store_move, bears_black, last_part, is_last_birth, birth_move, made_entry, last_birth_move, bearing_move, making_move}
-pub use Rattle.core_machine.specs.seat.ReachingMoves.{reaching_move}
-pub use Rattle.core_machine.specs.seat.AnsweringMoves.{telling_move, polling_move, leaving_move}
+pub use Rattle.core_machine.specs.seat.MakingMoves.{takes_some, claim_move, first_part, give_back_move, full_entry, refusal_move, word_store, due_store, store_move, bears_black_of, last_part, is_last_birth, birth_move, made_entry, last_birth_move, bearing_move, making_move}
+pub use Rattle.core_machine.specs.seat.AccessMoves.{access_move}
+pub use Rattle.core_machine.specs.seat.HandshakeMoves.{local_move, polling_move, leaving_move}
 
+-- the move that is due at a place; none where no call is in flight
 abbrev pub move_at : Heap → ℕ → Seat → Place → Option Move
 move_at heap number seat places.Idle = None
 move_at heap number seat (places.Making place) = Some (making_move heap number seat place)
-move_at heap number seat places.Telling = Some (telling_move number seat)
-move_at heap number seat (places.Reaching place) = Some (reaching_move heap number seat place)
+move_at heap number seat places.Local = Some (local_move number seat)
+move_at heap number seat (places.Access place) = Some (access_move heap number seat place)
 move_at heap number seat (places.Polling place) = Some (polling_move number seat place)
 move_at heap number seat (places.Leaving place) = Some (leaving_move number seat place)
 
@@ -27,6 +28,6 @@ abbrev pub due_step : Heap → ℕ → Seat → Option Step
 due_step heap number seat = option_map (λ move. move.step) (next_move heap number seat)
 
 -- the seat after its next move that found this word; as it is where none is due
-abbrev pub seat_moved : Seat → Option Move → ℕ → Seat
-seat_moved seat None found = seat
-seat_moved seat (Some move) found = seat_after move found
+abbrev pub seat_after_due : Seat → Option Move → ℕ → Seat
+seat_after_due seat None found = seat
+seat_after_due seat (Some move) found = seat_after move found

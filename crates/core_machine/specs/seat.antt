@@ -1,16 +1,16 @@
 -- A seat's data, and how each move changes them.
-pub mod AnsweringMoves
+pub mod HandshakeMoves
 pub mod Awaiting
 pub mod Commands
 pub mod Fits
-pub mod FitsAnswering
+pub mod FitsHandshake
 pub mod FitsMaking
-pub mod FitsReaching
+pub mod FitsAccess
 pub mod Making
 pub mod MakingMoves
-pub mod Polling
-pub mod Reaching
-pub mod ReachingMoves
+pub mod Handshake
+pub mod Access
+pub mod AccessMoves
 pub mod Registers
 pub mod Seat
-pub mod Telling
+pub mod Local

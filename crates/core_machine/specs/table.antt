@@ -1,6 +1,6 @@
 -- Words of the table: where each stands, what it tells, and the words of a new object.
 pub mod Fragments
 pub mod Layout
-pub mod Loaded
+pub mod Decode
 pub mod Newborn
 pub mod Operation

@@ -1,6 +1,6 @@
 ghost use Rattle.std.specs.Prelude.{◌≡◌, ◌+◌, ◌-◌, ◌<◌, ◌≤◌, ◌^◌, length, OnOk, OnErr};
 ghost use Rattle.core_machine.specs.declared.step.Step.TheVariants.{Turning as Turns};
-ghost use Rattle.core_machine.specs.collector.Collector.{opening_collector, next_turn, collector_after, has_answered as has_answered_of, advance_turn, look_answer, looked_at, looked_on};
+ghost use Rattle.core_machine.specs.collector.Collector.{opening_collector, next_turn, collector_after, has_answered_of, advance_turn, look_answer, after_look, after_counted_look};
 ghost use Rattle.core_machine.specs.seat.Fits.{CollectorFits};
 
 use crate::collector::stage::Stage;
@@ -85,7 +85,7 @@ impl CollectorParty {
     /// Looks at a seat's word.
     fn look(&mut self, heap: &Heap, found: u64) -> Turn
         requires { self.old.collector.looked < heap.now.seats }
-        ensures collector { self.new.collector ≡ looked_at heap.now self.old.collector found }
+        ensures collector { self.new.collector ≡ after_look heap.now self.old.collector found }
         ensures answer { result ≡ look_answer self.old.collector found }
         ensures spare { self.new.spare ≡ self.old.spare }
     {
@@ -103,7 +103,7 @@ impl CollectorParty {
     /// One more seat has answered.
     fn look_on(&mut self, heap: &Heap)
         requires { self.old.collector.looked < heap.now.seats }
-        ensures collector { self.new.collector ≡ looked_on heap.now self.old.collector }
+        ensures collector { self.new.collector ≡ after_counted_look heap.now self.old.collector }
         ensures spare { self.new.spare ≡ self.old.spare }
     {
         let seats = heap.seats;

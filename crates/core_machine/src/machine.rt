@@ -1,6 +1,6 @@
 ghost use Rattle.std.specs.Prelude.{◌≡◌, ◌≢◌, ℕ, ◌+◌, ◌-◌, ◌*◌, ◌<◌, ◌≤◌, ◌↔◌, IsTrue, [], ◌∷◌, ◌++◌, length, Some, OnOk, OnErr};
 ghost use Rattle.heap_model.specs.account.Space.{need_of};
-ghost use Rattle.core_machine.specs.machine.Machine.{Begins, Steps, Turns, Can, after, seat_at, found_by};
+ghost use Rattle.core_machine.specs.machine.Machine.{Begins, Steps, Turns, Can, state_after, seat_at, found_by};
 ghost use Rattle.core_machine.specs.declared.table.address.Address.TheVariants.{Phase};
 ghost use Rattle.core_machine.specs.table.Layout.{at, InTable};
 ghost use Rattle.core_machine.specs.collector.Collector.{next_turn};
@@ -111,7 +111,7 @@ impl Machine {
     pub fn begin(&mut self, seat: u8, command: Command)
         requires can { Can self.old.heap self.old.state (Begins seat command) }
         requires room { 2 * need_of command + 4 ≤ spare_of self.old seat }
-        ensures { self.new ≡ record self.old { state = after self.old.heap self.old.state (Begins seat command) } }
+        ensures { self.new ≡ record self.old { state = state_after self.old.heap self.old.state (Begins seat command) } }
     {
         let heap = self.heap;
         let party = &mut self.seats[seat as usize];
@@ -125,7 +125,7 @@ impl Machine {
         requires room { 2 ≤ spare_of self.old party }
         ensures can { Can self.old.heap self.old.state (event_of self.old.state party) }
         ensures heap { self.new.heap ≡ self.old.heap }
-        ensures state { self.new.state ≡ after self.old.heap self.old.state (event_of self.old.state party) }
+        ensures state { self.new.state ≡ state_after self.old.heap self.old.state (event_of self.old.state party) }
         ensures found { result ≡ found_by self.old.heap self.old.state step.now }
         ensures spent { SpendsRoom self.old self.new party }
     {
@@ -141,7 +141,7 @@ impl Machine {
         requires due { due_step self.old.heap seat (seat_at self.old.state seat) ≡ Some step.now }
         requires room { 2 ≤ spare_of self.old seat }
         ensures heap { self.new.heap ≡ self.old.heap }
-        ensures state { self.new.state ≡ after self.old.heap self.old.state (Steps seat) }
+        ensures state { self.new.state ≡ state_after self.old.heap self.old.state (Steps seat) }
         ensures found { result ≡ found_by self.old.heap self.old.state step.now }
         ensures spent { SpendsRoom self.old self.new seat }
     {
@@ -157,7 +157,7 @@ impl Machine {
         requires room { 2 ≤ spare_of self.old (length self.old.state.seats) }
         ensures can { Can self.old.heap self.old.state Turns }
         ensures heap { self.new.heap ≡ self.old.heap }
-        ensures state { self.new.state ≡ after self.old.heap self.old.state Turns }
+        ensures state { self.new.state ≡ state_after self.old.heap self.old.state Turns }
         ensures answer { let turn = next_turn self.old.heap self.old.state.collector in
             result ≡ turn.answer (found_by self.old.heap self.old.state turn.step) }
         ensures spent { SpendsRoom self.old self.new (length self.old.state.seats) }
@@ -172,7 +172,7 @@ impl Machine {
         requires room { 2 ≤ spare_of self.old (length self.old.state.seats) }
         ensures can { Can self.old.heap self.old.state Turns }
         ensures heap { self.new.heap ≡ self.old.heap }
-        ensures state { self.new.state ≡ after self.old.heap self.old.state Turns }
+        ensures state { self.new.state ≡ state_after self.old.heap self.old.state Turns }
         ensures found { result.0 ≡ found_by self.old.heap self.old.state step.now }
         ensures answer { result.1 ≡ (next_turn self.old.heap self.old.state.collector).answer result.0 }
         ensures spent { SpendsRoom self.old self.new (length self.old.state.seats) }

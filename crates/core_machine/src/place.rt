@@ -6,9 +6,9 @@ pub enum Place {
     /// An object is made.
     Making(Making),
     /// The call has no word to look at: its reply is told.
-    Telling,
+    Local,
     /// An object is read or written.
-    Reaching(Reaching),
+    Access(Access),
     /// The phase is answered.
     Polling(Polling),
     /// The seat leaves.
@@ -32,9 +32,9 @@ pub enum Making {
 
 /// Where a seat stands while it reads or writes an object.
 #[derive(Clone, Copy)]
-pub enum Reaching {
+pub enum Access {
     /// The object's meta is loaded.
-    Opening,
+    LoadingMeta,
     /// The link to the next fragment is loaded.
     Walking,
     /// The field is loaded, for a get.

@@ -1,6 +1,6 @@
 ghost use Rattle.std.specs.Prelude.{◌≡◌, ◌+◌, ◌<◌, ◌≤◌, ◌∷◌, [], OnOk, OnErr};
 ghost use Rattle.heap_model.specs.Heap.{IsHeap};
-ghost use Rattle.core_machine.specs.seat.Seat.{with_entries, over, replied};
+ghost use Rattle.core_machine.specs.seat.Seat.{with_entries, after_call, seat_after_reply};
 ghost use Rattle.core_machine.specs.machine.Opening.{opening_seat};
 
 use crate::log::Log;
@@ -12,17 +12,17 @@ use heap_model::{Command, Entry, Heap, Id, Memory, Reply};
 use std::alloc::Global;
 use std::marker::Model;
 
-mod answer;
-mod bear;
+mod access;
 mod begins;
+mod birth;
 pub(crate) mod commands;
 mod due;
 mod gather;
+mod handshake;
+mod local;
 mod moves;
-mod reach;
 pub(crate) mod register;
-mod tell;
-mod way;
+mod walk;
 
 /// What is kept of a seat: its registers, its fragments, its call in flight, what it answered, and its entries.
 #[derive(Drop)]
@@ -137,7 +137,7 @@ impl SeatParty {
 
     /// The call is over, and nothing of it is left.
     fn finish(&mut self)
-        ensures seat { self.new.seat ≡ over self.old.seat }
+        ensures seat { self.new.seat ≡ after_call self.old.seat }
         ensures spare { self.new.spare ≡ self.old.spare }
     {
         self.hand.clear();
@@ -156,7 +156,7 @@ impl SeatParty {
     /// Ends the call with this reply, for which there is room.
     pub(crate) fn reply(&mut self, number: u8, reply: Reply)
         requires { 0 < self.old.spare }
-        ensures seat { self.new.seat ≡ replied number self.old.seat reply }
+        ensures seat { self.new.seat ≡ seat_after_reply number self.old.seat reply }
         ensures spare { self.old.spare ≤ self.new.spare + 1 }
     {
         self.finish();

@@ -1,5 +1,5 @@
 ghost use Rattle.std.specs.Prelude.{◌≡◌};
-ghost use Rattle.core_machine.specs.table.Operation.{address_of, operation_of, making_address, making_operation, reaching_address, reaching_operation, answering_address, answering_operation, turning_address, turning_operation};
+ghost use Rattle.core_machine.specs.table.Operation.{address_of, operation_of, making_address, making_operation, access_address, access_operation, handshake_address, handshake_operation, turning_address, turning_operation};
 
 use crate::step::operation::Operation;
 use crate::table::address::Address;
@@ -16,9 +16,9 @@ pub enum Step {
     /// The phase is loaded.
     PollLoad,
     /// A step by which an object is read or written.
-    Reaching(ReachingStep),
+    Access(AccessStep),
     /// A step by which a seat tells what it has answered.
-    Answering(AnsweringStep),
+    Handshake(HandshakeStep),
     /// A step of the collector.
     Turning(TurningStep),
 }
@@ -40,7 +40,7 @@ pub enum MakingStep {
 
 /// A step by which an object is read or written.
 #[derive(Clone, Copy)]
-pub enum ReachingStep {
+pub enum AccessStep {
     /// The first word of a fragment is loaded: a meta or a link.
     WalkLoad { fragment: u16 },
     /// An object's name is loaded from its first fragment.
@@ -57,7 +57,7 @@ pub enum ReachingStep {
 
 /// A step by which a seat tells in its own word what it has answered.
 #[derive(Clone, Copy)]
-pub enum AnsweringStep {
+pub enum HandshakeStep {
     /// The seat has answered the phase.
     AnswerStore { seat: u8, phase: u64 },
     /// The seat has left.
@@ -81,8 +81,8 @@ impl Step {
         match *self {
             Step::Making(step) => step.address(),
             Step::PollLoad => Address::Phase,
-            Step::Reaching(step) => step.address(),
-            Step::Answering(step) => step.address(),
+            Step::Access(step) => step.address(),
+            Step::Handshake(step) => step.address(),
             Step::Turning(step) => step.address(),
         }
     }
@@ -94,8 +94,8 @@ impl Step {
         match *self {
             Step::Making(step) => step.operation(),
             Step::PollLoad => Operation::Load,
-            Step::Reaching(step) => step.operation(),
-            Step::Answering(step) => step.operation(),
+            Step::Access(step) => step.operation(),
+            Step::Handshake(step) => step.operation(),
             Step::Turning(step) => step.operation(),
         }
     }
@@ -128,54 +128,54 @@ impl MakingStep {
     }
 }
 
-impl ReachingStep {
+impl AccessStep {
     fn address(&self) -> Address
-        ensures { result ≡ reaching_address self.now }
+        ensures { result ≡ access_address self.now }
     {
         match *self {
-            ReachingStep::WalkLoad { fragment } => Address::Word { fragment, part: 0 },
-            ReachingStep::NameLoad { head } => Address::Word {
+            AccessStep::WalkLoad { fragment } => Address::Word { fragment, part: 0 },
+            AccessStep::NameLoad { head } => Address::Word {
                 fragment: head,
                 part: 1,
             },
-            ReachingStep::GetLoad { fragment, part }
-            | ReachingStep::OldLoad { fragment, part }
-            | ReachingStep::Swap { fragment, part, .. } => Address::Word { fragment, part },
-            ReachingStep::Shade { fragment } => Address::Control(fragment / GROUP_FRAGMENTS),
+            AccessStep::GetLoad { fragment, part }
+            | AccessStep::OldLoad { fragment, part }
+            | AccessStep::Swap { fragment, part, .. } => Address::Word { fragment, part },
+            AccessStep::Shade { fragment } => Address::Control(fragment / GROUP_FRAGMENTS),
         }
     }
 
     fn operation(&self) -> Operation
-        ensures { result ≡ reaching_operation self.now }
+        ensures { result ≡ access_operation self.now }
     {
         match *self {
-            ReachingStep::WalkLoad { .. }
-            | ReachingStep::NameLoad { .. }
-            | ReachingStep::GetLoad { .. }
-            | ReachingStep::OldLoad { .. } => Operation::Load,
-            ReachingStep::Shade { fragment } => Operation::Or(shade_bit(fragment)),
-            ReachingStep::Swap { word, .. } => Operation::Exchange(word),
+            AccessStep::WalkLoad { .. }
+            | AccessStep::NameLoad { .. }
+            | AccessStep::GetLoad { .. }
+            | AccessStep::OldLoad { .. } => Operation::Load,
+            AccessStep::Shade { fragment } => Operation::Or(shade_bit(fragment)),
+            AccessStep::Swap { word, .. } => Operation::Exchange(word),
         }
     }
 }
 
-impl AnsweringStep {
+impl HandshakeStep {
     fn address(&self) -> Address
-        ensures { result ≡ answering_address self.now }
+        ensures { result ≡ handshake_address self.now }
     {
         match *self {
-            AnsweringStep::AnswerStore { seat, .. } | AnsweringStep::LeaveStore { seat } => {
+            HandshakeStep::AnswerStore { seat, .. } | HandshakeStep::LeaveStore { seat } => {
                 Address::Answer(seat)
             }
         }
     }
 
     fn operation(&self) -> Operation
-        ensures { result ≡ answering_operation self.now }
+        ensures { result ≡ handshake_operation self.now }
     {
         match *self {
-            AnsweringStep::AnswerStore { phase, .. } => Operation::Store(phase),
-            AnsweringStep::LeaveStore { .. } => Operation::Store(LEFT),
+            HandshakeStep::AnswerStore { phase, .. } => Operation::Store(phase),
+            HandshakeStep::LeaveStore { .. } => Operation::Store(LEFT),
         }
     }
 }

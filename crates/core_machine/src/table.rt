@@ -1,5 +1,5 @@
 pub(crate) mod address;
+pub(crate) mod decode;
 pub(crate) mod fragments;
-pub(crate) mod loaded;
 pub(crate) mod newborn;
 pub(crate) mod words;

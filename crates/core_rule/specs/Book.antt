@@ -12,6 +12,7 @@ pub data Colour : Type 0 where
   Grey : Colour
   Black : Colour
 
+-- what is kept beside the state
 pub record Book : Type 0 where
   -- the entries so far, the oldest first
   pub history : List Entry
@@ -35,10 +36,10 @@ abbrev pub id_at : List Id → ℕ → Id
 id_at made i = slice_index_or made i Board
 
 -- the number of an id in the order of making; how many were made where it is none of them
-abbrev pub number_of : List Id → Id → ℕ
-number_of [] id = 0
-number_of (first ∷ made) id = if is_same_id first id then 0 else number_of made id + 1
+abbrev pub object_number : List Id → Id → ℕ
+object_number [] id = 0
+object_number (first ∷ made) id = if is_same_id first id then 0 else object_number made id + 1
 
 -- the first fragment of an object
-abbrev pub head_of : List Id → (ℕ → List ℕ) → Id → ℕ
-head_of made fragments id = fragment_at (fragments (number_of made id)) 0
+abbrev pub object_head : List Id → (ℕ → List ℕ) → Id → ℕ
+object_head made fragments id = fragment_at (fragments (object_number made id)) 0

@@ -14,6 +14,7 @@ control_of heap words f = at heap words (Control (f / 16))
 abbrev pub IsBorn : Heap → List ℕ → ℕ → Type 0
 IsBorn heap words f = bit_at (control_of heap words f) (16 + f % 16) ≡ 1
 
+-- the taken and the born bits are those of the owners
 pub record Bits (heap : Heap) (words : List ℕ) (owner : ℕ → Owner) : Type 0 where
   pub taken : (f : ℕ) → f < 16 * heap.groups → bit_at (control_of heap words f) (f % 16) ≡ taken_bit (owner f)
   pub born : (f : ℕ) → f < 16 * heap.groups → bit_at (control_of heap words f) (16 + f % 16) ≡ born_bit (owner f)

@@ -8,7 +8,7 @@ use Rattle.core_machine.specs.seat.Seat.{Seat}
 use Rattle.core_rule.specs.Owners.{Owner}
 use Rattle.core_rule.specs.Book.{Colour}
 use Rattle.core_rule.specs.Colours.{Marks, Coloured, BornColours}
-use Rattle.core_rule.specs.Phases.{Answers, AnswerStands}
+use Rattle.core_rule.specs.Phases.{AnswersAgree, AnswerStands}
 use Rattle.core_rule.specs.Flight.{Flight}
 
 -- the phase word is the history's phase, so far none after the first cycle's third; the control words have the colours, which are right
@@ -19,8 +19,8 @@ pub record HeapInCycle (heap : Heap) (words : List ℕ) (phase : ℕ) (owner : �
   pub coloured : Coloured heap words owner colour fragments phase
 
 -- what the seat has answered, what it is about to answer, what it has in flight, and the colour of its births
-pub record SeatInCycle (heap : Heap) (words : List ℕ) (phase answers : ℕ) (gone : Bool) (owner : ℕ → Owner) (colour : ℕ → Colour) (q : ℕ) (seat : Seat) : Type 0 where
-  pub answers_told : Answers heap words phase answers gone q seat.left seat.answered seat.asked
+pub record SeatInCycle (heap : Heap) (words : List ℕ) (phase answers : ℕ) (gone : Bool) (owner : ℕ → Owner) (colour : ℕ → Colour) (number : ℕ) (seat : Seat) : Type 0 where
+  pub answers_told : AnswersAgree heap words phase answers gone number seat.left seat.answered seat.asked
   pub answer : AnswerStands phase seat.answered seat.asked seat.place
   pub flight : Flight heap words colour phase seat
-  pub births : BornColours owner colour q seat.answered
+  pub births : BornColours owner colour number seat.answered

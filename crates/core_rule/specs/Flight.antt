@@ -7,47 +7,47 @@ use Rattle.core_machine.specs.declared.place.Place.{Place}
 use Rattle.core_machine.specs.declared.place.Place.TheVariants as places
 use Rattle.core_machine.specs.declared.place.Polling.{Polling}
 use Rattle.core_machine.specs.declared.place.Polling.TheVariants.{Asking, Shading, Answering}
-use Rattle.core_machine.specs.declared.place.Reaching.{Reaching}
-use Rattle.core_machine.specs.declared.place.Reaching.TheVariants.{ShadingOld, ShadingNew, Swapping}
+use Rattle.core_machine.specs.declared.place.Access.{Access}
+use Rattle.core_machine.specs.declared.place.Access.TheVariants.{ShadingOld, ShadingNew, Swapping}
 use Rattle.core_machine.specs.declared.seat.register.Register.{Register}
-use Rattle.core_machine.specs.table.Loaded.{head_in}
-use Rattle.core_machine.specs.seat.ReachingMoves.{field_part, new_register}
-use Rattle.core_machine.specs.seat.Registers.{register_in, head_of}
+use Rattle.core_machine.specs.table.Decode.{head_of}
+use Rattle.core_machine.specs.seat.AccessMoves.{field_part_of, new_register_of}
+use Rattle.core_machine.specs.seat.Registers.{register_in, register_head}
 use Rattle.core_machine.specs.seat.Seat.{Seat}
 use Rattle.core_rule.specs.Book.{Colour}
-use Rattle.core_rule.specs.Colours.{IsMarked, Leads, IsBetween}
+use Rattle.core_rule.specs.Colours.{IsMarked, WordPointsTo, IsBetween}
 
 -- what word `part` of the fragment leads to now is what it led to when it was loaded, or marked; once that was shaded, it is marked
-abbrev pub Watches : Heap → List ℕ → (ℕ → Colour) → ℕ → ℕ → Option ℕ → Type 0
-Watches heap words colour f part old = (g : ℕ) → Leads heap words f part g → (old ≡ Some g) ⊎ IsMarked colour g
+abbrev pub DeletionBarrier : Heap → List ℕ → (ℕ → Colour) → ℕ → ℕ → Option ℕ → Type 0
+DeletionBarrier heap words colour f part old = (g : ℕ) → WordPointsTo heap words f part g → (old ≡ Some g) ⊎ IsMarked colour g
 
 -- the field of a set past its load of the old value
-abbrev pub FieldStands : Heap → List ℕ → (ℕ → Colour) → Seat → Reaching → Type 0
-FieldStands heap words colour seat ShadingOld = Watches heap words colour seat.reached (field_part seat) (head_in seat.loaded)
-FieldStands heap words colour seat ShadingNew = Watches heap words colour seat.reached (field_part seat) None
-FieldStands heap words colour seat Swapping = Watches heap words colour seat.reached (field_part seat) None
+abbrev pub FieldStands : Heap → List ℕ → (ℕ → Colour) → Seat → Access → Type 0
+FieldStands heap words colour seat ShadingOld = DeletionBarrier heap words colour seat.reached (field_part_of seat) (head_of seat.loaded)
+FieldStands heap words colour seat ShadingNew = DeletionBarrier heap words colour seat.reached (field_part_of seat) None
+FieldStands heap words colour seat Swapping = DeletionBarrier heap words colour seat.reached (field_part_of seat) None
 FieldStands heap words colour seat _ = Unit {0}
 
 -- the old value of a set is marked once it was shaded; and at the swap so is the new one, while the seat's last answer is to a phase from barriers up to
 -- the sweep
-abbrev pub ShadedStands : (ℕ → Colour) → Seat → Reaching → Type 0
-ShadedStands colour seat ShadingNew = IfSome (head_in seat.loaded) (IsMarked colour)
+abbrev pub ShadedStands : (ℕ → Colour) → Seat → Access → Type 0
+ShadedStands colour seat ShadingNew = IfSome (head_of seat.loaded) (IsMarked colour)
 ShadedStands colour seat Swapping = IsBetween barriers sweep seat.answered
-    → IfSome (head_in seat.loaded) (IsMarked colour) × IfSome (head_of (new_register seat)) (IsMarked colour)
+    → IfSome (head_of seat.loaded) (IsMarked colour) × IfSome (register_head (new_register_of seat)) (IsMarked colour)
 ShadedStands colour seat _ = Unit {0}
 
--- what holds at the places of reaching
-abbrev pub WhileReaching : (Reaching → Type 0) → Place → Type 0
-WhileReaching P (places.Reaching place) = P place
-WhileReaching P _ = Unit {0}
+-- what holds at the places of access
+abbrev pub WhileAccess : (Access → Type 0) → Place → Type 0
+WhileAccess P (places.Access place) = P place
+WhileAccess P _ = Unit {0}
 
 -- the object that the register holds is marked, where it holds one
 abbrev pub IsRootMarked : (ℕ → Colour) → List Register → ℕ → Type 0
-IsRootMarked colour registers r = IfSome (head_of (register_in registers r)) (IsMarked colour)
+IsRootMarked colour registers r = IfSome (register_head (register_in registers r)) (IsMarked colour)
 
 -- how many of the registers before this one hold an object
 abbrev pub objects_before : List Register → ℕ → ℕ
-objects_before registers r = length (filter_map head_of (take r registers))
+objects_before registers r = length (filter_map register_head (take r registers))
 
 -- the registers' objects are marked in their order, so many so far; and before the answer each of them is
 abbrev pub RootsStand : (ℕ → Colour) → Seat → Polling → Type 0
@@ -63,6 +63,6 @@ WhilePolling P _ = Unit {0}
 -- of a set whose seat has answered the cycle's phase of black births no value is lost unmarked; what a set has shaded is marked; and so are the
 -- objects of a seat's registers where it is about to answer that marking begins
 pub record Flight (heap : Heap) (words : List ℕ) (colour : ℕ → Colour) (phase : ℕ) (seat : Seat) : Type 0 where
-  pub set : IsBetween black_births sweep phase → IsBetween black_births sweep seat.answered → WhileReaching (FieldStands heap words colour seat) seat.place
-  pub shaded : IsBetween barriers sweep phase → WhileReaching (ShadedStands colour seat) seat.place
+  pub set : IsBetween black_births sweep phase → IsBetween black_births sweep seat.answered → WhileAccess (FieldStands heap words colour seat) seat.place
+  pub shaded : IsBetween barriers sweep phase → WhileAccess (ShadedStands colour seat) seat.place
   pub roots : seat.asked % cycle_phases ≡ marking → WhilePolling (RootsStand colour seat) seat.place

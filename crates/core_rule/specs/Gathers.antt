@@ -8,7 +8,7 @@ use Rattle.heap_model.specs.account.Space.{total_but}
 use Rattle.heap_model.specs.account.Windows.{is_reply_to}
 use Rattle.core_machine.specs.declared.place.Place.{Place}
 use Rattle.core_machine.specs.declared.place.Place.TheVariants as places
-use Rattle.core_machine.specs.declared.place.Reaching.TheVariants.{Naming}
+use Rattle.core_machine.specs.declared.place.Access.TheVariants.{Naming}
 use Rattle.core_machine.specs.machine.Sums.{sum_upto}
 use Rattle.core_rule.specs.Owners.{Owner, free_bit}
 
@@ -26,17 +26,17 @@ free_in_passed heap owner cursor tried = sum_upto tried (λ j. free_in owner ((c
 
 -- since the call began: what is free in the groups passed was freed or given back since, by others or by this call; and what this call
 -- gave back is free, or others took it since
-pub record GathersRight (heap : Heap) (owner : ℕ → Owner) (q : ℕ) (since : List Entry) (cursor tried given : ℕ) : Type 0 where
-  pub passed : free_in_passed heap owner cursor tried ≤ given_up q since + given
-  pub returned : given ≤ free_in_all heap owner + total_but q (λ e. e.taken) since
+pub record GathersRight (heap : Heap) (owner : ℕ → Owner) (number : ℕ) (since : List Entry) (cursor tried given : ℕ) : Type 0 where
+  pub passed : free_in_passed heap owner cursor tried ≤ given_up number since + given
+  pub returned : given ≤ free_in_all heap owner + total_but number (λ e. e.taken) since
 
 -- no reply is to come: there is no call, or the history has its reply, which only awaits a name
 abbrev pub IsAnswered : Place → Type 0
 IsAnswered places.Idle = Unit {0}
-IsAnswered (places.Reaching Naming) = Unit {0}
+IsAnswered (places.Access Naming) = Unit {0}
 IsAnswered _ = ⊥
 
 -- the call in flight began when the history had this length, and wasn't answered since
-pub record Began (history : List Entry) (q begun : ℕ) (place : Place) : Type 0 where
+pub record Began (history : List Entry) (number begun : ℕ) (place : Place) : Type 0 where
   pub earlier : begun ≤ length history
-  pub unanswered : ¬ IsAnswered place → list_any (is_reply_to q) (drop begun history) ≡ false
+  pub unanswered : ¬ IsAnswered place → list_any (is_reply_to number) (drop begun history) ≡ false

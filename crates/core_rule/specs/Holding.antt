@@ -4,23 +4,23 @@ use Rattle.heap_model.specs.declared.heap.Heap.{Heap}
 use Rattle.core_machine.specs.declared.table.address.Address.TheVariants.{Word}
 use Rattle.core_machine.specs.table.Fragments.{tally}
 use Rattle.core_machine.specs.table.Layout.{at}
-use Rattle.core_machine.specs.seat.Making.{newborn_word}
+use Rattle.core_machine.specs.seat.Making.{newborn_word_of}
 use Rattle.core_machine.specs.seat.Seat.{Seat}
 use Rattle.core_rule.specs.Owners.{Owner, holds_bit, bears_bit}
 use Rattle.core_rule.specs.Book.{fragment_at}
 
 -- all fragments of the call in flight: those of the new object, born ones among them, once they are chosen
-abbrev pub whole_hand : List ℕ → List ℕ → List ℕ
-whole_hand hand [] = hand
-whole_hand hand (first ∷ body) = first ∷ body
+abbrev pub fragments_in_hand : List ℕ → List ℕ → List ℕ
+fragments_in_hand hand [] = hand
+fragments_in_hand hand (first ∷ body) = first ∷ body
 
 -- the fragments that the seat has and hasn't borne are those of its reserve and its hand, each once; those that it has borne are the
 -- others of the new object, each once
-pub record Holding (owner : ℕ → Owner) (q : ℕ) (reserve hand body : List ℕ) : Type 0 where
-  pub held : (f : ℕ) → tally f reserve + tally f hand ≡ holds_bit q (owner f)
-  pub borne : (f : ℕ) → tally f (whole_hand hand body) ≡ tally f hand + bears_bit q (owner f)
+pub record Holding (owner : ℕ → Owner) (number : ℕ) (reserve hand body : List ℕ) : Type 0 where
+  pub held : (f : ℕ) → tally f reserve + tally f hand ≡ holds_bit number (owner f)
+  pub borne : (f : ℕ) → tally f (fragments_in_hand hand body) ≡ tally f hand + bears_bit number (owner f)
 
 -- the first words of the new object's fragments are stored
 abbrev pub IsStored : Heap → List ℕ → ℕ → Seat → Type 0
-IsStored heap words q seat =
-    (u : ℕ) → u < seat.stored → at heap words (Word (fragment_at seat.body (u / 4)) (u % 4)) ≡ newborn_word q seat (u / 4) (u % 4)
+IsStored heap words number seat =
+    (u : ℕ) → u < seat.stored → at heap words (Word (fragment_at seat.body (u / 4)) (u % 4)) ≡ newborn_word_of number seat (u / 4) (u % 4)

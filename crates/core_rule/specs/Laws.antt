@@ -5,15 +5,15 @@ use Rattle.heap_model.specs.declared.entry.Entry.{Entry}
 use Rattle.heap_model.specs.declared.entry.Entry.TheVariants.{Answers}
 use Rattle.heap_model.specs.Heap.{IsHeap}
 use Rattle.heap_model.specs.account.Account.{IsLegal}
-use Rattle.heap_model.specs.account.PhaseCounts.{answered}
+use Rattle.heap_model.specs.account.PhaseCounts.{last_answer}
 use Rattle.heap_model.specs.PhasePlan.{cycle_phases, marking}
 use Rattle.heap_model.specs.account.Phases.{IsBehind}
-use Rattle.heap_model.specs.account.Space.{gained, lost}
+use Rattle.heap_model.specs.account.Space.{fragments_gained, fragments_lost}
 use Rattle.heap_model.specs.declared.calls.collector_calls.Turn.TheVariants.{Waits}
 use Rattle.core_machine.specs.declared.place.Place.TheVariants.{Idle}
-use Rattle.core_machine.specs.machine.Calls.{free_fragments}
+use Rattle.core_machine.specs.machine.Calls.{free_count}
 use Rattle.core_machine.specs.collector.Collector.{next_turn}
-use Rattle.core_machine.specs.machine.Machine.{State, seat_at, found_by, Event, Begins, Steps, Turns, Can, after, entries, Run, after_all, history}
+use Rattle.core_machine.specs.machine.Machine.{State, seat_at, found_by, Event, Begins, Steps, Turns, Can, state_after, entries, Run, state_after_all, history}
 use Rattle.core_machine.specs.machine.Opening.{IsOpening}
 use Rattle.core_rule.specs.Book.{Book, Colour}
 use Rattle.core_rule.specs.Colours.{HasBirthColour}
@@ -31,12 +31,12 @@ pub record StandsFor (heap : Heap) (state : State) (before added : List Entry) :
 -- stands for, whose history is the old one and then the event's entries
 abbrev pub EachEventKeeps : Type 0
 EachEventKeeps = (heap : Heap) (state : State) (book : Book) (event : Event) → Rule heap state book → Can heap state event
-    → StandsFor heap (after heap state event) book.history (entries heap state event)
+    → StandsFor heap (state_after heap state event) book.history (entries heap state event)
 
 -- so does every run from the opening
 abbrev pub EveryRunKeeps : Type 0
 EveryRunKeeps = (heap : Heap) (state : State) (events : List Event) → IsHeap heap → IsOpening heap state → Run heap state events
-    → StandsFor heap (after_all heap state events) [] (history heap state events)
+    → StandsFor heap (state_after_all heap state events) [] (history heap state events)
 
 -- no other seat has a call in flight
 abbrev pub IsAlone : State → ℕ → Type 0
@@ -55,7 +55,7 @@ HappensAlone state Turns = AllIdle state
 -- whole calls, one after another, and turns of the collector between them
 abbrev pub OneCallAtATime : Heap → State → List Event → Type 0
 OneCallAtATime heap state [] = Unit {0}
-OneCallAtATime heap state (event ∷ events) = HappensAlone state event × OneCallAtATime heap (after heap state event) events
+OneCallAtATime heap state (event ∷ events) = HappensAlone state event × OneCallAtATime heap (state_after heap state event) events
 
 -- a run of whole calls, one after another, has a history that is legal as a play
 abbrev pub WholeCallsPlay : Type 0
@@ -65,7 +65,7 @@ WholeCallsPlay = (heap : Heap) (state : State) (events : List Event) → IsHeap 
 -- the fragments whose taken bit isn't set are those that are in no use
 abbrev pub FreeIsUnused : Type 0
 FreeIsUnused = (heap : Heap) (state : State) (book : Book) → Rule heap state book
-    → free_fragments heap state.words + gained book.history ≡ 16 * heap.groups + lost book.history
+    → free_count heap state.words + fragments_gained book.history ≡ 16 * heap.groups + fragments_lost book.history
 
 -- where a turn answers that it waits for a seat, that seat is there, and by the history it hasn't left and has answered the phase before the one told
 abbrev pub EachWaitIsBehind : Type 0
@@ -86,5 +86,5 @@ EachAnswerIsMarked = (heap : Heap) (state : State) (book : Book) (event : Event)
 -- an event that bears a fragment is a seat's step, which gives it the colour of the seat's births
 abbrev pub EachBirthHasItsColour : Type 0
 EachBirthHasItsColour = (heap : Heap) (state : State) (book : Book) (event : Event) (f : ℕ) → Rule heap state book → Can heap state event
-    → f < 16 * heap.groups → ¬ IsBorn heap state.words f → IsBorn heap (after heap state event).words f
-    → (q : ℕ) × (event ≡ Steps q) × HasBirthColour heap (after heap state event).words f (answered q book.history)
+    → f < 16 * heap.groups → ¬ IsBorn heap state.words f → IsBorn heap (state_after heap state event).words f
+    → (number : ℕ) × (event ≡ Steps number) × HasBirthColour heap (state_after heap state event).words f (last_answer number book.history)

@@ -10,14 +10,14 @@ use Rattle.heap_model.specs.declared.id.Id.TheVariants.{Board, Made}
 use Rattle.heap_model.specs.declared.id.Value.{Value}
 use Rattle.heap_model.specs.declared.id.Value.TheVariants.{Nil, Number, Object}
 use Rattle.heap_model.specs.graph.Objects.{node}
-use Rattle.heap_model.specs.graph.State.{State, Node}
+use Rattle.heap_model.specs.graph.Graph.{Graph, Node}
 use Rattle.heap_model.specs.graph.Reach.{IsMade}
 use Rattle.heap_model.specs.Needs.{record_fragments}
 use Rattle.core_machine.specs.declared.table.address.Address.TheVariants.{Word}
 use Rattle.core_machine.specs.table.Layout.{at}
-use Rattle.core_machine.specs.table.Newborn.{record_word}
-use Rattle.core_rule.specs.Owners.{Owner, Keeps}
-use Rattle.core_rule.specs.Book.{fragment_at, id_at, number_of, head_of}
+use Rattle.core_machine.specs.table.Newborn.{record_word_of}
+use Rattle.core_rule.specs.Owners.{Owner, Kept}
+use Rattle.core_rule.specs.Book.{fragment_at, id_at, object_number, object_head}
 
 -- the id fits into a name
 abbrev pub FitsName : Id → Type 0
@@ -25,11 +25,11 @@ FitsName Board = Unit {0}
 FitsName (Made s count) = (s < 255) × (count < 2 ^ 32)
 
 -- the list has exactly the ids of the graph's objects, each once, the board first
-pub record AreMade (g : State) (made : List Id) : Type 0 where
+pub record AreMade (g : Graph) (made : List Id) : Type 0 where
   pub board : slice_get made 0 ≡ Some Board
   pub in_graph : (i : ℕ) → i < length made → IsMade g (id_at made i)
-  pub numbered : (id : Id) → IsMade g id → (number_of made id < length made) × (id_at made (number_of made id) ≡ id)
-  pub distinct : (i : ℕ) → i < length made → number_of made (id_at made i) ≡ i
+  pub numbered : (id : Id) → IsMade g id → (object_number made id < length made) × (id_at made (object_number made id) ≡ id)
+  pub distinct : (i : ℕ) → i < length made → object_number made (id_at made i) ≡ i
   pub fit : (i : ℕ) → i < length made → FitsName (id_at made i)
 
 -- the name of an object: 0 for the board, and else its maker's number plus 1, with its count
@@ -55,7 +55,7 @@ is_cell k part = if k == 0 then nat_lt 1 part else nat_lt 0 part
 -- word `part` of fragment k of a record with these cells
 unfoldable pub object_word : (Id → ℕ) → Name → List Cell → List ℕ → ℕ → ℕ → ℕ
 object_word head name cells fragments k part =
-    if is_cell k part then field_word head (slice_get cells (3 * k + part - 2)) else record_word name (length cells) fragments k part
+    if is_cell k part then field_word head (slice_get cells (3 * k + part - 2)) else record_word_of name (length cells) fragments k part
 
 -- the cells of an object
 abbrev pub cells_in : Option Node → List Cell
@@ -64,30 +64,30 @@ cells_in (Some object) = object.cells
 
 -- the object of this number is kept: its first fragment is
 abbrev pub IsKept : (ℕ → Owner) → (ℕ → List ℕ) → ℕ → Type 0
-IsKept owner fragments i = owner (fragment_at (fragments i) 0) ≡ Keeps i 0
+IsKept owner fragments i = owner (fragment_at (fragments i) 0) ≡ Kept i 0
 
 -- a value names a kept object, or is a number of at most thirty bits, or nothing
 abbrev pub NamesKept : List Id → (ℕ → Owner) → (ℕ → List ℕ) → Value → Type 0
 NamesKept made owner fragments Nil = Unit {0}
 NamesKept made owner fragments (Number n) = n < 2 ^ 30
-NamesKept made owner fragments (Object id) = (number_of made id < length made) × IsKept owner fragments (number_of made id)
+NamesKept made owner fragments (Object id) = (object_number made id < length made) × IsKept owner fragments (object_number made id)
 
 -- a kept object's fragments are its own, and have the words of its name and cells
 pub record KeptObject (heap : Heap) (words : List ℕ) (owner : ℕ → Owner) (head : Id → ℕ) (i : ℕ) (id : Id) (cells : List Cell) (fragments : List ℕ) : Type 0 where
   pub sized : (1 ≤ length cells) × (length cells ≤ 47)
   pub whole : length fragments ≡ record_fragments (length cells)
-  pub owned : (k : ℕ) → k < length fragments → owner (fragment_at fragments k) ≡ Keeps i k
+  pub owned : (k : ℕ) → k < length fragments → owner (fragment_at fragments k) ≡ Kept i k
   pub stored : (k part : ℕ) → k < length fragments → part < 4
       → at heap words (Word (fragment_at fragments k) part) ≡ object_word head (name_of id) cells fragments k part
 
 -- the cells of the object of this number
-abbrev pub cells_at : State → List Id → ℕ → List Cell
+abbrev pub cells_at : Graph → List Id → ℕ → List Cell
 cells_at g made i = cells_in (node g (id_at made i))
 
 -- the kept objects have the graph's cells, and each fragment that is kept is one of theirs
-pub record Objects (heap : Heap) (words : List ℕ) (g : State) (made : List Id) (owner : ℕ → Owner) (fragments : ℕ → List ℕ) : Type 0 where
+pub record Objects (heap : Heap) (words : List ℕ) (g : Graph) (made : List Id) (owner : ℕ → Owner) (fragments : ℕ → List ℕ) : Type 0 where
   pub kept : (i : ℕ) → i < length made → IsKept owner fragments i
-      → KeptObject heap words owner (head_of made fragments) i (id_at made i) (cells_at g made i) (fragments i)
+      → KeptObject heap words owner (object_head made fragments) i (id_at made i) (cells_at g made i) (fragments i)
   pub named : (i j : ℕ) → i < length made → IsKept owner fragments i → (cell : Cell) → slice_get (cells_at g made i) j ≡ Some cell
       → NamesKept made owner fragments cell.value × (cell.stamp < 2 ^ 32)
-  pub back : (f i k : ℕ) → owner f ≡ Keeps i k → (i < length made) × IsKept owner fragments i × (k < length (fragments i)) × (f ≡ fragment_at (fragments i) k)
+  pub back : (f i k : ℕ) → owner f ≡ Kept i k → (i < length made) × IsKept owner fragments i × (k < length (fragments i)) × (f ≡ fragment_at (fragments i) k)

@@ -10,62 +10,62 @@ one_at x f = if x == f then 1 else 0
 -- that is to be freed, by the object's number in the order of making
 pub data Owner : Type 0 where
   Free : Owner
-  Holds : (seat : ℕ) → Owner
-  Bears : (seat : ℕ) → Owner
-  Keeps : (object part : ℕ) → Owner
+  Taken : (seat : ℕ) → Owner
+  Borne : (seat : ℕ) → Owner
+  Kept : (object part : ℕ) → Owner
   Dead : (object part : ℕ) → Owner
 
 -- whether the fragment is taken
 abbrev pub taken_bit : Owner → ℕ
 taken_bit Free = 0
-taken_bit (Holds q) = 1
-taken_bit (Bears q) = 1
-taken_bit (Keeps i k) = 1
+taken_bit (Taken number) = 1
+taken_bit (Borne number) = 1
+taken_bit (Kept i k) = 1
 taken_bit (Dead i k) = 1
 
 -- whether it is nobody's
 abbrev pub free_bit : Owner → ℕ
 free_bit Free = 1
-free_bit (Holds q) = 0
-free_bit (Bears q) = 0
-free_bit (Keeps i k) = 0
+free_bit (Taken number) = 0
+free_bit (Borne number) = 0
+free_bit (Kept i k) = 0
 free_bit (Dead i k) = 0
 
 -- whether it is born
 abbrev pub born_bit : Owner → ℕ
 born_bit Free = 0
-born_bit (Holds q) = 0
-born_bit (Bears q) = 1
-born_bit (Keeps i k) = 1
+born_bit (Taken number) = 0
+born_bit (Borne number) = 1
+born_bit (Kept i k) = 1
 born_bit (Dead i k) = 1
 
 -- whether the seat has it, unborn
 abbrev pub holds_bit : ℕ → Owner → ℕ
-holds_bit q Free = 0
-holds_bit q (Holds r) = one_at r q
-holds_bit q (Bears r) = 0
-holds_bit q (Keeps i k) = 0
-holds_bit q (Dead i k) = 0
+holds_bit number Free = 0
+holds_bit number (Taken r) = one_at r number
+holds_bit number (Borne r) = 0
+holds_bit number (Kept i k) = 0
+holds_bit number (Dead i k) = 0
 
 -- whether the seat has it, born but not yet an object's
 abbrev pub bears_bit : ℕ → Owner → ℕ
-bears_bit q Free = 0
-bears_bit q (Holds r) = 0
-bears_bit q (Bears r) = one_at r q
-bears_bit q (Keeps i k) = 0
-bears_bit q (Dead i k) = 0
+bears_bit number Free = 0
+bears_bit number (Taken r) = 0
+bears_bit number (Borne r) = one_at r number
+bears_bit number (Kept i k) = 0
+bears_bit number (Dead i k) = 0
 
 -- the fragments of the list are this one's, the others their owners'
-abbrev pub handed : Owner → (ℕ → Owner) → List ℕ → ℕ → Owner
-handed o owner fs f = if nat_lt 0 (tally f fs) then o else owner f
+abbrev pub owner_after : Owner → (ℕ → Owner) → List ℕ → ℕ → Owner
+owner_after o owner fs f = if nat_lt 0 (tally f fs) then o else owner f
 
 -- the seat that has the fragment, if one has it, is below this number
 abbrev pub IsSeated : ℕ → Owner → Type 0
-IsSeated seats (Holds q) = q < seats
-IsSeated seats (Bears q) = q < seats
+IsSeated seats (Taken number) = number < seats
+IsSeated seats (Borne number) = number < seats
 IsSeated seats _ = Unit {0}
 
 -- what a seat has is one of so many seats', and fragment 0 is the board's first one
 pub record OwnersStand (seats : ℕ) (owner : ℕ → Owner) : Type 0 where
   pub seated : (f : ℕ) → IsSeated seats (owner f)
-  pub board : owner 0 ≡ Keeps 0 0
+  pub board : owner 0 ≡ Kept 0 0

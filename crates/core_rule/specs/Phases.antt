@@ -3,7 +3,7 @@ use Rattle.std.specs.Prelude.{◌≡◌, ℕ, ◌+◌, ◌<◌, ◌≤◌, ◌�
 use Rattle.heap_words.specs.declared.phase.TheConstants.{LEFT}
 use Rattle.heap_model.specs.declared.heap.Heap.{Heap}
 use Rattle.heap_model.specs.declared.entry.Entry.{Entry}
-use Rattle.heap_model.specs.account.PhaseCounts.{phase, answered, has_left}
+use Rattle.heap_model.specs.account.PhaseCounts.{phase, last_answer, has_left}
 use Rattle.core_machine.specs.declared.table.address.Address.TheVariants.{Answer}
 use Rattle.core_machine.specs.declared.place.Place.{Place}
 use Rattle.core_machine.specs.declared.place.Place.TheVariants as places
@@ -23,10 +23,10 @@ answer_word left answer = if left then LEFT else answer
 
 -- the seat has answered and left as the history says, its word says so too, it isn't behind by more than one phase, and the phase
 -- that it has loaded last has begun
-pub record Answers (heap : Heap) (words : List ℕ) (phase answers : ℕ) (gone : Bool) (q : ℕ) (left : Bool) (answer asked : ℕ) : Type 0 where
+pub record AnswersAgree (heap : Heap) (words : List ℕ) (phase answers : ℕ) (gone : Bool) (number : ℕ) (left : Bool) (answer asked : ℕ) : Type 0 where
   pub told : answers ≡ answer
   pub leaves : gone ≡ left
-  pub word : at heap words (Answer q) ≡ answer_word left answer
+  pub word : at heap words (Answer number) ≡ answer_word left answer
   pub near : left ≡ false → IsNear phase answer
   pub loaded : asked ≤ phase
 
@@ -35,6 +35,7 @@ pub record Asks (phase answer asked : ℕ) : Type 0 where
   pub now : asked ≡ phase
   pub next : asked ≡ answer + 1
 
+-- what is about to be answered at each place of a poll
 abbrev pub PollingStands : ℕ → ℕ → ℕ → Polling → Type 0
 PollingStands phase answer asked Asking = Unit {0}
 PollingStands phase answer asked Shading = Asks phase answer asked
@@ -46,7 +47,7 @@ AnswerStands phase answer asked (places.Polling place) = PollingStands phase ans
 AnswerStands phase answer asked _ = Unit {0}
 
 -- the collector's entries and phase are the history's, and each seat that it has seen has answered the phase or left
-pub record CollectorStands (heap : Heap) (collector : Collector) (history : List Entry) : Type 0 where
+pub record CollectorAgrees (heap : Heap) (collector : Collector) (history : List Entry) : Type 0 where
   pub log : collector.log ≡ filter is_collectors history
   pub phase_told : collector.phase ≡ phase history
-  pub looked : (q : ℕ) → q < collector.looked → q < heap.seats → has_left q history ≡ false → answered q history ≡ phase history
+  pub looked : (number : ℕ) → number < collector.looked → number < heap.seats → has_left number history ≡ false → last_answer number history ≡ phase history

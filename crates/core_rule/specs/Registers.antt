@@ -3,30 +3,30 @@ use Rattle.std.specs.Prelude.{◌≡◌, ℕ, ◌<◌, ◌^◌, List, slice_inde
 use Rattle.heap_model.specs.declared.id.Id.{Id}
 use Rattle.heap_model.specs.declared.id.Value.{Value}
 use Rattle.heap_model.specs.declared.id.Value.TheVariants as values
-use Rattle.heap_model.specs.graph.Objects.{register}
-use Rattle.heap_model.specs.graph.State.{State}
+use Rattle.heap_model.specs.graph.Objects.{register_value}
+use Rattle.heap_model.specs.graph.Graph.{Graph}
 use Rattle.core_machine.specs.declared.place.Place.{Place}
 use Rattle.core_machine.specs.declared.place.Place.TheVariants as places
-use Rattle.core_machine.specs.declared.place.Reaching.TheVariants.{Naming}
+use Rattle.core_machine.specs.declared.place.Access.TheVariants.{Naming}
 use Rattle.core_machine.specs.declared.seat.register.Register.{Register}
 use Rattle.core_machine.specs.declared.seat.register.Register.TheVariants as registers
 use Rattle.core_rule.specs.Owners.{Owner}
-use Rattle.core_rule.specs.Book.{head_of}
+use Rattle.core_rule.specs.Book.{object_head}
 use Rattle.core_rule.specs.Objects.{NamesKept}
 
 -- what a register holds is the value: a number, nothing, or a kept object's first fragment with its id
-abbrev pub Holds : List Id → (ℕ → Owner) → (ℕ → List ℕ) → Register → Value → Type 0
-Holds made owner fragments registers.Nil value = value ≡ values.Nil
-Holds made owner fragments (registers.Number n) value = (value ≡ values.Number n) × (n < 2 ^ 30)
-Holds made owner fragments (registers.Object head id) value =
-    (value ≡ values.Object id) × NamesKept made owner fragments (values.Object id) × (head ≡ head_of made fragments id)
+abbrev pub HoldsValue : List Id → (ℕ → Owner) → (ℕ → List ℕ) → Register → Value → Type 0
+HoldsValue made owner fragments registers.Nil value = value ≡ values.Nil
+HoldsValue made owner fragments (registers.Number n) value = (value ≡ values.Number n) × (n < 2 ^ 30)
+HoldsValue made owner fragments (registers.Object head id) value =
+    (value ≡ values.Object id) × NamesKept made owner fragments (values.Object id) × (head ≡ object_head made fragments id)
 
 -- a get has loaded a reference, and its register d still awaits the object's name
 abbrev pub IsAwaited : Place → ℕ → ℕ → Type 0
-IsAwaited (places.Reaching Naming) d r = r ≡ d
+IsAwaited (places.Access Naming) d r = r ≡ d
 IsAwaited _ d r = ⊥
 
 -- each register of the seat holds its value in the graph, but for one that is awaited
-abbrev pub Registers : State → List Id → (ℕ → Owner) → (ℕ → List ℕ) → ℕ → List Register → Place → ℕ → Type 0
-Registers g made owner fragments q held place d =
-    (r : ℕ) → ¬ IsAwaited place d r → Holds made owner fragments (slice_index_or held r registers.Nil) (register g q r)
+abbrev pub Registers : Graph → List Id → (ℕ → Owner) → (ℕ → List ℕ) → ℕ → List Register → Place → ℕ → Type 0
+Registers g made owner fragments number held place d =
+    (r : ℕ) → ¬ IsAwaited place d r → HoldsValue made owner fragments (slice_index_or held r registers.Nil) (register_value g number r)

@@ -5,7 +5,7 @@ use Rattle.heap_model.specs.declared.heap.Heap.{Heap}
 use Rattle.heap_model.specs.declared.id.Id.{Id}
 use Rattle.heap_model.specs.account.Account.{IsLegal}
 use Rattle.heap_model.specs.account.Cycles.{graph_of}
-use Rattle.heap_model.specs.graph.State.{State as Graph}
+use Rattle.heap_model.specs.graph.Graph.{Graph}
 use Rattle.core_machine.specs.seat.Commands.{target_of}
 use Rattle.core_machine.specs.seat.Fits.{Fits}
 use Rattle.core_machine.specs.machine.Machine.{State, seat_at}
@@ -17,9 +17,9 @@ use Rattle.core_rule.specs.Objects.{AreMade, Objects, cells_at}
 use Rattle.core_rule.specs.Owners.{Owner, OwnersStand}
 use Rattle.core_rule.specs.Registers.{Registers}
 use Rattle.core_rule.specs.Holding.{Holding, IsStored}
-use Rattle.core_rule.specs.Counts.{OwnCounts, OwnList, AreUsed}
-use Rattle.heap_model.specs.account.PhaseCounts.{phase, answered, has_left}
-use Rattle.core_rule.specs.Phases.{CollectorStands}
+use Rattle.core_rule.specs.Counts.{CountsAgree, OwnList, AreUsed}
+use Rattle.heap_model.specs.account.PhaseCounts.{phase, last_answer, has_left}
+use Rattle.core_rule.specs.Phases.{CollectorAgrees}
 use Rattle.core_rule.specs.Cycle.{HeapInCycle, SeatInCycle}
 use Rattle.core_rule.specs.Together.{AreTogether}
 use Rattle.core_rule.specs.Ways.{WayStands}
@@ -36,33 +36,34 @@ pub record HeapStands (heap : Heap) (words : List ℕ) (book : Book) : Type 0 wh
   pub legal : IsLegal heap false book.history
 
 -- what a seat has: its fragments, what it has stored into them, and their order
-pub record OwnStands (heap : Heap) (words : List ℕ) (owner : ℕ → Owner) (q : ℕ) (seat : Seat) : Type 0 where
-  pub holding : Holding owner q seat.reserve seat.hand seat.body
-  pub stored : IsStored heap words q seat
+pub record OwnStands (heap : Heap) (words : List ℕ) (owner : ℕ → Owner) (number : ℕ) (seat : Seat) : Type 0 where
+  pub holding : Holding owner number seat.reserve seat.hand seat.body
+  pub stored : IsStored heap words number seat
   pub together : AreTogether heap seat.cursor seat.tried seat.hand seat.body
 
 -- what it names: its registers, and the way that it is on
-pub record NamesStand (g : Graph) (made : List Id) (owner : ℕ → Owner) (fragments : ℕ → List ℕ) (q : ℕ) (seat : Seat) : Type 0 where
-  pub registers : Registers g made owner fragments q seat.registers seat.place (target_of seat.command)
+pub record NamesStand (g : Graph) (made : List Id) (owner : ℕ → Owner) (fragments : ℕ → List ℕ) (number : ℕ) (seat : Seat) : Type 0 where
+  pub registers : Registers g made owner fragments number seat.registers seat.place (target_of seat.command)
   pub way : WayStands (cells_at g made) made owner fragments seat seat.place
 
 -- what the history tells of it: its entries, its counts, its call in flight and what that has gathered
-pub record ToldStands (heap : Heap) (g : Graph) (history : List Entry) (made : List Id) (owner : ℕ → Owner) (fragments : ℕ → List ℕ) (begun q : ℕ) (seat : Seat) : Type 0 where
-  pub list : OwnList g history made owner fragments q seat
-  pub counts : OwnCounts g history q seat
-  pub began : Began history q begun seat.place
-  pub gathers : GathersRight heap owner q (drop begun history) seat.cursor seat.tried seat.given
+pub record ToldStands (heap : Heap) (g : Graph) (history : List Entry) (made : List Id) (owner : ℕ → Owner) (fragments : ℕ → List ℕ) (begun number : ℕ) (seat : Seat) : Type 0 where
+  pub list : OwnList g history made owner fragments number seat
+  pub counts : CountsAgree g history number seat
+  pub began : Began history number begun seat.place
+  pub gathers : GathersRight heap owner number (drop begun history) seat.cursor seat.tried seat.given
 
 -- what is true of a seat
-pub record SeatStands (heap : Heap) (words : List ℕ) (book : Book) (q : ℕ) (seat : Seat) : Type 0 where
+pub record SeatStands (heap : Heap) (words : List ℕ) (book : Book) (number : ℕ) (seat : Seat) : Type 0 where
   pub fits : Fits heap seat
-  pub own : OwnStands heap words book.owner q seat
-  pub names : NamesStand (graph_of heap book.history) book.made book.owner book.fragments q seat
-  pub told : ToldStands heap (graph_of heap book.history) book.history book.made book.owner book.fragments (book.begun q) q seat
-  pub cycle : SeatInCycle heap words (phase book.history) (answered q book.history) (has_left q book.history) book.owner book.colour q seat
+  pub own : OwnStands heap words book.owner number seat
+  pub names : NamesStand (graph_of heap book.history) book.made book.owner book.fragments number seat
+  pub told : ToldStands heap (graph_of heap book.history) book.history book.made book.owner book.fragments (book.begun number) number seat
+  pub cycle : SeatInCycle heap words (phase book.history) (last_answer number book.history) (has_left number book.history) book.owner book.colour number seat
 
+-- the book stands for the state
 pub record Rule (heap : Heap) (state : State) (book : Book) : Type 0 where
   pub machine : IsMachine heap state
   pub heap_stands : HeapStands heap state.words book
-  pub seats_stand : (q : ℕ) → q < heap.seats → SeatStands heap state.words book q (seat_at state q)
-  pub collector_stands : CollectorStands heap state.collector book.history
+  pub seats_stand : (number : ℕ) → number < heap.seats → SeatStands heap state.words book number (seat_at state number)
+  pub collector_stands : CollectorAgrees heap state.collector book.history

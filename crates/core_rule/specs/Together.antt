@@ -3,12 +3,12 @@ use Rattle.std.specs.Prelude.{◌≡◌, ◌≢◌, ℕ, ◌+◌, ◌-◌, ◌/�
 use Rattle.heap_model.specs.declared.heap.Heap.{Heap}
 
 -- how many groups come before the fragment's, from the group `start` on, wrapping at the last
-abbrev pub claim_of : Heap → ℕ → ℕ → ℕ
-claim_of heap start f = (f / 16 + heap.groups - start) % heap.groups
+abbrev pub claim_rank : Heap → ℕ → ℕ → ℕ
+claim_rank heap start f = (f / 16 + heap.groups - start) % heap.groups
 
 -- the fragments stand in the order of the claims that begin with this group
 abbrev pub InClaims : Heap → ℕ → List ℕ → Type 0
-InClaims heap start fragments = AllPairs (λ f g. claim_of heap start f ≤ claim_of heap start g) fragments
+InClaims heap start fragments = AllPairs (λ f g. claim_rank heap start f ≤ claim_rank heap start g) fragments
 
 -- an object's fragments stand in the order of claims, and those that aren't born are the first of them
 pub record IsInOrder (heap : Heap) (hand body : List ℕ) : Type 0 where
@@ -20,5 +20,5 @@ pub record IsInOrder (heap : Heap) (hand body : List ℕ) : Type 0 where
 
 -- what was claimed so far stands in the order of the claims; and so does the object's body
 pub record AreTogether (heap : Heap) (cursor tried : ℕ) (hand body : List ℕ) : Type 0 where
-  pub gathered : body ≡ [] → InClaims heap cursor hand × All (λ f. claim_of heap cursor f < tried) hand
+  pub gathered : body ≡ [] → InClaims heap cursor hand × All (λ f. claim_rank heap cursor f < tried) hand
   pub chosen : body ≢ [] → IsInOrder heap hand body

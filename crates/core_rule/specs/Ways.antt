@@ -4,12 +4,12 @@ use Rattle.heap_model.specs.declared.graph.cell.Cell.{Cell}
 use Rattle.heap_model.specs.declared.id.Id.{Id}
 use Rattle.core_machine.specs.declared.place.Place.{Place}
 use Rattle.core_machine.specs.declared.place.Place.TheVariants as places
-use Rattle.core_machine.specs.declared.place.Reaching.{Reaching}
-use Rattle.core_machine.specs.declared.place.Reaching.TheVariants.{Opening, Walking, Getting, Naming, LoadingOld, ShadingOld, ShadingNew, Swapping}
+use Rattle.core_machine.specs.declared.place.Access.{Access}
+use Rattle.core_machine.specs.declared.place.Access.TheVariants.{LoadingMeta, Walking, Getting, Naming, LoadingOld, ShadingOld, ShadingNew, Swapping}
 use Rattle.core_machine.specs.declared.seat.register.Register.TheVariants.{Object}
 use Rattle.core_machine.specs.seat.Commands.{object_of, field_of}
-use Rattle.core_machine.specs.table.Loaded.{head_in}
-use Rattle.core_machine.specs.seat.Reaching.{row_of}
+use Rattle.core_machine.specs.table.Decode.{head_of}
+use Rattle.core_machine.specs.seat.Access.{row_of}
 use Rattle.core_machine.specs.seat.Registers.{register_in}
 use Rattle.core_machine.specs.seat.Seat.{Seat}
 use Rattle.core_rule.specs.Owners.{Owner}
@@ -17,46 +17,47 @@ use Rattle.core_rule.specs.Book.{fragment_at, id_at}
 use Rattle.core_rule.specs.Objects.{IsKept}
 
 -- the call's register holds the object of this number, and the way stands at the fragment of it from which so many links lead to the field
-pub record OnWay (made : List Id) (owner : ℕ → Owner) (fragments : ℕ → List ℕ) (seat : Seat) (number : ℕ) : Type 0 where
-  pub below : number < length made
-  pub kept : IsKept owner fragments number
-  pub holds : register_in seat.registers (object_of seat.command) ≡ Object (fragment_at (fragments number) 0) (id_at made number)
+pub record OnWay (made : List Id) (owner : ℕ → Owner) (fragments : ℕ → List ℕ) (seat : Seat) (index : ℕ) : Type 0 where
+  pub below : index < length made
+  pub kept : IsKept owner fragments index
+  pub holds : register_in seat.registers (object_of seat.command) ≡ Object (fragment_at (fragments index) 0) (id_at made index)
   pub ahead : seat.links ≤ row_of (field_of seat.command)
-  pub here : seat.reached ≡ fragment_at (fragments number) (row_of (field_of seat.command) - seat.links)
+  pub here : seat.reached ≡ fragment_at (fragments index) (row_of (field_of seat.command) - seat.links)
 
 -- the way of a call whose object's length wasn't loaded yet
 pub record SetsOut (made : List Id) (owner : ℕ → Owner) (fragments : ℕ → List ℕ) (seat : Seat) : Type 0 where
-  pub number : ℕ
-  pub way : OnWay made owner fragments seat number
+  pub index : ℕ
+  pub way : OnWay made owner fragments seat index
 
 -- the way of one whose object has the field
 pub record Finds (cells : ℕ → List Cell) (made : List Id) (owner : ℕ → Owner) (fragments : ℕ → List ℕ) (seat : Seat) : Type 0 where
-  pub number : ℕ
-  pub way : OnWay made owner fragments seat number
-  pub within : field_of seat.command < length (cells number)
+  pub index : ℕ
+  pub way : OnWay made owner fragments seat index
+  pub within : field_of seat.command < length (cells index)
 
 -- the object that a set has loaded from its field is a kept one
 pub record LoadedKept (made : List Id) (owner : ℕ → Owner) (fragments : ℕ → List ℕ) (seat : Seat) : Type 0 where
-  pub number : ℕ
-  pub below : number < length made
-  pub kept : IsKept owner fragments number
-  pub loads : head_in seat.loaded ≡ Some (fragment_at (fragments number) 0)
+  pub index : ℕ
+  pub below : index < length made
+  pub kept : IsKept owner fragments index
+  pub loads : head_of seat.loaded ≡ Some (fragment_at (fragments index) 0)
 
 -- where a set has loaded an object, that is a kept one, up to its swap
 abbrev pub OldKept : List Id → (ℕ → Owner) → (ℕ → List ℕ) → Seat → Type 0
-OldKept made owner fragments seat = IsSome (head_in seat.loaded) → LoadedKept made owner fragments seat
+OldKept made owner fragments seat = IsSome (head_of seat.loaded) → LoadedKept made owner fragments seat
 
-abbrev pub ReachingStands : (ℕ → List Cell) → List Id → (ℕ → Owner) → (ℕ → List ℕ) → Seat → Reaching → Type 0
-ReachingStands cells made owner fragments seat Opening = SetsOut made owner fragments seat
-ReachingStands cells made owner fragments seat Walking = Finds cells made owner fragments seat
-ReachingStands cells made owner fragments seat Getting = Finds cells made owner fragments seat
-ReachingStands cells made owner fragments seat Naming = Unit {0}
-ReachingStands cells made owner fragments seat LoadingOld = Finds cells made owner fragments seat
-ReachingStands cells made owner fragments seat ShadingOld = Finds cells made owner fragments seat × LoadedKept made owner fragments seat
-ReachingStands cells made owner fragments seat ShadingNew = Finds cells made owner fragments seat × OldKept made owner fragments seat
-ReachingStands cells made owner fragments seat Swapping = Finds cells made owner fragments seat × OldKept made owner fragments seat
+-- what is true of the way at each place of access
+abbrev pub AccessStands : (ℕ → List Cell) → List Id → (ℕ → Owner) → (ℕ → List ℕ) → Seat → Access → Type 0
+AccessStands cells made owner fragments seat LoadingMeta = SetsOut made owner fragments seat
+AccessStands cells made owner fragments seat Walking = Finds cells made owner fragments seat
+AccessStands cells made owner fragments seat Getting = Finds cells made owner fragments seat
+AccessStands cells made owner fragments seat Naming = Unit {0}
+AccessStands cells made owner fragments seat LoadingOld = Finds cells made owner fragments seat
+AccessStands cells made owner fragments seat ShadingOld = Finds cells made owner fragments seat × LoadedKept made owner fragments seat
+AccessStands cells made owner fragments seat ShadingNew = Finds cells made owner fragments seat × OldKept made owner fragments seat
+AccessStands cells made owner fragments seat Swapping = Finds cells made owner fragments seat × OldKept made owner fragments seat
 
 -- what is true of a seat's way at its place
 abbrev pub WayStands : (ℕ → List Cell) → List Id → (ℕ → Owner) → (ℕ → List ℕ) → Seat → Place → Type 0
-WayStands cells made owner fragments seat (places.Reaching place) = ReachingStands cells made owner fragments seat place
+WayStands cells made owner fragments seat (places.Access place) = AccessStands cells made owner fragments seat place
 WayStands cells made owner fragments seat _ = Unit {0}

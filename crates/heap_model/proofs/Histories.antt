@@ -4,8 +4,8 @@ use Rattle.std.proofs.lemmas.List.Sums.{sum_by-append, fold-append}
 use Rattle.std.proofs.lemmas.List.{append-nil}
 use Rattle.heap_model.specs.declared.heap.Heap.{Heap}
 use Rattle.heap_model.specs.declared.entry.Entry.{Entry}
-use Rattle.heap_model.specs.graph.State.{State}
-use Rattle.heap_model.specs.graph.Growth.{after, graph_after}
+use Rattle.heap_model.specs.graph.Graph.{Graph}
+use Rattle.heap_model.specs.graph.Growth.{after_entry, graph_after}
 use Rattle.heap_model.specs.graph.Legal.{Accepts, AcceptsAll}
 use Rattle.heap_model.specs.declared.account.effect.Effect.{Effect}
 use Rattle.heap_model.specs.account.Space.{total, total_of}
@@ -13,13 +13,13 @@ use Rattle.heap_model.specs.account.Effects.{effect_of, is_of}
 use Rattle.heap_model.specs.account.Account.{KeepsSpace, KeepsSpaceAfter}
 
 -- the graph grows by the entry
-pub graph_after-more : (g : State) (history : List Entry) (entry : Entry) → graph_after g (history ++ entry ∷ []) ≡ after (graph_after g history) entry
-graph_after-more g history entry = fold-append after g history (entry ∷ [])
+pub graph_after-more : (g : Graph) (history : List Entry) (entry : Entry) → graph_after g (history ++ entry ∷ []) ≡ after_entry (graph_after g history) entry
+graph_after-more g history entry = fold-append after_entry g history (entry ∷ [])
 
 -- an entry that the graph accepts may stand there
-pub AcceptsAll-more : (g : State) (history : List Entry) (entry : Entry) → AcceptsAll g history → Accepts (graph_after g history) entry → AcceptsAll g (history ++ entry ∷ [])
+pub AcceptsAll-more : (g : Graph) (history : List Entry) (entry : Entry) → AcceptsAll g history → Accepts (graph_after g history) entry → AcceptsAll g (history ++ entry ∷ [])
 AcceptsAll-more g [] entry legal accepts = (accepts, tt)
-AcceptsAll-more g (first ∷ history) entry legal accepts = (legal.0, AcceptsAll-more (after g first) history entry legal.1 accepts)
+AcceptsAll-more g (first ∷ history) entry legal accepts = (legal.0, AcceptsAll-more (after_entry g first) history entry legal.1 accepts)
 
 -- an entry that keeps the rules of space may stand there
 pub KeepsSpaceAfter-more : (heap : Heap) {play : Bool} (before history : List Entry) (entry : Entry) → KeepsSpaceAfter heap play before history → KeepsSpace heap play (before ++ history) entry → KeepsSpaceAfter heap play before (history ++ entry ∷ [])
@@ -31,5 +31,5 @@ KeepsSpaceAfter-more heap {play} before (first ∷ history) entry kept keeps =
 pub total-more : (part : Effect → ℕ) (history : List Entry) (entry : Entry) → total part (history ++ entry ∷ []) ≡ total part history + part (effect_of entry)
 total-more part history entry = sum_by-append (λ e. part (effect_of e)) history (entry ∷ []) ∙ ap (λ n. total part history + n) (zero-add (part (effect_of entry)))
 
-pub total_of-more : (s : ℕ) (part : Effect → ℕ) (history : List Entry) (entry : Entry) → total_of s part (history ++ entry ∷ []) ≡ total_of s part history + cond (is_of s entry) (part (effect_of entry)) 0
-total_of-more s part history entry = sum_by-append (λ e. cond (is_of s e) (part (effect_of e)) 0) history (entry ∷ []) ∙ ap (λ n. total_of s part history + n) (zero-add (cond (is_of s entry) (part (effect_of entry)) 0))
+pub total_of-more : (number : ℕ) (part : Effect → ℕ) (history : List Entry) (entry : Entry) → total_of number part (history ++ entry ∷ []) ≡ total_of number part history + cond (is_of number entry) (part (effect_of entry)) 0
+total_of-more number part history entry = sum_by-append (λ e. cond (is_of number e) (part (effect_of e)) 0) history (entry ∷ []) ∙ ap (λ n. total_of number part history + n) (zero-add (cond (is_of number entry) (part (effect_of entry)) 0))

@@ -8,4 +8,4 @@ pub mod Reach
 pub mod Replies
 pub mod Search
 pub mod Sizes
-pub mod State
+pub mod Graph

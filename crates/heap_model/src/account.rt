@@ -51,7 +51,7 @@ impl Model for Account {
 }
 
 impl Account {
-    ghost use Rattle.heap_model.specs.account.Space.{gained, lost, used, spine};
+    ghost use Rattle.heap_model.specs.account.Space.{fragments_gained, fragments_lost, fragments_used, words_used};
     ghost use Rattle.heap_model.specs.account.PhaseCounts.{phase};
     ghost use Rattle.heap_model.specs.account.Cycles.{graph_of};
     ghost use Rattle.heap_model.specs.account.Account.{KeepsSpace, MayLackMemory};
@@ -124,7 +124,7 @@ impl Account {
 
     /// The fragments in use; 0 where the account is overdrawn.
     pub fn used(&self) -> u64
-        ensures { (history : List Entries) → Tells self.now history → result ≡ used history }
+        ensures { (history : List Entries) → Tells self.now history → result ≡ fragments_used history }
     {
         let gained = BOARD_FRAGMENTS as u64 + self.all.taken;
         gained
@@ -134,14 +134,14 @@ impl Account {
 
     /// Whether more fragments were given back and freed than the board has and were taken, so that no count is right.
     pub fn is_overdrawn(&self) -> bool
-        ensures { (history : List Entries) → Tells self.now history → (IsTrue result ↔ (gained history < lost history)) }
+        ensures { (history : List Entries) → Tells self.now history → (IsTrue result ↔ (fragments_gained history < fragments_lost history)) }
     {
         self.gained() < self.lost()
     }
 
     /// The spine words in use.
     pub fn spine(&self) -> u64
-        ensures { (history : List Entries) → Tells self.now history → result ≡ spine history }
+        ensures { (history : List Entries) → Tells self.now history → result ≡ words_used history }
     {
         self.all.words.saturating_sub(self.all.returned)
     }

@@ -31,9 +31,9 @@ pub struct Graph {
 impl Model for Graph {
     ghost use Rattle.std.specs.Prelude.{◌≤◌, length};
     ghost use Rattle.heap_model.specs.Limits.{most_seats};
-    ghost use Rattle.heap_model.specs.graph.State.{State};
+    ghost use Rattle.heap_model.specs.graph.Graph.{Graph};
 
-    ghost Value = { State };
+    ghost Value = { Graph };
 
     ghost view = { λ g. record { board = g.board; seats = g.seats.items } };
 
@@ -42,9 +42,9 @@ impl Model for Graph {
 
 impl Graph {
     ghost use Rattle.heap_model.specs.Limits.{most_seats, last_register};
-    ghost use Rattle.heap_model.specs.graph.Objects.{register as value_of};
-    ghost use Rattle.heap_model.specs.graph.State.{opening};
-    ghost use Rattle.heap_model.specs.graph.Growth.{after};
+    ghost use Rattle.heap_model.specs.graph.Objects.{register_value};
+    ghost use Rattle.heap_model.specs.graph.Graph.{opening};
+    ghost use Rattle.heap_model.specs.graph.Growth.{after_entry};
     ghost use Rattle.heap_model.specs.graph.Legal.{Accepts};
 
     /// The graph in which nothing was done yet.
@@ -67,7 +67,7 @@ impl Graph {
     /// Lets the graph grow by the entry, where it may stand here.
     pub fn apply(&mut self, entry: &Entry) -> Result<(), ApplyFault>
         ensures accepted { OnOk result (Accepts self.old entry.now) }
-        ensures grown { OnOk result (self.new ≡ after self.old entry.now) }
+        ensures grown { OnOk result (self.new ≡ after_entry self.old entry.now) }
         ensures not_legal { result ≡ Err ApplyFault.NotLegal → ¬ Accepts self.old entry.now }
         ensures memory { result ≡ Err ApplyFault.Memory → Accepts self.old entry.now }
         ensures unchanged { OnErr result (self.new ≡ self.old) }
@@ -90,7 +90,7 @@ impl Graph {
     pub fn value(&self, seat: u8, register: u8) -> Value
         requires seat { seat < length self.now.seats }
         requires register { register ≤ last_register }
-        ensures { result ≡ value_of self.now seat register }
+        ensures { result ≡ register_value self.now seat register }
     {
         self.register(seat, register)
     }

@@ -2,8 +2,8 @@ use Rattle.std.specs.Prelude.{ℕ, ◌+◌, ◌-◌, ◌*◌, ◌%◌, ◌^◌, 
 use Rattle.std.specs.Int.{bit_at}
 
 -- a fragment's bit among the sixteen of its group
-abbrev pub place_bit : ℕ → ℕ
-place_bit fragment = 2 ^ (fragment % 16)
+abbrev pub place_bit_of : ℕ → ℕ
+place_bit_of fragment = 2 ^ (fragment % 16)
 
 -- the fragment's taken bit isn't set in the control word
 abbrev pub is_clear : ℕ → ℕ → Bool
@@ -14,18 +14,18 @@ abbrev pub all_taken : ℕ
 all_taken = 2 ^ 16 - 1
 
 -- all bits of a word but these
-abbrev pub all_but : ℕ → ℕ
-all_but bits = 2 ^ 64 - 1 - bits
+abbrev pub all_but_of : ℕ → ℕ
+all_but_of bits = 2 ^ 64 - 1 - bits
 
 -- the control word without these taken bits
-abbrev pub untaken : ℕ → ℕ → ℕ
-untaken bits word = bit_and word (all_but bits)
+abbrev pub word_without_taken : ℕ → ℕ → ℕ
+word_without_taken bits word = bit_and word (all_but_of bits)
 
 -- the bits that a birth sets: born, and where births are black marked and scanned too
-abbrev pub birth_bits : Bool → ℕ → ℕ
-birth_bits false bits = bits * 2 ^ 16
-birth_bits true bits = bits * 2 ^ 16 + bits * 2 ^ 32 + bits * 2 ^ 48
+abbrev pub birth_bits_of : Bool → ℕ → ℕ
+birth_bits_of false bits = bits * 2 ^ 16
+birth_bits_of true bits = bits * 2 ^ 16 + bits * 2 ^ 32 + bits * 2 ^ 48
 
 -- the bit that a shade sets: the fragment is marked
-abbrev pub shade_bit : ℕ → ℕ
-shade_bit fragment = 2 ^ (32 + fragment % 16)
+abbrev pub shade_bit_of : ℕ → ℕ
+shade_bit_of fragment = 2 ^ (32 + fragment % 16)

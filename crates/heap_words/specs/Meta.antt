@@ -13,9 +13,9 @@ meta_word meta =
     cell_word (fixed_cell (if meta.array then 2 ^ 29 + meta.length else meta.length) meta.next)
 
 -- where a record's meta leads: to its second fragment, where it has one; an array's leads nowhere
-abbrev pub meta_lead : Cell → Option ℕ
-meta_lead cell = if nat_lt cell.value (2 ^ 29) then (if cell.stamp == 0 then None else Some cell.stamp) else None
+abbrev pub meta_pointer : Cell → Option ℕ
+meta_pointer cell = if nat_lt cell.value (2 ^ 29) then (if cell.stamp == 0 then None else Some cell.stamp) else None
 
 -- the length in a meta
-abbrev pub length_in : ℕ → ℕ
-length_in word = (cell_of word).value % 2 ^ 13
+abbrev pub length_of : ℕ → ℕ
+length_of word = (cell_of word).value % 2 ^ 13

@@ -1,5 +1,5 @@
 ghost use Rattle.std.specs.Prelude.{◌≡◌};
-ghost use Rattle.heap_words.specs.Control.{place_bit as place_bit_of, is_clear as is_clear_in, all_but as all_but_of, birth_bits as birth_bits_of, shade_bit as shade_bit_of};
+ghost use Rattle.heap_words.specs.Control.{place_bit_of, is_clear as is_clear_in, all_but_of, birth_bits_of, shade_bit_of};
 
 /// The taken bits of all sixteen fragments of a group.
 pub const ALL_TAKEN: u64 = 0xffff;

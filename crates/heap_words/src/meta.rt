@@ -1,5 +1,5 @@
 ghost use Rattle.std.specs.Prelude.{◌≡◌, ◌^◌, ◌<◌, IsTrue};
-ghost use Rattle.heap_words.specs.Meta.{IsMeta, meta_word, meta_lead, length_in as length_in_of};
+ghost use Rattle.heap_words.specs.Meta.{IsMeta, meta_word, meta_pointer, length_of};
 ghost use Rattle.heap_words.specs.Reads.{Reads};
 
 use crate::cell::Cell;
@@ -40,7 +40,7 @@ impl Meta {
 
     /// Where a record's meta leads, read of any cell: to its second fragment, where it has one. An array's leads nowhere.
     pub fn lead(cell: &Cell) -> Option<u32>
-        ensures { result ≡ meta_lead cell.now }
+        ensures { result ≡ meta_pointer cell.now }
     {
         if cell.value < ARRAY && cell.stamp != 0 {
             Some(cell.stamp)
@@ -51,7 +51,7 @@ impl Meta {
 
     /// The length that a word tells; a meta's own.
     pub fn length_in(word: u64) -> u16
-        ensures { result ≡ length_in_of word }
+        ensures { result ≡ length_of word }
     {
         (Cell::read(word).value % TOO_LONG) as u16
     }

@@ -14,7 +14,7 @@ use Rattle.script_text.specs.declared.script.Form.TheVariants.{Play, Run}
 use Rattle.reply_text.specs.declared.history.History.{History}
 use Rattle.reply_text.specs.declared.history.SpaceMark.{SpaceMark}
 use Rattle.reply_text.specs.declared.history_line.HistoryLine.TheVariants as lines
-use Rattle.reply_text.specs.History.{body, marked, space_line}
+use Rattle.reply_text.specs.History.{body, lines_with_mark, space_line}
 use Rattle.log_merge.specs.Legal.{AreLegal, ShowsAtMark, ShowsCounts, ShowsUse, IsLegalHistory}
 use Rattle.log_merge.specs.Lines.{entry_of, entries_of, IsFirstIllegal, KeepsLine, KeepLines, KeepsRules}
 use Rattle.log_merge.proofs.LineLemmas.{BreaksAt-broken, entries_of-entries, KeepLines-append, KeepLines-front, KeepLines-back}
@@ -85,7 +85,7 @@ pub ShowsCounts-from_line : (form : Form) (heap : Heap) (before : List Entry) (m
 ShowsCounts-from_line form heap before mark kept = record { used = kept.used; total = kept.total; spine = kept.spine; budget = kept.budget }
 
 -- the entries among the lines of a history
-pub entries_of-marked : (mark : Option SpaceMark) (entries : List Entry) → entries_of (marked mark entries) ≡ entries
+pub entries_of-marked : (mark : Option SpaceMark) (entries : List Entry) → entries_of (lines_with_mark mark entries) ≡ entries
 entries_of-marked None entries = entries_of-entries entries
 entries_of-marked (Some mark) entries =
     flat_map-append entry_of (map lines.Entry (take mark.before entries)) (space_line mark ∷ map lines.Entry (drop mark.before entries))
@@ -93,7 +93,7 @@ entries_of-marked (Some mark) entries =
 
 -- with its mark
 lines-from_marked : (form : Form) (heap : Heap) (mark : Option SpaceMark) (entries : List Entry)
-    → AreLegal form heap entries → ShowsAtMark heap entries mark → KeepLines form heap [] (marked mark entries)
+    → AreLegal form heap entries → ShowsAtMark heap entries mark → KeepLines form heap [] (lines_with_mark mark entries)
 lines-from_marked form heap None entries legal shows = lines-from_AreLegal form heap entries legal
 lines-from_marked form heap (Some mark) entries legal shows =
     let front = map lines.Entry (take mark.before entries) in
@@ -105,7 +105,7 @@ lines-from_marked form heap (Some mark) entries legal shows =
       subst (λ es. KeepLines form heap es back) (sym (append-nil (entries_of front))) (KeepLines-back form heap [] front back all),
     )
 
-AreLegal-from_marked : (form : Form) (heap : Heap) (mark : Option SpaceMark) (entries : List Entry) → KeepLines form heap [] (marked mark entries) → AreLegal form heap entries
+AreLegal-from_marked : (form : Form) (heap : Heap) (mark : Option SpaceMark) (entries : List Entry) → KeepLines form heap [] (lines_with_mark mark entries) → AreLegal form heap entries
 AreLegal-from_marked form heap None entries kept = AreLegal-from_lines form heap entries kept
 AreLegal-from_marked form heap (Some mark) entries kept =
     let front = map lines.Entry (take mark.before entries) in
@@ -115,7 +115,7 @@ AreLegal-from_marked form heap (Some mark) entries kept =
     (KeepLines-append form heap [] front back (KeepLines-front form heap [] front (space_line mark ∷ back) kept)
     (subst (λ es. KeepLines form heap es back) (append-nil (entries_of front)) more.1)))
 
-ShowsAtMark-from_marked : (form : Form) (heap : Heap) (mark : Option SpaceMark) (entries : List Entry) → KeepLines form heap [] (marked mark entries) → ShowsAtMark heap entries mark
+ShowsAtMark-from_marked : (form : Form) (heap : Heap) (mark : Option SpaceMark) (entries : List Entry) → KeepLines form heap [] (lines_with_mark mark entries) → ShowsAtMark heap entries mark
 ShowsAtMark-from_marked form heap None entries kept = tt
 ShowsAtMark-from_marked form heap (Some mark) entries kept =
     let front = map lines.Entry (take mark.before entries) in
@@ -127,12 +127,12 @@ ShowsAtMark-from_marked form heap (Some mark) entries kept =
 -- each line of a legal history is right
 lines-from_IsLegalHistory : (history : History) → IsLegalHistory history → KeepLines history.form history.heap [] (body history)
 lines-from_IsLegalHistory history legal =
-    let front = marked history.mark history.entries in
+    let front = lines_with_mark history.mark history.entries in
     KeepLines-append history.form history.heap [] front (lines.End history.end_used ∷ []) (lines-from_marked history.form history.heap history.mark history.entries legal.entries legal.mark)
     (rw (entries_of-marked history.mark history.entries) legal.end_used, tt)
 
 -- and so is a history whose lines before the last are right, and whose last shows what is in use
-pub IsLegalHistory-from_lines : (history : History) → KeepLines history.form history.heap [] (marked history.mark history.entries) → ShowsUse history.entries history.end_used → IsLegalHistory history
+pub IsLegalHistory-from_lines : (history : History) → KeepLines history.form history.heap [] (lines_with_mark history.mark history.entries) → ShowsUse history.entries history.end_used → IsLegalHistory history
 IsLegalHistory-from_lines history kept shows = record {
   entries = AreLegal-from_marked history.form history.heap history.mark history.entries kept;
   mark = ShowsAtMark-from_marked history.form history.heap history.mark history.entries kept;

@@ -9,8 +9,8 @@ use Rattle.script_text.specs.declared.script.Form.{Form}
 use Rattle.reply_text.specs.declared.history_line.HistoryLine.{HistoryLine}
 use Rattle.reply_text.specs.declared.history_line.HistoryLine.TheVariants as lines
 use Rattle.reply_text.specs.declared.history.SpaceMark.{SpaceMark}
-use Rattle.reply_text.specs.History.{marked, space_line}
-use Rattle.log_merge.specs.Lines.{entry_of, entries_of, KeepLines, BreaksAt}
+use Rattle.reply_text.specs.History.{lines_with_mark, space_line}
+use Rattle.log_merge.specs.Lines.{entry_of, entries_of, KeepLines, IsFirstWrongLine}
 
 -- lines of entries alone
 pub entries_of-entries : (entries : List Entry) → entries_of (map lines.Entry entries) ≡ entries
@@ -41,7 +41,7 @@ KeepLines-back form heap before (line ∷ front) back kept =
     subst (λ es. KeepLines form heap es back) (append_assoc before (entry_of line) (entries_of front)) (KeepLines-back form heap (before ++ entry_of line) front back kept.1)
 
 -- the first line that isn't right stays that, whatever follows
-pub BreaksAt-more : (form : Form) (heap : Heap) (lines more all : List HistoryLine) (number : ℕ) → all ≡ lines ++ more → BreaksAt form heap lines number → BreaksAt form heap all number
+pub BreaksAt-more : (form : Form) (heap : Heap) (lines more all : List HistoryLine) (number : ℕ) → all ≡ lines ++ more → IsFirstWrongLine form heap lines number → IsFirstWrongLine form heap all number
 BreaksAt-more form heap lines more all number e breaks = record {
   before = breaks.before;
   line = breaks.line;
@@ -53,7 +53,7 @@ BreaksAt-more form heap lines more all number e breaks = record {
 }
 
 -- where a line isn't right, not all are
-pub BreaksAt-broken : (form : Form) (heap : Heap) (lines : List HistoryLine) (number : ℕ) → BreaksAt form heap lines number → ¬ KeepLines form heap [] lines
+pub BreaksAt-broken : (form : Form) (heap : Heap) (lines : List HistoryLine) (number : ℕ) → IsFirstWrongLine form heap lines number → ¬ KeepLines form heap [] lines
 BreaksAt-broken form heap lines number breaks kept =
     breaks.broken (KeepLines-back form heap [] breaks.before (breaks.line ∷ breaks.rest) (subst (λ ls. KeepLines form heap [] ls) breaks.parted kept)).0
 
@@ -66,7 +66,7 @@ lines_parted entries i other lt =
 
 -- the lines of a history with a mark
 pub marked_parted : (mark : Option SpaceMark) (there : SpaceMark) (entries front back : List Entry) → mark ≡ Some there → front ≡ take there.before entries → back ≡ drop there.before entries
-    → marked mark entries ≡ map lines.Entry front ++ (space_line there ∷ map lines.Entry back)
+    → lines_with_mark mark entries ≡ map lines.Entry front ++ (space_line there ∷ map lines.Entry back)
 marked_parted mark there entries front back is first others = rw (is, first, others) refl
 
 -- what holds of each holds of the last ones

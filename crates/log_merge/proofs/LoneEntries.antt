@@ -10,13 +10,13 @@ use Rattle.heap_model.specs.declared.entry.Entry.TheVariants.{Said, Takes, Gives
 use Rattle.heap_model.specs.declared.account.effect.Effect.{Effect}
 use Rattle.heap_model.specs.Command.{IsCommand}
 use Rattle.heap_model.specs.account.Effects.{effect_of, is_of}
-use Rattle.heap_model.specs.graph.Growth.{after, after_reply, graph_after}
+use Rattle.heap_model.specs.graph.Growth.{after_entry, after_reply, graph_after}
 use Rattle.heap_model.specs.Needs.{made_by}
-use Rattle.heap_model.specs.account.PhaseCounts.{answered}
+use Rattle.heap_model.specs.account.PhaseCounts.{last_answer}
 use Rattle.heap_model.specs.calls.SeatCalls.{takes_of, gives_of}
 use Rattle.heap_model.specs.calls.SeatLaws.{IsOwn}
 use Rattle.heap_model.specs.account.Space.{taken_of, spent_of, total_of}
-use Rattle.heap_model.specs.graph.State.{State, opening}
+use Rattle.heap_model.specs.graph.Graph.{Graph, opening}
 use Rattle.log_merge.specs.LoneSeat.{lone_heap, lone_graph, TellsLone}
 
 -- the entries are the seat's, and come to these sums
@@ -24,7 +24,7 @@ pub record ComeTo (entries : List Entry) (taken spent answers : ℕ) : Type 0 wh
   pub own : All (IsOwn 0) entries
   pub takes : taken_of 0 entries ≡ taken
   pub spends : spent_of 0 entries ≡ spent
-  pub replies : answered 0 entries ≡ answers
+  pub replies : last_answer 0 entries ≡ answers
 
 -- the sums of two lists are added
 pub total_of-append : (part : Effect → ℕ) (front back : List Entry) → total_of 0 part (front ++ back) ≡ total_of 0 part front + total_of 0 part back
@@ -42,7 +42,7 @@ come_to-append front back first then = record {
 pub come_to-none : ComeTo [] 0 0 0
 come_to-none = record { own = All-nil (IsOwn 0); takes = refl; spends = omega arith; replies = refl }
 
-come_to-one : (entry : Entry) (taken spent answers : ℕ) → IsOwn 0 entry → taken_of 0 (entry ∷ []) ≡ taken → spent_of 0 (entry ∷ []) ≡ spent → answered 0 (entry ∷ []) ≡ answers → ComeTo (entry ∷ []) taken spent answers
+come_to-one : (entry : Entry) (taken spent answers : ℕ) → IsOwn 0 entry → taken_of 0 (entry ∷ []) ≡ taken → spent_of 0 (entry ∷ []) ≡ spent → last_answer 0 (entry ∷ []) ≡ answers → ComeTo (entry ∷ []) taken spent answers
 come_to-one entry taken spent answers own takes spends replies = record {
   own = All-cons (IsOwn 0) entry [] own (All-nil (IsOwn 0));
   takes = takes;
@@ -79,10 +79,10 @@ tells_more mine more unborn' tells come all = record {
 
 -- these entries change no graph
 abbrev pub AreQuiet : List Entry → Type 0
-AreQuiet entries = (g : State) → graph_after g entries ≡ g
+AreQuiet entries = (g : Graph) → graph_after g entries ≡ g
 
 pub quiet-append : (front back : List Entry) → AreQuiet front → AreQuiet back → AreQuiet (front ++ back)
-quiet-append front back first then g = fold-append after g front back ∙ ap (λ h. graph_after h back) (first g) ∙ then g
+quiet-append front back first then g = fold-append after_entry g front back ∙ ap (λ h. graph_after h back) (first g) ∙ then g
 
 pub quiet-takes : (counts : List ℕ) → AreQuiet (takes_of 0 counts)
 quiet-takes [] g = refl
@@ -96,5 +96,5 @@ quiet-gives (count ∷ counts) g = quiet-gives counts g
 pub lone_graph-call : (mine before : List Entry) (command : Command) (reply : Reply) → AreQuiet before
     → lone_graph (mine ++ (before ++ Said 0 command reply ∷ [])) ≡ after_reply (lone_graph mine) 0 command reply
 lone_graph-call mine before command reply quiet =
-    fold-append after (opening lone_heap) mine (before ++ Said 0 command reply ∷ []) ∙ fold-append after (lone_graph mine) before (Said 0 command reply ∷ [])
+    fold-append after_entry (opening lone_heap) mine (before ++ Said 0 command reply ∷ []) ∙ fold-append after_entry (lone_graph mine) before (Said 0 command reply ∷ [])
     ∙ ap (λ g. after_reply g 0 command reply) (quiet (lone_graph mine))

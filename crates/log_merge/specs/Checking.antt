@@ -11,7 +11,7 @@ use Rattle.reply_text.specs.declared.history_line.HistoryLine.{HistoryLine}
 use Rattle.log_merge.specs.declared.checker.Checker.{Checker}
 use Rattle.log_merge.specs.declared.fault.CheckFault.{CheckFault}
 use Rattle.log_merge.specs.declared.fault.CheckFault.TheVariants as faults
-use Rattle.log_merge.specs.Lines.{entries_of, KeepLines, BreaksAt}
+use Rattle.log_merge.specs.Lines.{entries_of, KeepLines, IsFirstWrongLine}
 
 -- a play has an account, which tells the entries; a run has none
 abbrev pub Accounts : Form → Heap → Option Books → List Entry → Type 0
@@ -31,8 +31,8 @@ pub record Passed (form : Form) (checker : Checker) (lines : List HistoryLine) :
   pub kept : KeepLines form checker.heap [] lines
 
 -- the account, if there is one, is of the checker's heap, and has counted no more entries than there were lines
-abbrev pub IsReady : Checker → Type 0
-IsReady checker = ForSome checker.account (λ books. (books.heap ≡ checker.heap) × (books.entries ≤ checker.line))
+abbrev pub AccountFits : Checker → Type 0
+AccountFits checker = ForSome checker.account (λ books. (books.heap ≡ checker.heap) × (books.entries ≤ checker.line))
 
 -- from lines that it has gone over, it goes over these as well
 abbrev pub GoesOver : Form → Checker → Checker → List HistoryLine → List HistoryLine → Type 0
@@ -40,5 +40,5 @@ GoesOver form old new passed lines = Passed form old passed → Passed form new 
 
 -- from lines that it has gone over, it stops at the first of these that isn't right; nothing is said where memory ran out
 abbrev pub StopsIn : Form → Checker → List HistoryLine → List HistoryLine → CheckFault → Type 0
-StopsIn form checker passed lines (faults.NotLegal number) = Passed form checker passed → BreaksAt form checker.heap (passed ++ lines) number
+StopsIn form checker passed lines (faults.NotLegal number) = Passed form checker passed → IsFirstWrongLine form checker.heap (passed ++ lines) number
 StopsIn form checker passed lines faults.Memory = Unit {0}

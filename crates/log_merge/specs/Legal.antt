@@ -5,7 +5,7 @@ use Rattle.heap_model.specs.declared.entry.Entry.{Entry}
 use Rattle.heap_model.specs.Limits.{group_fragments}
 use Rattle.heap_model.specs.graph.Legal.{IsObjectLegal}
 use Rattle.heap_model.specs.account.Account.{IsLegal}
-use Rattle.heap_model.specs.account.Space.{gained, lost, granted, returned}
+use Rattle.heap_model.specs.account.Space.{fragments_gained, fragments_lost, words_granted, words_returned}
 use Rattle.script_text.specs.declared.script.Form.{Form}
 use Rattle.script_text.specs.declared.script.Form.TheVariants.{Play, Run}
 use Rattle.reply_text.specs.declared.history.History.{History}
@@ -18,13 +18,13 @@ AreLegal Run heap entries = IsObjectLegal heap entries
 
 -- so many fragments are in use after these entries; there is no such number where more were lost than gained
 abbrev pub ShowsUse : List Entry → ℕ → Type 0
-ShowsUse entries used = used + lost entries ≡ gained entries
+ShowsUse entries used = used + fragments_lost entries ≡ fragments_gained entries
 
 -- the mark shows the counts after these entries
 pub record ShowsCounts (heap : Heap) (entries : List Entry) (mark : SpaceMark) : Type 0 where
   pub used : ShowsUse entries mark.used
   pub total : mark.total ≡ group_fragments * heap.groups
-  pub spine : mark.spine + returned entries ≡ granted entries
+  pub spine : mark.spine + words_returned entries ≡ words_granted entries
   pub budget : mark.budget ≡ heap.spine
 
 -- the mark, if there is one, shows the counts at its place

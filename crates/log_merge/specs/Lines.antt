@@ -45,7 +45,7 @@ KeepLines form heap before [] = Unit {0}
 KeepLines form heap before (line ∷ rest) = KeepsLine form heap before line × KeepLines form heap (before ++ entry_of line) rest
 
 -- of the lines after the first two, this number is that of the first that isn't right
-pub record BreaksAt (form : Form) (heap : Heap) (lines : List HistoryLine) (number : ℕ) : Type 0 where
+pub record IsFirstWrongLine (form : Form) (heap : Heap) (lines : List HistoryLine) (number : ℕ) : Type 0 where
   pub before : List HistoryLine
   pub line : HistoryLine
   pub rest : List HistoryLine
@@ -56,4 +56,4 @@ pub record BreaksAt (form : Form) (heap : Heap) (lines : List HistoryLine) (numb
 
 -- this line of the history is the first that isn't legal
 abbrev pub IsFirstIllegal : History → ℕ → Type 0
-IsFirstIllegal history number = BreaksAt history.form history.heap (body history) number
+IsFirstIllegal history number = IsFirstWrongLine history.form history.heap (body history) number

@@ -7,10 +7,10 @@ use Rattle.heap_model.specs.declared.id.Value.TheVariants.{Nil, Number, Object}
 use Rattle.heap_model.specs.declared.command.Command.{Command}
 use Rattle.heap_model.specs.declared.command.Command.TheVariants as commands
 use Rattle.heap_model.specs.declared.entry.Entry.{Entry}
-use Rattle.heap_model.specs.graph.Objects.{party}
-use Rattle.heap_model.specs.graph.State.{State, opening}
+use Rattle.heap_model.specs.graph.Objects.{graph_seat}
+use Rattle.heap_model.specs.graph.Graph.{Graph, opening}
 use Rattle.heap_model.specs.graph.Growth.{graph_after}
-use Rattle.heap_model.specs.account.PhaseCounts.{answered}
+use Rattle.heap_model.specs.account.PhaseCounts.{last_answer}
 use Rattle.heap_model.specs.calls.SeatCalls.{GathersEnough, GathersTooLittle, takes_of, gives_of}
 use Rattle.heap_model.specs.calls.SeatLaws.{IsOwn}
 use Rattle.heap_model.specs.account.Space.{taken_of, spent_of}
@@ -20,23 +20,23 @@ abbrev pub lone_heap : Heap
 lone_heap = record { groups = 1; spine = 6; seats = 1 }
 
 -- the graph after the seat's entries
-abbrev pub lone_graph : List Entry → State
+abbrev pub lone_graph : List Entry → Graph
 lone_graph mine = graph_after (opening lone_heap) mine
 
 -- the graph's one seat has these registers, these lengths of objects, and so many sets
-pub record IsLoneGraph (g : State) (registers : List Value) (lengths : List ℕ) (sets : ℕ) (left : Bool) : Type 0 where
+pub record IsLoneGraph (g : Graph) (registers : List Value) (lengths : List ℕ) (sets : ℕ) (left : Bool) : Type 0 where
   pub alone : length g.seats ≡ 1
   pub board : length g.board.cells ≡ 32
-  pub same_registers : (party g 0).registers ≡ registers
-  pub same_lengths : map (λ object. length object.cells) (party g 0).objects ≡ lengths
-  pub same_sets : (party g 0).sets ≡ sets
-  pub same_left : (party g 0).left ≡ left
+  pub same_registers : (graph_seat g 0).registers ≡ registers
+  pub same_lengths : map (λ object. length object.cells) (graph_seat g 0).objects ≡ lengths
+  pub same_sets : (graph_seat g 0).sets ≡ sets
+  pub same_left : (graph_seat g 0).left ≡ left
 
 -- the entries are the seat's own, and tell how many fragments it has of its own and which phase it has answered last
 pub record TellsLone (mine : List Entry) (unborn last : ℕ) : Type 0 where
   pub own : All (IsOwn 0) mine
   pub had : spent_of 0 mine + unborn ≡ taken_of 0 mine
-  pub last_answer : answered 0 mine ≡ last
+  pub last_answer : last_answer 0 mine ≡ last
 
 -- so the seat is after these entries
 pub record IsLone (mine : List Entry) (registers : List Value) (lengths : List ℕ) (sets : ℕ) (left : Bool) (unborn last : ℕ) : Type 0 where
@@ -81,4 +81,4 @@ lone_length lengths Nil = None
 lone_length lengths (Number n) = None
 lone_length lengths (Object Board) = Some 32
 lone_length lengths (Object (Made zero count)) = slice_get lengths count
-lone_length lengths (Object (Made (suc s) count)) = None
+lone_length lengths (Object (Made (suc number) count)) = None

@@ -1,6 +1,6 @@
 ghost use Rattle.std.specs.Prelude.{◌≡◌, [], IfOk};
 ghost use Rattle.heap_model.specs.Heap.{IsHeap};
-ghost use Rattle.log_merge.specs.Checking.{IsReady, Passed};
+ghost use Rattle.log_merge.specs.Checking.{AccountFits, Passed};
 
 use heap_model::{Account, Graph, Heap, Memory};
 use script_text::Form;
@@ -25,7 +25,7 @@ impl Checker {
         ensures passed { IfOk result (λ checker. Passed form checker []) }
         ensures heap { IfOk result (λ checker. checker.heap ≡ heap) }
         ensures line { IfOk result (λ checker. checker.line ≡ 3) }
-        ensures ready { IfOk result IsReady }
+        ensures ready { IfOk result AccountFits }
     {
         let account = match form {
             Form::Play => Some(Account::new(alloc, heap)?),

@@ -11,7 +11,7 @@ use Rattle.reply_text.specs.declared.history.History.{History}
 use Rattle.reply_text.specs.declared.history.SpaceMark.{SpaceMark}
 use Rattle.reply_text.specs.declared.history_line.HistoryLine.{HistoryLine}
 use Rattle.reply_text.specs.declared.history_line.HistoryLine.TheVariants as lines
-use Rattle.reply_text.specs.Ranges.{IsSpace}
+use Rattle.reply_text.specs.Values.{IsSpace}
 use Rattle.reply_text.specs.write.Lines.{history_line}
 use Rattle.reply_text.specs.Written.{IsWritten}
 
@@ -25,13 +25,13 @@ abbrev pub space_line : SpaceMark → HistoryLine
 space_line mark = lines.Space mark.used mark.total mark.spine mark.budget
 
 -- the lines of the entries, and the space line after those that stand before it
-abbrev pub marked : Option SpaceMark → List Entry → List HistoryLine
-marked None entries = map lines.Entry entries
-marked (Some mark) entries = map lines.Entry (take mark.before entries) ++ space_line mark ∷ map lines.Entry (drop mark.before entries)
+abbrev pub lines_with_mark : Option SpaceMark → List Entry → List HistoryLine
+lines_with_mark None entries = map lines.Entry entries
+lines_with_mark (Some mark) entries = map lines.Entry (take mark.before entries) ++ space_line mark ∷ map lines.Entry (drop mark.before entries)
 
 -- the lines after the heap line
 abbrev pub body : History → List HistoryLine
-body history = marked history.mark history.entries ++ lines.End history.end_used ∷ []
+body history = lines_with_mark history.mark history.entries ++ lines.End history.end_used ∷ []
 
 -- the lines of a history
 abbrev pub history_lines : History → List (List ℕ)
@@ -42,16 +42,16 @@ abbrev pub too_many : ℕ
 too_many = 4000000
 
 -- a play has a mark among its entries, and a run has none
-abbrev pub IsMarked : Form → ℕ → Option SpaceMark → Type 0
-IsMarked Play count (Some mark) = (mark.before ≤ count) × IsSpace mark.used mark.total mark.spine mark.budget
-IsMarked Run count None = Unit {0}
-IsMarked form count mark = ⊥
+abbrev pub MarkFits : Form → ℕ → Option SpaceMark → Type 0
+MarkFits Play count (Some mark) = (mark.before ≤ count) × IsSpace mark.used mark.total mark.spine mark.budget
+MarkFits Run count None = Unit {0}
+MarkFits form count mark = ⊥
 
 -- the history has a text
 pub record IsSpellable (history : History) : Type 0 where
   pub heap : IsHeap history.heap
   pub entries : AllByRecursion (IsWritten history.form history.heap.seats) history.entries
-  pub mark : IsMarked history.form (length history.entries) history.mark
+  pub mark : MarkFits history.form (length history.entries) history.mark
   pub end_used : history.end_used < 2 ^ 64
   pub short : length (history_lines history) < too_many
 

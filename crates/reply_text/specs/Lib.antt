@@ -1,6 +1,6 @@
 pub mod read
 pub mod write
 pub mod History
-pub mod Ranges
+pub mod Values
 pub mod Replies
 pub mod Written

@@ -8,7 +8,7 @@ use Rattle.heap_model.specs.declared.reply.Reply.{Reply}
 use Rattle.heap_model.specs.declared.reply.Reply.TheVariants as replies
 use Rattle.heap_model.specs.declared.reply.TurnReply.{TurnReply}
 use Rattle.heap_model.specs.declared.reply.TurnReply.TheVariants as turns
-use Rattle.reply_text.specs.Ranges.{IsId, IsStamp, IsValue, IsWait, IsLack}
+use Rattle.reply_text.specs.Values.{IsId, IsStamp, IsValue, IsWait, IsLack}
 
 -- a reply to `new`
 abbrev pub IsMaking : Reply → Type 0
@@ -22,20 +22,20 @@ IsArraying (replies.SpineFull need used) = IsLack need used
 IsArraying reply = IsMaking reply
 
 -- there is no such place
-abbrev pub IsNowhere : Reply → Type 0
-IsNowhere replies.NoObject = Unit {0}
-IsNowhere replies.NoField = Unit {0}
-IsNowhere _ = ⊥
+abbrev pub TellsNoPlace : Reply → Type 0
+TellsNoPlace replies.NoObject = Unit {0}
+TellsNoPlace replies.NoField = Unit {0}
+TellsNoPlace _ = ⊥
 
 -- a reply to `get`
 abbrev pub IsGetting : Reply → Type 0
 IsGetting (replies.Got value stamp) = IsValue value × IsStamp stamp
-IsGetting reply = IsNowhere reply
+IsGetting reply = TellsNoPlace reply
 
 -- a reply to `set`
 abbrev pub IsSetting : Reply → Type 0
 IsSetting (replies.Was stamp) = IsStamp stamp
-IsSetting reply = IsNowhere reply
+IsSetting reply = TellsNoPlace reply
 
 -- a reply to `same`
 abbrev pub IsComparing : Reply → Type 0

@@ -6,7 +6,7 @@ use Rattle.heap_model.specs.declared.entry.Entry.TheVariants as entries
 use Rattle.script_text.specs.declared.script.Form.{Form}
 use Rattle.script_text.specs.declared.script.Form.TheVariants.{Play, Run}
 use Rattle.script_text.specs.Grammar.{IsTurnCommand}
-use Rattle.reply_text.specs.Ranges.{IsId}
+use Rattle.reply_text.specs.Values.{IsId}
 use Rattle.reply_text.specs.Replies.{IsReply, IsTurnReply}
 
 -- an entry that a history of this form and these seats may have; the collector has commands in a play alone

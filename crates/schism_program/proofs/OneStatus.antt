@@ -15,11 +15,11 @@ use Rattle.schism_program.specs.declared.status.Status.TheVariants.{Done, Refuse
 use Rattle.schism_program.specs.declared.work.Work.{Work}
 use Rattle.schism_program.specs.declared.work.Work.TheVariants.{Play, Check}
 use Rattle.schism_program.specs.Due.{IsDue, IsDueTo}
-use Rattle.schism_program.specs.Works.{AskFor, FailsAt, IsIllegalAt, Makes, Suits}
+use Rattle.schism_program.specs.Works.{AskFor, FailsAt, IsIllegalAt, MakesText, Suits}
 use Rattle.schism_program.proofs.FirstLines.{same_first}
 
 -- what a text was made of suits the work
-pub made_suits : (work : Work) (input text : List ℕ) → Makes work input text → Suits work input
+pub made_suits : (work : Work) (input text : List ℕ) → MakesText work input text → Suits work input
 made_suits Play input text plays = (plays.script, plays.serves)
 made_suits Check input text finds = (finds.history, finds.spelled, finds.legal)
 

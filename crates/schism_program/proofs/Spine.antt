@@ -11,13 +11,13 @@ use Rattle.heap_model.specs.declared.reply.Reply.{Reply}
 use Rattle.heap_model.specs.declared.reply.Reply.TheVariants.{Made}
 use Rattle.heap_model.specs.account.Effects.{effect_of}
 use Rattle.heap_model.specs.Needs.{words_by}
-use Rattle.heap_model.specs.account.Space.{total, granted, returned}
+use Rattle.heap_model.specs.account.Space.{total, words_granted, words_returned}
 use Rattle.core_machine.specs.machine.Calls.{IsBeside}
 use Rattle.core_machine.specs.seat.Commands.{IsServed}
-use Rattle.schism_program.specs.Play.{replied}
+use Rattle.schism_program.specs.Play.{lines_answered}
 
 -- what is beside a reply answers no line
-pub beside_replies : (number : ℕ) (entries : List Entry) → AllByRecursion (IsBeside number) entries → flat_map replied entries ≡ []
+pub beside_replies : (number : ℕ) (entries : List Entry) → AllByRecursion (IsBeside number) entries → flat_map lines_answered entries ≡ []
 beside_replies number [] beside = refl
 beside_replies number (Takes q count ∷ entries) beside = beside_replies number entries beside.1
 beside_replies number (GivesBack q count ∷ entries) beside = beside_replies number entries beside.1
@@ -50,7 +50,7 @@ no_words command (Made id) served = refl
 no_words command reply served = refl
 
 pub granted_more : (entries before : List Entry) (number : ℕ) (command : Command) (reply : Reply) → IsServed command → AllByRecursion (IsBeside number) before
-    → granted (entries ++ (before ++ Said number command reply ∷ [])) ≡ granted entries
+    → words_granted (entries ++ (before ++ Said number command reply ∷ [])) ≡ words_granted entries
 granted_more entries before number command reply served beside =
     let words = λ (e : Entry). (effect_of e).words in
     omega (
@@ -63,7 +63,7 @@ granted_more entries before number command reply served beside =
     )
 
 pub returned_more : (entries before : List Entry) (number : ℕ) (command : Command) (reply : Reply) → AllByRecursion (IsBeside number) before
-    → returned (entries ++ (before ++ Said number command reply ∷ [])) ≡ returned entries
+    → words_returned (entries ++ (before ++ Said number command reply ∷ [])) ≡ words_returned entries
 returned_more entries before number command reply beside =
     let back = λ (e : Entry). (effect_of e).returned in
     omega (

@@ -6,18 +6,18 @@ use Rattle.heap_model.specs.declared.heap.Heap.{Heap}
 use Rattle.heap_model.specs.declared.entry.Entry.{Entry}
 use Rattle.heap_model.specs.Heap.{IsHeap}
 use Rattle.heap_model.specs.account.Account.{IsLegal}
-use Rattle.heap_model.specs.account.Space.{gained, lost}
+use Rattle.heap_model.specs.account.Space.{fragments_gained, fragments_lost}
 use Rattle.script_text.specs.declared.script.Form.TheVariants as forms
 use Rattle.script_text.specs.declared.script.Script.{Script}
 use Rattle.reply_text.specs.declared.history.History.{History}
 use Rattle.reply_text.specs.declared.history.SpaceMark.{SpaceMark}
 use Rattle.log_merge.specs.Legal.{ShowsUse, ShowsCounts}
-use Rattle.core_machine.specs.machine.Calls.{free_fragments}
-use Rattle.core_machine.specs.machine.Machine.{State, seat_at, after_all}
+use Rattle.core_machine.specs.machine.Calls.{free_count}
+use Rattle.core_machine.specs.machine.Machine.{State, seat_at, state_after_all}
 use Rattle.core_rule.specs.Laws.{EveryRunKeeps, WholeCallsPlay, FreeIsUnused}
 use Rattle.schism_program.specs.Calls.{WholeCalls}
-use Rattle.schism_program.specs.Play.{replied, IsPlay}
-use Rattle.schism_program.specs.Playing.{HasAnswered, HaveLeft, IsInUse}
+use Rattle.schism_program.specs.Play.{lines_answered, IsPlay}
+use Rattle.schism_program.specs.Playing.{HasAnsweredLines, HaveLeft, IsInUse}
 
 module _ (runs : EveryRunKeeps) (plays : WholeCallsPlay) (free : FreeIsUnused) where
   -- whole calls are legal as a play
@@ -30,14 +30,14 @@ module _ (runs : EveryRunKeeps) (plays : WholeCallsPlay) (free : FreeIsUnused) w
   shows_use heap state entries used limits calls in_use =
       let stands = runs heap calls.opening calls.events limits calls.opens calls.run in
       let same : stands.book.history ≡ entries = stands.grown ∙ sym calls.shown in
-      let unused : free_fragments heap state.words + gained entries ≡ 16 * heap.groups + lost entries
-      = subst (λ (s : State). free_fragments heap s.words + gained entries ≡ 16 * heap.groups + lost entries) (sym calls.ends)
-      (subst (λ (es : List Entry). free_fragments heap (after_all heap calls.opening calls.events).words + gained es ≡ 16 * heap.groups + lost es) same
-      (free heap (after_all heap calls.opening calls.events) stands.book stands.rule)) in
+      let unused : free_count heap state.words + fragments_gained entries ≡ 16 * heap.groups + fragments_lost entries
+      = subst (λ (s : State). free_count heap s.words + fragments_gained entries ≡ 16 * heap.groups + fragments_lost entries) (sym calls.ends)
+      (subst (λ (es : List Entry). free_count heap (state_after_all heap calls.opening calls.events).words + fragments_gained es ≡ 16 * heap.groups + fragments_lost es) same
+      (free heap (state_after_all heap calls.opening calls.events) stands.book stands.rule)) in
       omega (arith, unused, in_use)
 
   pub whole_play : (script : Script) (middle last : State) (front entries : List Entry) (mark : SpaceMark) (used : ℕ) (told : History) → IsHeap script.heap
-      → HasAnswered script.heap middle front script.lines → HaveLeft script.heap middle last front entries script.heap.seats
+      → HasAnsweredLines script.heap middle front script.lines → HaveLeft script.heap middle last front entries script.heap.seats
       → mark.before ≡ length front → IsInUse script.heap middle mark.used → mark.total ≡ 16 * script.heap.groups → mark.spine ≡ 0 → mark.budget ≡ script.heap.spine
       → IsInUse script.heap last used → told ≡ record { form = forms.Play; heap = script.heap; entries = entries; mark = Some mark; end_used = used } → IsPlay script told
   whole_play script middle last front entries mark used told limits answered left before in_use total spine budget at_end is =
@@ -58,7 +58,7 @@ module _ (runs : EveryRunKeeps) (plays : WholeCallsPlay) (free : FreeIsUnused) w
           end_used = shows_use script.heap last entries used limits left.played.calls at_end;
         };
         parted = record {
-          commands = ap (flat_map replied) front_is ∙ answered.commands;
+          commands = ap (flat_map lines_answered) front_is ∙ answered.commands;
           last = rw front_is answered.last;
           leaves = (λ s. length (seat_at middle s).reserve, behind_is);
         };

@@ -6,10 +6,10 @@ use Rattle.heap_model.specs.declared.command.Command.TheVariants.{Leave}
 use Rattle.heap_model.specs.declared.entry.Entry.{Entry}
 use Rattle.heap_model.specs.declared.entry.Entry.TheVariants.{Said}
 use Rattle.heap_model.specs.declared.reply.Reply.{Reply}
-use Rattle.heap_model.specs.account.Space.{granted, returned}
+use Rattle.heap_model.specs.account.Space.{words_granted, words_returned}
 use Rattle.core_machine.specs.declared.place.Place.TheVariants.{Idle}
 use Rattle.core_machine.specs.machine.Calls.{PlaysCall, CountsCall, TellsLeave}
-use Rattle.core_machine.specs.machine.Machine.{State, seat_at, Event, Run, after_all, history}
+use Rattle.core_machine.specs.machine.Machine.{State, seat_at, Event, Run, state_after_all, history}
 use Rattle.core_machine.specs.machine.Opening.{IsOpening}
 use Rattle.core_rule.specs.Laws.{OneCallAtATime}
 
@@ -28,21 +28,21 @@ pub record WholeCalls (heap : Heap) (state : State) (entries : List Entry) : Typ
   pub events : List Event
   pub run : Run heap opening events
   pub whole : OneCallAtATime heap opening events
-  pub ends : state ≡ after_all heap opening events
+  pub ends : state ≡ state_after_all heap opening events
   pub shown : entries ≡ history heap opening events
 
 -- a machine after whole calls: no seat has a call in flight, and none granted or returned spine words
-pub record Played (heap : Heap) (state : State) (entries : List Entry) : Type 0 where
+pub record IsAfterWholeCalls (heap : Heap) (state : State) (entries : List Entry) : Type 0 where
   pub calls : WholeCalls heap state entries
   pub seats : length state.seats ≡ heap.seats
-  pub idle : (s : ℕ) → s < heap.seats → (seat_at state s).place ≡ Idle
-  pub none_granted : granted entries ≡ 0
-  pub none_returned : returned entries ≡ 0
+  pub idle : (number : ℕ) → number < heap.seats → (seat_at state number).place ≡ Idle
+  pub none_granted : words_granted entries ≡ 0
+  pub none_returned : words_returned entries ≡ 0
 
 -- no seat has left
 abbrev pub ArePresent : Heap → State → Type 0
-ArePresent heap state = (s : ℕ) → s < heap.seats → (seat_at state s).left ≡ false
+ArePresent heap state = (number : ℕ) → number < heap.seats → (seat_at state number).left ≡ false
 
 -- each seat made no more objects than this, and did no more sets
 abbrev pub AreFew : Heap → State → ℕ → Type 0
-AreFew heap state calls = (s : ℕ) → s < heap.seats → ((seat_at state s).made ≤ calls) × ((seat_at state s).sets ≤ calls)
+AreFew heap state calls = (number : ℕ) → number < heap.seats → ((seat_at state number).made ≤ calls) × ((seat_at state number).sets ≤ calls)

@@ -6,10 +6,10 @@ use Rattle.io_edge.specs.Taken.{Takes, TakesFront}
 use Rattle.schism_program.specs.declared.status.Status.{Status}
 use Rattle.schism_program.specs.declared.status.Status.TheVariants as statuses
 use Rattle.schism_program.specs.declared.work.Work.{Work}
-use Rattle.schism_program.specs.Works.{most_bytes, AskFor, FailsAt, IsIllegalAt, Makes}
+use Rattle.schism_program.specs.Works.{most_bytes, AskFor, FailsAt, IsIllegalAt, MakesText}
 
 -- the words ask for the work, and all that was left was read, no more than the limit
-pub record Reads (words : List (List ℕ)) (left left' : Option (List ℕ)) (work : Work) (input : List ℕ) : Type 0 where
+pub record ReadsInput (words : List (List ℕ)) (left left' : Option (List ℕ)) (work : Work) (input : List ℕ) : Type 0 where
   pub asked : AskFor words work
   pub all : GivesAll left left' input
   pub short : length input ≤ most_bytes work
@@ -19,8 +19,8 @@ pub record Writes (IsWritten : List ℕ → Type 0) (words : List (List ℕ)) (l
   pub work : Work
   pub input : List ℕ
   pub text : List ℕ
-  pub reads : Reads words left left' work input
-  pub makes : Makes work input text
+  pub reads : ReadsInput words left left' work input
+  pub makes : MakesText work input text
   pub written : IsWritten text
 
 -- all was read, and the text that the work makes of it was written
@@ -32,17 +32,17 @@ abbrev pub WritesFront : List (List ℕ) → Option (List ℕ) → Option (List 
 WritesFront words left left' taken taken' = Writes (TakesFront taken taken') words left left'
 
 -- all was read, and this line is refused
-pub record IsRefused (words : List (List ℕ)) (left left' : Option (List ℕ)) (line : ℕ) (cause : Cause) : Type 0 where
+pub record IsRefusedAt (words : List (List ℕ)) (left left' : Option (List ℕ)) (line : ℕ) (cause : Cause) : Type 0 where
   pub work : Work
   pub input : List ℕ
-  pub reads : Reads words left left' work input
+  pub reads : ReadsInput words left left' work input
   pub fails : FailsAt work input line cause
 
 -- all was read, and this line isn't legal
 pub record IsNotLegal (words : List (List ℕ)) (left left' : Option (List ℕ)) (line : ℕ) : Type 0 where
   pub work : Work
   pub input : List ℕ
-  pub reads : Reads words left left' work input
+  pub reads : ReadsInput words left left' work input
   pub illegal : IsIllegalAt work input line
 
 -- one byte more than the limit was read

@@ -14,9 +14,9 @@ use Rattle.log_merge.specs.Legal.{IsLegalHistory}
 use Rattle.heap_model.specs.calls.SeatCalls.{leave_entries}
 
 -- the line of a script that an entry answers, if it answers one
-abbrev pub replied : Entry → List Line
-replied (Said seat command reply) = lines.Seat seat command ∷ []
-replied _ = []
+abbrev pub lines_answered : Entry → List Line
+lines_answered (Said seat command reply) = lines.Seat seat command ∷ []
+lines_answered _ = []
 
 -- the last entry is a reply, if there is any
 abbrev pub EndsInReply : List Entry → Type 0
@@ -29,7 +29,7 @@ AreLeaves seats entries = (left : ℕ → ℕ) × (entries ≡ flat_map (λ seat
 
 -- the entries before the mark answer the script's lines in order, each once, and those behind it are the seats' leaves
 pub record IsParted (script : Script) (front behind : List Entry) : Type 0 where
-  pub commands : flat_map replied front ≡ script.lines
+  pub commands : flat_map lines_answered front ≡ script.lines
   pub last : EndsInReply front
   pub leaves : AreLeaves script.heap.seats behind
 

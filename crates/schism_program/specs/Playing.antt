@@ -6,25 +6,25 @@ use Rattle.heap_model.specs.declared.entry.Entry.{Entry}
 use Rattle.script_text.specs.declared.script.Line.{Line}
 use Rattle.heap_model.specs.Limits.{group_fragments}
 use Rattle.heap_model.specs.calls.SeatCalls.{leave_entries}
-use Rattle.core_machine.specs.machine.Calls.{free_fragments}
+use Rattle.core_machine.specs.machine.Calls.{free_count}
 use Rattle.core_machine.specs.machine.Machine.{State, seat_at}
-use Rattle.schism_program.specs.Calls.{Played, ArePresent, AreFew}
-use Rattle.schism_program.specs.Play.{replied, EndsInReply}
+use Rattle.schism_program.specs.Calls.{IsAfterWholeCalls, ArePresent, AreFew}
+use Rattle.schism_program.specs.Play.{lines_answered, EndsInReply}
 
 -- whole calls of seats that are all there have answered these lines, in order and each once
-pub record HasAnswered (heap : Heap) (state : State) (entries : List Entry) (lines : List Line) : Type 0 where
-  pub played : Played heap state entries
+pub record HasAnsweredLines (heap : Heap) (state : State) (entries : List Entry) (lines : List Line) : Type 0 where
+  pub played : IsAfterWholeCalls heap state entries
   pub present : ArePresent heap state
   pub few : AreFew heap state (length lines)
-  pub commands : flat_map replied entries ≡ lines
+  pub commands : flat_map lines_answered entries ≡ lines
   pub last : EndsInReply entries
 
 -- the first seats have left, each with its reserve as what it had left over; the others are as before
 pub record HaveLeft (heap : Heap) (old new : State) (before after : List Entry) (count : ℕ) : Type 0 where
-  pub played : Played heap new after
-  pub others : (s : ℕ) → count ≤ s → seat_at new s ≡ seat_at old s
-  pub leaves : after ≡ before ++ flat_map (λ s. leave_entries s (length (seat_at old s).reserve)) (range_with_len 0 count)
+  pub played : IsAfterWholeCalls heap new after
+  pub others : (number : ℕ) → count ≤ number → seat_at new number ≡ seat_at old number
+  pub leaves : after ≡ before ++ flat_map (λ number. leave_entries number (length (seat_at old number).reserve)) (range_with_len 0 count)
 
 -- so many fragments have a taken bit
 abbrev pub IsInUse : Heap → State → ℕ → Type 0
-IsInUse heap state used = used + free_fragments heap state.words ≡ group_fragments * heap.groups
+IsInUse heap state used = used + free_count heap state.words ≡ group_fragments * heap.groups

@@ -6,15 +6,15 @@ use Rattle.schism_program.specs.declared.status.Status.{Status}
 use Rattle.schism_program.specs.declared.status.Status.TheVariants.{Done, Refused, Usage, ReadFault, WriteFault, Memory, TooLong, NotLegal}
 
 -- the exit status of the process
-abbrev pub number_of : Status → ℕ
-number_of Done = 0
-number_of (Refused line cause) = 1
-number_of Usage = 2
-number_of ReadFault = 3
-number_of WriteFault = 4
-number_of Memory = 5
-number_of TooLong = 6
-number_of (NotLegal line) = 7
+abbrev pub exit_status : Status → ℕ
+exit_status Done = 0
+exit_status (Refused line cause) = 1
+exit_status Usage = 2
+exit_status ReadFault = 3
+exit_status WriteFault = 4
+exit_status Memory = 5
+exit_status TooLong = 6
+exit_status (NotLegal line) = 7
 
 -- the name of a cause
 abbrev pub cause_name : Cause → List ℕ

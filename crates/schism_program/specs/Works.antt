@@ -39,9 +39,9 @@ Suits Play input = IsPlayable input
 Suits Check input = IsLegalText input
 
 -- the work makes this text of the input
-abbrev pub Makes : Work → List ℕ → List ℕ → Type 0
-Makes Play input text = Plays input text
-Makes Check input text = FindsLegal input text
+abbrev pub MakesText : Work → List ℕ → List ℕ → Type 0
+MakesText Play input text = Plays input text
+MakesText Check input text = FindsLegal input text
 
 -- the input is refused at this line for this cause: for a check, its first fault as a history
 abbrev pub FailsAt : Work → List ℕ → ℕ → Cause → Type 0

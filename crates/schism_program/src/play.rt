@@ -4,9 +4,9 @@ ghost use Rattle.heap_model.specs.Limits.{group_fragments};
 ghost use Rattle.script_text.specs.Built.{IsBuilt};
 ghost use Rattle.script_text.specs.Writing.{IsOfForm};
 ghost use Rattle.core_machine.specs.machine.Opening.{IsOpening};
-ghost use Rattle.schism_program.specs.Calls.{Played, ArePresent};
+ghost use Rattle.schism_program.specs.Calls.{IsAfterWholeCalls, ArePresent};
 ghost use Rattle.schism_program.specs.Play.{IsPlay};
-ghost use Rattle.schism_program.specs.Playing.{HasAnswered, HaveLeft, IsInUse};
+ghost use Rattle.schism_program.specs.Playing.{HasAnsweredLines, HaveLeft, IsInUse};
 
 use crate::calls::note_call;
 use core_machine::Machine;
@@ -29,7 +29,7 @@ fn answer_lines(
     requires opening { IsOpening machine.old.heap machine.old.state }
     requires nothing { history.old.items ≡ [] }
     ensures heap { machine.new.heap ≡ machine.old.heap }
-    ensures answered { OnOk result (HasAnswered machine.new.heap machine.new.state history.new.items script.now.lines) }
+    ensures answered { OnOk result (HasAnsweredLines machine.new.heap machine.new.state history.new.items script.now.lines) }
 {
     for line in script.lines.as_slice() {
         let Line::Seat { seat, command } = *line else {
@@ -42,7 +42,7 @@ fn answer_lines(
 
 /// Lets each seat give back what it has left over and leave, in the order of their numbers, and notes the entries.
 fn leave_all(machine: &mut Machine, history: &mut Vec<Entry>) -> Result<(), Memory>
-    requires played { Played machine.old.heap machine.old.state history.old.items }
+    requires played { IsAfterWholeCalls machine.old.heap machine.old.state history.old.items }
     requires present { ArePresent machine.old.heap machine.old.state }
     ensures heap { machine.new.heap ≡ machine.old.heap }
     ensures left { OnOk result (HaveLeft machine.old.heap machine.old.state machine.new.state history.old.items history.new.items machine.old.heap.seats) }

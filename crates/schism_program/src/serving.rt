@@ -4,7 +4,7 @@ ghost use Rattle.script_text.specs.declared.script.Form.TheVariants.{Play};
 ghost use Rattle.script_text.specs.Built.{IsBuilt};
 ghost use Rattle.script_text.specs.Writing.{IsOfForm};
 ghost use Rattle.schism_program.specs.Serving.{FailsToPlay, Plays, Serves};
-ghost use Rattle.schism_program.specs.Works.{FailsAt, IsIllegalAt, Makes};
+ghost use Rattle.schism_program.specs.Works.{FailsAt, IsIllegalAt, MakesText};
 
 use crate::fault::WorkFault;
 use crate::play::play;
@@ -44,7 +44,7 @@ fn played_text(alloc: Global, input: &[u8]) -> Result<Vec<u8>, WorkFault>
 
 /// The text that the work makes of the input.
 pub fn made_text(alloc: Global, work: Work, input: &[u8]) -> Result<Vec<u8>, WorkFault>
-    ensures ok { IfOk result (λ text. Makes work input.now text.items) }
+    ensures ok { IfOk result (λ text. MakesText work input.now text.items) }
     ensures refused { (fault : ALineFault) → result ≡ Err (WorkFault.Refused fault) →
         FailsAt work input.now fault.line fault.cause }
     ensures not_legal { (line : ℕ) → result ≡ Err (WorkFault.NotLegal line) →

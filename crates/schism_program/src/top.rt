@@ -2,7 +2,7 @@ ghost use Rattle.std.specs.Prelude.{◌≡◌, ◌≢◌, ℕ, ◌↔◌, ◌⊎
 ghost use Rattle.script_text.specs.declared.cause.Cause.{Cause};
 ghost use Rattle.io_edge.specs.Faults.{Rose};
 ghost use Rattle.schism_program.specs.Due.{IsDue};
-ghost use Rattle.schism_program.specs.Outcome.{IsNotLegal, IsRefused, IsWriting, ReadsNoMore, ReadsTooMuch, WritesAll, WritesFront};
+ghost use Rattle.schism_program.specs.Outcome.{IsNotLegal, IsRefusedAt, IsWriting, ReadsNoMore, ReadsTooMuch, WritesAll, WritesFront};
 ghost use Rattle.schism_program.specs.Works.{IsForm};
 
 use crate::fault::WorkFault;
@@ -26,7 +26,7 @@ pub fn schism<S: Source, K: Sink>(
     ensures done { result ≡ Status.Done → WritesAll (map (λ w. w.now) words.now)
         (S.left source.old) (S.left source.new) (K.taken sink.old) (K.taken sink.new) }
     ensures refused { (line : ℕ) (cause : Cause) → result ≡ Status.Refused line cause →
-        IsRefused (map (λ w. w.now) words.now) (S.left source.old) (S.left source.new) line cause }
+        IsRefusedAt (map (λ w. w.now) words.now) (S.left source.old) (S.left source.new) line cause }
     ensures not_legal { (line : ℕ) → result ≡ Status.NotLegal line →
         IsNotLegal (map (λ w. w.now) words.now) (S.left source.old) (S.left source.new) line }
     ensures too_long { result ≡ Status.TooLong →

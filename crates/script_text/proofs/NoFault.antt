@@ -18,7 +18,7 @@ use Rattle.script_text.specs.HeapLine.{heap_of}
 use Rattle.script_text.specs.LineFaults.{command_fault, words_fault}
 use Rattle.script_text.specs.Grammar.{IsScripted, IsTurnCommand, IsLine}
 use Rattle.script_text.specs.Numbers.{number_of}
-use Rattle.script_text.specs.Operands.{target, register, index, after_operand, commands, turn_commands}
+use Rattle.script_text.specs.Operands.{target_range, register_range, index_range, after_operand, commands, turn_commands}
 use Rattle.script_text.specs.Words.{command_words, turn_words, line_words, heap_words}
 use Rattle.script_text.proofs.Numbers.{number_below-decimal, number_below-None}
 
@@ -29,13 +29,13 @@ operand-decimal least most n rest fits within =
     let below : nat_le n most ≡ true = search rules in
     rw (number_below-decimal (10 ^ 10) n (omega arith) (omega arith), above, below) refl
 
-target-decimal : (d : ℕ) (rest : List (List ℕ)) → IsTarget d → after_operand target (decimal d ∷ rest) ≡ Ok rest
+target-decimal : (d : ℕ) (rest : List (List ℕ)) → IsTarget d → after_operand target_range (decimal d ∷ rest) ≡ Ok rest
 target-decimal d rest h = operand-decimal 1 15 d rest (omega arith) h
 
-register-decimal : (r : ℕ) (rest : List (List ℕ)) → IsRegister r → after_operand register (decimal r ∷ rest) ≡ Ok rest
+register-decimal : (r : ℕ) (rest : List (List ℕ)) → IsRegister r → after_operand register_range (decimal r ∷ rest) ≡ Ok rest
 register-decimal r rest h = operand-decimal 0 15 r rest (omega arith) (omega arith, h)
 
-index-decimal : (i : ℕ) (rest : List (List ℕ)) → IsIndex i → after_operand index (decimal i ∷ rest) ≡ Ok rest
+index-decimal : (i : ℕ) (rest : List (List ℕ)) → IsIndex i → after_operand index_range (decimal i ∷ rest) ≡ Ok rest
 index-decimal i rest h = operand-decimal 0 4096 i rest (omega arith) (omega arith, h)
 
 -- no fault is found in the words of a command

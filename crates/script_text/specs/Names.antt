@@ -4,15 +4,15 @@ use Rattle.script_text.specs.declared.name.Name.{Name}
 use Rattle.script_text.specs.declared.name.Name.TheVariants.{New, Array, Get, Set, Num, Nil, Copy, Same, Len, Poll, Collect}
 
 -- the word
-abbrev pub name_word : Name → List ℕ
-name_word New = codes "new"
-name_word Array = codes "array"
-name_word Get = codes "get"
-name_word Set = codes "set"
-name_word Num = codes "num"
-name_word Nil = codes "nil"
-name_word Copy = codes "copy"
-name_word Same = codes "same"
-name_word Len = codes "len"
-name_word Poll = codes "poll"
-name_word Collect = codes "collect"
+abbrev pub name_text : Name → List ℕ
+name_text New = codes "new"
+name_text Array = codes "array"
+name_text Get = codes "get"
+name_text Set = codes "set"
+name_text Num = codes "num"
+name_text Nil = codes "nil"
+name_text Copy = codes "copy"
+name_text Same = codes "same"
+name_text Len = codes "len"
+name_text Poll = codes "poll"
+name_text Collect = codes "collect"

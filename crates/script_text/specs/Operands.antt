@@ -12,27 +12,29 @@ abbrev pub Range : Type 0
 Range = ℕ × ℕ
 
 -- a register that is written, one that is read, and an index
-abbrev pub target : Range
-target = (1, last_register)
+abbrev pub target_range : Range
+target_range = (1, last_register)
 
-abbrev pub register : Range
-register = (0, last_register)
+-- a register that is read
+abbrev pub register_range : Range
+register_range = (0, last_register)
 
-abbrev pub index : Range
-index = (0, last_index)
+-- the index of a field or cell
+abbrev pub index_range : Range
+index_range = (0, last_index)
 
 -- each command of a seat with its operands
 abbrev pub commands : List (List ℕ × List Range)
 commands =
-    (codes "new", target ∷ (1, most_fields) ∷ [])
-    ∷ (codes "array", target ∷ (1, most_cells) ∷ [])
-    ∷ (codes "get", target ∷ register ∷ index ∷ [])
-    ∷ (codes "set", register ∷ index ∷ register ∷ [])
-    ∷ (codes "num", target ∷ (0, number_limit - 1) ∷ [])
-    ∷ (codes "nil", target ∷ [])
-    ∷ (codes "copy", target ∷ register ∷ [])
-    ∷ (codes "same", register ∷ register ∷ [])
-    ∷ (codes "len", register ∷ [])
+    (codes "new", target_range ∷ (1, most_fields) ∷ [])
+    ∷ (codes "array", target_range ∷ (1, most_cells) ∷ [])
+    ∷ (codes "get", target_range ∷ register_range ∷ index_range ∷ [])
+    ∷ (codes "set", register_range ∷ index_range ∷ register_range ∷ [])
+    ∷ (codes "num", target_range ∷ (0, number_limit - 1) ∷ [])
+    ∷ (codes "nil", target_range ∷ [])
+    ∷ (codes "copy", target_range ∷ register_range ∷ [])
+    ∷ (codes "same", register_range ∷ register_range ∷ [])
+    ∷ (codes "len", register_range ∷ [])
     ∷ (codes "poll", [])
     ∷ (codes "collect", [])
     ∷ []

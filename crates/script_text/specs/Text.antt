@@ -22,8 +22,8 @@ abbrev pub sentence : List (List ℕ) → List ℕ
 sentence words = join_with_byte 32 words
 
 -- each word after a space
-abbrev pub spaced : List (List ℕ) → List ℕ
-spaced words = flat_map (λ word. 32 ∷ word) words
+abbrev pub words_with_spaces : List (List ℕ) → List ℕ
+words_with_spaces words = flat_map (λ word. 32 ∷ word) words
 
 -- each line with a line feed after it
 abbrev pub text_of : List (List ℕ) → List ℕ

@@ -2,7 +2,7 @@ ghost use Rattle.std.specs.Prelude.{◌≡◌, ◌≢◌, [], ◌∷◌, ◌++�
 ghost use Rattle.script_text.specs.declared.cause.Cause.TheVariants.{TooManyWords};
 ghost use Rattle.script_text.specs.LineFaults.{command_fault};
 ghost use Rattle.script_text.specs.Grammar.{IsScripted};
-ghost use Rattle.script_text.specs.Names.{name_word};
+ghost use Rattle.script_text.specs.Names.{name_text};
 ghost use Rattle.script_text.specs.Operands.{commands, operands_fault};
 ghost use Rattle.script_text.specs.Words.{command_words};
 
@@ -16,12 +16,12 @@ use heap_model::limits::{MOST_CELLS, MOST_FIELDS, NUMBER_LIMIT};
 /// The command of this name, with the next words as its operands.
 #[tactic(auto, using(crate::proofs::OperandCauses::after_operand_early))]
 pub fn operands(name: Name, words: &mut Parts<'_>) -> Result<Command, Cause>
-    ensures found { IfOk result (λ c. name_word name ∷ words.old ≡ command_words c ++ words.new) }
+    ensures found { IfOk result (λ c. name_text name ∷ words.old ≡ command_words c ++ words.new) }
     ensures range { IfOk result IsScripted }
     ensures rest { OnOk result
-        (command_fault commands (name_word name ∷ words.old) ≡ operands_fault [] words.new) }
+        (command_fault commands (name_text name ∷ words.old) ≡ operands_fault [] words.new) }
     ensures fault { IfErr result
-        (λ cause. command_fault commands (name_word name ∷ words.old) ≡ Some cause) }
+        (λ cause. command_fault commands (name_text name ∷ words.old) ≡ Some cause) }
     // Words after the last operand are no fault here.
     ensures early { IfErr result (λ cause. cause ≢ TooManyWords) }
 {

@@ -1,6 +1,6 @@
 ghost use Rattle.std.specs.Prelude.{◌≡◌, None, MatchOption, bytes_eq};
 ghost use Rattle.std.specs.Map.{lookup};
-ghost use Rattle.script_text.specs.Names.{name_word};
+ghost use Rattle.script_text.specs.Names.{name_text};
 ghost use Rattle.script_text.specs.Operands.{commands};
 
 /// The commands of a seat.
@@ -23,7 +23,7 @@ pub enum Name {
 pub fn read_name(word: &[u8]) -> Option<Name>
     ensures { MatchOption result
         (lookup (bytes_eq word.now) commands ≡ None)
-        (λ name. word.now ≡ name_word name) }
+        (λ name. word.now ≡ name_text name) }
 {
     match word {
         b"new" => Some(Name::New),

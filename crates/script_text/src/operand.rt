@@ -1,6 +1,6 @@
 ghost use Rattle.std.specs.Prelude.{◌≡◌, ◌≤◌, ◌∷◌, decimal, Ok, Err, IfOk, MatchResult};
 ghost use Rattle.heap_model.specs.Limits.{last_register, last_index};
-ghost use Rattle.script_text.specs.Operands.{after_operand, target as target_range, register as register_range, index as index_range};
+ghost use Rattle.script_text.specs.Operands.{after_operand, target_range, register_range, index_range};
 
 use crate::cause::Cause;
 use crate::number::read_short;

@@ -1,5 +1,5 @@
 ghost use Rattle.std.specs.Prelude.{◌≡◌, ◌∷◌, ◌++◌, decimal, OnOk};
-ghost use Rattle.script_text.specs.Text.{spaced};
+ghost use Rattle.script_text.specs.Text.{words_with_spaces};
 ghost use Rattle.script_text.specs.Words.{command_words, heap_words, turn_words};
 
 use heap_model::{Command, Heap, Memory, TurnCommand};
@@ -32,7 +32,7 @@ pub fn push_number(text: &mut Vec<u8>, number: u64) -> Result<(), Memory>
 
 /// Appends the words of a command as it stands in a script, each after a space.
 pub fn push_command(text: &mut Vec<u8>, command: &Command) -> Result<(), Memory>
-    ensures { OnOk result (text.new.items ≡ text.old.items ++ spaced (command_words command.now)) }
+    ensures { OnOk result (text.new.items ≡ text.old.items ++ words_with_spaces (command_words command.now)) }
 {
     match *command {
         Command::New { d, fields } => {
@@ -88,7 +88,7 @@ pub fn push_command(text: &mut Vec<u8>, command: &Command) -> Result<(), Memory>
 
 /// Appends the words of a command of the collector, each after a space.
 pub fn push_turns(text: &mut Vec<u8>, command: &TurnCommand) -> Result<(), Memory>
-    ensures { OnOk result (text.new.items ≡ text.old.items ++ spaced (turn_words command.now)) }
+    ensures { OnOk result (text.new.items ≡ text.old.items ++ words_with_spaces (turn_words command.now)) }
 {
     match *command {
         TurnCommand::Turns(n) => {
@@ -101,7 +101,7 @@ pub fn push_turns(text: &mut Vec<u8>, command: &TurnCommand) -> Result<(), Memor
 
 /// Appends the words of a heap line but for the first, each after a space.
 pub fn push_heap(text: &mut Vec<u8>, heap: &Heap) -> Result<(), Memory>
-    ensures { OnOk result (text.new.items ≡ text.old.items ++ spaced (heap_words heap.now)) }
+    ensures { OnOk result (text.new.items ≡ text.old.items ++ words_with_spaces (heap_words heap.now)) }
 {
     push_number(text, heap.groups.into())?;
     push_number(text, heap.spine.into())?;

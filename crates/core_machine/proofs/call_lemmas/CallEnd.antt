@@ -19,11 +19,11 @@ use Rattle.core_machine.specs.seat.Seat.{Seat}
 use Rattle.core_machine.specs.Moves.{Move, move_at, next_move, due_step}
 use Rattle.core_machine.specs.machine.Machine.{State, seat_at}
 use Rattle.heap_model.specs.declared.command.Command.TheVariants.{Leave}
-use Rattle.core_machine.specs.machine.Calls.{IsBeside, PlaysCall, CountsCall, TellsLeave, AnswersNew, reply_of, last_reply, IsPlaceRefusal, LeavesAll}
+use Rattle.core_machine.specs.machine.Calls.{IsBeside, PlaysCall, CountsCall, TellsLeave, AnswersNew, reply_of, last_reply_of, IsPlaceRefusal, LeavesAll}
 use Rattle.core_machine.specs.machine.Value.{MachineValue, log_of}
 use Rattle.core_machine.proofs.call_lemmas.Saying.{Says, IsOver}
 use Rattle.core_machine.proofs.call_lemmas.Stages.{ComesDue, Answered, Stage}
-use Rattle.core_machine.specs.seat.Awaiting.{awaited_at}
+use Rattle.core_machine.specs.seat.Awaiting.{entries_awaited_at}
 use Rattle.core_machine.specs.seat.Commands.{IsRecord}
 use Rattle.core_machine.proofs.call_lemmas.Calling.{Playing}
 use Rattle.core_machine.proofs.call_lemmas.CallRoom.{log_of_seat}
@@ -32,8 +32,8 @@ use Rattle.core_machine.proofs.call_lemmas.CallRoom.{log_of_seat}
 idle_at : (heap : Heap) (number : ℕ) (seat : Seat) (place : Place) → option_map (λ m. m.step) (move_at heap number seat place) ≡ None → place ≡ places.Idle
 idle_at heap number seat places.Idle none = refl
 idle_at heap number seat (places.Making place) none = cc
-idle_at heap number seat places.Telling none = cc
-idle_at heap number seat (places.Reaching place) none = cc
+idle_at heap number seat places.Local none = cc
+idle_at heap number seat (places.Access place) none = cc
 idle_at heap number seat (places.Polling place) none = cc
 idle_at heap number seat (places.Leaving place) none = cc
 
@@ -53,7 +53,7 @@ over heap old now number command playing none =
     subst (Says (seat_at old number) number command (seat_at now number) playing.told) (idle_from heap number (seat_at now number) none) playing.says
 
 -- a reply that is told last is the last
-pub last_reply-said : (entries_ : List Entry) (number : ℕ) (command : Command) (reply : Reply) → last_reply (entries_ ++ Said number command reply ∷ []) ≡ Some reply
+pub last_reply-said : (entries_ : List Entry) (number : ℕ) (command : Command) (reply : Reply) → last_reply_of (entries_ ++ Said number command reply ∷ []) ≡ Some reply
 last_reply-said entries_ number command reply =
     let entry = Said number command reply in
     let long = length-append entries_ (entry ∷ []) in
@@ -64,7 +64,7 @@ last_reply-said entries_ number command reply =
 -- a list has one last reply, and one front before it
 one_last : (number : ℕ) (command : Command) (reply other : Reply) (told before front : List Entry) → told ≡ before ++ Said number command reply ∷ [] → told ≡ front ++ Said number command other ∷ [] → front ≡ before
 one_last number command reply other told before front is also =
-    let same : last_reply (front ++ Said number command other ∷ []) ≡ last_reply (before ++ Said number command reply ∷ []) = ap last_reply (sym also ∙ is) in
+    let same : last_reply_of (front ++ Said number command other ∷ []) ≡ last_reply_of (before ++ Said number command reply ∷ []) = ap last_reply_of (sym also ∙ is) in
     let e : other ≡ reply = some_reply (sym (last_reply-said front number command other) ∙ same ∙ last_reply-said before number command reply) in
     append_cancel_right front before (Said number command reply ∷ []) (ap (λ (r : Reply). front ++ Said number command r ∷ []) (sym e) ∙ sym also ∙ is)
   where
@@ -77,7 +77,7 @@ all_mine : (heap : Heap) (old now : State) (number : ℕ) (command : Command) (p
 all_mine heap old now number command playing none =
     let idle = idle_from heap number (seat_at now number) none in
     let mine = playing.mine in
-    sym (append-nil (seat_at now number).mine) ∙ ap (λ (l : List Entry). (seat_at now number).mine ++ l) (sym (ap (awaited_at heap now.words number (seat_at now number)) idle)) ∙ mine
+    sym (append-nil (seat_at now number).mine) ∙ ap (λ (l : List Entry). (seat_at now number).mine ++ l) (sym (ap (entries_awaited_at heap now.words number (seat_at now number)) idle)) ∙ mine
 
 -- what comes before the reply to a command, be it a leave or not
 whole_comes : (heap : Heap) (old : State) (number : ℕ) (command : Command) (reply : Reply) (before : List Entry) → (command ≢ Leave → ComesDue heap old number command reply before)
@@ -108,12 +108,12 @@ plays_call heap old now number command playing none =
 
 -- the reply that its last entry tells
 pub replied : (heap : Heap) (old now : State) (number : ℕ) (command : Command) (playing : Playing heap old now number command)
-    (none : due_step heap number (seat_at now number) ≡ None) → last_reply (seat_at now number).mine ≡ Some (answered heap old now number command playing none).reply
+    (none : due_step heap number (seat_at now number) ≡ None) → last_reply_of (seat_at now number).mine ≡ Some (answered heap old now number command playing none).reply
 replied heap old now number command playing none =
     let over = answered heap old now number command playing none in
     let whole : (seat_at now number).mine ≡ ((seat_at old number).mine ++ over.before) ++ Said number command over.reply ∷ [] =
     all_mine heap old now number command playing none ∙ ap (λ (l : List Entry). (seat_at old number).mine ++ l) over.last ∙ sym (append_assoc (seat_at old number).mine over.before (Said number command over.reply ∷ [])) in
-    ap last_reply whole ∙ last_reply-said ((seat_at old number).mine ++ over.before) number command over.reply
+    ap last_reply_of whole ∙ last_reply-said ((seat_at old number).mine ++ over.before) number command over.reply
 
 -- a step that is due is a move
 pub some_due : (heap : Heap) (number : ℕ) (seat : Seat) (step : Step) → due_step heap number seat ≡ Some step → IsSome (next_move heap number seat)
@@ -143,11 +143,11 @@ pub record CallOver (heap : Heap) (old now : State) (number : ℕ) (command : Co
   pub refused : IsPlaceRefusal reply → LeavesAll old now number
 
 pub call_over : {heap : Heap} {old : State} (now : MachineValue) {number : ℕ} {command : Command} {reply : Reply} → Playing heap old now.state number command
-    → due_step heap number (seat_at now.state number) ≡ None → last_reply (log_of now number) ≡ Some reply → CallOver heap old now.state number command reply
+    → due_step heap number (seat_at now.state number) ≡ None → last_reply_of (log_of now number) ≡ Some reply → CallOver heap old now.state number command reply
 call_over {heap} {old} now {number} {command} {reply} playing none last =
     let answer = answered heap old now.state number command playing none in
     let ended = over heap old now.state number command playing none in
-    let told = ap last_reply (log_of_seat now number playing.within) ∙ replied heap old now.state number command playing none in
+    let told = ap last_reply_of (log_of_seat now number playing.within) ∙ replied heap old now.state number command playing none in
     let same : answer.reply ≡ reply = some_same answer.reply reply (sym told ∙ last) in
     record {
       steps = subst (PlaysCall heap old now.state number command) same (plays_call heap old now.state number command playing none);
@@ -162,10 +162,10 @@ call_over {heap} {old} now {number} {command} {reply} playing none last =
 
 -- and so it tells some reply
 pub call_replies : {heap : Heap} {old : State} (now : MachineValue) {number : ℕ} {command : Command} → Playing heap old now.state number command
-    → due_step heap number (seat_at now.state number) ≡ None → last_reply (log_of now number) ≡ None → ⊥
+    → due_step heap number (seat_at now.state number) ≡ None → last_reply_of (log_of now number) ≡ None → ⊥
 call_replies {heap} {old} now {number} {command} playing none last =
     no_reply (answered heap old now.state number command playing none).reply
-    (sym (ap last_reply (log_of_seat now number playing.within) ∙ replied heap old now.state number command playing none) ∙ last)
+    (sym (ap last_reply_of (log_of_seat now number playing.within) ∙ replied heap old now.state number command playing none) ∙ last)
   where
     no_reply : (a : Reply) → Some a ≡ None → ⊥
     no_reply a e = cc

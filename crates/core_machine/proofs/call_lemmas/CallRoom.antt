@@ -10,7 +10,7 @@ use Rattle.heap_model.specs.declared.entry.Entry.{Entry}
 use Rattle.heap_model.specs.account.Space.{need_of}
 use Rattle.core_machine.specs.seat.Seat.{Seat, need}
 use Rattle.core_machine.specs.Moves.{Move, next_move, due_step, seat_after}
-use Rattle.core_machine.specs.machine.Machine.{State, seat_at, found_by, begun, Begins, Steps, Can, after, moved}
+use Rattle.core_machine.specs.machine.Machine.{State, seat_at, found_by, after_begin, Begins, Steps, Can, state_after, state_after_due}
 use Rattle.core_machine.specs.machine.Value.{MachineValue, IsMachine, log_of, spare_of, SpendsRoom}
 use Rattle.core_machine.proofs.call_lemmas.Owes.{owes, steps_left}
 use Rattle.core_machine.proofs.moves.Standing.{MoveStands}
@@ -25,7 +25,7 @@ log_of_seat machine number within =
 
 -- what a move leaves of room and steps, where its entries are the party's new ones
 room_by : (heap : Heap) (now : State) (number : ℕ) (move : Option Move) (step : Step) (seat : Seat) → number < length now.seats
-    → option_map (λ m. m.step) move ≡ Some step → seat ≡ seat_at (moved heap now number move) number
+    → option_map (λ m. m.step) move ≡ Some step → seat ≡ seat_at (state_after_due heap now number move) number
     → IfSome move (MoveStands heap number (seat_at now number) (seat_at now number).place)
     → (steps_left heap seat < steps_left heap (seat_at now number)) × ((added : ℕ) × (owes seat + added ≤ owes (seat_at now number)) × (length seat.mine ≡ length (seat_at now number).mine + added))
 room_by heap now number None step seat within due is stands = cc
@@ -37,7 +37,7 @@ room_by heap now number (Some m) step seat within due is stands =
     rw here (near.fewer, (length (m.adds found), near.paid, omega (arith, ap (length {A = Entry}) (stands.adds now).kept)))
 
 pub step_room : (old new : MachineValue) (number : ℕ) (step : Step) → IsMachine old.heap old.state → number < length old.state.seats
-    → due_step old.heap number (seat_at old.state number) ≡ Some step → new.state ≡ after old.heap old.state (Steps number) → SpendsRoom old new number
+    → due_step old.heap number (seat_at old.state number) ≡ Some step → new.state ≡ state_after old.heap old.state (Steps number) → SpendsRoom old new number
     → owes (seat_at old.state number) + 2 ≤ spare_of old number
     → (steps_left old.heap (seat_at new.state number) < steps_left old.heap (seat_at old.state number)) × (owes (seat_at new.state number) + 2 ≤ spare_of new number)
 step_room old new number step machine within due is spends room =
@@ -65,12 +65,12 @@ spends_on first second third number one two = record {
 
 -- a begin spends none
 pub spends_begun : (old new : MachineValue) (number : ℕ) (command : Command) → IsMachine old.heap old.state → Can old.heap old.state (Begins number command)
-    → new ≡ record old { state = after old.heap old.state (Begins number command) } → SpendsRoom old new number
+    → new ≡ record old { state = state_after old.heap old.state (Begins number command) } → SpendsRoom old new number
 spends_begun old new number command machine can is =
     let within = can.0 in
     let seat = seat_at old.state number in
-    let begun_ = begun old.heap seat command in
-    let now : MachineValue = record old { state = after old.heap old.state (Begins number command) } in
+    let begun_ = after_begin old.heap seat command in
+    let now : MachineValue = record old { state = state_after old.heap old.state (Begins number command) } in
     let here : seat_at now.state number ≡ begun_ = seat_at-set old.state.seats number begun_ within in
     let still : number < length now.state.seats = omega (arith, within, length-set old.state.seats number begun_) in
     let same : (log_of now number) ≡ (log_of old number) =
@@ -79,21 +79,21 @@ spends_begun old new number command machine can is =
 
 -- a call owes no more than twice its need and two when it is begun
 pub room_begun : (heap : Heap) (old : State) (number : ℕ) (command : Command) → IsMachine heap old → Can heap old (Begins number command)
-    → owes (seat_at (after heap old (Begins number command)) number) ≤ 2 * need_of command + 2
+    → owes (seat_at (state_after heap old (Begins number command)) number) ≤ 2 * need_of command + 2
 room_begun heap old number command machine can =
     let seat = seat_at old number in
-    let begun_ = begun heap seat command in
-    let here : seat_at (after heap old (Begins number command)) number ≡ begun_ = seat_at-set old.seats number begun_ can.0 in
+    let begun_ = after_begin heap seat command in
+    let here : seat_at (state_after heap old (Begins number command)) number ≡ begun_ = seat_at-set old.seats number begun_ can.0 in
     subst (λ (s : Seat). owes s ≤ 2 * need_of command + 2) (sym here)
     (begin_stands heap number seat command machine.limits (machine.fit number can.0) can.1).owed
 
 -- a machine whose call has begun has room for it
 pub room_for : (old new : MachineValue) (number : ℕ) (command : Command) → IsMachine old.heap old.state → Can old.heap old.state (Begins number command)
-    → new ≡ record old { state = after old.heap old.state (Begins number command) } → 2 * need_of command + 4 ≤ spare_of old number
+    → new ≡ record old { state = state_after old.heap old.state (Begins number command) } → 2 * need_of command + 4 ≤ spare_of old number
     → owes (seat_at new.state number) + 2 ≤ spare_of new number
 room_for old new number command machine can is room =
     let owed = room_begun old.heap old.state number command machine can in
-    let begun_ : MachineValue = record old { state = after old.heap old.state (Begins number command) } in
+    let begun_ : MachineValue = record old { state = state_after old.heap old.state (Begins number command) } in
     subst (λ (v : MachineValue). owes (seat_at v.state number) + 2 ≤ spare_of v number) (sym is) (enough (owes (seat_at begun_.state number)) (need_of command) (spare_of old number) owed room)
   where
     enough : (owed need room : ℕ) → owed ≤ 2 * need + 2 → 2 * need + 4 ≤ room → owed + 2 ≤ room

@@ -19,7 +19,7 @@ use Rattle.heap_model.specs.account.Space.{need_of}
 use Rattle.heap_model.proofs.account_lemmas.Snoc.{same_last}
 use Rattle.core_machine.specs.seat.Commands.{IsRecord}
 use Rattle.core_machine.specs.table.Fragments.{in_group, out_of_group, part_in, part_out, clear_in}
-use Rattle.core_machine.specs.seat.Making.{first_group}
+use Rattle.core_machine.specs.seat.Making.{first_group_of}
 use Rattle.core_machine.specs.seat.MakingMoves.{takes_some}
 use Rattle.core_machine.proofs.table_lemmas.Clear.{length-clear_among}
 use Rattle.core_machine.proofs.table_lemmas.Owned.{clear_in-group}
@@ -28,16 +28,16 @@ use Rattle.core_machine.proofs.call_lemmas.Restoring.{part_all, part_none, part_
 -- so many of the hand's fragments are of its first fragment's group, and so on with the others
 abbrev pub AreGroupsOf : List ℕ → List ℕ → Type 0
 AreGroupsOf [] hand = hand ≡ []
-AreGroupsOf (count ∷ counts) hand = IsGroupCount count × (length (part_in (first_group hand) hand) ≡ count) × AreGroupsOf counts (part_out (first_group hand) hand)
+AreGroupsOf (count ∷ counts) hand = IsGroupCount count × (length (part_in (first_group_of hand) hand) ≡ count) × AreGroupsOf counts (part_out (first_group_of hand) hand)
 
 all_groups : (counts hand : List ℕ) → AreGroupsOf counts hand → All IsGroupCount counts
 all_groups [] hand is = All-nil IsGroupCount
-all_groups (count ∷ counts) hand is = All-cons IsGroupCount count counts is.0 (all_groups counts (part_out (first_group hand) hand) is.2)
+all_groups (count ∷ counts) hand is = All-cons IsGroupCount count counts is.0 (all_groups counts (part_out (first_group_of hand) hand) is.2)
 
 sum_groups : (counts hand : List ℕ) → AreGroupsOf counts hand → sum counts ≡ length hand
 sum_groups [] hand is = sym (ap length is)
 sum_groups (count ∷ counts) hand is =
-    let group = first_group hand in
+    let group = first_group_of hand in
     let both = length-filter_both (in_group group) (out_of_group group) (λ f. refl) hand in
     omega (arith, sum_by-cons (λ n. n) count counts, sum_groups counts (part_out group hand) is.2, is.1)
 
@@ -63,7 +63,7 @@ first_of_none g f more none e = no_first (rw (eq-eqb (f / 16) g e) at none)
 groups_more : (counts hand got : List ℕ) (g : ℕ) → AreGroupsOf counts hand → part_in g hand ≡ [] → All (λ f. f / 16 ≡ g) got → IsGroupCount (length got)
     → AreGroupsOf (counts ++ length got ∷ []) (hand ++ got)
 groups_more [] hand got g is apart of_group some =
-    let first : first_group got ≡ g = of_group 0 0 some.0 in
+    let first : first_group_of got ≡ g = of_group 0 0 some.0 in
     rw (is, first, part_all g got of_group, out_none g got of_group) (some, refl, refl)
 groups_more (count ∷ counts) [] got g is apart of_group some = absurd (omega (arith, is.0.0, is.1))
 groups_more (count ∷ counts) (f ∷ more) got g is apart of_group some =
@@ -157,16 +157,16 @@ gives_none number unborn need hand told taken = record {
 
 -- the first group's fragments were given back
 pub gives_more : (number given : ℕ) (hand : List ℕ) (told : List Entry) → GivesBackAll number given hand told → 0 < length hand
-    → let part = part_in (first_group hand) hand in
-    GivesBackAll number (given + length part) (part_out (first_group hand) hand) (told ++ GivesBack number (length part) ∷ [])
+    → let part = part_in (first_group_of hand) hand in
+    GivesBackAll number (given + length part) (part_out (first_group_of hand) hand) (told ++ GivesBack number (length part) ∷ [])
 gives_more number given hand told gives some = by gives.left gives.groups gives.shown
   where
     by : (left : List ℕ) → AreGroupsOf left hand → told ++ gives_of number left ≡ takes_of number gives.counts ++ gives_of number gives.counts
-        → let part = part_in (first_group hand) hand in
-        GivesBackAll number (given + length part) (part_out (first_group hand) hand) (told ++ GivesBack number (length part) ∷ [])
+        → let part = part_in (first_group_of hand) hand in
+        GivesBackAll number (given + length part) (part_out (first_group_of hand) hand) (told ++ GivesBack number (length part) ∷ [])
     by [] groups shown = absurd (omega (arith, ap (length {A = ℕ}) groups))
     by (count ∷ left) groups shown =
-        let group = first_group hand in
+        let group = first_group_of hand in
         let both = length-filter_both (in_group group) (out_of_group group) (λ f. refl) hand in
         record {
           counts = gives.counts;

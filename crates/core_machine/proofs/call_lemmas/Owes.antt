@@ -4,19 +4,19 @@ use Rattle.heap_model.specs.declared.heap.Heap.{Heap}
 use Rattle.core_machine.specs.declared.place.Place.{Place}
 use Rattle.core_machine.specs.declared.place.Place.TheVariants as places
 use Rattle.core_machine.specs.declared.place.Making.{Making}
-use Rattle.core_machine.specs.declared.place.Reaching.{Reaching}
-use Rattle.core_machine.specs.declared.place.Reaching.TheVariants.{Opening, Walking, Getting, Naming, LoadingOld, ShadingOld, ShadingNew, Swapping}
+use Rattle.core_machine.specs.declared.place.Access.{Access}
+use Rattle.core_machine.specs.declared.place.Access.TheVariants.{LoadingMeta, Walking, Getting, Naming, LoadingOld, ShadingOld, ShadingNew, Swapping}
 use Rattle.core_machine.specs.declared.place.Polling.{Polling}
 use Rattle.core_machine.specs.declared.place.Polling.TheVariants.{Asking, Shading, Answering}
 use Rattle.core_machine.specs.declared.place.Leaving.TheVariants.{Emptying, Parting}
-use Rattle.core_machine.specs.seat.Polling.{roots}
+use Rattle.core_machine.specs.seat.Handshake.{roots}
 use Rattle.core_machine.specs.declared.place.Making.TheVariants.{Gathering, Returning, Refusing, Storing, Bearing}
 use Rattle.core_machine.specs.seat.Seat.{Seat, need}
-use Rattle.core_machine.specs.seat.Making.{gathered}
+use Rattle.core_machine.specs.seat.Making.{fragments_gathered}
 
 -- the most entries that the making of an object adds from its place on
 abbrev pub owes_making : Seat → Making → ℕ
-owes_making seat Gathering = 2 * need seat - length (gathered seat)
+owes_making seat Gathering = 2 * need seat - length (fragments_gathered seat)
 owes_making seat Returning = length seat.hand + 1
 owes_making seat Refusing = 1
 owes_making seat Storing = 1
@@ -26,8 +26,8 @@ owes_making seat Bearing = 1
 abbrev pub owes_at : Seat → Place → ℕ
 owes_at seat places.Idle = 0
 owes_at seat (places.Making place) = owes_making seat place
-owes_at seat places.Telling = 1
-owes_at seat (places.Reaching place) = 1
+owes_at seat places.Local = 1
+owes_at seat (places.Access place) = 1
 owes_at seat (places.Polling place) = 2
 owes_at seat (places.Leaving Emptying) = 2
 owes_at seat (places.Leaving Parting) = 1
@@ -44,15 +44,15 @@ making_steps heap seat Storing = (4 * length seat.body - seat.stored) + length s
 making_steps heap seat Bearing = length seat.hand
 
 -- and the reading or writing of a field
-abbrev pub reaching_steps : ℕ → Reaching → ℕ
-reaching_steps links Opening = links + 5
-reaching_steps links Walking = links + 4
-reaching_steps links Getting = 2
-reaching_steps links Naming = 1
-reaching_steps links LoadingOld = 4
-reaching_steps links ShadingOld = 3
-reaching_steps links ShadingNew = 2
-reaching_steps links Swapping = 1
+abbrev pub access_steps : ℕ → Access → ℕ
+access_steps links LoadingMeta = links + 5
+access_steps links Walking = links + 4
+access_steps links Getting = 2
+access_steps links Naming = 1
+access_steps links LoadingOld = 4
+access_steps links ShadingOld = 3
+access_steps links ShadingNew = 2
+access_steps links Swapping = 1
 
 -- and a poll
 abbrev pub polling_steps : Seat → Polling → ℕ
@@ -64,8 +64,8 @@ polling_steps seat Answering = 1
 abbrev pub steps_at : Heap → Seat → Place → ℕ
 steps_at heap seat places.Idle = 0
 steps_at heap seat (places.Making place) = making_steps heap seat place
-steps_at heap seat places.Telling = 1
-steps_at heap seat (places.Reaching place) = reaching_steps seat.links place
+steps_at heap seat places.Local = 1
+steps_at heap seat (places.Access place) = access_steps seat.links place
 steps_at heap seat (places.Polling place) = polling_steps seat place
 steps_at heap seat (places.Leaving Emptying) = 2
 steps_at heap seat (places.Leaving Parting) = 1

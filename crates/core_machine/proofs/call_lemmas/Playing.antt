@@ -21,11 +21,11 @@ use Rattle.core_machine.specs.table.Fragments.{clear_in, part_in, part_out, in_g
 use Rattle.core_machine.specs.table.Layout.{at, put, InTable, table_length, SameTable}
 use Rattle.core_machine.specs.table.Operation.{all_taken}
 use Rattle.core_machine.specs.seat.Seat.{Seat, need, with_entries}
-use Rattle.core_machine.specs.seat.Making.{goes_on, next_group, first_group, given_back, stored_more, storing, next_id}
+use Rattle.core_machine.specs.seat.Making.{gather_next, next_group_of, first_group_of, after_give_back, after_store, store_place, next_object_id}
 use Rattle.core_machine.specs.Moves.{Move, seat_after, claim_move, give_back_move, refusal_move, store_move, bearing_move, is_last_birth, takes_some, making_move}
-use Rattle.core_machine.specs.machine.Machine.{State, seat_at, found_by, stepped}
-use Rattle.core_machine.specs.seat.Fits.{IsAtRest, Gathers, Refuses, HasBody, FitsPlace, Fits, FitsMaking}
-use Rattle.core_machine.specs.machine.Calls.{free_fragments, within_reach, KeepsOwn}
+use Rattle.core_machine.specs.machine.Machine.{State, seat_at, found_by, state_after_move}
+use Rattle.core_machine.specs.seat.Fits.{IsAtRest, SeatIsGathering, SeatIsRefusing, HasBody, FitsPlace, Fits, FitsMaking}
+use Rattle.core_machine.specs.machine.Calls.{free_count, within_reach, KeepsOwn}
 use Rattle.core_machine.specs.machine.Value.{IsMachine}
 use Rattle.core_machine.proofs.call_lemmas.Claiming.{GivesBackAll, taken_none, taken_more, taken_enough, gives_none, gives_more, gives_over, comes_of_record}
 use Rattle.core_machine.proofs.table_lemmas.Addresses.{at-put_other, at-put_same, put-at}
@@ -75,7 +75,7 @@ module _ (heap : Heap) (old : State) (number : ℕ) (command : Command) where
   -- where the call goes on with what is gathered
   stage_goes_on : (now : State) (told more : List Entry) (seat : Seat) → seat.command ≡ command → seat.given ≡ 0 → seat.cursor < heap.groups
       → WhileGathering heap old now.words number command told seat
-      → Stage heap old now number command told (with_entries (goes_on heap seat) more) (goes_on heap seat).place
+      → Stage heap old now number command told (with_entries (gather_next heap seat) more) (gather_next heap seat).place
   stage_goes_on now told more seat is none cursor while =
       let long = length-append seat.reserve seat.hand in
       let kept = ap (length {A = ℕ}) while.own.reserve_stays in
@@ -85,7 +85,7 @@ module _ (heap : Heap) (old : State) (number : ℕ) (command : Command) where
         record {
           enough = omega (arith, while.free, enough, ap need_of is);
           made_stays = while.own.made_stays;
-          claimed = taken_enough number (length (seat_at old number).reserve) (need_of command) seat.hand told (next_id number (seat_at old number)) while.takes (omega (arith, enough, ap need_of is));
+          claimed = taken_enough number (length (seat_at old number).reserve) (need_of command) seat.hand told (next_object_id number (seat_at old number)) while.takes (omega (arith, enough, ap need_of is));
         },
       ))
       (λ few left. (
@@ -105,7 +105,7 @@ module _ (heap : Heap) (old : State) (number : ℕ) (command : Command) where
       (λ empty. (is, while_returning now more seat none while nothing Refusing))
       (λ some. (is, while_returning now more seat none while nothing Returning)))
     where
-      while_returning : (now : State) (more : List Entry) (seat : Seat) → seat.given ≡ 0 → WhileGathering heap old now.words number command told seat → free_fragments heap now.words ≡ 0 → (m : Making)
+      while_returning : (now : State) (more : List Entry) (seat : Seat) → seat.given ≡ 0 → WhileGathering heap old now.words number command told seat → free_count heap now.words ≡ 0 → (m : Making)
           → WhileReturning heap old now.words number told (with_entries (record seat { place = places.Making m }) more)
       while_returning now more seat none while nothing m = record {
         own = record { registers_stay = while.own.registers_stay; reserve_stays = while.own.reserve_stays; cursor_stays = while.own.cursor_stays; made_stays = while.own.made_stays };
@@ -116,11 +116,11 @@ module _ (heap : Heap) (old : State) (number : ℕ) (command : Command) where
 
   -- the making of a record is begun
   pub stage_begun_new : (now : State) → Fits heap (seat_at old number) → (seat_at old number).place ≡ places.Idle → now.words ≡ old.words
-      → Stage heap old now number command [] (goes_on heap (record (seat_at old number) { command = command })) (goes_on heap (record (seat_at old number) { command = command })).place
+      → Stage heap old now number command [] (gather_next heap (record (seat_at old number) { command = command })) (gather_next heap (record (seat_at old number) { command = command })).place
   stage_begun_new now fits idle same =
       let seat = seat_at old number in
       let rest : IsAtRest seat = subst (FitsPlace heap seat) idle fits.at_place in
-      let begun_ = goes_on heap (record seat { command = command }) in
+      let begun_ = gather_next heap (record seat { command = command }) in
       subst (λ (s : Seat). Stage heap old now number command [] s begun_.place) (with_entries-nil begun_)
       (stage_goes_on now [] [] (record seat { command = command }) refl rest.none_given fits.own.cursor_within (record {
         own = record { registers_stay = refl; reserve_stays = refl; cursor_stays = refl; made_stays = refl };
@@ -139,20 +139,20 @@ module _ (heap : Heap) (old : State) (number : ℕ) (command : Command) where
     abbrev pub Leads : Move → Type 0
     Leads move =
         let found = found_by heap now move.step in
-        Stage heap old (stepped heap now number move) number command (told ++ move.shows now.words found) (seat_after move found) (seat_after move found).place
+        Stage heap old (state_after_move heap now number move) number command (told ++ move.shows now.words found) (seat_after move found) (seat_after move found).place
 
-    stage_claimed : Gathers heap the_seat → the_seat.command ≡ command → WhileGathering heap old now.words number command told the_seat → Leads (claim_move heap number the_seat)
+    stage_claimed : SeatIsGathering heap the_seat → the_seat.command ≡ command → WhileGathering heap old now.words number command told the_seat → Leads (claim_move heap number the_seat)
     stage_claimed is same while =
         let seat = the_seat in
         let fits = machine.fit number within in
-        let group = next_group heap seat in
+        let group = next_group_of heap seat in
         let n = at heap now.words (Control group) in
         let there : group < heap.groups = omega (arith, fits.own.cursor_within) in
         let got = clear_in group n in
         let after_ = put heap now.words (Control group) (bit_or n all_taken) in
         let freed = free-claimed heap now.words group machine.table there in
         let lacks : (part_in group seat.hand ≡ []) ⊎ (got ≡ []) = elim (while.claims.controls group there) [ inl untouched ↦ inl untouched.0 | inr claimed ↦ inr claimed.1 ] in
-        stage_goes_on (stepped heap now number (claim_move heap number seat)) _ (takes_some number (length got))
+        stage_goes_on (state_after_move heap now number (claim_move heap number seat)) _ (takes_some number (length got))
         (record seat { hand = seat.hand ++ got; tried = seat.tried + 1 }) same is.none_given fits.own.cursor_within (record {
           own = record { registers_stay = while.own.registers_stay; reserve_stays = while.own.reserve_stays; cursor_stays = while.own.cursor_stays; made_stays = while.own.made_stays };
           free = omega (arith, freed, while.free, length-append seat.hand got);
@@ -162,34 +162,34 @@ module _ (heap : Heap) (old : State) (number : ℕ) (command : Command) where
               (omega (arith, is.too_few, ap need_of same, ap (length {A = ℕ}) while.own.reserve_stays)) lacks;
         })
 
-    stage_given_back : Refuses heap the_seat → 0 < length the_seat.hand → the_seat.command ≡ command → WhileReturning heap old now.words number told the_seat
+    stage_given_back : SeatIsRefusing heap the_seat → 0 < length the_seat.hand → the_seat.command ≡ command → WhileReturning heap old now.words number told the_seat
         → Leads (give_back_move number the_seat)
     stage_given_back is some same while =
         let seat = the_seat in
         let fits = machine.fit number within in
-        let group = first_group seat.hand in
+        let group = first_group_of seat.hand in
         let there : group < heap.groups = group_within heap seat.hand 0 some fits.hand.hand_within in
         let both = length-filter_both (in_group group) (out_of_group group) (λ f. refl) seat.hand in
         let fewer = out_shorter group seat.hand 0 some refl in
         let less = claims_less heap old.words now.words seat.hand group machine.table there (omega arith) while.claims in
         let entry = GivesBack number (length (part_in group seat.hand)) in
-        let after_ = stepped heap now number (give_back_move number seat) in
-        let next : (m : Making) → WhileReturning heap old after_.words number (told ++ entry ∷ []) (with_entries (record (given_back seat) { place = places.Making m }) (entry ∷ [])) = λ m. record {
+        let after_ = state_after_move heap now number (give_back_move number seat) in
+        let next : (m : Making) → WhileReturning heap old after_.words number (told ++ entry ∷ []) (with_entries (record (after_give_back seat) { place = places.Making m }) (entry ∷ [])) = λ m. record {
           own = record { registers_stay = while.own.registers_stay; reserve_stays = while.own.reserve_stays; cursor_stays = while.own.cursor_stays; made_stays = while.own.made_stays };
           all = omega (arith, while.all);
           claims = less;
           gives = gives_more number seat.given seat.hand told while.gives some;
         } in
-        returning_cases (λ m. Stage heap old after_ number command (told ++ entry ∷ []) (with_entries (record (given_back seat) { place = places.Making m }) (entry ∷ [])) (places.Making m))
+        returning_cases (λ m. Stage heap old after_ number command (told ++ entry ∷ []) (with_entries (record (after_give_back seat) { place = places.Making m }) (entry ∷ [])) (places.Making m))
         (part_out group seat.hand) (λ empty. (same, next Refusing)) (λ left. (same, next Returning))
 
-    stage_refused : Refuses heap the_seat → the_seat.hand ≡ [] → the_seat.command ≡ command → WhileReturning heap old now.words number told the_seat
+    stage_refused : SeatIsRefusing heap the_seat → the_seat.hand ≡ [] → the_seat.command ≡ command → WhileReturning heap old now.words number told the_seat
         → Leads (refusal_move number the_seat)
     stage_refused is empty same while =
         let seat = the_seat in
-        let after_ = stepped heap now number (refusal_move number seat) in
+        let after_ = state_after_move heap now number (refusal_move number seat) in
         let here : seat_at after_ number ≡ seat_after (refusal_move number seat) (found_by heap now (refusal_move number seat).step) = seat_at-set now.seats number _ within in
-        let given : seat.given ≡ free_fragments heap old.words = omega (arith, while.all, ap (length {A = ℕ}) empty) in
+        let given : seat.given ≡ free_count heap old.words = omega (arith, while.all, ap (length {A = ℕ}) empty) in
         let found : length seat.reserve + seat.given ≡ within_reach heap old number = omega (arith, given, ap (length {A = ℕ}) while.own.reserve_stays) in
         let few : within_reach heap old number < need_of command = omega (arith, is.too_few, ap need_of same, found) in
         let own = length (seat_at old number).reserve in
@@ -219,8 +219,8 @@ module _ (heap : Heap) (old : State) (number : ℕ) (command : Command) where
     stage_stored : the_seat.command ≡ command → WhileMaking heap old number command told the_seat.made → Leads (store_move number the_seat)
     stage_stored same while =
         let seat = the_seat in
-        let after_ = stepped heap now number (store_move number seat) in
-        elim (eqb_tells (seat.stored + 1) (4 * length seat.body)) as (λ _. Stage heap old after_ number command (told ++ []) (with_entries (stored_more seat) []) (places.Making (storing (seat.stored + 1) seat.body))) [
+        let after_ = state_after_move heap now number (store_move number seat) in
+        elim (eqb_tells (seat.stored + 1) (4 * length seat.body)) as (λ _. Stage heap old after_ number command (told ++ []) (with_entries (after_store seat) []) (places.Making (store_place (seat.stored + 1) seat.body))) [
           | inl all ↦ rw all.0 (same, no_more while)
           | inr left ↦ rw left.0 (same, no_more while)
         ]
@@ -230,11 +230,11 @@ module _ (heap : Heap) (old : State) (number : ℕ) (command : Command) where
         let seat = the_seat in
         elim (bool_tells (is_last_birth seat)) as (λ _. Leads (bearing_move number seat)) [
           | inl last ↦ rw last (record {
-            reply = replies.Made (next_id number seat);
+            reply = replies.Made (next_object_id number seat);
             before = told;
-            last = ap (λ (c : Command). told ++ Said number c (replies.Made (next_id number seat)) ∷ []) same;
+            last = ap (λ (c : Command). told ++ Said number c (replies.Made (next_object_id number seat)) ∷ []) same;
             refused = λ refusal. absurd refusal;
-            comes = λ stays near. comes_of_record number (length (seat_at old number).reserve) (seat_at old number).answered command (replies.Made (next_id number seat)) told (subst IsRecord same is.makes.a_record) while.claimed;
+            comes = λ stays near. comes_of_record number (length (seat_at old number).reserve) (seat_at old number).answered command (replies.Made (next_object_id number seat)) told (subst IsRecord same is.makes.a_record) while.claimed;
             answer = λ a_record. record { made = λ enough. rw while.made_stays refl; refused = λ lacks. absurd (omega (arith, lacks, while.enough)) };
           })
           | inr more ↦ rw (more, place) (same, no_more while)

@@ -16,35 +16,35 @@ use Rattle.core_machine.specs.declared.table.address.Address.{Address}
 use Rattle.core_machine.specs.declared.table.address.Address.TheVariants.{Phase, Word}
 use Rattle.core_machine.specs.declared.place.Place.{Place}
 use Rattle.core_machine.specs.declared.place.Place.TheVariants as places
-use Rattle.core_machine.specs.declared.place.Reaching.{Reaching}
-use Rattle.core_machine.specs.declared.place.Reaching.TheVariants.{Opening, Walking, Getting, Naming, LoadingOld, ShadingOld, ShadingNew, Swapping}
+use Rattle.core_machine.specs.declared.place.Access.{Access}
+use Rattle.core_machine.specs.declared.place.Access.TheVariants.{LoadingMeta, Walking, Getting, Naming, LoadingOld, ShadingOld, ShadingNew, Swapping}
 use Rattle.core_machine.specs.declared.place.Polling.{Polling}
 use Rattle.core_machine.specs.declared.place.Polling.TheVariants.{Asking, Shading, Answering}
 use Rattle.core_machine.specs.declared.place.Leaving.{Leaving}
 use Rattle.core_machine.specs.declared.place.Leaving.TheVariants.{Emptying, Parting}
 use Rattle.core_machine.specs.declared.seat.register.Register.{Register}
-use Rattle.core_machine.specs.machine.Calls.{IsNear, IsPlaceRefusal, LeavesAll}
+use Rattle.core_machine.specs.machine.Calls.{IsPhaseNear, IsPlaceRefusal, LeavesAll}
 use Rattle.core_machine.specs.seat.Commands.{IsRecord, source_of}
 use Rattle.core_machine.specs.table.Layout.{at, put, InTable}
-use Rattle.core_machine.specs.table.Operation.{address_of, written}
-use Rattle.core_machine.specs.table.Loaded.{head_in, id_in, stamp_in}
-use Rattle.core_machine.specs.seat.Registers.{register_in, head_of}
-use Rattle.core_machine.specs.seat.Reaching.{reaching, field_place, way_place, stepped_on, onward, meta_reply, met, got, new_place, old_done, old_found}
-use Rattle.core_machine.specs.seat.ReachingMoves.{said_some, got_adds, got_shows}
-use Rattle.core_machine.specs.seat.AnsweringMoves.{poll_move}
-use Rattle.core_machine.specs.seat.Telling.{local_reply, local_registers, told}
-use Rattle.core_machine.specs.seat.Polling.{roots, shades_on}
-use Rattle.core_machine.specs.seat.Seat.{Seat, with_entries, over}
-use Rattle.core_machine.specs.Moves.{Move, move_at, telling_move, reaching_move, polling_move, leaving_move, next_move, seat_after}
-use Rattle.core_machine.specs.machine.Machine.{State, seat_at, found_by, stepped}
-use Rattle.core_machine.specs.seat.FitsReaching.{NamesObject, FitsReaching}
+use Rattle.core_machine.specs.table.Operation.{address_of, word_after}
+use Rattle.core_machine.specs.table.Decode.{head_of, id_of, stamp_of}
+use Rattle.core_machine.specs.seat.Registers.{register_in, register_head}
+use Rattle.core_machine.specs.seat.Access.{at_access, field_place_of, way_place_of, after_link, after_walk, meta_reply_of, after_meta, after_get, new_place_of, after_old, after_old_load}
+use Rattle.core_machine.specs.seat.AccessMoves.{reply_entries_if, got_adds, got_shows}
+use Rattle.core_machine.specs.seat.HandshakeMoves.{poll_move}
+use Rattle.core_machine.specs.seat.Local.{local_reply_of, local_registers}
+use Rattle.core_machine.specs.seat.Handshake.{roots, answer_next}
+use Rattle.core_machine.specs.seat.Seat.{Seat, with_entries, after_call}
+use Rattle.core_machine.specs.Moves.{Move, move_at, local_move, access_move, polling_move, leaving_move, next_move, seat_after}
+use Rattle.core_machine.specs.machine.Machine.{State, seat_at, found_by, state_after_move}
+use Rattle.core_machine.specs.seat.FitsAccess.{NamesObject, FitsAccess}
 use Rattle.core_machine.specs.seat.Fits.{FitsPlace, FitsWay, FitsAnswer, FitsPolling}
 use Rattle.core_machine.specs.machine.Value.{IsMachine}
 use Rattle.core_machine.proofs.table_lemmas.Addresses.{put-at}
 use Rattle.core_machine.proofs.table_lemmas.Bits.{bool_tells}
 use Rattle.core_machine.proofs.seat_lemmas.FieldPlaces.{field_cases}
 use Rattle.core_machine.proofs.call_lemmas.Playing.{stage_making}
-use Rattle.core_machine.proofs.call_lemmas.Stages.{ComesDue, Answered, Untouched, Prepares, ReachingStage, PollingStage, Stage}
+use Rattle.core_machine.proofs.call_lemmas.Stages.{ComesDue, Answered, Untouched, Prepares, AccessStage, PollingStage, Stage}
 use Rattle.core_machine.proofs.machine_lemmas.Runs.{seat_at-set}
 use Rattle.core_machine.proofs.call_lemmas.RepliesAlone.{RepliesAlone, local_alone, object_alone, get_alone, set_alone, alone_makes_none, alone_comes, local_refused}
 
@@ -60,7 +60,7 @@ module _ (heap : Heap) (old : State) (number : ℕ) (command : Command) (now : S
   abbrev Leads : Move → Type 0
   Leads move =
       let found = found_by heap now move.step in
-      Stage heap old (stepped heap now number move) number command (told_ ++ move.shows now.words found) (seat_after move found) (seat_after move found).place
+      Stage heap old (state_after_move heap now number move) number command (told_ ++ move.shows now.words found) (seat_after move found) (seat_after move found).place
 
   -- the reply of a call that makes no record was told
   ended : (new : State) (seat : Seat) (reply : Reply) → seat.command ≡ command → (IsRecord seat.command → ⊥) → (IsPlaceRefusal reply → LeavesAll old new number)
@@ -83,18 +83,18 @@ module _ (heap : Heap) (old : State) (number : ℕ) (command : Command) (now : S
 
   -- a seat that was left alone, and then has an entry more
   left_alone : (seat : Seat) (more : List Entry) → Untouched old now number told_ seat
-      → with_entries (over seat) more ≡ record (seat_at old number) { command = seat.command; mine = seat.mine ++ more }
+      → with_entries (after_call seat) more ≡ record (seat_at old number) { command = seat.command; mine = seat.mine ++ more }
   left_alone seat more is =
-      ap (λ (s : Seat). record (over s) { command = seat.command; mine = seat.mine ++ more }) is.seat_stays
+      ap (λ (s : Seat). record (after_call s) { command = seat.command; mine = seat.mine ++ more }) is.seat_stays
       ∙ ap (λ (s : Seat). record s { command = seat.command; mine = seat.mine ++ more }) is.resting
 
   -- the state after the seat's last step, where its word was loaded
-  leaves_all : (seat : Seat) (move : Move) → seat_at now number ≡ seat → Untouched old now number told_ seat → put heap now.words (address_of move.step) (written move.step (found_by heap now move.step)) ≡ now.words
+  leaves_all : (seat : Seat) (move : Move) → seat_at now number ≡ seat → Untouched old now number told_ seat → put heap now.words (address_of move.step) (word_after move.step (found_by heap now move.step)) ≡ now.words
       → seat_after move (found_by heap now move.step) ≡ record (seat_at old number) { command = seat.command; mine = (seat_after move (found_by heap now move.step)).mine }
-      → (seat_after move (found_by heap now move.step)).command ≡ seat.command → LeavesAll old (stepped heap now number move) number
+      → (seat_after move (found_by heap now move.step)).command ≡ seat.command → LeavesAll old (state_after_move heap now number move) number
   leaves_all seat move here is words next same =
       let last = seat_after move (found_by heap now move.step) in
-      let there : seat_at (stepped heap now number move) number ≡ last = seat_at-set now.seats number last within in
+      let there : seat_at (state_after_move heap now number move) number ≡ last = seat_at-set now.seats number last within in
       record {
         words_stay = words ∙ is.words_stay;
         seat_stays = subst (λ (s : Seat). s ≡ record (seat_at old number) { command = s.command; mine = s.mine }) (sym there)
@@ -103,16 +103,16 @@ module _ (heap : Heap) (old : State) (number : ℕ) (command : Command) (now : S
 
   -- a seat with the same registers
   told_alone : (seat : Seat) (registers : List Register) (more : List Entry) → registers ≡ seat.registers → Untouched old now number told_ seat
-      → with_entries (over (record seat { registers = registers })) more ≡ record (seat_at old number) { command = seat.command; mine = seat.mine ++ more }
-  told_alone seat registers more same is = ap (λ (r : List Register). with_entries (over (record seat { registers = r })) more) same ∙ left_alone seat more is
+      → with_entries (after_call (record seat { registers = registers })) more ≡ record (seat_at old number) { command = seat.command; mine = seat.mine ++ more }
+  told_alone seat registers more same is = ap (λ (r : List Register). with_entries (after_call (record seat { registers = r })) more) same ∙ left_alone seat more is
 
-  stage_telling : FitsPlace heap the_seat places.Telling → FitsWay the_seat places.Telling → the_seat.command ≡ command → Untouched old now number told_ the_seat
-      → Leads (telling_move number the_seat)
+  stage_telling : FitsPlace heap the_seat places.Local → FitsWay the_seat places.Local → the_seat.command ≡ command → Untouched old now number told_ the_seat
+      → Leads (local_move number the_seat)
   stage_telling fits way same is =
       let seat = the_seat in
-      let reply = local_reply seat.registers seat.command in
-      ended_alone (stepped heap now number (telling_move number seat)) seat reply same (local_alone seat.registers seat.command fits.2) (λ refusal.
-      leaves_all seat (telling_move number seat) refl is (put-at heap now.words Phase)
+      let reply = local_reply_of seat.registers seat.command in
+      ended_alone (state_after_move heap now number (local_move number seat)) seat reply same (local_alone seat.registers seat.command fits.2) (λ refusal.
+      leaves_all seat (local_move number seat) refl is (put-at heap now.words Phase)
       (told_alone seat (local_registers seat.registers seat.command) (Said number seat.command reply ∷ []) (local_refused seat.registers seat.command refusal) is) refl) is.none_told
 
   -- nothing was told, and nothing more is
@@ -120,76 +120,76 @@ module _ (heap : Heap) (old : State) (number : ℕ) (command : Command) (now : S
   none_more none = append-nil told_ ∙ none
 
   -- the way goes on
-  field_stage : (now' : State) (told : List Entry) (seat s : Seat) (c : Command) → told ≡ [] → ReachingStage old now' number command told s (field_place seat c)
-  field_stage now' told seat s c none = field_cases (ReachingStage old now' number command told s) seat c none (λ on. none) (λ off. none)
+  field_stage : (now' : State) (told : List Entry) (seat s : Seat) (c : Command) → told ≡ [] → AccessStage old now' number command told s (field_place_of seat c)
+  field_stage now' told seat s c none = field_cases (AccessStage old now' number command told s) seat c none (λ on. none) (λ off. none)
 
-  way_stage : (now' : State) (told : List Entry) (seat s : Seat) → told ≡ [] → ReachingStage old now' number command told s (way_place seat)
+  way_stage : (now' : State) (told : List Entry) (seat s : Seat) → told ≡ [] → AccessStage old now' number command told s (way_place_of seat)
   way_stage now' told seat s empty =
-      elim (eqb_tells seat.links 0) as (λ _. ReachingStage old now' number command told s (way_place seat)) [
+      elim (eqb_tells seat.links 0) as (λ _. AccessStage old now' number command told s (way_place_of seat)) [
         | inl none ↦ rw none.0 (field_stage now' told seat s seat.command empty)
         | inr some ↦ rw some.0 empty
       ]
 
   onward_stage : (now' : State) (told : List Entry) (seat : Seat) (found : ℕ) (more : List Entry) → seat.command ≡ command → told ≡ []
-      → Stage heap old now' number command told (with_entries (onward seat found) more) (with_entries (onward seat found) more).place
+      → Stage heap old now' number command told (with_entries (after_walk seat found) more) (with_entries (after_walk seat found) more).place
   onward_stage now' told seat found more same empty =
-      elim (eqb_tells seat.links 0) as (λ _. Stage heap old now' number command told (with_entries (onward seat found) more) (with_entries (onward seat found) more).place) [
+      elim (eqb_tells seat.links 0) as (λ _. Stage heap old now' number command told (with_entries (after_walk seat found) more) (with_entries (after_walk seat found) more).place) [
         | inl none ↦
-            let stage : Stage heap old now' number command told (with_entries (reaching seat (way_place seat)) more) (places.Reaching (way_place seat)) = (same, way_stage now' told seat (with_entries (reaching seat (way_place seat)) more) empty) in
+            let stage : Stage heap old now' number command told (with_entries (at_access seat (way_place_of seat)) more) (places.Access (way_place_of seat)) = (same, way_stage now' told seat (with_entries (at_access seat (way_place_of seat)) more) empty) in
             rw none.0 (rw none.0 at stage)
-        | inr some ↦ rw some.0 (same, way_stage now' told (stepped_on seat found) (with_entries (reaching (stepped_on seat found) (way_place (stepped_on seat found))) more) empty)
+        | inr some ↦ rw some.0 (same, way_stage now' told (after_link seat found) (with_entries (at_access (after_link seat found) (way_place_of (after_link seat found))) more) empty)
       ]
 
   met_stage : (reply : Option Reply) (found : ℕ) → the_seat.command ≡ command → NamesObject the_seat.command
       → (new : State) → (IsPlaceRefusalOf reply → LeavesAll old new number) → told_ ≡ []
-      → Stage heap old new number command (told_ ++ said_some number the_seat reply) (with_entries (met the_seat found reply) (said_some number the_seat reply)) (with_entries (met the_seat found reply) (said_some number the_seat reply)).place
+      → Stage heap old new number command (told_ ++ reply_entries_if number the_seat reply) (with_entries (after_meta the_seat found reply) (reply_entries_if number the_seat reply)) (with_entries (after_meta the_seat found reply) (reply_entries_if number the_seat reply)).place
   met_stage None found same names new refused none = onward_stage new (told_ ++ []) the_seat found [] same (none_more none)
   met_stage (Some reply) found same names new refused none = ended_alone new the_seat reply same (object_alone the_seat.command names) refused none
 
   closed_after : (reply : Option Reply) (found : ℕ) → IsPlaceRefusalOf reply → Untouched old now number told_ the_seat
-      → (with_entries (met the_seat found reply) (said_some number the_seat reply) ≡ record (seat_at old number) { command = the_seat.command; mine = (with_entries (met the_seat found reply) (said_some number the_seat reply)).mine })
-      × ((with_entries (met the_seat found reply) (said_some number the_seat reply)).command ≡ the_seat.command)
+      → (with_entries (after_meta the_seat found reply) (reply_entries_if number the_seat reply) ≡ record (seat_at old number) { command = the_seat.command; mine = (with_entries (after_meta the_seat found reply) (reply_entries_if number the_seat reply)).mine })
+      × ((with_entries (after_meta the_seat found reply) (reply_entries_if number the_seat reply)).command ≡ the_seat.command)
   closed_after None found refusal is = absurd refusal
   closed_after (Some reply) found refusal is = (left_alone the_seat (Said number the_seat.command reply ∷ []) is, refl)
 
   old_stage : (new : State) (loaded : ℕ) → (the_seat.command ≡ command) × (told_ ≡ [])
-      → Stage heap old new number command (told_ ++ []) (with_entries (old_done (record the_seat { loaded = loaded })) []) (with_entries (old_done (record the_seat { loaded = loaded })) []).place
-  old_stage new loaded stage = by (head_of (register_in the_seat.registers (source_of the_seat.command))) where
-    by : (n : Option ℕ) → Stage heap old new number command (told_ ++ []) (with_entries (reaching (record the_seat { loaded = loaded }) (new_place n)) []) (places.Reaching (new_place n))
+      → Stage heap old new number command (told_ ++ []) (with_entries (after_old (record the_seat { loaded = loaded })) []) (with_entries (after_old (record the_seat { loaded = loaded })) []).place
+  old_stage new loaded stage = by (register_head (register_in the_seat.registers (source_of the_seat.command))) where
+    by : (n : Option ℕ) → Stage heap old new number command (told_ ++ []) (with_entries (at_access (record the_seat { loaded = loaded }) (new_place_of n)) []) (places.Access (new_place_of n))
     by None = (stage.0, none_more stage.1)
     by (Some head) = (stage.0, none_more stage.1)
 
-  stage_reaching : (place : Reaching) → FitsReaching the_seat place → (the_seat.command ≡ command) × ReachingStage old now number command told_ the_seat place
-      → Leads (reaching_move heap number the_seat place)
-  stage_reaching Opening is stage =
+  stage_access : (place : Access) → FitsAccess the_seat place → (the_seat.command ≡ command) × AccessStage old now number command told_ the_seat place
+      → Leads (access_move heap number the_seat place)
+  stage_access LoadingMeta is stage =
       let seat = the_seat in
-      let move = reaching_move heap number seat Opening in
+      let move = access_move heap number seat LoadingMeta in
       let found = found_by heap now move.step in
-      met_stage (meta_reply seat.command found) found stage.0 is.names (stepped heap now number move) (λ refusal.
-      let after_ = closed_after (meta_reply seat.command found) found refusal stage.1 in
+      met_stage (meta_reply_of seat.command found) found stage.0 is.names (state_after_move heap now number move) (λ refusal.
+      let after_ = closed_after (meta_reply_of seat.command found) found refusal stage.1 in
       leaves_all seat move refl stage.1 (put-at heap now.words (Word seat.reached 0)) after_.0 after_.1) stage.1.none_told
-  stage_reaching Walking is stage =
-      let move = reaching_move heap number the_seat Walking in
-      onward_stage (stepped heap now number move) (told_ ++ []) the_seat (found_by heap now move.step) [] stage.0 (none_more stage.1)
-  stage_reaching Getting is stage = got_stage (head_in (found_by heap now (reaching_move heap number the_seat Getting).step))
+  stage_access Walking is stage =
+      let move = access_move heap number the_seat Walking in
+      onward_stage (state_after_move heap now number move) (told_ ++ []) the_seat (found_by heap now move.step) [] stage.0 (none_more stage.1)
+  stage_access Getting is stage = got_stage (head_of (found_by heap now (access_move heap number the_seat Getting).step))
     where
       move : Move
-      move = reaching_move heap number the_seat Getting
+      move = access_move heap number the_seat Getting
 
-      got_stage : (head : Option ℕ) → Stage heap old (stepped heap now number (reaching_move heap number the_seat Getting)) number command
-          (told_ ++ got_shows heap number the_seat now.words (found_by heap now (reaching_move heap number the_seat Getting).step) head)
-          (with_entries (got the_seat (found_by heap now (reaching_move heap number the_seat Getting).step) head) (got_adds number the_seat (found_by heap now (reaching_move heap number the_seat Getting).step) head))
-          (with_entries (got the_seat (found_by heap now (reaching_move heap number the_seat Getting).step) head) (got_adds number the_seat (found_by heap now (reaching_move heap number the_seat Getting).step) head)).place
-      got_stage None = ended_alone (stepped heap now number (reaching_move heap number the_seat Getting)) the_seat _ stage.0 (get_alone the_seat.command is.0.1) (λ refusal. absurd refusal) stage.1
+      got_stage : (head : Option ℕ) → Stage heap old (state_after_move heap now number (access_move heap number the_seat Getting)) number command
+          (told_ ++ got_shows heap number the_seat now.words (found_by heap now (access_move heap number the_seat Getting).step) head)
+          (with_entries (after_get the_seat (found_by heap now (access_move heap number the_seat Getting).step) head) (got_adds number the_seat (found_by heap now (access_move heap number the_seat Getting).step) head))
+          (with_entries (after_get the_seat (found_by heap now (access_move heap number the_seat Getting).step) head) (got_adds number the_seat (found_by heap now (access_move heap number the_seat Getting).step) head)).place
+      got_stage None = ended_alone (state_after_move heap now number (access_move heap number the_seat Getting)) the_seat _ stage.0 (get_alone the_seat.command is.0.1) (λ refusal. absurd refusal) stage.1
       got_stage (Some head) = (
         stage.0,
         record {
-          value = values.Object (id_in (at heap now.words (Word head 1)));
-          stamp = stamp_in (found_by heap now (reaching_move heap number the_seat Getting).step);
+          value = values.Object (id_of (at heap now.words (Word head 1)));
+          stamp = stamp_of (found_by heap now (access_move heap number the_seat Getting).step);
           alone = rw (stage.1, stage.0) refl;
         },
       )
-  stage_reaching Naming is stage = record {
+  stage_access Naming is stage = record {
     reply = replies.Got stage.1.value stage.1.stamp;
     before = [];
     last = append-nil told_ ∙ stage.1.alone;
@@ -197,16 +197,16 @@ module _ (heap : Heap) (old : State) (number : ℕ) (command : Command) (now : S
     refused = λ refusal. absurd refusal;
     comes = λ stays near. alone_comes number (length (seat_at old number).reserve) (seat_at old number).answered command (replies.Got stage.1.value stage.1.stamp) [] (subst RepliesAlone stage.0 (get_alone the_seat.command is.0.1)) refl;
   }
-  stage_reaching LoadingOld is stage = old_found_stage (head_in (found_by heap now (reaching_move heap number the_seat LoadingOld).step)) where
-    old_found_stage : (head : Option ℕ) → Stage heap old (stepped heap now number (reaching_move heap number the_seat LoadingOld)) number command (told_ ++ [])
-        (with_entries (old_found (record the_seat { loaded = found_by heap now (reaching_move heap number the_seat LoadingOld).step }) head) [])
-        (with_entries (old_found (record the_seat { loaded = found_by heap now (reaching_move heap number the_seat LoadingOld).step }) head) []).place
-    old_found_stage None = old_stage (stepped heap now number (reaching_move heap number the_seat LoadingOld)) (found_by heap now (reaching_move heap number the_seat LoadingOld).step) stage
+  stage_access LoadingOld is stage = old_found_stage (head_of (found_by heap now (access_move heap number the_seat LoadingOld).step)) where
+    old_found_stage : (head : Option ℕ) → Stage heap old (state_after_move heap now number (access_move heap number the_seat LoadingOld)) number command (told_ ++ [])
+        (with_entries (after_old_load (record the_seat { loaded = found_by heap now (access_move heap number the_seat LoadingOld).step }) head) [])
+        (with_entries (after_old_load (record the_seat { loaded = found_by heap now (access_move heap number the_seat LoadingOld).step }) head) []).place
+    old_found_stage None = old_stage (state_after_move heap now number (access_move heap number the_seat LoadingOld)) (found_by heap now (access_move heap number the_seat LoadingOld).step) stage
     old_found_stage (Some head) = (stage.0, none_more stage.1)
-  stage_reaching ShadingOld is stage = old_stage (stepped heap now number (reaching_move heap number the_seat ShadingOld)) the_seat.loaded stage
-  stage_reaching ShadingNew is stage = (stage.0, none_more stage.1)
-  stage_reaching Swapping is stage =
-      ended_alone (stepped heap now number (reaching_move heap number the_seat Swapping)) the_seat (replies.Was (stamp_in (found_by heap now (reaching_move heap number the_seat Swapping).step))) stage.0
+  stage_access ShadingOld is stage = old_stage (state_after_move heap now number (access_move heap number the_seat ShadingOld)) the_seat.loaded stage
+  stage_access ShadingNew is stage = (stage.0, none_more stage.1)
+  stage_access Swapping is stage =
+      ended_alone (state_after_move heap now number (access_move heap number the_seat Swapping)) the_seat (replies.Was (stamp_of (found_by heap now (access_move heap number the_seat Swapping).step))) stage.0
       (set_alone the_seat.command is.0.1) (λ refusal. absurd refusal) stage.1
 
   poll_makes_none : the_seat.command ≡ commands.Poll → IsRecord the_seat.command → ⊥
@@ -216,16 +216,16 @@ module _ (heap : Heap) (old : State) (number : ℕ) (command : Command) (now : S
   leave_makes_none leaves a_record = rw leaves at a_record
 
   -- what comes before the reply to a poll
-  poll_comes : (p : ℕ) (before : List Entry) → command ≡ commands.Poll → (IsNear heap old number → AnswersBefore number (seat_at old number).answered (replies.Phase p) before)
+  poll_comes : (p : ℕ) (before : List Entry) → command ≡ commands.Poll → (IsPhaseNear heap old number → AnswersBefore number (seat_at old number).answered (replies.Phase p) before)
       → ComesDue heap old number command (replies.Phase p) before
   poll_comes p before polls answers near =
       subst (λ (c : Command). ComesBefore number (length (seat_at old number).reserve) (seat_at old number).answered c (replies.Phase p) before) (sym polls) (answers (near polls))
 
   -- the answer is prepared, whatever comes next
   prepared : (new : State) (seat : Seat) → seat.command ≡ command → Prepares heap old number (told_ ++ []) seat
-      → Stage heap old new number command (told_ ++ []) (with_entries (shades_on seat) []) (with_entries (shades_on seat) []).place
+      → Stage heap old new number command (told_ ++ []) (with_entries (answer_next seat) []) (with_entries (answer_next seat) []).place
   prepared new seat same is =
-      elim (bool_tells (nat_lt seat.shaded (length (roots seat)))) as (λ _. Stage heap old new number command (told_ ++ []) (with_entries (shades_on seat) []) (with_entries (shades_on seat) []).place) [
+      elim (bool_tells (nat_lt seat.shaded (length (roots seat)))) as (λ _. Stage heap old new number command (told_ ++ []) (with_entries (answer_next seat) []) (with_entries (answer_next seat) []).place) [
         | inl more ↦ rw more (same, keeps Shading)
         | inr all ↦ rw all (same, keeps Answering)
       ]
@@ -242,18 +242,18 @@ module _ (heap : Heap) (old : State) (number : ℕ) (command : Command) (now : S
       stays : the_seat.answered ≡ (seat_at old number).answered
       stays = ap (λ (s : Seat). s.answered) stage.1.seat_stays
 
-      by : (known : Bool) → (known ≡ true → found ≡ the_seat.answered) → Stage heap old (stepped heap now number (poll_move number the_seat)) number command
+      by : (known : Bool) → (known ≡ true → found ≡ the_seat.answered) → Stage heap old (state_after_move heap now number (poll_move number the_seat)) number command
           (told_ ++ cond known (Said number the_seat.command (replies.Phase found) ∷ []) [])
-          (with_entries (cond known (over the_seat) (shades_on (record the_seat { asked = found }))) (cond known (Said number the_seat.command (replies.Phase found) ∷ []) []))
-          (with_entries (cond known (over the_seat) (shades_on (record the_seat { asked = found }))) (cond known (Said number the_seat.command (replies.Phase found) ∷ []) [])).place
+          (with_entries (cond known (after_call the_seat) (answer_next (record the_seat { asked = found }))) (cond known (Said number the_seat.command (replies.Phase found) ∷ []) []))
+          (with_entries (cond known (after_call the_seat) (answer_next (record the_seat { asked = found }))) (cond known (Said number the_seat.command (replies.Phase found) ∷ []) [])).place
       by true same =
-          ended (stepped heap now number (poll_move number the_seat)) the_seat (replies.Phase found) stage.0 (poll_makes_none is.1) (λ refusal. absurd refusal)
+          ended (state_after_move heap now number (poll_move number the_seat)) the_seat (replies.Phase found) stage.0 (poll_makes_none is.1) (λ refusal. absurd refusal)
           (λ not_leave. poll_comes found told_ (sym stage.0 ∙ is.1) (λ near. inl (same refl ∙ stays, stage.1.none_told)))
       by false same =
-          prepared (stepped heap now number (poll_move number the_seat)) (record the_seat { asked = found }) stage.0
+          prepared (state_after_move heap now number (poll_move number the_seat)) (record the_seat { asked = found }) stage.0
           (record { found = ap (λ (words : List ℕ). at heap words Phase) stage.1.words_stay; answered_stays = stays; none_told = none_more stage.1.none_told })
   stage_polling Shading is stage =
-      prepared (stepped heap now number (polling_move number the_seat Shading)) (record the_seat { shaded = the_seat.shaded + 1 }) stage.0
+      prepared (state_after_move heap now number (polling_move number the_seat Shading)) (record the_seat { shaded = the_seat.shaded + 1 }) stage.0
       (record { found = stage.1.found; answered_stays = stage.1.answered_stays; none_told = none_more stage.1.none_told })
   stage_polling Answering is stage =
       let answer = Answers number the_seat.asked in
@@ -268,22 +268,22 @@ module _ (heap : Heap) (old : State) (number : ℕ) (command : Command) (now : S
             inr (next near, ap (λ (l : List Entry). l ++ answer ∷ []) stage.1.none_told));
       }
     where
-      next : IsNear heap old number → the_seat.asked ≡ (seat_at old number).answered + 1
+      next : IsPhaseNear heap old number → the_seat.asked ≡ (seat_at old number).answered + 1
       next (inl same) = absurd (is.0.anew (stage.1.found ∙ same ∙ sym stage.1.answered_stays))
       next (inr after_) = stage.1.found ∙ after_
 
   stage_leaving : (place : Leaving) → FitsPlace heap the_seat (places.Leaving place) → the_seat.command ≡ command → Leads (leaving_move number the_seat place)
   stage_leaving Emptying is same = same
   stage_leaving Parting is same =
-      ended (stepped heap now number (leaving_move number the_seat Parting)) the_seat replies.Done same (leave_makes_none is.1) (λ refusal. absurd refusal) (λ not_leave. absurd (not_leave (sym same ∙ is.1)))
+      ended (state_after_move heap now number (leaving_move number the_seat Parting)) the_seat replies.Done same (leave_makes_none is.1) (λ refusal. absurd refusal) (λ not_leave. absurd (not_leave (sym same ∙ is.1)))
 
   stage_at : (machine : IsMachine heap now) → ((a : Address) → InTable heap a → at heap old.words a < 2 ^ 64) → (place : Place) → the_seat.place ≡ place
       → FitsPlace heap the_seat place → FitsWay the_seat place → FitsAnswer the_seat place → Stage heap old now number command told_ the_seat place
       → IfSome (move_at heap number the_seat place) Leads
   stage_at machine small places.Idle here fits way answer stage = tt
   stage_at machine small (places.Making place) here fits way answer stage = stage_making heap old number command now told_ machine within small place here fits stage
-  stage_at machine small places.Telling here fits way answer stage = stage_telling fits way stage.0 stage.1
-  stage_at machine small (places.Reaching place) here fits way answer stage = stage_reaching place way stage
+  stage_at machine small places.Local here fits way answer stage = stage_telling fits way stage.0 stage.1
+  stage_at machine small (places.Access place) here fits way answer stage = stage_access place way stage
   stage_at machine small (places.Polling place) here fits way answer stage = stage_polling place answer stage
   stage_at machine small (places.Leaving place) here fits way answer stage = stage_leaving place fits stage
 

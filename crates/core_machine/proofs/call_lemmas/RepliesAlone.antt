@@ -8,8 +8,8 @@ use Rattle.heap_model.specs.calls.SeatCalls.{ComesBefore}
 use Rattle.core_machine.specs.declared.seat.register.Register.{Register}
 use Rattle.core_machine.specs.machine.Calls.{IsPlaceRefusal}
 use Rattle.core_machine.specs.seat.Commands.{IsRecord}
-use Rattle.core_machine.specs.seat.Telling.{local_reply, local_registers}
-use Rattle.core_machine.specs.seat.FitsReaching.{IsGet, IsSet, NamesObject}
+use Rattle.core_machine.specs.seat.Local.{local_reply_of, local_registers}
+use Rattle.core_machine.specs.seat.FitsAccess.{IsGet, IsSet, NamesObject}
 use Rattle.core_machine.specs.seat.Fits.{IsLocal}
 
 -- the command makes no object, asks for no phase, isn't a leave, and is a single call
@@ -58,7 +58,7 @@ alone_comes number unborn last commands.Leave reply before alone none = absurd a
 alone_comes number unborn last _ reply before alone none = none
 
 -- a refusal leaves the registers
-pub local_refused : (registers : List Register) (command : Command) → IsPlaceRefusal (local_reply registers command) → local_registers registers command ≡ registers
+pub local_refused : (registers : List Register) (command : Command) → IsPlaceRefusal (local_reply_of registers command) → local_registers registers command ≡ registers
 local_refused registers (commands.Num d n) refusal = absurd refusal
 local_refused registers (commands.Nil d) refusal = absurd refusal
 local_refused registers (commands.Copy d r) refusal = absurd refusal

@@ -8,9 +8,9 @@ use Rattle.std.proofs.lemmas.List.Elements.{filter-append, All-head, All-tail}
 use Rattle.heap_model.specs.declared.heap.Heap.{Heap}
 use Rattle.core_machine.specs.declared.table.address.Address.{Address}
 use Rattle.core_machine.specs.declared.table.address.Address.TheVariants.{Phase, Answer, Budget, Spot, Control, Word, Spine}
-use Rattle.core_machine.specs.table.Fragments.{clear_in, part_in, part_out, in_group, mask}
+use Rattle.core_machine.specs.table.Fragments.{clear_in, part_in, part_out, in_group, mask_of}
 use Rattle.core_machine.specs.table.Layout.{at, put, InTable, table_length, SameTable}
-use Rattle.core_machine.specs.table.Operation.{all_taken, untaken}
+use Rattle.core_machine.specs.table.Operation.{all_taken, word_without_taken}
 use Rattle.core_machine.proofs.table_lemmas.Addresses.{at-put_same, at-put_other}
 use Rattle.core_machine.proofs.table_lemmas.Masks.{or_full, untaken-claimed}
 use Rattle.core_machine.proofs.table_lemmas.Free.{clear_in-claimed}
@@ -22,7 +22,7 @@ IsUntouched old now part = (part ≡ []) × (now ≡ old)
 
 -- a group whose clear fragments were claimed, and which are in the hand
 abbrev pub IsClaimed : ℕ → ℕ → ℕ → List ℕ → Type 0
-IsClaimed group old now part = (0 < length part) × (clear_in group now ≡ []) × (old ≡ untaken (mask part) now)
+IsClaimed group old now part = (0 < length part) × (clear_in group now ≡ []) × (old ≡ word_without_taken (mask_of part) now)
 
 -- the words now are the old ones, but for the claims of what is in the hand
 pub record Claims (heap : Heap) (old now hand : List ℕ) : Type 0 where
@@ -104,17 +104,17 @@ claims_more heap old now hand group table within small claims =
     }
 
 -- the group that was given back
-less_here : (g old n : ℕ) (part : List ℕ) → 0 < length part → IsUntouched old n part ⊎ IsClaimed g old n part → untaken (mask part) n ≡ old
+less_here : (g old n : ℕ) (part : List ℕ) → 0 < length part → IsUntouched old n part ⊎ IsClaimed g old n part → word_without_taken (mask_of part) n ≡ old
 less_here g old n part some (inl untouched) = absurd (omega (arith, ap length untouched.0))
 less_here g old n part some (inr claimed) = sym claimed.2
 
 -- the fragments of a group were given back
 pub claims_less : (heap : Heap) (old now hand : List ℕ) (group : ℕ) → length now ≡ table_length heap → group < heap.groups
     → 0 < length (part_in group hand) → Claims heap old now hand
-    → Claims heap old (put heap now (Control group) (untaken (mask (part_in group hand)) (at heap now (Control group)))) (part_out group hand)
+    → Claims heap old (put heap now (Control group) (word_without_taken (mask_of (part_in group hand)) (at heap now (Control group)))) (part_out group hand)
 claims_less heap old now hand group table within some claims =
     let n = at heap now (Control group) in
-    let word = untaken (mask (part_in group hand)) n in
+    let word = word_without_taken (mask_of (part_in group hand)) n in
     let after = put heap now (Control group) word in
     record {
       controls = λ g below. elim (eqb_tells g group)

@@ -9,18 +9,18 @@ use Rattle.heap_model.specs.declared.reply.Reply.{Reply}
 use Rattle.heap_model.specs.calls.SeatCalls.{last_gives, leave_entries}
 use Rattle.core_machine.specs.declared.place.Place.{Place}
 use Rattle.core_machine.specs.declared.place.Place.TheVariants as places
-use Rattle.core_machine.specs.declared.place.Reaching.TheVariants.{Naming}
+use Rattle.core_machine.specs.declared.place.Access.TheVariants.{Naming}
 use Rattle.core_machine.specs.declared.place.Leaving.{Leaving}
 use Rattle.core_machine.specs.declared.place.Leaving.TheVariants.{Emptying, Parting}
 use Rattle.core_machine.specs.machine.Calls.{IsBeside, CountsCall}
 use Rattle.core_machine.specs.seat.Seat.{Seat}
 use Rattle.core_machine.specs.Moves.{Move, seat_after}
-use Rattle.core_machine.specs.machine.Machine.{after}
+use Rattle.core_machine.specs.machine.Machine.{state_after}
 
 -- what is beside comes after what is
 beside_more : (number : ℕ) (told more : List Entry) → AllByRecursion (IsBeside number) told → AllByRecursion (IsBeside number) more → AllByRecursion (IsBeside number) (told ++ more)
-beside_more number [] more before after = after
-beside_more number (entry ∷ told) more before after = (before.0, beside_more number told more before.1 after)
+beside_more number [] more before state_after = state_after
+beside_more number (entry ∷ told) more before state_after = (before.0, beside_more number told more before.1 state_after)
 
 module _ (old : Seat) (number : ℕ) (command : Command) where
   -- nothing was counted, and no reply told
@@ -56,7 +56,7 @@ module _ (old : Seat) (number : ℕ) (command : Command) where
 
   abbrev pub Says : Seat → List Entry → Place → Type 0
   Says seat told places.Idle = IsOver seat told
-  Says seat told (places.Reaching Naming) = AwaitsName seat told × (command ≢ commands.Leave)
+  Says seat told (places.Access Naming) = AwaitsName seat told × (command ≢ commands.Leave)
   Says seat told (places.Leaving place) = IsGoing seat told × (command ≡ commands.Leave) × Leaves seat told place
   Says seat told _ = IsGoing seat told × (command ≢ commands.Leave)
 

@@ -16,23 +16,23 @@ use Rattle.core_machine.specs.declared.place.Making.{Making}
 use Rattle.core_machine.specs.declared.place.Making.TheVariants.{Gathering, Returning, Refusing, Storing, Bearing}
 use Rattle.core_machine.specs.table.Fragments.{clear_in}
 use Rattle.core_machine.specs.table.Layout.{at}
-use Rattle.core_machine.specs.seat.Making.{next_id}
-use Rattle.core_machine.specs.seat.Seat.{Seat, over}
+use Rattle.core_machine.specs.seat.Making.{next_object_id}
+use Rattle.core_machine.specs.seat.Seat.{Seat, after_call}
 use Rattle.core_machine.specs.machine.Machine.{State, seat_at}
 use Rattle.heap_model.specs.declared.id.Value.{Value}
-use Rattle.core_machine.specs.declared.place.Reaching.{Reaching}
-use Rattle.core_machine.specs.declared.place.Reaching.TheVariants.{Opening, Naming}
+use Rattle.core_machine.specs.declared.place.Access.{Access}
+use Rattle.core_machine.specs.declared.place.Access.TheVariants.{LoadingMeta, Naming}
 use Rattle.core_machine.specs.declared.place.Polling.{Polling}
 use Rattle.core_machine.specs.declared.place.Polling.TheVariants.{Asking, Shading, Answering}
 use Rattle.core_machine.specs.seat.Commands.{IsRecord}
-use Rattle.core_machine.specs.machine.Calls.{IsNear, free_fragments, within_reach, KeepsOwn, AnswersNew, IsPlaceRefusal, LeavesAll}
+use Rattle.core_machine.specs.machine.Calls.{IsPhaseNear, free_count, within_reach, KeepsOwn, AnswersNew, IsPlaceRefusal, LeavesAll}
 use Rattle.core_machine.proofs.call_lemmas.Claiming.{HasTaken, GivesBackAll}
 use Rattle.core_machine.proofs.call_lemmas.Restoring.{Claims}
 
 -- while groups are claimed: what is free now and what is in the hand was free at the begin, and the groups passed have nothing free
 pub record WhileGathering (heap : Heap) (old : State) (words : List ℕ) (number : ℕ) (command : Command) (told : List Entry) (seat : Seat) : Type 0 where
   pub own : KeepsOwn (seat_at old number) seat
-  pub free : free_fragments heap words + length seat.hand ≡ free_fragments heap old.words
+  pub free : free_count heap words + length seat.hand ≡ free_count heap old.words
   pub passed : (i : ℕ) → i < seat.tried → clear_in ((seat.cursor + i) % heap.groups) (at heap words (Control ((seat.cursor + i) % heap.groups))) ≡ []
   pub claims : Claims heap old.words words seat.hand
   pub takes : HasTaken number (length (seat_at old number).reserve) (need_of command) seat.hand told
@@ -40,7 +40,7 @@ pub record WhileGathering (heap : Heap) (old : State) (words : List ℕ) (number
 -- while what was claimed is given back: it was all that was free
 pub record WhileReturning (heap : Heap) (old : State) (words : List ℕ) (number : ℕ) (told : List Entry) (seat : Seat) : Type 0 where
   pub own : KeepsOwn (seat_at old number) seat
-  pub all : length seat.hand + seat.given ≡ free_fragments heap old.words
+  pub all : length seat.hand + seat.given ≡ free_count heap old.words
   pub claims : Claims heap old.words words seat.hand
   pub gives : GivesBackAll number seat.given seat.hand told
 
@@ -48,12 +48,12 @@ pub record WhileReturning (heap : Heap) (old : State) (words : List ℕ) (number
 pub record WhileMaking (heap : Heap) (old : State) (number : ℕ) (command : Command) (told : List Entry) (made : ℕ) : Type 0 where
   pub enough : need_of command ≤ within_reach heap old number
   pub made_stays : made ≡ (seat_at old number).made
-  pub claimed : ClaimsBefore number (length (seat_at old number).reserve) (need_of command) (replies.Made (next_id number (seat_at old number))) told
+  pub claimed : ClaimsBefore number (length (seat_at old number).reserve) (need_of command) (replies.Made (next_object_id number (seat_at old number))) told
 
 -- these entries are due before the reply, by the seat's reserve and its last answer at the begin
 abbrev pub ComesDue : Heap → State → ℕ → Command → Reply → List Entry → Type 0
 ComesDue heap old number command reply before =
-    (command ≡ Poll → IsNear heap old number)
+    (command ≡ Poll → IsPhaseNear heap old number)
     → ComesBefore number (length (seat_at old number).reserve) (seat_at old number).answered command reply before
 
 -- the call was answered: its last entry is its reply
@@ -67,7 +67,7 @@ pub record Answered (heap : Heap) (old new : State) (number : ℕ) (command : Co
 
 -- while nothing was changed or told, but for the call itself
 pub record Untouched (old now : State) (number : ℕ) (told : List Entry) (seat : Seat) : Type 0 where
-  pub resting : over (seat_at old number) ≡ seat_at old number
+  pub resting : after_call (seat_at old number) ≡ seat_at old number
   pub words_stay : now.words ≡ old.words
   pub seat_stays : seat ≡ record (seat_at old number) { command = seat.command; reached = seat.reached; links = seat.links; place = seat.place; mine = seat.mine }
   pub none_told : told ≡ []
@@ -92,10 +92,10 @@ StageOf heap old now number command told seat Refusing = WhileReturning heap old
 StageOf heap old now number command told seat Storing = WhileMaking heap old number command told seat.made
 StageOf heap old now number command told seat Bearing = WhileMaking heap old number command told seat.made
 
-abbrev pub ReachingStage : State → State → ℕ → Command → List Entry → Seat → Reaching → Type 0
-ReachingStage old now number command told seat Opening = Untouched old now number told seat
-ReachingStage old now number command told seat Naming = TellsGot number command told
-ReachingStage old now number command told seat _ = told ≡ []
+abbrev pub AccessStage : State → State → ℕ → Command → List Entry → Seat → Access → Type 0
+AccessStage old now number command told seat LoadingMeta = Untouched old now number told seat
+AccessStage old now number command told seat Naming = TellsGot number command told
+AccessStage old now number command told seat _ = told ≡ []
 
 abbrev pub PollingStage : Heap → State → State → ℕ → List Entry → Seat → Polling → Type 0
 PollingStage heap old now number told seat Asking = Untouched old now number told seat
@@ -105,7 +105,7 @@ PollingStage heap old now number told seat Answering = Prepares heap old number 
 abbrev pub Stage : Heap → State → State → ℕ → Command → List Entry → Seat → Place → Type 0
 Stage heap old now number command told seat places.Idle = Answered heap old now number command told
 Stage heap old now number command told seat (places.Making place) = (seat.command ≡ command) × StageOf heap old now number command told seat place
-Stage heap old now number command told seat places.Telling = (seat.command ≡ command) × Untouched old now number told seat
-Stage heap old now number command told seat (places.Reaching place) = (seat.command ≡ command) × ReachingStage old now number command told seat place
+Stage heap old now number command told seat places.Local = (seat.command ≡ command) × Untouched old now number told seat
+Stage heap old now number command told seat (places.Access place) = (seat.command ≡ command) × AccessStage old now number command told seat place
 Stage heap old now number command told seat (places.Polling place) = (seat.command ≡ command) × PollingStage heap old now number told seat place
 Stage heap old now number command told seat (places.Leaving place) = seat.command ≡ command

@@ -5,7 +5,7 @@ use Rattle.heap_model.specs.declared.heap.Heap.{Heap}
 use Rattle.core_machine.specs.declared.collector.stage.Stage.TheVariants as stages
 use Rattle.core_machine.specs.declared.step.Step.TheVariants.{Turning}
 use Rattle.core_machine.specs.declared.step.TurningStep.TheVariants as turning
-use Rattle.core_machine.specs.collector.Collector.{Collector, has_answered, looked_all, looked_on, looked_at, look_answer}
+use Rattle.core_machine.specs.collector.Collector.{Collector, has_answered_of, after_last_look, after_counted_look, after_look, look_answer}
 use Rattle.core_machine.specs.collector.FitsTurns.{CollectorFits}
 use Rattle.core_machine.proofs.collector_lemmas.Standing.{StageStands, quiet_stands}
 use Rattle.core_machine.proofs.table_lemmas.Bits.{bool_tells}
@@ -16,25 +16,25 @@ module _ (heap : Heap) (collector : Collector) (fits : CollectorFits heap collec
   fits_looking : (looked : ℕ) → looked < heap.seats → CollectorFits heap (record collector { looked = looked })
   fits_looking looked below = record { phase_within = fits.phase_within; phase_told = fits.phase_told; at_stage = rw looking below }
 
-  fits_looked_all : CollectorFits heap (looked_all heap collector)
-  fits_looked_all = elim (eqb_tells (collector.phase % 7) 3) as (λ _. CollectorFits heap (looked_all heap collector)) [
+  fits_looked_all : CollectorFits heap (after_last_look heap collector)
+  fits_looked_all = elim (eqb_tells (collector.phase % 7) 3) as (λ _. CollectorFits heap (after_last_look heap collector)) [
     | inl third ↦ rw third.0 (fits_looking 0 (omega (arith, within)))
     | inr other ↦ rw other.0 (record { phase_within = fits.phase_within; phase_told = fits.phase_told; at_stage = record { all = refl; goes_on = other.1 } })
   ]
 
-  fits_looked_on : CollectorFits heap (looked_on heap collector)
-  fits_looked_on = elim (leb_tells (suc (collector.looked + 1)) heap.seats) as (λ _. CollectorFits heap (looked_on heap collector)) [
+  fits_looked_on : CollectorFits heap (after_counted_look heap collector)
+  fits_looked_on = elim (leb_tells (suc (collector.looked + 1)) heap.seats) as (λ _. CollectorFits heap (after_counted_look heap collector)) [
     | inl more ↦ rw more.0 (fits_looking (collector.looked + 1) more.1)
     | inr all ↦ rw all.0 fits_looked_all
   ]
 
-  fits_looked_at : (found : ℕ) → CollectorFits heap (looked_at heap collector found)
-  fits_looked_at found = elim (bool_tells (has_answered collector.phase found)) as (λ _. CollectorFits heap (looked_at heap collector found)) [
+  fits_looked_at : (found : ℕ) → CollectorFits heap (after_look heap collector found)
+  fits_looked_at found = elim (bool_tells (has_answered_of collector.phase found)) as (λ _. CollectorFits heap (after_look heap collector found)) [
     | inl yes_ ↦ rw yes_ fits_looked_on
     | inr no_ ↦ rw no_ fits
   ]
 
 pub look_stands : StageStands stages.Looking
 look_stands heap collector limits fits looking within =
-    quiet_stands heap (turning.LookLoad collector.looked) (looked_at heap collector) (look_answer collector)
+    quiet_stands heap (turning.LookLoad collector.looked) (after_look heap collector) (look_answer collector)
     (load_stands heap (Turning (turning.LookLoad collector.looked)) refl (omega (arith, within, limits.seats_fit))) (fits_looked_at heap collector fits looking within)

@@ -4,8 +4,8 @@ use Rattle.heap_model.specs.declared.heap.Heap.{Heap}
 use Rattle.core_machine.specs.declared.step.Step.{Step}
 use Rattle.core_machine.specs.collector.Collector.{Collector, next_turn, collector_after}
 use Rattle.core_machine.specs.table.Layout.{put}
-use Rattle.core_machine.specs.table.Operation.{address_of, written}
-use Rattle.core_machine.specs.machine.Machine.{found_by, after, Turns}
+use Rattle.core_machine.specs.table.Operation.{address_of, word_after}
+use Rattle.core_machine.specs.machine.Machine.{found_by, state_after, Turns}
 use Rattle.core_machine.specs.machine.Value.{SeatWithRoom, MachineValue, IsMachine}
 use Rattle.core_machine.proofs.machine_lemmas.Parties.{state_of, value_of}
 use Rattle.core_machine.proofs.machine_lemmas.Runs.{machine_after}
@@ -17,13 +17,13 @@ module _ (heap : Heap) (words : List ℕ) (parties : List SeatWithRoom) (collect
 
   -- the word found, the words after and the collector after are told by equations
   turn_leaves : (found : ℕ) (now : List ℕ) (next : Collector) → found ≡ found_by heap (state_of words parties collector) step
-      → now ≡ put heap words (address_of step) (written step found) → next ≡ collector_after (next_turn heap collector) found
-      → state_of now parties next ≡ after heap (state_of words parties collector) Turns
+      → now ≡ put heap words (address_of step) (word_after step found) → next ≡ collector_after (next_turn heap collector) found
+      → state_of now parties next ≡ state_after heap (state_of words parties collector) Turns
   turn_leaves found now next is now_is next_is = rw (now_is, next_is, is, due) refl
 
   -- the turn leaves a machine
   pub turn_machine : (found : ℕ) (now : List ℕ) (next : Collector) → found ≡ found_by heap (state_of words parties collector) step
-      → now ≡ put heap words (address_of step) (written step found) → next ≡ collector_after (next_turn heap collector) found
+      → now ≡ put heap words (address_of step) (word_after step found) → next ≡ collector_after (next_turn heap collector) found
       → (next_turn heap collector).may → IsMachine heap (state_of words parties collector) → IsMachine heap (state_of now parties next)
   turn_machine found now next is now_is next_is may machine =
       subst (IsMachine heap) (sym (turn_leaves found now next is now_is next_is)) (machine_after heap (state_of words parties collector) Turns machine may)

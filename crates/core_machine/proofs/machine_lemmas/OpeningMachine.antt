@@ -1,5 +1,5 @@
 -- A state in which a heap opens is a machine's.
-use Rattle.std.proofs.Common.{◌≡◌, ℕ, zero, suc, ◌+◌, ◌-◌, ◌*◌, ◌/◌, ◌%◌, ◌<◌, ◌≤◌, ◌^◌, inl, inr, List, All, refl, sym, subst, arith, ◌∙◌, get_or}
+use Rattle.std.proofs.Common.{◌≡◌, ℕ, zero, suc, ◌+◌, ◌-◌, ◌*◌, ◌/◌, ◌%◌, ◌<◌, ◌≤◌, ◌^◌, inl, inr, List, All, refl, sym, subst, arith, ◌∙◌, get_or, ltb, true, lt-ltb}
 use Rattle.std.proofs.lemmas.Bool.Decides.{leb_tells, eqb_tells}
 use Rattle.std.proofs.lemmas.Grind.{get_or_default_zero}
 use Rattle.heap_model.specs.declared.heap.Heap.{Heap}
@@ -20,11 +20,12 @@ record Addressed (heap : Heap) (i : ℕ) : Type 0 where
   is : index_of heap address ≡ i
 
 spine_at : (heap : Heap) (i : ℕ) → 19 + 65 * heap.groups ≤ i → i < table_length heap → Addressed heap i
-spine_at heap i past within = record {
-  address = Spine ((i - (19 + 65 * heap.groups)) % 2) ((i - (19 + 65 * heap.groups)) / 2);
-  there = omega arith;
-  is = omega (arith, past);
-}
+spine_at heap i past within = elim (leb_tells (suc i) (19 + 65 * heap.groups + 2 * heap.spine)) [
+  | inl first ↦ let low : ltb (i - (19 + 65 * heap.groups)) (2 * heap.spine) ≡ true = lt-ltb _ _ (omega (arith, first.1, past)) in
+      record { address = Spine 0 (i - (19 + 65 * heap.groups)); there = omega arith; is = rw low (omega (arith, past)) }
+  | inr second ↦ let high : ltb (i - (19 + 65 * heap.groups + 2 * heap.spine)) (2 * heap.spine) ≡ true = lt-ltb _ _ (omega (arith, second.1, within)) in
+      record { address = Spine 1 (i - (19 + 65 * heap.groups + 2 * heap.spine)); there = omega arith; is = rw high (omega (arith, second.1)) }
+]
 
 fragment_at_index : (heap : Heap) (i : ℕ) → 19 + heap.groups ≤ i → i < table_length heap → Addressed heap i
 fragment_at_index heap i past within = elim (leb_tells (suc i) (19 + 65 * heap.groups)) [

@@ -13,13 +13,13 @@ use Rattle.heap_model.specs.Heap.{IsHeap}
 use Rattle.core_machine.specs.declared.table.address.Address.{Address}
 use Rattle.core_machine.specs.declared.table.address.Address.TheVariants.{Phase, Answer, Budget, Spot, Control, Word, Spine}
 use Rattle.core_machine.specs.table.Layout.{table_length, index_of, InTable, at, put}
-use Rattle.core_machine.specs.table.Newborn.{record_word}
+use Rattle.core_machine.specs.table.Newborn.{record_word_of}
 use Rattle.core_machine.specs.machine.Opening.{board, board_name, board_group, opening_word, opening_seat, with_left, with_board}
-use Rattle.core_machine.specs.seat.Seat.{Seat, nobody}
+use Rattle.core_machine.specs.seat.Seat.{Seat, absent_seat}
 use Rattle.core_machine.specs.declared.seat.register.Register.TheVariants.{Nil, Object}
 use Rattle.heap_model.specs.declared.id.Id.TheVariants.{Board}
 use Rattle.core_machine.specs.collector.Collector.{Collector, opening_collector}
-use Rattle.core_machine.specs.table.Loaded.{lead_of, IsWithinHeap, FoundWithin}
+use Rattle.core_machine.specs.table.Decode.{pointer_in, IsWithinHeap, FoundPointsWithin}
 use Rattle.core_machine.specs.seat.Fits.{AreFragments, FitsRegister, CollectorFits, Fits}
 use Rattle.core_machine.proofs.seat_lemmas.Aside.{gone_aside}
 use Rattle.core_machine.proofs.table_lemmas.Leading.{record_leads, zero_leads}
@@ -55,7 +55,7 @@ with_left-more heap words n (Spine half offset) word table past within there is 
 
 -- the next of the board's words
 abbrev pub next_word : ℕ → ℕ
-next_word place = record_word board_name 32 board (place / 4) (place % 4)
+next_word place = record_word_of board_name 32 board (place / 4) (place % 4)
 
 -- another word isn't
 with_board-other : (fragment part place word : ℕ) → 4 * fragment + part ≢ place
@@ -75,7 +75,7 @@ with_board-more heap words place (Word fragment part) word table some within the
           let f : place / 4 ≡ fragment = omega arith in
           let p : place % 4 ≡ part = omega arith in
           let now : ltb (4 * fragment + part) (place + 1) ≡ true = lt-ltb (4 * fragment + part) (place + 1) (omega arith) in
-          rw (f, p, now) (at-put_same heap words (Word fragment part) (record_word board_name 32 board fragment part) table there)
+          rw (f, p, now) (at-put_same heap words (Word fragment part) (record_word_of board_name 32 board fragment part) table there)
       | inr other ↦
           at-put_other heap words (Word (place / 4) (place % 4)) (Word fragment part) (next_word place) (omega arith, omega arith) there
           (λ same. other.1 (let f : fragment ≡ place / 4 = cc in let p : part ≡ place % 4 = cc in omega arith))
@@ -145,7 +145,7 @@ board_within heap some = list 11 0 (omega arith) where
   list (suc n) from few = All-cons (λ fragment. fragment < 16 * heap.groups) from (range_with_len (from + 1) n) (omega arith) (list n (from + 1) (omega arith))
 
 -- every word of the opening leads within the heap
-opening_leads : (heap : Heap) → IsHeap heap → (a : Address) → InTable heap a → FoundWithin heap a (opening_word heap a)
+opening_leads : (heap : Heap) → IsHeap heap → (a : Address) → InTable heap a → FoundPointsWithin heap a (opening_word heap a)
 opening_leads heap limits Phase there = tt
 opening_leads heap limits (Answer number) there = tt
 opening_leads heap limits Budget there = tt
@@ -153,7 +153,7 @@ opening_leads heap limits Spot there = tt
 opening_leads heap limits (Control group) there = tt
 opening_leads heap limits (Spine half offset) there = omega (arith, limits.some_group)
 opening_leads heap limits (Word f part) there =
-    elim (leb_tells (suc f) 11) as (λ _. IsWithinHeap heap (lead_of part (opening_word heap (Word f part)))) [
+    elim (leb_tells (suc f) 11) as (λ _. IsWithinHeap heap (pointer_in part (opening_word heap (Word f part)))) [
       | inl board_ ↦ rw board_.0 (record_leads heap board_name 32 board f part (omega arith) (omega arith) (omega arith) (omega (arith, limits.some_group)) (omega (arith, limits.groups_fit)) (board_within heap limits.some_group))
       | inr past ↦ rw past.0 (zero_leads heap part)
     ]
@@ -202,10 +202,10 @@ machine_opens heap words seats collector limits table wide opens opened here =
       limits = limits;
       table = table;
       wide = wide;
-      leads = λ a there. subst (FoundWithin heap a) (sym (opens a there)) (opening_leads heap limits a there);
+      leads = λ a there. subst (FoundPointsWithin heap a) (sym (opens a there)) (opening_leads heap limits a there);
       seated = long;
       fit = λ n within.
-          let is : get_or seats n nobody ≡ opening_seat heap n = ap (λ (l : List Seat). get_or l n nobody) opened ∙ get_or-map-range_with_len (opening_seat heap) 0 heap.seats n n nobody (omega arith) (omega arith) in
+          let is : get_or seats n absent_seat ≡ opening_seat heap n = ap (λ (l : List Seat). get_or l n absent_seat) opened ∙ get_or-map-range_with_len (opening_seat heap) 0 heap.seats n n absent_seat (omega arith) (omega arith) in
           subst (Fits heap) (sym is) (fits_open heap n limits);
       collector_fit = subst (CollectorFits heap) (sym here) (collector_opens heap limits);
     }

@@ -5,7 +5,7 @@ use Rattle.std.proofs.Math.ListN.{get_or-append, length-map}
 use Rattle.std.proofs.Math.Seq.{map-set_same}
 use Rattle.heap_model.specs.declared.heap.Heap.{Heap}
 use Rattle.core_machine.specs.collector.Collector.{Collector}
-use Rattle.core_machine.specs.seat.Seat.{Seat, nobody}
+use Rattle.core_machine.specs.seat.Seat.{Seat, absent_seat}
 use Rattle.core_machine.specs.machine.Machine.{State, seat_at}
 use Rattle.core_machine.specs.seat.Fits.{Fits}
 use Rattle.core_machine.specs.machine.Value.{SeatWithRoom, MachineValue, spare_of, IsMachine}
@@ -20,29 +20,29 @@ value_of heap words parties collector room =
     record { heap = heap; state = state_of words parties collector; spares = map (λ p. p.spare) parties ++ room ∷ [] }
 
 -- a seat's data are its party's
-pub seat_of : (words : List ℕ) (parties : List SeatWithRoom) (collector : Collector) (q : ℕ) (d : SeatWithRoom) → q < length parties
-    → seat_at (state_of words parties collector) q ≡ (get_or parties q d).seat
-seat_of words parties collector q d within = get_or-map (λ p. p.seat) parties q d nobody within
+pub seat_of : (words : List ℕ) (parties : List SeatWithRoom) (collector : Collector) (number : ℕ) (d : SeatWithRoom) → number < length parties
+    → seat_at (state_of words parties collector) number ≡ (get_or parties number d).seat
+seat_of words parties collector number d within = get_or-map (λ p. p.seat) parties number d absent_seat within
 
-pub fits_of : (heap : Heap) (words : List ℕ) (parties : List SeatWithRoom) (collector : Collector) (q : ℕ) (p : SeatWithRoom) → q < length parties
-    → p ≡ get_or parties q p → IsMachine heap (state_of words parties collector) → Fits heap p.seat
-fits_of heap words parties collector q p within is machine =
-    let fits = machine.fit q (omega (arith, length-map parties (λ (s : SeatWithRoom). s.seat))) in
-    subst (Fits heap) (seat_of words parties collector q p within ∙ sym (ap (λ (s : SeatWithRoom). s.seat) is)) fits
+pub fits_of : (heap : Heap) (words : List ℕ) (parties : List SeatWithRoom) (collector : Collector) (number : ℕ) (p : SeatWithRoom) → number < length parties
+    → p ≡ get_or parties number p → IsMachine heap (state_of words parties collector) → Fits heap p.seat
+fits_of heap words parties collector number p within is machine =
+    let fits = machine.fit number (omega (arith, length-map parties (λ (s : SeatWithRoom). s.seat))) in
+    subst (Fits heap) (seat_of words parties collector number p within ∙ sym (ap (λ (s : SeatWithRoom). s.seat) is)) fits
 
 -- the seats after another party came into the place of one
-pub seats_set : (parties : List SeatWithRoom) (q : ℕ) (p : SeatWithRoom) (seat : Seat) → p.seat ≡ seat
-    → map (λ s. s.seat) (set parties q p) ≡ set (map (λ s. s.seat) parties) q seat
-seats_set parties q p seat is = map-set (λ s. s.seat) parties q p ∙ ap (set (map (λ s. s.seat) parties) q) is
+pub seats_set : (parties : List SeatWithRoom) (number : ℕ) (p : SeatWithRoom) (seat : Seat) → p.seat ≡ seat
+    → map (λ s. s.seat) (set parties number p) ≡ set (map (λ s. s.seat) parties) number seat
+seats_set parties number p seat is = map-set (λ s. s.seat) parties number p ∙ ap (set (map (λ s. s.seat) parties) number) is
 
 -- a party that keeps its room
-pub spares_same : (parties : List SeatWithRoom) (q : ℕ) (p d : SeatWithRoom) → p.spare ≡ (get_or parties q d).spare
-    → map (λ s. s.spare) (set parties q p) ≡ map (λ s. s.spare) parties
-spares_same parties q p d is = map-set_same (λ s. s.spare) parties q p d is
+pub spares_same : (parties : List SeatWithRoom) (number : ℕ) (p d : SeatWithRoom) → p.spare ≡ (get_or parties number d).spare
+    → map (λ s. s.spare) (set parties number p) ≡ map (λ s. s.spare) parties
+spares_same parties number p d is = map-set_same (λ s. s.spare) parties number p d is
 
 -- a seat's room is its party's
-pub spare_at : (heap : Heap) (words : List ℕ) (parties : List SeatWithRoom) (collector : Collector) (room q : ℕ) (d : SeatWithRoom) → q < length parties
-    → spare_of (value_of heap words parties collector room) q ≡ (get_or parties q d).spare
-spare_at heap words parties collector room q d within =
-    get_or-append (map (λ s. s.spare) parties) (room ∷ []) 0 q (omega (arith, length-map parties (λ (s : SeatWithRoom). s.spare)))
-    ∙ get_or-map (λ s. s.spare) parties q d 0 within
+pub spare_at : (heap : Heap) (words : List ℕ) (parties : List SeatWithRoom) (collector : Collector) (room number : ℕ) (d : SeatWithRoom) → number < length parties
+    → spare_of (value_of heap words parties collector room) number ≡ (get_or parties number d).spare
+spare_at heap words parties collector room number d within =
+    get_or-append (map (λ s. s.spare) parties) (room ∷ []) 0 number (omega (arith, length-map parties (λ (s : SeatWithRoom). s.spare)))
+    ∙ get_or-map (λ s. s.spare) parties number d 0 within

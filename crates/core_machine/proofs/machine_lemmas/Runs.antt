@@ -9,13 +9,13 @@ use Rattle.heap_model.specs.declared.heap.Heap.{Heap}
 use Rattle.heap_model.specs.declared.command.Command.{Command}
 use Rattle.heap_model.specs.declared.entry.Entry.{Entry}
 use Rattle.core_machine.specs.table.Layout.{put, InTable}
-use Rattle.core_machine.specs.table.Loaded.{LeadWithin, FoundWithin}
+use Rattle.core_machine.specs.table.Decode.{PointersWithin, FoundPointsWithin}
 use Rattle.core_machine.specs.collector.Collector.{next_turn}
-use Rattle.core_machine.specs.table.Operation.{address_of, written}
-use Rattle.core_machine.specs.seat.Seat.{Seat, nobody}
+use Rattle.core_machine.specs.table.Operation.{address_of, word_after}
+use Rattle.core_machine.specs.seat.Seat.{Seat, absent_seat}
 use Rattle.core_machine.specs.declared.step.Step.{Step}
 use Rattle.core_machine.specs.Moves.{Move, next_move, due_step, seat_after}
-use Rattle.core_machine.specs.machine.Machine.{State, seat_at, found_by, Event, Begins, Steps, Turns, turned, Can, after, moved, entries, Run, after_all, history, begun}
+use Rattle.core_machine.specs.machine.Machine.{State, seat_at, found_by, Event, Begins, Steps, Turns, state_after_turn, Can, state_after, state_after_due, entries, Run, state_after_all, history, after_begin}
 use Rattle.core_machine.specs.seat.Fits.{Fits}
 use Rattle.core_machine.specs.machine.Value.{IsMachine}
 use Rattle.core_machine.specs.machine.Calls.{call_events}
@@ -26,71 +26,71 @@ use Rattle.core_machine.proofs.seat_lemmas.FittingEntries.{fits_entries}
 use Rattle.core_machine.proofs.collector_lemmas.{turn_stands}
 use Rattle.core_machine.proofs.table_lemmas.Leading.{leads-put}
 
-pub Run-more : (heap : Heap) (state : State) (events : List Event) (event : Event) → Run heap state events → Can heap (after_all heap state events) event
+pub Run-more : (heap : Heap) (state : State) (events : List Event) (event : Event) → Run heap state events → Can heap (state_after_all heap state events) event
     → Run heap state (events ++ event ∷ [])
 Run-more heap state [] event run can = (can, tt)
-Run-more heap state (first ∷ events) event run can = (run.0, Run-more heap (after heap state first) events event run.1 can)
+Run-more heap state (first ∷ events) event run can = (run.0, Run-more heap (state_after heap state first) events event run.1 can)
 
 pub after_all-more : (heap : Heap) (state : State) (events : List Event) (event : Event)
-    → after_all heap state (events ++ event ∷ []) ≡ after heap (after_all heap state events) event
+    → state_after_all heap state (events ++ event ∷ []) ≡ state_after heap (state_after_all heap state events) event
 after_all-more heap state [] event = refl
-after_all-more heap state (first ∷ events) event = after_all-more heap (after heap state first) events event
+after_all-more heap state (first ∷ events) event = after_all-more heap (state_after heap state first) events event
 
 pub history-more : (heap : Heap) (state : State) (events : List Event) (event : Event)
-    → history heap state (events ++ event ∷ []) ≡ history heap state events ++ entries heap (after_all heap state events) event
+    → history heap state (events ++ event ∷ []) ≡ history heap state events ++ entries heap (state_after_all heap state events) event
 history-more heap state [] event = append-nil (entries heap state event)
 history-more heap state (first ∷ events) event =
-    ap (λ (l : List Entry). entries heap state first ++ l) (history-more heap (after heap state first) events event)
-    ∙ sym (append_assoc (entries heap state first) (history heap (after heap state first) events) (entries heap (after_all heap (after heap state first) events) event))
+    ap (λ (l : List Entry). entries heap state first ++ l) (history-more heap (state_after heap state first) events event)
+    ∙ sym (append_assoc (entries heap state first) (history heap (state_after heap state first) events) (entries heap (state_after_all heap (state_after heap state first) events) event))
 
-pub call_events-more : (q : ℕ) (command : Command) (n : ℕ) → call_events q command (n + 1) ≡ call_events q command n ++ Steps q ∷ []
-call_events-more q command n = ap (λ (l : List Event). Begins q command ∷ l) (replicate_next n (Steps q))
+pub call_events-more : (number : ℕ) (command : Command) (n : ℕ) → call_events number command (n + 1) ≡ call_events number command n ++ Steps number ∷ []
+call_events-more number command n = ap (λ (l : List Event). Begins number command ∷ l) (replicate_next n (Steps number))
 
 -- a seat that was put in its place, and one beside it
-pub seat_at-set : (seats : List Seat) (q : ℕ) (seat : Seat) → q < length seats → get_or (set seats q seat) q nobody ≡ seat
-seat_at-set seats q seat within = get_or-set_same seats q seat nobody within
+pub seat_at-set : (seats : List Seat) (number : ℕ) (seat : Seat) → number < length seats → get_or (set seats number seat) number absent_seat ≡ seat
+seat_at-set seats number seat within = get_or-set_same seats number seat absent_seat within
 
 -- another seat in the place of one, and other words
-pub machine_with : (heap : Heap) (state : State) (words : List ℕ) (q : ℕ) (seat : Seat) → IsMachine heap state → q < length state.seats
-    → length words ≡ length state.words → All (λ word. word < 2 ^ 64) words → LeadWithin heap words → Fits heap seat
-    → IsMachine heap (record state { words = words; seats = set state.seats q seat })
-machine_with heap state words q seat machine within same wide leads fits =
-    let long = length-set state.seats q seat in
+pub machine_with : (heap : Heap) (state : State) (words : List ℕ) (number : ℕ) (seat : Seat) → IsMachine heap state → number < length state.seats
+    → length words ≡ length state.words → All (λ word. word < 2 ^ 64) words → PointersWithin heap words → Fits heap seat
+    → IsMachine heap (record state { words = words; seats = set state.seats number seat })
+machine_with heap state words number seat machine within same wide leads fits =
+    let long = length-set state.seats number seat in
     record {
       limits = machine.limits;
       table = same ∙ machine.table;
       wide = wide;
       leads = leads;
       seated = long ∙ machine.seated;
-      fit = λ n below. elim (eqb_tells n q) as (λ _. Fits heap (get_or (set state.seats q seat) n nobody)) [
-        | inl here ↦ subst (Fits heap) (sym (ap (λ (i : ℕ). get_or (set state.seats q seat) i nobody) here.1 ∙ seat_at-set state.seats q seat within)) fits
-        | inr there ↦ subst (Fits heap) (sym (get_or-set_other state.seats q n seat nobody there.1)) (machine.fit n (omega arith))
+      fit = λ n below. elim (eqb_tells n number) as (λ _. Fits heap (get_or (set state.seats number seat) n absent_seat)) [
+        | inl here ↦ subst (Fits heap) (sym (ap (λ (i : ℕ). get_or (set state.seats number seat) i absent_seat) here.1 ∙ seat_at-set state.seats number seat within)) fits
+        | inr there ↦ subst (Fits heap) (sym (get_or-set_other state.seats number n seat absent_seat there.1)) (machine.fit n (omega arith))
       ];
       collector_fit = machine.collector_fit;
     }
 
 -- each move of one of the seats stands
-pub moves_stand : (heap : Heap) (state : State) (q : ℕ) → IsMachine heap state → q < length state.seats
-    → IfSome (next_move heap q (seat_at state q)) (MoveStands heap q (seat_at state q) (seat_at state q).place)
-moves_stand heap state q machine within =
-    move_stands heap q (seat_at state q) machine.limits (omega (arith, within, machine.seated, machine.limits.seats_fit)) (machine.fit q within)
+pub moves_stand : (heap : Heap) (state : State) (number : ℕ) → IsMachine heap state → number < length state.seats
+    → IfSome (next_move heap number (seat_at state number)) (MoveStands heap number (seat_at state number) (seat_at state number).place)
+moves_stand heap state number machine within =
+    move_stands heap number (seat_at state number) machine.limits (omega (arith, within, machine.seated, machine.limits.seats_fit)) (machine.fit number within)
 
-machine_moved : (heap : Heap) (state : State) (q : ℕ) (move : Option Move) → IsMachine heap state → q < length state.seats
-    → IfSome move (MoveStands heap q (seat_at state q) (seat_at state q).place) → IsMachine heap (moved heap state q move)
-machine_moved heap state q None machine within stands = machine
-machine_moved heap state q (Some move) machine within stands =
+machine_moved : (heap : Heap) (state : State) (number : ℕ) (move : Option Move) → IsMachine heap state → number < length state.seats
+    → IfSome move (MoveStands heap number (seat_at state number) (seat_at state number).place) → IsMachine heap (state_after_due heap state number move)
+machine_moved heap state number None machine within stands = machine
+machine_moved heap state number (Some move) machine within stands =
     let found = found_by heap state move.step in
     let there = stands.step.in_table in
     let small = at-lt heap state.words (address_of move.step) machine.wide in
     let led = machine.leads (address_of move.step) there in
-    machine_with heap state (put heap state.words (address_of move.step) (written move.step found)) q (seat_after move found) machine within
-    (length-put heap state.words (address_of move.step) (written move.step found))
-    (All-put heap state.words (address_of move.step) (written move.step found) (stands.step.wide found small) machine.wide)
-    (leads-put heap state.words (address_of move.step) (written move.step found) there (stands.step.leads found led) machine.leads)
+    machine_with heap state (put heap state.words (address_of move.step) (word_after move.step found)) number (seat_after move found) machine within
+    (length-put heap state.words (address_of move.step) (word_after move.step found))
+    (All-put heap state.words (address_of move.step) (word_after move.step found) (stands.step.wide found small) machine.wide)
+    (leads-put heap state.words (address_of move.step) (word_after move.step found) there (stands.step.leads found led) machine.leads)
     (fits_entries heap (move.told found) (move.adds found) (stands.fits found small led))
 
 -- the collector's turn leaves a machine
-machine_turned : (heap : Heap) (state : State) → IsMachine heap state → (next_turn heap state.collector).may → IsMachine heap (turned heap state (next_turn heap state.collector))
+machine_turned : (heap : Heap) (state : State) → IsMachine heap state → (next_turn heap state.collector).may → IsMachine heap (state_after_turn heap state (next_turn heap state.collector))
 machine_turned heap state machine may =
     let step = (next_turn heap state.collector).step in
     let found = found_by heap state step in
@@ -98,47 +98,47 @@ machine_turned heap state machine may =
     let there = stands.step.in_table in
     record {
       limits = machine.limits;
-      table = length-put heap state.words (address_of step) (written step found) ∙ machine.table;
-      wide = All-put heap state.words (address_of step) (written step found) (stands.step.wide found (at-lt heap state.words (address_of step) machine.wide)) machine.wide;
-      leads = leads-put heap state.words (address_of step) (written step found) there (stands.step.leads found (machine.leads (address_of step) there)) machine.leads;
+      table = length-put heap state.words (address_of step) (word_after step found) ∙ machine.table;
+      wide = All-put heap state.words (address_of step) (word_after step found) (stands.step.wide found (at-lt heap state.words (address_of step) machine.wide)) machine.wide;
+      leads = leads-put heap state.words (address_of step) (word_after step found) there (stands.step.leads found (machine.leads (address_of step) there)) machine.leads;
       seated = machine.seated;
       fit = machine.fit;
       collector_fit = stands.fits found may;
     }
 
 -- who has a move is a seat
-pub mover_within : (heap : Heap) (state : State) (q : ℕ) → IsSome (next_move heap q (seat_at state q)) → q < length state.seats
-mover_within heap state q some =
-    elim (leb_tells (suc q) (length state.seats)) as (λ _. q < length state.seats) [
+pub mover_within : (heap : Heap) (state : State) (number : ℕ) → IsSome (next_move heap number (seat_at state number)) → number < length state.seats
+mover_within heap state number some =
+    elim (leb_tells (suc number) (length state.seats)) as (λ _. number < length state.seats) [
       | inl within ↦ within.1
-      | inr past ↦ absurd (none (subst (λ (s : Seat). IsSome (next_move heap q s)) (get_or_past state.seats q nobody (omega (arith, past.1))) some))
+      | inr past ↦ absurd (none (subst (λ (s : Seat). IsSome (next_move heap number s)) (get_or_past state.seats number absent_seat (omega (arith, past.1))) some))
     ]
   where
-    none : IsSome (next_move heap q nobody) → ⊥
+    none : IsSome (next_move heap number absent_seat) → ⊥
     none e = cc
 
 -- the due step touches a word of the table, and finds one there that leads within the heap
-due_at_move : (heap : Heap) (state : State) (q : ℕ) (move : Option Move) (step : Step) → IsMachine heap state → option_map (λ m. m.step) move ≡ Some step
-    → IfSome move (MoveStands heap q (seat_at state q) (seat_at state q).place)
-    → InTable heap (address_of step) × IfSome move (λ m. FoundWithin heap (address_of m.step) (found_by heap state step))
-due_at_move heap state q None step machine due stands = cc
-due_at_move heap state q (Some move) step machine due stands =
+due_at_move : (heap : Heap) (state : State) (number : ℕ) (move : Option Move) (step : Step) → IsMachine heap state → option_map (λ m. m.step) move ≡ Some step
+    → IfSome move (MoveStands heap number (seat_at state number) (seat_at state number).place)
+    → InTable heap (address_of step) × IfSome move (λ m. FoundPointsWithin heap (address_of m.step) (found_by heap state step))
+due_at_move heap state number None step machine due stands = cc
+due_at_move heap state number (Some move) step machine due stands =
     let there = stands.step.in_table in
     let same : move.step ≡ step = cc in (
       subst (λ (s : Step). InTable heap (address_of s)) same there,
-      subst (λ (s : Step). FoundWithin heap (address_of move.step) (found_by heap state s)) same (machine.leads (address_of move.step) there),
+      subst (λ (s : Step). FoundPointsWithin heap (address_of move.step) (found_by heap state s)) same (machine.leads (address_of move.step) there),
     )
 
-pub due_within_table : (heap : Heap) (state : State) (q : ℕ) (step : Step) → IsMachine heap state → q < length state.seats → due_step heap q (seat_at state q) ≡ Some step
-    → InTable heap (address_of step) × IfSome (next_move heap q (seat_at state q)) (λ m. FoundWithin heap (address_of m.step) (found_by heap state step))
-due_within_table heap state q step machine within due =
-    due_at_move heap state q (next_move heap q (seat_at state q)) step machine due (moves_stand heap state q machine within)
+pub due_within_table : (heap : Heap) (state : State) (number : ℕ) (step : Step) → IsMachine heap state → number < length state.seats → due_step heap number (seat_at state number) ≡ Some step
+    → InTable heap (address_of step) × IfSome (next_move heap number (seat_at state number)) (λ m. FoundPointsWithin heap (address_of m.step) (found_by heap state step))
+due_within_table heap state number step machine within due =
+    due_at_move heap state number (next_move heap number (seat_at state number)) step machine due (moves_stand heap state number machine within)
 
 -- every event leaves a machine
-pub machine_after : (heap : Heap) (state : State) (event : Event) → IsMachine heap state → Can heap state event → IsMachine heap (after heap state event)
-machine_after heap state (Begins q command) machine can =
-    machine_with heap state state.words q (begun heap (seat_at state q) command) machine can.0 refl machine.wide machine.leads (begin_stands heap q (seat_at state q) command machine.limits (machine.fit q can.0) can.1).fits
-machine_after heap state (Steps q) machine can =
-    let within = mover_within heap state q can in
-    machine_moved heap state q (next_move heap q (seat_at state q)) machine within (moves_stand heap state q machine within)
+pub machine_after : (heap : Heap) (state : State) (event : Event) → IsMachine heap state → Can heap state event → IsMachine heap (state_after heap state event)
+machine_after heap state (Begins number command) machine can =
+    machine_with heap state state.words number (after_begin heap (seat_at state number) command) machine can.0 refl machine.wide machine.leads (begin_stands heap number (seat_at state number) command machine.limits (machine.fit number can.0) can.1).fits
+machine_after heap state (Steps number) machine can =
+    let within = mover_within heap state number can in
+    machine_moved heap state number (next_move heap number (seat_at state number)) machine within (moves_stand heap state number machine within)
 machine_after heap state Turns machine can = machine_turned heap state machine can

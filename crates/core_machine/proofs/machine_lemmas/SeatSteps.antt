@@ -4,54 +4,54 @@ use Rattle.std.specs.Prelude.{IfSome}
 use Rattle.heap_model.specs.declared.heap.Heap.{Heap}
 use Rattle.core_machine.specs.declared.step.Step.{Step}
 use Rattle.core_machine.specs.table.Layout.{put, InTable}
-use Rattle.core_machine.specs.table.Loaded.{FoundWithin}
-use Rattle.core_machine.specs.table.Operation.{address_of, written}
+use Rattle.core_machine.specs.table.Decode.{FoundPointsWithin}
+use Rattle.core_machine.specs.table.Operation.{address_of, word_after}
 use Rattle.core_machine.specs.collector.Collector.{Collector}
 use Rattle.core_machine.specs.seat.Fits.{Fits}
-use Rattle.core_machine.specs.Moves.{next_move, due_step, seat_moved}
-use Rattle.core_machine.specs.machine.Machine.{seat_at, found_by, Steps, after}
+use Rattle.core_machine.specs.Moves.{next_move, due_step, seat_after_due}
+use Rattle.core_machine.specs.machine.Machine.{seat_at, found_by, Steps, state_after}
 use Rattle.core_machine.specs.machine.Value.{SeatWithRoom, MachineValue, SpendsRoom, IsMachine}
 use Rattle.core_machine.proofs.machine_lemmas.Parties.{state_of, value_of, fits_of}
 use Rattle.core_machine.proofs.machine_lemmas.Stepping.{due_within, step_in_table, step_found, step_machine, step_state_of, step_spends}
 
-module _ (heap : Heap) (words : List ℕ) (parties : List SeatWithRoom) (collector : Collector) (room : ℕ) (value : MachineValue) (q : ℕ) (step : Step)
-    (view : value_of heap words parties collector room ≡ value) (by_value : due_step value.heap q (seat_at value.state q) ≡ Some step) where
-  due : due_step heap q (seat_at (state_of words parties collector) q) ≡ Some step
-  due = subst (λ (v : MachineValue). due_step v.heap q (seat_at v.state q) ≡ Some step) (sym view) by_value
+module _ (heap : Heap) (words : List ℕ) (parties : List SeatWithRoom) (collector : Collector) (room : ℕ) (value : MachineValue) (number : ℕ) (step : Step)
+    (view : value_of heap words parties collector room ≡ value) (by_value : due_step value.heap number (seat_at value.state number) ≡ Some step) where
+  due : due_step heap number (seat_at (state_of words parties collector) number) ≡ Some step
+  due = subst (λ (v : MachineValue). due_step v.heap number (seat_at v.state number) ≡ Some step) (sym view) by_value
 
-  within : q < length parties
-  within = due_within heap words parties collector q step due
+  within : number < length parties
+  within = due_within heap words parties collector number step due
 
   -- its word is in the table
   pub in_table_of : IsMachine heap (state_of words parties collector) → InTable heap (address_of step)
-  in_table_of machine = step_in_table heap words parties collector q step machine due
+  in_table_of machine = step_in_table heap words parties collector number step machine due
 
   -- the seat's data fit together
-  pub seat_fits : (party : SeatWithRoom) → party ≡ get_or parties q party → IsMachine heap (state_of words parties collector) → Fits heap party.seat
-  seat_fits party here machine = fits_of heap words parties collector q party within here machine
+  pub seat_fits : (party : SeatWithRoom) → party ≡ get_or parties number party → IsMachine heap (state_of words parties collector) → Fits heap party.seat
+  seat_fits party here machine = fits_of heap words parties collector number party within here machine
 
   -- the word that it finds leads within the heap
-  pub seat_finds : (party : SeatWithRoom) (found : ℕ) → party ≡ get_or parties q party → IsMachine heap (state_of words parties collector)
-      → found ≡ found_by heap (state_of words parties collector) step → IfSome (next_move heap q party.seat) (λ m. FoundWithin heap (address_of m.step) found)
+  pub seat_finds : (party : SeatWithRoom) (found : ℕ) → party ≡ get_or parties number party → IsMachine heap (state_of words parties collector)
+      → found ≡ found_by heap (state_of words parties collector) step → IfSome (next_move heap number party.seat) (λ m. FoundPointsWithin heap (address_of m.step) found)
   seat_finds party found here machine is =
-      step_found heap words parties collector room q party party within here step found machine due is
+      step_found heap words parties collector room number party party within here step found machine due is
 
   -- the party that got room loses no more than its new entries take
-  pub seat_spends : (party next : SeatWithRoom) (now : List ℕ) → party ≡ get_or parties q party
-      → party.spare + length party.seat.mine ≤ next.spare + length next.seat.mine → SpendsRoom value (value_of heap now (set parties q next) collector room) q
+  pub seat_spends : (party next : SeatWithRoom) (now : List ℕ) → party ≡ get_or parties number party
+      → party.spare + length party.seat.mine ≤ next.spare + length next.seat.mine → SpendsRoom value (value_of heap now (set parties number next) collector room) number
   seat_spends party next now here own =
-      subst (λ (v : MachineValue). SpendsRoom v (value_of heap now (set parties q next) collector room) q) view
-      (step_spends heap words parties collector room q party next within here now own)
+      subst (λ (v : MachineValue). SpendsRoom v (value_of heap now (set parties number next) collector room) number) view
+      (step_spends heap words parties collector room number party next within here now own)
 
-  module _ (party next : SeatWithRoom) (found : ℕ) (now : List ℕ) (here : party ≡ get_or parties q party) (is : found ≡ found_by heap (state_of words parties collector) step)
-      (now_is : now ≡ put heap words (address_of step) (written step found)) (moved_ : next.seat ≡ seat_moved party.seat (next_move heap q party.seat) found) where
-    step_leaves : state_of now (set parties q next) collector ≡ after heap (state_of words parties collector) (Steps q)
-    step_leaves = step_state_of heap words parties collector room q party next within here step found now due is now_is moved_
+  module _ (party next : SeatWithRoom) (found : ℕ) (now : List ℕ) (here : party ≡ get_or parties number party) (is : found ≡ found_by heap (state_of words parties collector) step)
+      (now_is : now ≡ put heap words (address_of step) (word_after step found)) (moved_ : next.seat ≡ seat_after_due party.seat (next_move heap number party.seat) found) where
+    step_leaves : state_of now (set parties number next) collector ≡ state_after heap (state_of words parties collector) (Steps number)
+    step_leaves = step_state_of heap words parties collector room number party next within here step found now due is now_is moved_
 
     -- it leaves the state after it
-    pub seat_leaves : state_of now (set parties q next) collector ≡ after value.heap value.state (Steps q)
-    seat_leaves = subst (λ (v : MachineValue). state_of now (set parties q next) collector ≡ after v.heap v.state (Steps q)) view step_leaves
+    pub seat_leaves : state_of now (set parties number next) collector ≡ state_after value.heap value.state (Steps number)
+    seat_leaves = subst (λ (v : MachineValue). state_of now (set parties number next) collector ≡ state_after v.heap v.state (Steps number)) view step_leaves
 
     -- and a machine
-    pub seat_machine : IsMachine heap (state_of words parties collector) → IsMachine heap (state_of now (set parties q next) collector)
-    seat_machine machine = step_machine heap words parties collector room q party next within here step now due step_leaves machine
+    pub seat_machine : IsMachine heap (state_of words parties collector) → IsMachine heap (state_of now (set parties number next) collector)
+    seat_machine machine = step_machine heap words parties collector room number party next within here step now due step_leaves machine

@@ -9,151 +9,151 @@ use Rattle.heap_model.specs.declared.heap.Heap.{Heap}
 use Rattle.heap_model.specs.declared.command.Command.{Command}
 use Rattle.core_machine.specs.declared.step.Step.{Step}
 use Rattle.core_machine.specs.table.Layout.{put, InTable}
-use Rattle.core_machine.specs.table.Loaded.{FoundWithin}
-use Rattle.core_machine.specs.table.Operation.{address_of, written}
+use Rattle.core_machine.specs.table.Decode.{FoundPointsWithin}
+use Rattle.core_machine.specs.table.Operation.{address_of, word_after}
 use Rattle.core_machine.specs.collector.Collector.{Collector}
-use Rattle.core_machine.specs.seat.Seat.{Seat, nobody}
-use Rattle.core_machine.specs.Moves.{Move, next_move, due_step, seat_moved}
-use Rattle.core_machine.specs.machine.Machine.{seat_at, found_by, MayBegin, begun, Begins, Steps, after, moved}
+use Rattle.core_machine.specs.seat.Seat.{Seat, absent_seat}
+use Rattle.core_machine.specs.Moves.{Move, next_move, due_step, seat_after_due}
+use Rattle.core_machine.specs.machine.Machine.{seat_at, found_by, MayBegin, after_begin, Begins, Steps, state_after, state_after_due}
 use Rattle.core_machine.specs.machine.Value.{SeatWithRoom, spare_of, log_of, SpendsRoom, IsMachine}
 use Rattle.core_machine.proofs.machine_lemmas.Runs.{machine_after, due_within_table}
 use Rattle.core_machine.proofs.machine_lemmas.Parties.{state_of, value_of, seat_of, seats_set, spares_same, spare_at}
 
 -- a party with a step due is a seat
-pub due_within : (heap : Heap) (words : List ℕ) (parties : List SeatWithRoom) (collector : Collector) (q : ℕ) (step : Step)
-    → due_step heap q (seat_at (state_of words parties collector) q) ≡ Some step → q < length parties
-due_within heap words parties collector q step due =
-    elim (leb_tells (suc q) (length parties)) as (λ _. q < length parties) [
+pub due_within : (heap : Heap) (words : List ℕ) (parties : List SeatWithRoom) (collector : Collector) (number : ℕ) (step : Step)
+    → due_step heap number (seat_at (state_of words parties collector) number) ≡ Some step → number < length parties
+due_within heap words parties collector number step due =
+    elim (leb_tells (suc number) (length parties)) as (λ _. number < length parties) [
       | inl within ↦ within.1
-      | inr past ↦ absurd (none (get_or_past (map (λ s. s.seat) parties) q nobody (omega (arith, length-map parties (λ (s : SeatWithRoom). s.seat), past.1))))
+      | inr past ↦ absurd (none (get_or_past (map (λ s. s.seat) parties) number absent_seat (omega (arith, length-map parties (λ (s : SeatWithRoom). s.seat), past.1))))
     ]
   where
-    none : seat_at (state_of words parties collector) q ≡ nobody → ⊥
+    none : seat_at (state_of words parties collector) number ≡ absent_seat → ⊥
     none is = let e = rw is at due in cc
 
 -- the due step touches a word of the table
-pub step_in_table : (heap : Heap) (words : List ℕ) (parties : List SeatWithRoom) (collector : Collector) (q : ℕ) (step : Step) → IsMachine heap (state_of words parties collector)
-    → due_step heap q (seat_at (state_of words parties collector) q) ≡ Some step → InTable heap (address_of step)
-step_in_table heap words parties collector q step machine due =
-    let within = due_within heap words parties collector q step due in
-    (due_within_table heap (state_of words parties collector) q step machine (omega (arith, within, length-map parties (λ (s : SeatWithRoom). s.seat))) due).0
+pub step_in_table : (heap : Heap) (words : List ℕ) (parties : List SeatWithRoom) (collector : Collector) (number : ℕ) (step : Step) → IsMachine heap (state_of words parties collector)
+    → due_step heap number (seat_at (state_of words parties collector) number) ≡ Some step → InTable heap (address_of step)
+step_in_table heap words parties collector number step machine due =
+    let within = due_within heap words parties collector number step due in
+    (due_within_table heap (state_of words parties collector) number step machine (omega (arith, within, length-map parties (λ (s : SeatWithRoom). s.seat))) due).0
 
 -- a step is due of who has a move
 due_some : (move : Option Move) (step : Step) → option_map (λ m. m.step) move ≡ Some step → IsSome move
 due_some None step due = cc
 due_some (Some move) step due = refl
 
-module _ (heap : Heap) (words : List ℕ) (parties : List SeatWithRoom) (collector : Collector) (room q : ℕ) (party next : SeatWithRoom)
-    (within : q < length parties) (here : party ≡ get_or parties q party) where
+module _ (heap : Heap) (words : List ℕ) (parties : List SeatWithRoom) (collector : Collector) (room number : ℕ) (party next : SeatWithRoom)
+    (within : number < length parties) (here : party ≡ get_or parties number party) where
   -- the seat that acts
-  the_seat : seat_at (state_of words parties collector) q ≡ party.seat
-  the_seat = seat_of words parties collector q party within ∙ sym (ap (λ (s : SeatWithRoom). s.seat) here)
+  the_seat : seat_at (state_of words parties collector) number ≡ party.seat
+  the_seat = seat_of words parties collector number party within ∙ sym (ap (λ (s : SeatWithRoom). s.seat) here)
 
-  seat_within : q < length (map (λ s. s.seat) parties)
+  seat_within : number < length (map (λ s. s.seat) parties)
   seat_within = omega (arith, within, length-map parties (λ (s : SeatWithRoom). s.seat))
 
-  begin_state : (command : Command) → next.seat ≡ begun heap party.seat command
-      → state_of words (set parties q next) collector ≡ after heap (state_of words parties collector) (Begins q command)
+  begin_state : (command : Command) → next.seat ≡ after_begin heap party.seat command
+      → state_of words (set parties number next) collector ≡ state_after heap (state_of words parties collector) (Begins number command)
   begin_state command is =
-      let seats = seats_set parties q next (begun heap (seat_at (state_of words parties collector) q) command) (is ∙ ap (λ (s : Seat). begun heap s command) (sym the_seat)) in
+      let seats = seats_set parties number next (after_begin heap (seat_at (state_of words parties collector) number) command) (is ∙ ap (λ (s : Seat). after_begin heap s command) (sym the_seat)) in
       rw seats refl
 
-  pub begin_machine : (command : Command) → MayBegin (seat_at (state_of words parties collector) q) command → next.seat ≡ begun heap party.seat command
-      → IsMachine heap (state_of words parties collector) → IsMachine heap (state_of words (set parties q next) collector)
+  pub begin_machine : (command : Command) → MayBegin (seat_at (state_of words parties collector) number) command → next.seat ≡ after_begin heap party.seat command
+      → IsMachine heap (state_of words parties collector) → IsMachine heap (state_of words (set parties number next) collector)
   begin_machine command may is machine =
       let state = begin_state command is in
-      subst (IsMachine heap) (sym state) (machine_after heap (state_of words parties collector) (Begins q command) machine (seat_within, may))
+      subst (IsMachine heap) (sym state) (machine_after heap (state_of words parties collector) (Begins number command) machine (seat_within, may))
 
-  pub begin_value : (command : Command) → next.seat ≡ begun heap party.seat command → next.spare ≡ party.spare
-      → value_of heap words (set parties q next) collector room
-      ≡ record (value_of heap words parties collector room) { state = after heap (state_of words parties collector) (Begins q command) }
+  pub begin_value : (command : Command) → next.seat ≡ after_begin heap party.seat command → next.spare ≡ party.spare
+      → value_of heap words (set parties number next) collector room
+      ≡ record (value_of heap words parties collector room) { state = state_after heap (state_of words parties collector) (Begins number command) }
   begin_value command is same =
-      let seats = seats_set parties q next (begun heap (seat_at (state_of words parties collector) q) command) (is ∙ ap (λ (s : Seat). begun heap s command) (sym the_seat)) in
-      let spares = spares_same parties q next party (same ∙ ap (λ (s : SeatWithRoom). s.spare) here) in
+      let seats = seats_set parties number next (after_begin heap (seat_at (state_of words parties collector) number) command) (is ∙ ap (λ (s : Seat). after_begin heap s command) (sym the_seat)) in
+      let spares = spares_same parties number next party (same ∙ ap (λ (s : SeatWithRoom). s.spare) here) in
       rw (seats, spares) refl
 
   step_state_by : (step : Step) (seat : Seat) (move : Option Move) → option_map (λ m. m.step) move ≡ Some step
-      → next.seat ≡ seat_moved seat move (found_by heap (state_of words parties collector) step)
-      → state_of (put heap words (address_of step) (written step (found_by heap (state_of words parties collector) step))) (set parties q next) collector
-      ≡ moved heap (state_of words parties collector) q move
+      → next.seat ≡ seat_after_due seat move (found_by heap (state_of words parties collector) step)
+      → state_of (put heap words (address_of step) (word_after step (found_by heap (state_of words parties collector) step))) (set parties number next) collector
+      ≡ state_after_due heap (state_of words parties collector) number move
   step_state_by step seat None due is = cc
   step_state_by step seat (Some move) due is =
       let same : step ≡ move.step = cc in
-      let seats = seats_set parties q next _ is in
+      let seats = seats_set parties number next _ is in
       rw (seats, same) refl
 
-  pub step_state : (step : Step) → due_step heap q (seat_at (state_of words parties collector) q) ≡ Some step
-      → next.seat ≡ seat_moved party.seat (next_move heap q party.seat) (found_by heap (state_of words parties collector) step)
-      → state_of (put heap words (address_of step) (written step (found_by heap (state_of words parties collector) step))) (set parties q next) collector
-      ≡ after heap (state_of words parties collector) (Steps q)
+  pub step_state : (step : Step) → due_step heap number (seat_at (state_of words parties collector) number) ≡ Some step
+      → next.seat ≡ seat_after_due party.seat (next_move heap number party.seat) (found_by heap (state_of words parties collector) step)
+      → state_of (put heap words (address_of step) (word_after step (found_by heap (state_of words parties collector) step))) (set parties number next) collector
+      ≡ state_after heap (state_of words parties collector) (Steps number)
   step_state step due is =
-      step_state_by step (seat_at (state_of words parties collector) q) (next_move heap q (seat_at (state_of words parties collector) q)) due
-      (subst (λ (s : Seat). next.seat ≡ seat_moved s (next_move heap q s) (found_by heap (state_of words parties collector) step)) (sym the_seat) is)
+      step_state_by step (seat_at (state_of words parties collector) number) (next_move heap number (seat_at (state_of words parties collector) number)) due
+      (subst (λ (s : Seat). next.seat ≡ seat_after_due s (next_move heap number s) (found_by heap (state_of words parties collector) step)) (sym the_seat) is)
 
   -- the same, where the word found and the words after are told by equations
-  pub step_state_of : (step : Step) (found : ℕ) (now : List ℕ) → due_step heap q (seat_at (state_of words parties collector) q) ≡ Some step
-      → found ≡ found_by heap (state_of words parties collector) step → now ≡ put heap words (address_of step) (written step found)
-      → next.seat ≡ seat_moved party.seat (next_move heap q party.seat) found
-      → state_of now (set parties q next) collector ≡ after heap (state_of words parties collector) (Steps q)
+  pub step_state_of : (step : Step) (found : ℕ) (now : List ℕ) → due_step heap number (seat_at (state_of words parties collector) number) ≡ Some step
+      → found ≡ found_by heap (state_of words parties collector) step → now ≡ put heap words (address_of step) (word_after step found)
+      → next.seat ≡ seat_after_due party.seat (next_move heap number party.seat) found
+      → state_of now (set parties number next) collector ≡ state_after heap (state_of words parties collector) (Steps number)
   step_state_of step found now due is now_is moved_ =
-      rw (now_is, is) (step_state step due (subst (λ (n : ℕ). next.seat ≡ seat_moved party.seat (next_move heap q party.seat) n) is moved_))
+      rw (now_is, is) (step_state step due (subst (λ (n : ℕ). next.seat ≡ seat_after_due party.seat (next_move heap number party.seat) n) is moved_))
 
   -- the due step finds a word that leads within the heap
-  pub step_found : (step : Step) (found : ℕ) → IsMachine heap (state_of words parties collector) → due_step heap q (seat_at (state_of words parties collector) q) ≡ Some step
-      → found ≡ found_by heap (state_of words parties collector) step → IfSome (next_move heap q party.seat) (λ m. FoundWithin heap (address_of m.step) found)
+  pub step_found : (step : Step) (found : ℕ) → IsMachine heap (state_of words parties collector) → due_step heap number (seat_at (state_of words parties collector) number) ≡ Some step
+      → found ≡ found_by heap (state_of words parties collector) step → IfSome (next_move heap number party.seat) (λ m. FoundPointsWithin heap (address_of m.step) found)
   step_found step found machine due is =
-      let led = (due_within_table heap (state_of words parties collector) q step machine seat_within due).1 in
-      subst (λ (s : Seat). IfSome (next_move heap q s) (λ m. FoundWithin heap (address_of m.step) found)) the_seat
-      (subst (λ (w : ℕ). IfSome (next_move heap q (seat_at (state_of words parties collector) q)) (λ m. FoundWithin heap (address_of m.step) w)) (sym is) led)
+      let led = (due_within_table heap (state_of words parties collector) number step machine seat_within due).1 in
+      subst (λ (s : Seat). IfSome (next_move heap number s) (λ m. FoundPointsWithin heap (address_of m.step) found)) the_seat
+      (subst (λ (w : ℕ). IfSome (next_move heap number (seat_at (state_of words parties collector) number)) (λ m. FoundPointsWithin heap (address_of m.step) w)) (sym is) led)
 
   -- so the step leaves a machine
-  pub step_machine : (step : Step) (now : List ℕ) → due_step heap q (seat_at (state_of words parties collector) q) ≡ Some step
-      → state_of now (set parties q next) collector ≡ after heap (state_of words parties collector) (Steps q)
-      → IsMachine heap (state_of words parties collector) → IsMachine heap (state_of now (set parties q next) collector)
+  pub step_machine : (step : Step) (now : List ℕ) → due_step heap number (seat_at (state_of words parties collector) number) ≡ Some step
+      → state_of now (set parties number next) collector ≡ state_after heap (state_of words parties collector) (Steps number)
+      → IsMachine heap (state_of words parties collector) → IsMachine heap (state_of now (set parties number next) collector)
   step_machine step now due state machine =
-      subst (IsMachine heap) (sym state) (machine_after heap (state_of words parties collector) (Steps q) machine (due_some (next_move heap q (seat_at (state_of words parties collector) q)) step due))
+      subst (IsMachine heap) (sym state) (machine_after heap (state_of words parties collector) (Steps number) machine (due_some (next_move heap number (seat_at (state_of words parties collector) number)) step due))
 
   -- another party's room stays
-  pub spare_other : (now : List ℕ) (other : ℕ) → other ≢ q
-      → spare_of (value_of heap now (set parties q next) collector room) other ≡ spare_of (value_of heap words parties collector room) other
+  pub spare_other : (now : List ℕ) (other : ℕ) → other ≢ number
+      → spare_of (value_of heap now (set parties number next) collector room) other ≡ spare_of (value_of heap words parties collector room) other
   spare_other now other apart =
       let long = length-map parties (λ (s : SeatWithRoom). s.spare) in
-      rw (map-set (λ s. s.spare) parties q next, ← set-append_left (map (λ s. s.spare) parties) (room ∷ []) q next.spare (omega arith))
-      (get_or-set_other (map (λ s. s.spare) parties ++ room ∷ []) q other next.spare 0 apart)
+      rw (map-set (λ s. s.spare) parties number next, ← set-append_left (map (λ s. s.spare) parties) (room ∷ []) number next.spare (omega arith))
+      (get_or-set_other (map (λ s. s.spare) parties ++ room ∷ []) number other next.spare 0 apart)
 
   -- the party's own room
-  pub spare_here : (now : List ℕ) → spare_of (value_of heap now (set parties q next) collector room) q ≡ next.spare
+  pub spare_here : (now : List ℕ) → spare_of (value_of heap now (set parties number next) collector room) number ≡ next.spare
   spare_here now =
-      spare_at heap now (set parties q next) collector room q party (omega (arith, length-set parties q next)) ∙ ap (λ (s : SeatWithRoom). s.spare) (get_or-set_same parties q next party within)
+      spare_at heap now (set parties number next) collector room number party (omega (arith, length-set parties number next)) ∙ ap (λ (s : SeatWithRoom). s.spare) (get_or-set_same parties number next party within)
 
-  pub spare_before : spare_of (value_of heap words parties collector room) q ≡ party.spare
-  spare_before = spare_at heap words parties collector room q party within ∙ sym (ap (λ (s : SeatWithRoom). s.spare) here)
+  pub spare_before : spare_of (value_of heap words parties collector room) number ≡ party.spare
+  spare_before = spare_at heap words parties collector room number party within ∙ sym (ap (λ (s : SeatWithRoom). s.spare) here)
 
-  log_before : log_of (value_of heap words parties collector room) q ≡ party.seat.mine
+  log_before : log_of (value_of heap words parties collector room) number ≡ party.seat.mine
   log_before =
       let long = length-map parties (λ (s : SeatWithRoom). s.seat) in
-      let seat_ : eqb q (length (map (λ s. s.seat) parties)) ≡ false = ne_eqb q (length (map (λ s. s.seat) parties)) (λ e. absurd (omega arith)) in
+      let seat_ : eqb number (length (map (λ s. s.seat) parties)) ≡ false = ne_eqb number (length (map (λ s. s.seat) parties)) (λ e. absurd (omega arith)) in
       rw seat_ (ap (λ (s : Seat). s.mine) the_seat)
 
-  log_here : (now : List ℕ) → log_of (value_of heap now (set parties q next) collector room) q ≡ next.seat.mine
+  log_here : (now : List ℕ) → log_of (value_of heap now (set parties number next) collector room) number ≡ next.seat.mine
   log_here now =
-      let long = length-map (set parties q next) (λ (s : SeatWithRoom). s.seat) in
-      let same = length-set parties q next in
-      let seat_ : eqb q (length (map (λ s. s.seat) (set parties q next))) ≡ false = ne_eqb q (length (map (λ s. s.seat) (set parties q next))) (λ e. absurd (omega arith)) in
-      rw seat_ (ap (λ (s : Seat). s.mine) (seat_of now (set parties q next) collector q party (omega arith) ∙ ap (λ (s : SeatWithRoom). s.seat) (get_or-set_same parties q next party within)))
+      let long = length-map (set parties number next) (λ (s : SeatWithRoom). s.seat) in
+      let same = length-set parties number next in
+      let seat_ : eqb number (length (map (λ s. s.seat) (set parties number next))) ≡ false = ne_eqb number (length (map (λ s. s.seat) (set parties number next))) (λ e. absurd (omega arith)) in
+      rw seat_ (ap (λ (s : Seat). s.mine) (seat_of now (set parties number next) collector number party (omega arith) ∙ ap (λ (s : SeatWithRoom). s.seat) (get_or-set_same parties number next party within)))
 
   pub step_spends : (now : List ℕ) → party.spare + length party.seat.mine ≤ next.spare + length next.seat.mine
-      → SpendsRoom (value_of heap words parties collector room) (value_of heap now (set parties q next) collector room) q
+      → SpendsRoom (value_of heap words parties collector room) (value_of heap now (set parties number next) collector room) number
   step_spends now own = record {
     own = rw (spare_before, log_before, spare_here now, log_here now) own;
     others = λ other apart. spare_other now other apart;
   }
 
   -- a party that got room is as it was
-  pub room_state : next.seat ≡ party.seat → state_of words (set parties q next) collector ≡ state_of words parties collector
+  pub room_state : next.seat ≡ party.seat → state_of words (set parties number next) collector ≡ state_of words parties collector
   room_state same =
-      let seats = map-set_same (λ (s : SeatWithRoom). s.seat) parties q next party (same ∙ ap (λ (s : SeatWithRoom). s.seat) here) in
+      let seats = map-set_same (λ (s : SeatWithRoom). s.seat) parties number next party (same ∙ ap (λ (s : SeatWithRoom). s.seat) here) in
       rw seats refl
 
-  pub room_machine : next.seat ≡ party.seat → IsMachine heap (state_of words parties collector) → IsMachine heap (state_of words (set parties q next) collector)
+  pub room_machine : next.seat ≡ party.seat → IsMachine heap (state_of words parties collector) → IsMachine heap (state_of words (set parties number next) collector)
   room_machine same machine = subst (IsMachine heap) (sym (room_state same)) machine

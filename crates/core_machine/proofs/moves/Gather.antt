@@ -17,13 +17,13 @@ use Rattle.core_machine.specs.declared.place.Making.TheVariants.{Gathering, Retu
 use Rattle.core_machine.specs.declared.place.Place.TheVariants as places
 use Rattle.core_machine.specs.declared.step.Step.TheVariants.{PollLoad}
 use Rattle.core_machine.specs.machine.Calls.{IsBeside}
-use Rattle.core_machine.specs.machine.Machine.{found_by, MayBegin, begun}
-use Rattle.core_machine.specs.seat.Awaiting.{awaited}
-use Rattle.core_machine.specs.seat.Fits.{Fits, Gathers, Refuses, FitsPlace, IsAtRest}
-use Rattle.core_machine.specs.seat.Making.{claimed, given_back, next_group, first_group, returning, gathered, goes_on}
+use Rattle.core_machine.specs.machine.Machine.{found_by, MayBegin, after_begin}
+use Rattle.core_machine.specs.seat.Awaiting.{entries_awaited}
+use Rattle.core_machine.specs.seat.Fits.{Fits, SeatIsGathering, SeatIsRefusing, FitsPlace, IsAtRest}
+use Rattle.core_machine.specs.seat.Making.{after_claim, after_give_back, next_group_of, first_group_of, refusal_place, fragments_gathered, gather_next}
 use Rattle.core_machine.specs.seat.MakingMoves.{claim_move, first_part, give_back_move, refusal_move}
 use Rattle.core_machine.specs.seat.Seat.{Seat, need, with_entries}
-use Rattle.core_machine.specs.table.Fragments.{clear_in, part_out, in_group, out_of_group, part_in, mask}
+use Rattle.core_machine.specs.table.Fragments.{clear_in, part_out, in_group, out_of_group, part_in, mask_of}
 use Rattle.core_machine.specs.table.Operation.{all_taken}
 use Rattle.core_machine.proofs.call_lemmas.Awaits.{plain, after_words, goes_on_mine}
 use Rattle.core_machine.proofs.call_lemmas.Owes.{Nears, owes}
@@ -47,9 +47,9 @@ claimed_rest group need reserve hand more few each =
     (All-drop (λ fragment. fragment / 16 ≡ group) (need - length (reserve ++ hand)) more each))
 
 -- a group was claimed
-fits_claimed : (heap : Heap) (seat : Seat) (found : ℕ) → Fits heap seat → IsAside heap seat → Gathers heap seat → Fits heap (claimed heap seat found)
+fits_claimed : (heap : Heap) (seat : Seat) (found : ℕ) → Fits heap seat → IsAside heap seat → SeatIsGathering heap seat → Fits heap (after_claim heap seat found)
 fits_claimed heap seat found fits aside is =
-    let group = next_group heap seat in
+    let group = next_group_of heap seat in
     let long = length-append seat.hand (clear_in group found) in
     let some = length-clear_among group found 16 in
     let last : seat.cursor + (seat.tried + 1) - 1 ≡ seat.cursor + seat.tried = omega arith in
@@ -79,37 +79,37 @@ takes_few number count =
       | inr some ↦ rw some.0 (omega arith, omega arith)
     ]
 
-nears_claimed : (heap : Heap) (number : ℕ) (seat : Seat) (found : ℕ) → Gathers heap seat
-    → Nears heap (with_entries (claimed heap seat found) (takes_some number (length (clear_in (next_group heap seat) found))))
-    (2 * need seat - length (gathered seat)) ((heap.groups - seat.tried) + 5 * need seat) (length (takes_some number (length (clear_in (next_group heap seat) found))))
+nears_claimed : (heap : Heap) (number : ℕ) (seat : Seat) (found : ℕ) → SeatIsGathering heap seat
+    → Nears heap (with_entries (after_claim heap seat found) (takes_some number (length (clear_in (next_group_of heap seat) found))))
+    (2 * need seat - length (fragments_gathered seat)) ((heap.groups - seat.tried) + 5 * need seat) (length (takes_some number (length (clear_in (next_group_of heap seat) found))))
 nears_claimed heap number seat found is =
-    let got = clear_in (next_group heap seat) found in
+    let got = clear_in (next_group_of heap seat) found in
     let few = takes_few number (length got) in
     let some = need_of_record seat.command is.makes.a_record is.makes.in_range in
     let next = record seat { hand = seat.hand ++ got; tried = seat.tried + 1 } in
     let before = length-append seat.reserve seat.hand in
     let all = length-append seat.reserve (seat.hand ++ got) in
     let hand = length-append seat.hand got in
-    goes_on_cases (λ s. Nears heap (with_entries s (takes_some number (length got))) (2 * need seat - length (gathered seat)) ((heap.groups - seat.tried) + 5 * need seat) (length (takes_some number (length got))))
+    goes_on_cases (λ s. Nears heap (with_entries s (takes_some number (length got))) (2 * need seat - length (fragments_gathered seat)) ((heap.groups - seat.tried) + 5 * need seat) (length (takes_some number (length got))))
     heap next
-    (λ enough. let used = length-take (need seat) (gathered next) in
+    (λ enough. let used = length-take (need seat) (fragments_gathered next) in
     record { fewer = omega (arith, is.groups_left, is.none_stored, used); paid = omega (arith, is.too_few, few.1, some.0) })
     (λ lacks left. record { fewer = omega (arith, is.groups_left, lacks); paid = omega (arith, lacks, few.0, is.too_few) })
     (λ lacks none. returning_cases
-    (λ m. Nears heap (with_entries (record next { place = places.Making m }) (takes_some number (length got))) (2 * need seat - length (gathered seat)) ((heap.groups - seat.tried) + 5 * need seat) (length (takes_some number (length got))))
+    (λ m. Nears heap (with_entries (record next { place = places.Making m }) (takes_some number (length got))) (2 * need seat - length (fragments_gathered seat)) ((heap.groups - seat.tried) + 5 * need seat) (length (takes_some number (length got))))
     (seat.hand ++ got)
     (λ empty. record { fewer = omega (arith, is.groups_left, some.0); paid = omega (arith, is.too_few, few.1, some.0) })
     (λ left. record { fewer = omega (arith, is.groups_left, lacks); paid = omega (arith, is.too_few, lacks, few.1) }))
 
-goes_on_awaits : (heap : Heap) (words : List ℕ) (number : ℕ) (seat : Seat) (more : List Entry) → awaited heap words number (with_entries (goes_on heap seat) more) ≡ []
+goes_on_awaits : (heap : Heap) (words : List ℕ) (number : ℕ) (seat : Seat) (more : List Entry) → entries_awaited heap words number (with_entries (gather_next heap seat) more) ≡ []
 goes_on_awaits heap words number seat more =
-    goes_on_cases (λ s. awaited heap words number (with_entries s more) ≡ []) heap seat (λ enough. refl) (λ few left. refl) (λ few all. refl)
+    goes_on_cases (λ s. entries_awaited heap words number (with_entries s more) ≡ []) heap seat (λ enough. refl) (λ few left. refl) (λ few all. refl)
 
 took : (number count : ℕ) → AllByRecursion (IsBeside number) (takes_some number count)
 took number count = elim (eqb_tells count 0) as (λ _. AllByRecursion (IsBeside number) (takes_some number count)) [ inl none ↦ rw none.0 tt | inr some ↦ rw some.0 (refl, tt) ]
 
 goes_on_says : (old : Seat) (number : ℕ) (command : Command) (heap : Heap) (seat next : Seat) (told more : List Entry) → IsGoing old number command seat told × (command ≢ commands.Leave) → next.command ≡ seat.command → next.made ≡ seat.made → next.sets ≡ seat.sets → next.left ≡ seat.left
-    → AllByRecursion (IsBeside number) more → Says old number command (with_entries (goes_on heap next) more) (told ++ more) (goes_on heap next).place
+    → AllByRecursion (IsBeside number) more → Says old number command (with_entries (gather_next heap next) more) (told ++ more) (gather_next heap next).place
 goes_on_says old number command heap seat next told more (is, stays) same made sets left beside =
     goes_on_cases (λ s. Says old number command (with_entries s more) (told ++ more) s.place) heap next
     (λ enough. (on old number command seat _ told more is same made sets left beside, stays))
@@ -119,7 +119,7 @@ goes_on_says old number command heap seat next told more (is, stays) same made s
 -- a group is claimed
 pub claim_stands : PlaceStands (places.Making Gathering)
 claim_stands heap number seat here =
-    let got : ℕ → List ℕ = λ found. clear_in (next_group heap seat) found in
+    let got : ℕ → List ℕ = λ found. clear_in (next_group_of heap seat) found in
     let next : ℕ → Seat = λ found. record seat { hand = seat.hand ++ got found; tried = seat.tried + 1 } in
     let move = claim_move heap number seat in
     record {
@@ -133,22 +133,22 @@ claim_stands heap number seat here =
     }
 
 -- some fragments were given back
-fits_given_back : (heap : Heap) (seat : Seat) → Fits heap seat → IsAside heap seat → Refuses heap seat → Fits heap (given_back seat)
+fits_given_back : (heap : Heap) (seat : Seat) → Fits heap seat → IsAside heap seat → SeatIsRefusing heap seat → Fits heap (after_give_back seat)
 fits_given_back heap seat fits aside is =
-    let group = first_group seat.hand in
+    let group = first_group_of seat.hand in
     let both = length-filter_both (in_group group) (out_of_group group) (λ fragment. refl) seat.hand in
-    fits_hand heap seat (part_out group seat.hand) seat.stored seat.tried (seat.given + length (part_in group seat.hand)) (places.Making (returning (part_out group seat.hand))) fits aside
+    fits_hand heap seat (part_out group seat.hand) seat.stored seat.tried (seat.given + length (part_in group seat.hand)) (places.Making (refusal_place (part_out group seat.hand))) fits aside
     (All-filter (out_of_group group) (λ fragment. fragment < 16 * heap.groups) seat.hand fits.hand.hand_within)
-    (fits_returning heap (given_back seat) (part_out group seat.hand)
+    (fits_returning heap (after_give_back seat) (part_out group seat.hand)
     (record { makes = is.makes; no_body = is.no_body; none_stored = is.none_stored; all_tried = is.all_tried; too_few = omega (arith, is.too_few) }) refl)
     aside.nowhere aside.silent
 
 nears_given_back : (heap : Heap) (seat : Seat) (entry : Entry) → 0 < length seat.hand
-    → Nears heap (with_entries (given_back seat) (entry ∷ [])) (length seat.hand + 1) (length seat.hand + 1) 1
+    → Nears heap (with_entries (after_give_back seat) (entry ∷ [])) (length seat.hand + 1) (length seat.hand + 1) 1
 nears_given_back heap seat entry some =
-    let less = out_shorter (first_group seat.hand) seat.hand 0 some refl in
-    returning_cases (λ m. Nears heap (with_entries (record (given_back seat) { place = places.Making m }) (entry ∷ [])) (length seat.hand + 1) (length seat.hand + 1) 1)
-    (part_out (first_group seat.hand) seat.hand)
+    let less = out_shorter (first_group_of seat.hand) seat.hand 0 some refl in
+    returning_cases (λ m. Nears heap (with_entries (record (after_give_back seat) { place = places.Making m }) (entry ∷ [])) (length seat.hand + 1) (length seat.hand + 1) 1)
+    (part_out (first_group_of seat.hand) seat.hand)
     (λ empty. record { fewer = omega arith; paid = omega arith }) (λ left. record { fewer = omega arith; paid = omega arith })
 
 -- a group is given back
@@ -156,7 +156,7 @@ pub give_back_stands : PlaceStands (places.Making Returning)
 give_back_stands heap number seat here = record {
   step = record {
     in_table = group_within heap seat.hand 0 here.hand.1 here.fits.hand.hand_within;
-    wide = λ found small. let le = and_le_r found (2 ^ 64 - 1 - mask (first_part seat)) in omega arith;
+    wide = λ found small. let le = and_le_r found (2 ^ 64 - 1 - mask_of (first_part seat)) in omega arith;
     leads = λ found led. tt;
   };
   fits = λ found small led. fits_given_back heap seat here.fits (aside_at heap number seat (places.Making Returning) here (λ e. cc) here.way here.answer) here.hand.0;
@@ -177,7 +177,7 @@ refusal_stands heap number seat here = record {
 }
 
 -- a record is to be made
-fits_gathers : (heap : Heap) (seat : Seat) (d fields : ℕ) → Fits heap seat → MayBegin seat (New d fields) → Fits heap (begun heap seat (New d fields))
+fits_gathers : (heap : Heap) (seat : Seat) (d fields : ℕ) → Fits heap seat → MayBegin seat (New d fields) → Fits heap (after_begin heap seat (New d fields))
 fits_gathers heap seat d fields fits may =
     let rest : IsAtRest seat = subst (FitsPlace heap seat) may.idle fits.at_place in
     fits_goes_on heap (record seat { command = New d fields }) record {
@@ -207,7 +207,7 @@ gather_begins d fields heap number seat ready =
     record {
       fits = fits_gathers heap seat d fields ready.fits ready.may;
       kept = goes_on_mine heap next;
-      awaits = λ words. goes_on_cases (λ s. awaited heap words number s ≡ []) heap next (λ enough. refl) (λ few left. refl) (λ few all. refl);
+      awaits = λ words. goes_on_cases (λ s. entries_awaited heap words number s ≡ []) heap next (λ enough. refl) (λ few left. refl) (λ few all. refl);
       says = goes_on_cases (λ s. Says seat number (New d fields) s [] s.place) heap next
           (λ enough. (going _ refl refl refl refl, λ e. cc)) (λ few left. (going _ refl refl refl refl, λ e. cc)) (λ few all. (going _ refl refl refl refl, λ e. cc));
       owed = goes_on_cases (λ s. owes s ≤ 2 * need_of (New d fields) + 2) heap next (λ enough. omega arith) (λ few left. omega arith)

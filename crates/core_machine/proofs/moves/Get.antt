@@ -9,23 +9,23 @@ use Rattle.heap_model.specs.declared.command.Command.TheVariants as commands
 use Rattle.heap_model.specs.declared.entry.Entry.{Entry}
 use Rattle.heap_model.specs.declared.heap.Heap.{Heap}
 use Rattle.core_machine.specs.declared.place.Place.TheVariants as places
-use Rattle.core_machine.specs.declared.place.Reaching.TheVariants.{Getting, Naming}
+use Rattle.core_machine.specs.declared.place.Access.TheVariants.{Getting, Naming}
 use Rattle.core_machine.specs.declared.seat.register.Register.TheVariants.{Object}
 use Rattle.core_machine.specs.declared.table.address.Address.TheVariants.{Word}
 use Rattle.core_machine.specs.machine.Machine.{found_by}
-use Rattle.core_machine.specs.seat.Awaiting.{awaited}
+use Rattle.core_machine.specs.seat.Awaiting.{entries_awaited}
 use Rattle.core_machine.specs.seat.Commands.{field_of}
 use Rattle.core_machine.specs.seat.Fits.{Fits, FitsRegister}
-use Rattle.core_machine.specs.seat.FitsReaching.{Gets}
-use Rattle.core_machine.specs.seat.Reaching.{got}
-use Rattle.core_machine.specs.seat.ReachingMoves.{loaded_head, got_adds, field_part, got_shows, get_move, name_move}
+use Rattle.core_machine.specs.seat.FitsAccess.{SeatIsAtGet}
+use Rattle.core_machine.specs.seat.Access.{after_get}
+use Rattle.core_machine.specs.seat.AccessMoves.{loaded_head_of, got_adds, field_part_of, got_shows, get_move, name_move}
 use Rattle.core_machine.specs.seat.Seat.{Seat, with_entries}
-use Rattle.core_machine.specs.table.Loaded.{head_in, id_in, plain_in, plain_register, IsWithinHeap}
+use Rattle.core_machine.specs.table.Decode.{head_of, id_of, plain_of, plain_register, IsWithinHeap}
 use Rattle.core_machine.proofs.call_lemmas.Awaits.{after_words}
 use Rattle.core_machine.proofs.call_lemmas.Owes.{Nears}
 use Rattle.core_machine.proofs.call_lemmas.Saying.{IsGoing, HasReplied, Says, replies_, ends}
 use Rattle.core_machine.proofs.moves.Standing.{PlaceStands, rests_at}
-use Rattle.core_machine.proofs.seat_lemmas.FittingReaching.{Rests, fits_reaching, fits_filled}
+use Rattle.core_machine.proofs.seat_lemmas.FittingAccess.{Rests, fits_access, fits_filled}
 use Rattle.core_machine.proofs.table_lemmas.Addresses.{put-at}
 use Rattle.core_machine.proofs.table_lemmas.StepStands.{load_stands}
 use Rattle.core_machine.proofs.table_lemmas.WithinHeap.{head_leads, some_within, part_small}
@@ -38,54 +38,54 @@ plain_fits heap kinds.Reference value small = tt
 plain_fits heap kinds.Fixed value small = tt
 
 -- a get's field was found
-fits_got : (heap : Heap) (seat : Seat) (found : ℕ) (head : Option ℕ) → Rests heap seat → Gets seat → head_in found ≡ head → IsWithinHeap heap head
-    → Fits heap (got seat found head)
+fits_got : (heap : Heap) (seat : Seat) (found : ℕ) (head : Option ℕ) → Rests heap seat → SeatIsAtGet seat → head_of found ≡ head → IsWithinHeap heap head
+    → Fits heap (after_get seat found head)
 fits_got heap seat found None rests is none led =
-    fits_filled heap seat (plain_in found) rests (plain_fits heap (cell_of found).kind (cell_of found).value (omega arith))
+    fits_filled heap seat (plain_of found) rests (plain_fits heap (cell_of found).kind (cell_of found).value (omega arith))
 fits_got heap seat found (Some head) rests is some led =
-    fits_reaching heap seat seat.reached seat.links found Naming rests rests.fits.way.reached_within (subst (IsWithinHeap heap) (sym some) led)
+    fits_access heap seat seat.reached seat.links found Naming rests rests.fits.way.reached_within (subst (IsWithinHeap heap) (sym some) led)
     (is, subst IsSome (sym some) refl)
 
 nears_got : (heap : Heap) (number : ℕ) (seat : Seat) (found : ℕ) (head : Option ℕ)
-    → Nears heap (with_entries (got seat found head) (got_adds number seat found head)) 1 2 (length (got_adds number seat found head))
+    → Nears heap (with_entries (after_get seat found head) (got_adds number seat found head)) 1 2 (length (got_adds number seat found head))
 nears_got heap number seat found None = record { fewer = omega arith; paid = omega arith }
 nears_got heap number seat found (Some head) = record { fewer = omega arith; paid = omega arith }
 
 module _ (heap : Heap) (number : ℕ) (seat : Seat) where
-  got_awaits : (words : List ℕ) (found : ℕ) (head : Option ℕ) → head_in found ≡ head
-      → ((got seat found head).mine ≡ seat.mine)
-      × (got_adds number seat found head ++ awaited heap words number (with_entries (got seat found head) (got_adds number seat found head)) ≡ got_shows heap number seat words found head)
+  got_awaits : (words : List ℕ) (found : ℕ) (head : Option ℕ) → head_of found ≡ head
+      → ((after_get seat found head).mine ≡ seat.mine)
+      × (got_adds number seat found head ++ entries_awaited heap words number (with_entries (after_get seat found head) (got_adds number seat found head)) ≡ got_shows heap number seat words found head)
   got_awaits words found None is = (refl, append-nil (got_adds number seat found None))
   got_awaits words found (Some head) is = (refl, rw is refl)
 
 module _ (old : Seat) (number : ℕ) (command : Command) where
   got_says : (heap : Heap) (words : List ℕ) (seat : Seat) (told : List Entry) (found : ℕ) (head : Option ℕ) → IsGoing old number command seat told × (command ≢ commands.Leave)
-      → Says old number command (with_entries (got seat found head) (got_adds number seat found head)) (told ++ got_shows heap number seat words found head) (got seat found head).place
+      → Says old number command (with_entries (after_get seat found head) (got_adds number seat found head)) (told ++ got_shows heap number seat words found head) (after_get seat found head).place
   got_says heap words seat told found None is = ends old number command seat _ told [] _ is (omega arith) (omega arith) refl tt
   got_says heap words seat told found (Some head) is =
       (record { going = record { same = is.0.same; made_stays = is.0.made_stays; sets_stay = is.0.sets_stay; present_stays = is.0.present_stays; beside = tt }; replied = replies_ old number command seat told [] _ is.0 tt }, is.1)
 
 -- the field is loaded
-pub get_stands : PlaceStands (places.Reaching Getting)
+pub get_stands : PlaceStands (places.Access Getting)
 get_stands heap number seat here =
     let move = get_move heap number seat in
     record {
       step = load_stands heap move.step refl (here.fits.way.reached_within, part_small (field_of seat.command));
-      fits = λ found small led. fits_got heap seat found (head_in found) (rests_at heap number seat Getting here) here.way.0 refl (head_leads heap (field_of seat.command) found led);
-      near = λ found. nears_got heap number seat found (head_in found);
+      fits = λ found small led. fits_got heap seat found (head_of found) (rests_at heap number seat Getting here) here.way.0 refl (head_leads heap (field_of seat.command) found led);
+      near = λ found. nears_got heap number seat found (head_of found);
       adds = λ now. let found = found_by heap now move.step in
-          let same : after_words heap now number seat move ≡ now.words = put-at heap now.words (Word seat.reached (field_part seat)) in
-          let by = got_awaits heap number seat now.words found (head_in found) refl in
+          let same : after_words heap now number seat move ≡ now.words = put-at heap now.words (Word seat.reached (field_part_of seat)) in
+          let by = got_awaits heap number seat now.words found (head_of found) refl in
           record { kept = by.0; told = rw (same, here.placed) by.1 };
-      says = λ old command words told is found. got_says old number command heap words seat told found (head_in found) is;
+      says = λ old command words told is found. got_says old number command heap words seat told found (head_of found) is;
     }
 
 -- the name is loaded
-pub name_stands : PlaceStands (places.Reaching Naming)
+pub name_stands : PlaceStands (places.Access Naming)
 name_stands heap number seat here = record {
-  step = load_stands heap (name_move number seat).step refl (some_within heap (head_in seat.loaded) here.way.1 here.fits.way.loaded_within, omega arith);
-  fits = λ found small led. fits_filled heap seat (Object (loaded_head seat) (id_in found)) (rests_at heap number seat Naming here)
-      (some_within heap (head_in seat.loaded) here.way.1 here.fits.way.loaded_within);
+  step = load_stands heap (name_move number seat).step refl (some_within heap (head_of seat.loaded) here.way.1 here.fits.way.loaded_within, omega arith);
+  fits = λ found small led. fits_filled heap seat (Object (loaded_head_of seat) (id_of found)) (rests_at heap number seat Naming here)
+      (some_within heap (head_of seat.loaded) here.way.1 here.fits.way.loaded_within);
   near = λ found. record { fewer = omega arith; paid = omega arith };
   adds = λ now. record { kept = refl; told = rw here.placed refl };
   says = λ old command words told is found. record {

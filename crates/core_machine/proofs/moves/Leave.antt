@@ -15,18 +15,18 @@ use Rattle.heap_model.specs.declared.reply.Reply.TheVariants as replies
 use Rattle.core_machine.specs.declared.place.Leaving.TheVariants.{Emptying, Parting}
 use Rattle.core_machine.specs.declared.place.Place.TheVariants as places
 use Rattle.core_machine.specs.declared.seat.register.Register.TheVariants.{Nil}
-use Rattle.core_machine.specs.seat.AnsweringMoves.{empty_move, leave_move}
+use Rattle.core_machine.specs.seat.HandshakeMoves.{empty_move, leave_move}
 use Rattle.core_machine.specs.seat.Fits.{IsAtRest, Fits, FitsRegister}
-use Rattle.core_machine.specs.seat.Polling.{emptied, parted, leaving}
+use Rattle.core_machine.specs.seat.Handshake.{after_emptying, after_leave, leave_place}
 use Rattle.core_machine.specs.seat.Seat.{Seat}
-use Rattle.core_machine.specs.table.Fragments.{mask}
+use Rattle.core_machine.specs.table.Fragments.{mask_of}
 use Rattle.core_machine.proofs.call_lemmas.Awaits.{plain}
 use Rattle.core_machine.proofs.call_lemmas.Saying.{on, replies_}
 use Rattle.core_machine.proofs.moves.Standing.{PlaceStands, aside_at, BeginStands, CommandStands, aside_ready, going_ready, rest_ready, resting_begins}
 use Rattle.core_machine.proofs.seat_lemmas.Aside.{IsAside, gone_aside, fits_over}
 
 -- the reserve was given back
-fits_emptied : (heap : Heap) (seat : Seat) → Fits heap seat → IsAside heap seat → IsAtRest seat → seat.command ≡ commands.Leave → Fits heap (emptied seat)
+fits_emptied : (heap : Heap) (seat : Seat) → Fits heap seat → IsAside heap seat → IsAtRest seat → seat.command ≡ commands.Leave → Fits heap (after_emptying seat)
 fits_emptied heap seat fits aside rest leaves = record {
   own = record {
     registers_whole = fits.own.registers_whole;
@@ -49,7 +49,7 @@ nils_fit : (heap : Heap) (n : ℕ) → All (FitsRegister heap) (replicate n Nil)
 nils_fit heap n = All-replicate (FitsRegister heap) n Nil tt
 
 -- the seat has left
-fits_parted : (heap : Heap) (seat : Seat) → Fits heap seat → seat.reserve ≡ [] → Fits heap (parted seat)
+fits_parted : (heap : Heap) (seat : Seat) → Fits heap seat → seat.reserve ≡ [] → Fits heap (after_leave seat)
 fits_parted heap seat fits empty =
     fits_over heap (record seat { registers = replicate 16 Nil; left = true }) (length-replicate 16 Nil) (nils_fit heap 16) fits.own.cursor_within fits.own.small_reserve fits.own.reserve_of_cursor
     (λ left. empty)
@@ -57,7 +57,7 @@ fits_parted heap seat fits empty =
 -- the reserve is given back
 pub empty_stands : PlaceStands (places.Leaving Emptying)
 empty_stands heap number seat here = record {
-  step = record { in_table = here.fits.own.cursor_within; wide = λ found small. let le = and_le_r found (2 ^ 64 - 1 - mask seat.reserve) in omega arith; leads = λ found led. tt };
+  step = record { in_table = here.fits.own.cursor_within; wide = λ found small. let le = and_le_r found (2 ^ 64 - 1 - mask_of seat.reserve) in omega arith; leads = λ found led. tt };
   fits = λ found small led. fits_emptied heap seat here.fits (aside_at heap number seat (places.Leaving Emptying) here (λ e. cc) here.way here.answer) here.hand.0 here.hand.1;
   near = λ found. record { fewer = omega arith; paid = omega arith };
   adds = λ now. plain heap now number seat (empty_move number seat) refl (rw here.placed refl) refl refl;
@@ -85,7 +85,7 @@ leave_stands heap number seat here = record {
 -- a leave begins
 pub leave_begins : CommandStands commands.Leave
 leave_begins heap number seat ready = by seat.reserve refl where
-  by : (reserve : List ℕ) → seat.reserve ≡ reserve → BeginStands heap number seat commands.Leave (record seat { command = commands.Leave; place = places.Leaving (leaving reserve) })
+  by : (reserve : List ℕ) → seat.reserve ≡ reserve → BeginStands heap number seat commands.Leave (record seat { command = commands.Leave; place = places.Leaving (leave_place reserve) })
   by [] is =
       let aside = aside_ready heap number seat commands.Leave ready in
       resting_begins heap number seat commands.Leave ready (places.Leaving Parting) (rest_ready heap number seat commands.Leave ready, refl, is) aside.nowhere aside.silent (λ words. refl)

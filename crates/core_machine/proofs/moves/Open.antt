@@ -8,77 +8,77 @@ use Rattle.heap_model.specs.declared.entry.Entry.{Entry}
 use Rattle.heap_model.specs.declared.heap.Heap.{Heap}
 use Rattle.heap_model.specs.declared.reply.Reply.{Reply}
 use Rattle.core_machine.specs.declared.place.Place.TheVariants as places
-use Rattle.core_machine.specs.declared.place.Reaching.TheVariants.{Opening}
+use Rattle.core_machine.specs.declared.place.Access.TheVariants.{LoadingMeta}
 use Rattle.core_machine.specs.declared.seat.register.Register.{Register}
 use Rattle.core_machine.specs.declared.seat.register.Register.TheVariants.{Nil, Number, Object}
 use Rattle.core_machine.specs.machine.Machine.{found_by}
-use Rattle.core_machine.specs.seat.Awaiting.{awaited}
+use Rattle.core_machine.specs.seat.Awaiting.{entries_awaited}
 use Rattle.core_machine.specs.seat.Commands.{object_of}
 use Rattle.core_machine.specs.seat.Fits.{Fits, FitsRegister, IsLocal}
-use Rattle.core_machine.specs.seat.FitsReaching.{NamesObject, NamesField, Opens}
-use Rattle.core_machine.specs.seat.Reaching.{meta_reply, met, opened}
-use Rattle.core_machine.specs.seat.ReachingMoves.{said_some, open_move}
-use Rattle.core_machine.specs.seat.Registers.{head_of, register_in}
+use Rattle.core_machine.specs.seat.FitsAccess.{NamesObject, NamesField, SeatIsAtHead}
+use Rattle.core_machine.specs.seat.Access.{meta_reply_of, after_meta, access_start}
+use Rattle.core_machine.specs.seat.AccessMoves.{reply_entries_if, open_move}
+use Rattle.core_machine.specs.seat.Registers.{register_head, register_in}
 use Rattle.core_machine.specs.seat.Seat.{Seat, with_entries}
-use Rattle.core_machine.specs.table.Loaded.{lead_of, IsWithinHeap}
+use Rattle.core_machine.specs.table.Decode.{pointer_in, IsWithinHeap}
 use Rattle.core_machine.proofs.call_lemmas.Awaits.{plain, after_words}
 use Rattle.core_machine.proofs.call_lemmas.Owes.{Nears}
 use Rattle.core_machine.proofs.call_lemmas.Saying.{IsGoing, Says, ends}
 use Rattle.core_machine.proofs.moves.Standing.{PlaceStands, rests_at, BeginStands, IsReady, aside_ready, going_ready, rest_ready}
-use Rattle.core_machine.proofs.moves.Telling.{tell_begins}
-use Rattle.core_machine.proofs.moves.Way.{fits_onward, nears_onward, onward_awaits, onward_mine, onward_says}
+use Rattle.core_machine.proofs.moves.Local.{tell_begins}
+use Rattle.core_machine.proofs.moves.Walk.{fits_onward, nears_onward, onward_awaits, onward_mine, onward_says}
 use Rattle.core_machine.proofs.seat_lemmas.Aside.{gone_aside}
-use Rattle.core_machine.proofs.seat_lemmas.FittingReaching.{Rests, fits_closed}
+use Rattle.core_machine.proofs.seat_lemmas.FittingAccess.{Rests, fits_closed}
 use Rattle.core_machine.proofs.table_lemmas.StepStands.{load_stands}
 use Rattle.core_machine.proofs.table_lemmas.WithinHeap.{register_fits}
 
 -- where the call doesn't end at the meta, it names a field
-met_names : (command : Command) (found : ℕ) → NamesObject command → meta_reply command found ≡ None → NamesField command
+met_names : (command : Command) (found : ℕ) → NamesObject command → meta_reply_of command found ≡ None → NamesField command
 met_names (Get d r i) found names none = tt
 met_names (Set r i v) found names none = tt
 met_names (Len r) found names none = cc
 met_names _ found names none = absurd names
 
 -- the meta was found
-fits_met : (heap : Heap) (seat : Seat) (found : ℕ) (reply : Option Reply) → Rests heap seat → Opens seat → meta_reply seat.command found ≡ reply
-    → IsWithinHeap heap (lead_of 0 found) → Fits heap (met seat found reply)
+fits_met : (heap : Heap) (seat : Seat) (found : ℕ) (reply : Option Reply) → Rests heap seat → SeatIsAtHead seat → meta_reply_of seat.command found ≡ reply
+    → IsWithinHeap heap (pointer_in 0 found) → Fits heap (after_meta seat found reply)
 fits_met heap seat found None rests is none led =
     fits_onward heap seat found rests is.works (met_names seat.command found is.names none) is.none_loaded (omega (arith, is.whole_way)) led
 fits_met heap seat found (Some reply) rests is some led = fits_closed heap seat seat.registers seat.sets rests rests.fits.own.registers_whole rests.fits.own.registers_fit
 
 nears_met : (heap : Heap) (number : ℕ) (seat : Seat) (found : ℕ) (reply : Option Reply)
-    → Nears heap (with_entries (met seat found reply) (said_some number seat reply)) 1 (seat.links + 5) (length (said_some number seat reply))
+    → Nears heap (with_entries (after_meta seat found reply) (reply_entries_if number seat reply)) 1 (seat.links + 5) (length (reply_entries_if number seat reply))
 nears_met heap number seat found None = nears_onward heap seat found (seat.links + 5) (inl (omega arith))
 nears_met heap number seat found (Some reply) = record { fewer = omega arith; paid = omega arith }
 
 module _ (heap : Heap) (number : ℕ) (seat : Seat) where
   met_adds : (words : List ℕ) (found : ℕ) (reply : Option Reply)
-      → ((met seat found reply).mine ≡ seat.mine) × (awaited heap words number (with_entries (met seat found reply) (said_some number seat reply)) ≡ [])
+      → ((after_meta seat found reply).mine ≡ seat.mine) × (entries_awaited heap words number (with_entries (after_meta seat found reply) (reply_entries_if number seat reply)) ≡ [])
   met_adds words found None = (onward_mine seat found, onward_awaits heap words number seat found [])
   met_adds words found (Some reply) = (refl, refl)
 
 module _ (old : Seat) (number : ℕ) (command : Command) where
   met_says : (seat : Seat) (told : List Entry) (found : ℕ) (reply : Option Reply) → IsGoing old number command seat told × (command ≢ commands.Leave)
-      → Says old number command (with_entries (met seat found reply) (said_some number seat reply)) (told ++ said_some number seat reply) (met seat found reply).place
+      → Says old number command (with_entries (after_meta seat found reply) (reply_entries_if number seat reply)) (told ++ reply_entries_if number seat reply) (after_meta seat found reply).place
   met_says seat told found None is = onward_says old number command seat told found is
   met_says seat told found (Some reply) is = ends old number command seat _ told [] reply is (omega arith) (omega arith) refl tt
 
 -- the meta is loaded
-pub open_stands : PlaceStands (places.Reaching Opening)
+pub open_stands : PlaceStands (places.Access LoadingMeta)
 open_stands heap number seat here =
     let move = open_move number seat in
     record {
       step = load_stands heap move.step refl (here.fits.way.reached_within, omega arith);
-      fits = λ found small led. fits_met heap seat found (meta_reply seat.command found) (rests_at heap number seat Opening here) here.way refl led;
-      near = λ found. nears_met heap number seat found (meta_reply seat.command found);
+      fits = λ found small led. fits_met heap seat found (meta_reply_of seat.command found) (rests_at heap number seat LoadingMeta here) here.way refl led;
+      near = λ found. nears_met heap number seat found (meta_reply_of seat.command found);
       adds = λ now. let found = found_by heap now move.step in
-          let by = met_adds heap number seat (after_words heap now number seat move) found (meta_reply seat.command found) in
+          let by = met_adds heap number seat (after_words heap now number seat move) found (meta_reply_of seat.command found) in
           plain heap now number seat move by.0 (rw here.placed refl) by.1 refl;
-      says = λ old command words told is found. met_says old number command seat told found (meta_reply seat.command found) is;
+      says = λ old command words told is found. met_says old number command seat told found (meta_reply_of seat.command found) is;
     }
 
 -- a command on an object that its register doesn't hold looks at no word
-local_none : (registers : List Register) (c : Command) → NamesObject c → head_of (register_in registers (object_of c)) ≡ None → IsLocal registers c
+local_none : (registers : List Register) (c : Command) → NamesObject c → register_head (register_in registers (object_of c)) ≡ None → IsLocal registers c
 local_none registers (commands.Get d r i) names none = none
 local_none registers (commands.Set r i v) names none = none
 local_none registers (commands.Len r) names none = none
@@ -86,11 +86,11 @@ local_none registers _ names none = absurd names
 
 -- a call on an object begins: without one it tells its reply at once
 pub open_begins : (command : Command) → command ≢ commands.Leave → NamesObject command → (heap : Heap) (number : ℕ) (seat : Seat) → IsReady heap seat command
-    → BeginStands heap number seat command (opened (record seat { command = command }) (register_in seat.registers (object_of command)))
+    → BeginStands heap number seat command (access_start (record seat { command = command }) (register_in seat.registers (object_of command)))
 open_begins command stays names heap number seat ready = by (register_in seat.registers (object_of command)) refl where
-  by : (register : Register) → register_in seat.registers (object_of command) ≡ register → BeginStands heap number seat command (opened (record seat { command = command }) register)
-  by Nil is = tell_begins command stays heap number seat ready (local_none seat.registers command names (ap head_of is))
-  by (Number n) is = tell_begins command stays heap number seat ready (local_none seat.registers command names (ap head_of is))
+  by : (register : Register) → register_in seat.registers (object_of command) ≡ register → BeginStands heap number seat command (access_start (record seat { command = command }) register)
+  by Nil is = tell_begins command stays heap number seat ready (local_none seat.registers command names (ap register_head is))
+  by (Number n) is = tell_begins command stays heap number seat ready (local_none seat.registers command names (ap register_head is))
   by (Object head id) is =
       let aside = aside_ready heap number seat command ready in
       record {
@@ -104,9 +104,9 @@ open_begins command stays names heap number seat ready = by (register_in seat.re
           asked_small = ready.fits.asked_small;
           at_place = rest_ready heap number seat command ready;
           way_at_place = record {
-            works = record { in_range = ready.may.in_range; numbered = ready.may.numbered; holds = subst IsSome (sym (ap head_of is)) refl };
+            works = record { in_range = ready.may.in_range; numbered = ready.may.numbered; holds = subst IsSome (sym (ap register_head is)) refl };
             names = names;
-            at_head = ap head_of is;
+            at_head = ap register_head is;
             whole_way = refl;
             none_loaded = aside.nowhere.none_loaded;
           };

@@ -13,12 +13,12 @@ use Rattle.core_machine.specs.declared.place.Polling.{Polling}
 use Rattle.core_machine.specs.declared.place.Polling.TheVariants.{Asking, Shading, Answering}
 use Rattle.core_machine.specs.declared.step.Step.TheVariants.{PollLoad}
 use Rattle.core_machine.specs.machine.Machine.{found_by}
-use Rattle.core_machine.specs.seat.AnsweringMoves.{poll_move, poll_adds, root_move, answer_move}
-use Rattle.core_machine.specs.seat.Awaiting.{awaited}
+use Rattle.core_machine.specs.seat.HandshakeMoves.{poll_move, poll_adds, root_move, answer_move}
+use Rattle.core_machine.specs.seat.Awaiting.{entries_awaited}
 use Rattle.core_machine.specs.seat.Fits.{FitsPlace, FitsWay, FitsAnswer, IsAtRest, Fits}
-use Rattle.core_machine.specs.seat.FitsReaching.{HasNoWay}
-use Rattle.core_machine.specs.seat.Polling.{phase_found, shaded_more, answer_stored, roots, shades_on}
-use Rattle.core_machine.specs.seat.Seat.{Seat, over, with_entries, replied}
+use Rattle.core_machine.specs.seat.FitsAccess.{HasNoWay}
+use Rattle.core_machine.specs.seat.Handshake.{after_phase_load, after_root_shade, after_answer, roots, answer_next}
+use Rattle.core_machine.specs.seat.Seat.{Seat, after_call, with_entries, seat_after_reply}
 use Rattle.core_machine.proofs.call_lemmas.Awaits.{plain, after_words}
 use Rattle.core_machine.proofs.call_lemmas.Owes.{Nears}
 use Rattle.core_machine.proofs.call_lemmas.Saying.{Says, on, ends}
@@ -57,12 +57,12 @@ fits_answering heap seat answered asked shaded place polls small at_place way an
 
 -- another answer is under way
 fits_polling : (heap : Heap) (seat : Seat) (asked shaded : ℕ) → Polls heap seat → asked < 2 ^ 64 → asked ≢ seat.answered
-    → shaded ≤ length (roots (record seat { asked = asked; shaded = shaded })) → Fits heap (shades_on (record seat { asked = asked; shaded = shaded }))
+    → shaded ≤ length (roots (record seat { asked = asked; shaded = shaded })) → Fits heap (answer_next (record seat { asked = asked; shaded = shaded }))
 fits_polling heap seat asked shaded polls small anew few =
     fits_answering heap seat seat.answered asked shaded next.place polls small polls.rest polls.nowhere answer
   where
     next : Seat
-    next = shades_on (record seat { asked = asked; shaded = shaded })
+    next = answer_next (record seat { asked = asked; shaded = shaded })
 
     answer : FitsAnswer next next.place
     answer = elim (leb_tells (suc shaded) (length (roots (record seat { asked = asked; shaded = shaded })))) as (λ _. FitsAnswer next next.place) [
@@ -71,25 +71,25 @@ fits_polling heap seat asked shaded polls small anew few =
     ]
 
 -- no call is in flight, with this answer
-fits_answered : (heap : Heap) (seat : Seat) (answered : ℕ) → Polls heap seat → Fits heap (over (record seat { answered = answered }))
+fits_answered : (heap : Heap) (seat : Seat) (answered : ℕ) → Polls heap seat → Fits heap (after_call (record seat { answered = answered }))
 fits_answered heap seat answered polls =
     let fits = polls.fits in
     fits_over heap (record seat { answered = answered }) fits.own.registers_whole fits.own.registers_fit fits.own.cursor_within fits.own.small_reserve fits.own.reserve_of_cursor (gone_aside polls.present)
 
 -- the phase was found
-fits_phase : (heap : Heap) (seat : Seat) (found : ℕ) → Polls heap seat → found < 2 ^ 64 → seat.shaded ≡ 0 → Fits heap (phase_found seat found)
+fits_phase : (heap : Heap) (seat : Seat) (found : ℕ) → Polls heap seat → found < 2 ^ 64 → seat.shaded ≡ 0 → Fits heap (after_phase_load seat found)
 fits_phase heap seat found polls small no_shade =
-    elim (eqb_tells found seat.answered) as (λ _. Fits heap (phase_found seat found)) [
+    elim (eqb_tells found seat.answered) as (λ _. Fits heap (after_phase_load seat found)) [
       | inl same ↦ rw same.0 (fits_answered heap seat seat.answered polls)
       | inr new ↦ rw new.0 (fits_polling heap seat found seat.shaded polls small new.1 (omega (arith, no_shade)))
     ]
 
 -- a root was shaded
-fits_shaded : (heap : Heap) (seat : Seat) → Polls heap seat → seat.asked ≢ seat.answered → seat.shaded < length (roots seat) → Fits heap (shaded_more seat)
+fits_shaded : (heap : Heap) (seat : Seat) → Polls heap seat → seat.asked ≢ seat.answered → seat.shaded < length (roots seat) → Fits heap (after_root_shade seat)
 fits_shaded heap seat polls anew more = fits_polling heap seat seat.asked (seat.shaded + 1) polls polls.fits.asked_small anew (omega (arith, more))
 
 -- the answer was stored
-fits_stored_answer : (heap : Heap) (seat : Seat) → Polls heap seat → Fits heap (answer_stored seat)
+fits_stored_answer : (heap : Heap) (seat : Seat) → Polls heap seat → Fits heap (after_answer seat)
 fits_stored_answer heap seat polls = fits_answered heap seat seat.asked polls
 
 polls_at : (heap : Heap) (number : ℕ) (seat : Seat) (place : Polling) → IsAt heap number seat (places.Polling place) → seat.command ≡ commands.Poll → Polls heap seat
@@ -97,9 +97,9 @@ polls_at heap number seat place here polls =
     record { fits = here.fits; rest = here.hand; nowhere = here.way; present = present_at heap number seat (places.Polling place) here (λ e. cc); polls = polls }
 
 -- an answer is under way
-nears_shades_on : (heap : Heap) (seat : Seat) (steps : ℕ) → (length (roots seat) - seat.shaded) + 1 < steps → Nears heap (with_entries (shades_on seat) []) 2 steps 0
+nears_shades_on : (heap : Heap) (seat : Seat) (steps : ℕ) → (length (roots seat) - seat.shaded) + 1 < steps → Nears heap (with_entries (answer_next seat) []) 2 steps 0
 nears_shades_on heap seat steps more =
-    elim (leb_tells (suc seat.shaded) (length (roots seat))) as (λ _. Nears heap (with_entries (shades_on seat) []) 2 steps 0) [
+    elim (leb_tells (suc seat.shaded) (length (roots seat))) as (λ _. Nears heap (with_entries (answer_next seat) []) 2 steps 0) [
       | inl some ↦ rw some.0 (record { fewer = omega arith; paid = omega arith })
       | inr all ↦ rw all.0 (record { fewer = omega arith; paid = omega arith })
     ]
@@ -114,9 +114,9 @@ nears_phase heap number seat found =
     ]
 
 module _ (heap : Heap) (number : ℕ) (seat : Seat) where
-  phase_adds : (words : List ℕ) (found : ℕ) (more : List Entry) → ((phase_found seat found).mine ≡ seat.mine) × (awaited heap words number (with_entries (phase_found seat found) more) ≡ [])
+  phase_adds : (words : List ℕ) (found : ℕ) (more : List Entry) → ((after_phase_load seat found).mine ≡ seat.mine) × (entries_awaited heap words number (with_entries (after_phase_load seat found) more) ≡ [])
   phase_adds words found more =
-      elim (eqb_tells found seat.answered) as (λ _. ((phase_found seat found).mine ≡ seat.mine) × (awaited heap words number (with_entries (phase_found seat found) more) ≡ [])) [
+      elim (eqb_tells found seat.answered) as (λ _. ((after_phase_load seat found).mine ≡ seat.mine) × (entries_awaited heap words number (with_entries (after_phase_load seat found) more) ≡ [])) [
         | inl same ↦ rw same.0 (refl, refl)
         | inr new ↦ rw new.0 (refl, refl)
       ]
@@ -133,9 +133,9 @@ poll_stands heap number seat here =
           let by = phase_adds heap number seat (after_words heap now number seat move) found (move.adds found) in
           plain heap now number seat move by.0 (rw here.placed refl) by.1 refl;
       says = λ old command words told is found.
-          elim (eqb_tells found seat.answered) as (λ _. Says old number command (with_entries (phase_found seat found) (poll_adds number seat found)) (told ++ poll_adds number seat found) (phase_found seat found).place) [
-            | inl known ↦ rw known.0 (ends old number command seat (replied number seat (replies.Phase found)) told [] (replies.Phase found) is (omega arith) (omega arith) refl tt)
-            | inr new ↦ rw new.0 (on old number command seat (with_entries (shades_on (record seat { asked = found })) []) told [] is.0 refl refl refl refl tt, is.1)
+          elim (eqb_tells found seat.answered) as (λ _. Says old number command (with_entries (after_phase_load seat found) (poll_adds number seat found)) (told ++ poll_adds number seat found) (after_phase_load seat found).place) [
+            | inl known ↦ rw known.0 (ends old number command seat (seat_after_reply number seat (replies.Phase found)) told [] (replies.Phase found) is (omega arith) (omega arith) refl tt)
+            | inr new ↦ rw new.0 (on old number command seat (with_entries (answer_next (record seat { asked = found })) []) told [] is.0 refl refl refl refl tt, is.1)
           ];
     }
 

@@ -5,101 +5,101 @@ use Rattle.heap_model.specs.declared.command.Command.{Command}
 use Rattle.heap_model.specs.declared.command.Command.TheVariants as commands
 use Rattle.heap_model.specs.declared.entry.Entry.{Entry}
 use Rattle.heap_model.specs.declared.heap.Heap.{Heap}
-use Rattle.heap_model.specs.graph.Growth.{stamp_of}
+use Rattle.heap_model.specs.graph.Growth.{set_stamp}
 use Rattle.core_machine.specs.declared.place.Place.TheVariants as places
-use Rattle.core_machine.specs.declared.place.Reaching.TheVariants.{LoadingOld, ShadingOld, ShadingNew, Swapping}
+use Rattle.core_machine.specs.declared.place.Access.TheVariants.{LoadingOld, ShadingOld, ShadingNew, Swapping}
 use Rattle.core_machine.specs.machine.Machine.{found_by}
-use Rattle.core_machine.specs.seat.Awaiting.{awaited}
+use Rattle.core_machine.specs.seat.Awaiting.{entries_awaited}
 use Rattle.core_machine.specs.seat.Commands.{field_of, source_of}
 use Rattle.core_machine.specs.seat.Fits.{Fits, FitsRegister}
-use Rattle.core_machine.specs.seat.FitsReaching.{Sets}
-use Rattle.core_machine.specs.seat.Reaching.{part_of, old_done, old_found, reaching, has_barrier, new_place}
-use Rattle.core_machine.specs.seat.ReachingMoves.{loaded_head, new_register, old_move, shade_old_move, shade_new_move, swap_move}
-use Rattle.core_machine.specs.seat.Registers.{register_in, head_of}
+use Rattle.core_machine.specs.seat.FitsAccess.{SeatIsAtSet}
+use Rattle.core_machine.specs.seat.Access.{part_of, after_old, after_old_load, at_access, has_barrier_of, new_place_of}
+use Rattle.core_machine.specs.seat.AccessMoves.{loaded_head_of, new_register_of, old_move, shade_old_move, shade_new_move, swap_move}
+use Rattle.core_machine.specs.seat.Registers.{register_in, register_head}
 use Rattle.core_machine.specs.seat.Seat.{Seat, with_entries}
-use Rattle.core_machine.specs.table.Loaded.{head_in, IsWithinHeap}
+use Rattle.core_machine.specs.table.Decode.{head_of, IsWithinHeap}
 use Rattle.core_machine.proofs.call_lemmas.Awaits.{plain, after_words}
 use Rattle.core_machine.proofs.call_lemmas.Owes.{Nears}
 use Rattle.core_machine.proofs.call_lemmas.Saying.{IsGoing, Says, on, ends}
 use Rattle.core_machine.proofs.moves.Standing.{PlaceStands, rests_at}
 use Rattle.core_machine.proofs.seat_lemmas.Aside.{gone_aside}
-use Rattle.core_machine.proofs.seat_lemmas.FittingReaching.{Rests, fits_reaching, fits_closed}
+use Rattle.core_machine.proofs.seat_lemmas.FittingAccess.{Rests, fits_access, fits_closed}
 use Rattle.core_machine.proofs.table_lemmas.Leading.{register_leads}
 use Rattle.core_machine.proofs.table_lemmas.StepStands.{load_stands, shade_stands}
 use Rattle.core_machine.proofs.table_lemmas.Wide.{set_numbered, register_wide}
 use Rattle.core_machine.proofs.table_lemmas.WithinHeap.{head_leads, some_within, head_within, part_some, part_small, register_fits}
 
 -- a set goes on to its new value
-fits_old_done : (heap : Heap) (seat : Seat) (loaded : ℕ) → Rests heap seat → Sets seat → has_barrier seat ≡ true → IsWithinHeap heap (head_in loaded)
-    → Fits heap (old_done (record seat { loaded = loaded }))
-fits_old_done heap seat loaded rests is on led = by (head_of (register_in seat.registers (source_of seat.command))) refl where
-  by : (new : Option ℕ) → head_of (register_in seat.registers (source_of seat.command)) ≡ new → Fits heap (reaching (record seat { loaded = loaded }) (new_place new))
-  by None e = fits_reaching heap seat seat.reached seat.links loaded Swapping rests rests.fits.way.reached_within led (is, λ off. gone_aside off on)
-  by (Some head) e = fits_reaching heap seat seat.reached seat.links loaded ShadingNew rests rests.fits.way.reached_within led (is, on, subst IsSome (sym e) refl)
+fits_old_done : (heap : Heap) (seat : Seat) (loaded : ℕ) → Rests heap seat → SeatIsAtSet seat → has_barrier_of seat ≡ true → IsWithinHeap heap (head_of loaded)
+    → Fits heap (after_old (record seat { loaded = loaded }))
+fits_old_done heap seat loaded rests is on led = by (register_head (register_in seat.registers (source_of seat.command))) refl where
+  by : (new : Option ℕ) → register_head (register_in seat.registers (source_of seat.command)) ≡ new → Fits heap (at_access (record seat { loaded = loaded }) (new_place_of new))
+  by None e = fits_access heap seat seat.reached seat.links loaded Swapping rests rests.fits.way.reached_within led (is, λ off. gone_aside off on)
+  by (Some head) e = fits_access heap seat seat.reached seat.links loaded ShadingNew rests rests.fits.way.reached_within led (is, on, subst IsSome (sym e) refl)
 
 -- a set's old value was found
-fits_old_found : (heap : Heap) (seat : Seat) (found : ℕ) (head : Option ℕ) → Rests heap seat → Sets seat → has_barrier seat ≡ true → head_in found ≡ head
-    → IsWithinHeap heap head → Fits heap (old_found (record seat { loaded = found }) head)
+fits_old_found : (heap : Heap) (seat : Seat) (found : ℕ) (head : Option ℕ) → Rests heap seat → SeatIsAtSet seat → has_barrier_of seat ≡ true → head_of found ≡ head
+    → IsWithinHeap heap head → Fits heap (after_old_load (record seat { loaded = found }) head)
 fits_old_found heap seat found None rests is on none led = fits_old_done heap seat found rests is on (subst (IsWithinHeap heap) (sym none) led)
 fits_old_found heap seat found (Some head) rests is on some led =
-    fits_reaching heap seat seat.reached seat.links found ShadingOld rests rests.fits.way.reached_within (subst (IsWithinHeap heap) (sym some) led)
+    fits_access heap seat seat.reached seat.links found ShadingOld rests rests.fits.way.reached_within (subst (IsWithinHeap heap) (sym some) led)
     (is, on, subst IsSome (sym some) refl)
 
-nears_old_done : (heap : Heap) (seat : Seat) (loaded steps : ℕ) → 2 < steps → Nears heap (with_entries (old_done (record seat { loaded = loaded })) []) 1 steps 0
-nears_old_done heap seat loaded steps more = by (head_of (register_in seat.registers (source_of seat.command))) where
-  by : (new : Option ℕ) → Nears heap (with_entries (reaching (record seat { loaded = loaded }) (new_place new)) []) 1 steps 0
+nears_old_done : (heap : Heap) (seat : Seat) (loaded steps : ℕ) → 2 < steps → Nears heap (with_entries (after_old (record seat { loaded = loaded })) []) 1 steps 0
+nears_old_done heap seat loaded steps more = by (register_head (register_in seat.registers (source_of seat.command))) where
+  by : (new : Option ℕ) → Nears heap (with_entries (at_access (record seat { loaded = loaded }) (new_place_of new)) []) 1 steps 0
   by None = record { fewer = omega arith; paid = omega arith }
   by (Some head) = record { fewer = omega arith; paid = omega arith }
 
-nears_old_found : (heap : Heap) (seat : Seat) (found : ℕ) (head : Option ℕ) → Nears heap (with_entries (old_found (record seat { loaded = found }) head) []) 1 4 0
+nears_old_found : (heap : Heap) (seat : Seat) (found : ℕ) (head : Option ℕ) → Nears heap (with_entries (after_old_load (record seat { loaded = found }) head) []) 1 4 0
 nears_old_found heap seat found None = nears_old_done heap seat found 4 (omega arith)
 nears_old_found heap seat found (Some head) = record { fewer = omega arith; paid = omega arith }
 
 module _ (heap : Heap) (number : ℕ) (seat : Seat) where
-  old_awaits : (words : List ℕ) (loaded : ℕ) (more : List Entry) → awaited heap words number (with_entries (old_done (record seat { loaded = loaded })) more) ≡ []
-  old_awaits words loaded more = by (head_of (register_in seat.registers (source_of seat.command))) where
-    by : (new : Option ℕ) → awaited heap words number (with_entries (reaching (record seat { loaded = loaded }) (new_place new)) more) ≡ []
+  old_awaits : (words : List ℕ) (loaded : ℕ) (more : List Entry) → entries_awaited heap words number (with_entries (after_old (record seat { loaded = loaded })) more) ≡ []
+  old_awaits words loaded more = by (register_head (register_in seat.registers (source_of seat.command))) where
+    by : (new : Option ℕ) → entries_awaited heap words number (with_entries (at_access (record seat { loaded = loaded }) (new_place_of new)) more) ≡ []
     by None = refl
     by (Some head) = refl
 
   old_found_adds : (words : List ℕ) (found : ℕ) (head : Option ℕ)
-      → ((old_found (record seat { loaded = found }) head).mine ≡ seat.mine) × (awaited heap words number (with_entries (old_found (record seat { loaded = found }) head) []) ≡ [])
+      → ((after_old_load (record seat { loaded = found }) head).mine ≡ seat.mine) × (entries_awaited heap words number (with_entries (after_old_load (record seat { loaded = found }) head) []) ≡ [])
   old_found_adds words found None = (refl, old_awaits words found [])
   old_found_adds words found (Some head) = (refl, refl)
 
 module _ (old : Seat) (number : ℕ) (command : Command) where
   old_says : (seat : Seat) (told : List Entry) (loaded : ℕ) → IsGoing old number command seat told × (command ≢ commands.Leave)
-      → Says old number command (with_entries (old_done (record seat { loaded = loaded })) []) (told ++ []) (old_done (record seat { loaded = loaded })).place
-  old_says seat told loaded is = by (head_of (register_in seat.registers (source_of seat.command))) where
-    by : (n : Option ℕ) → Says old number command (with_entries (reaching (record seat { loaded = loaded }) (new_place n)) []) (told ++ []) (places.Reaching (new_place n))
+      → Says old number command (with_entries (after_old (record seat { loaded = loaded })) []) (told ++ []) (after_old (record seat { loaded = loaded })).place
+  old_says seat told loaded is = by (register_head (register_in seat.registers (source_of seat.command))) where
+    by : (n : Option ℕ) → Says old number command (with_entries (at_access (record seat { loaded = loaded }) (new_place_of n)) []) (told ++ []) (places.Access (new_place_of n))
     by None = (on old number command seat _ told [] is.0 refl refl refl refl tt, is.1)
     by (Some head) = (on old number command seat _ told [] is.0 refl refl refl refl tt, is.1)
 
   old_found_says : (seat : Seat) (told : List Entry) (found : ℕ) (head : Option ℕ) → IsGoing old number command seat told × (command ≢ commands.Leave)
-      → Says old number command (with_entries (old_found (record seat { loaded = found }) head) []) (told ++ []) (old_found (record seat { loaded = found }) head).place
+      → Says old number command (with_entries (after_old_load (record seat { loaded = found }) head) []) (told ++ []) (after_old_load (record seat { loaded = found }) head).place
   old_found_says seat told found None is = old_says seat told found is
   old_found_says seat told found (Some head) is = (on old number command seat _ told [] is.0 refl refl refl refl tt, is.1)
 
 -- the old value is loaded
-pub old_stands : PlaceStands (places.Reaching LoadingOld)
+pub old_stands : PlaceStands (places.Access LoadingOld)
 old_stands heap number seat here =
     let move = old_move seat in
     record {
       step = load_stands heap move.step refl (here.fits.way.reached_within, part_small (field_of seat.command));
-      fits = λ found small led. fits_old_found heap seat found (head_in found) (rests_at heap number seat LoadingOld here) here.way.0 here.way.1 refl (head_leads heap (field_of seat.command) found led);
-      near = λ found. nears_old_found heap seat found (head_in found);
+      fits = λ found small led. fits_old_found heap seat found (head_of found) (rests_at heap number seat LoadingOld here) here.way.0 here.way.1 refl (head_leads heap (field_of seat.command) found led);
+      near = λ found. nears_old_found heap seat found (head_of found);
       adds = λ now. let found = found_by heap now move.step in
-          let by = old_found_adds heap number seat (after_words heap now number seat move) found (head_in found) in
+          let by = old_found_adds heap number seat (after_words heap now number seat move) found (head_of found) in
           plain heap now number seat move by.0 (rw here.placed refl) by.1 refl;
-      says = λ old command words told is found. old_found_says old number command seat told found (head_in found) is;
+      says = λ old command words told is found. old_found_says old number command seat told found (head_of found) is;
     }
 
 -- the old value is shaded
-pub shade_old_stands : PlaceStands (places.Reaching ShadingOld)
+pub shade_old_stands : PlaceStands (places.Access ShadingOld)
 shade_old_stands heap number seat here =
     let move = shade_old_move seat in
     record {
-      step = shade_stands heap (loaded_head seat) (some_within heap (head_in seat.loaded) here.way.2 here.fits.way.loaded_within);
+      step = shade_stands heap (loaded_head_of seat) (some_within heap (head_of seat.loaded) here.way.2 here.fits.way.loaded_within);
       fits = λ found small led. fits_old_done heap seat seat.loaded (rests_at heap number seat ShadingOld here) here.way.0 here.way.1 here.fits.way.loaded_within;
       near = λ found. nears_old_done heap seat seat.loaded 3 (omega arith);
       adds = λ now. plain heap now number seat move refl (rw here.placed refl) (old_awaits heap number seat (after_words heap now number seat move) seat.loaded []) refl;
@@ -107,11 +107,11 @@ shade_old_stands heap number seat here =
     }
 
 -- the new value is shaded
-pub shade_new_stands : PlaceStands (places.Reaching ShadingNew)
+pub shade_new_stands : PlaceStands (places.Access ShadingNew)
 shade_new_stands heap number seat here = record {
-  step = shade_stands heap (unwrap_or (head_of (new_register seat)) 0)
-      (head_within heap (new_register seat) here.way.2 (register_fits heap seat.registers (source_of seat.command) here.fits.own.registers_fit));
-  fits = λ found small led. fits_reaching heap seat seat.reached seat.links seat.loaded Swapping (rests_at heap number seat ShadingNew here) here.fits.way.reached_within here.fits.way.loaded_within
+  step = shade_stands heap (unwrap_or (register_head (new_register_of seat)) 0)
+      (head_within heap (new_register_of seat) here.way.2 (register_fits heap seat.registers (source_of seat.command) here.fits.own.registers_fit));
+  fits = λ found small led. fits_access heap seat seat.reached seat.links seat.loaded Swapping (rests_at heap number seat ShadingNew here) here.fits.way.reached_within here.fits.way.loaded_within
       (here.way.0, λ off. gone_aside off here.way.1);
   near = λ found. record { fewer = omega arith; paid = omega arith };
   adds = λ now. plain heap now number seat (shade_new_move seat) refl (rw here.placed refl) refl refl;
@@ -119,16 +119,16 @@ shade_new_stands heap number seat here = record {
 }
 
 -- the field gets its new word
-pub swap_stands : PlaceStands (places.Reaching Swapping)
+pub swap_stands : PlaceStands (places.Access Swapping)
 swap_stands heap number seat here =
-    let fit : FitsRegister heap (new_register seat) = register_fits heap seat.registers (source_of seat.command) here.fits.own.registers_fit in
-    let small_stamp : stamp_of number (seat.sets + 1) < 2 ^ 32 = omega (arith, here.few, set_numbered seat.command seat.made seat.sets here.way.0.1 here.way.0.0.numbered) in
+    let fit : FitsRegister heap (new_register_of seat) = register_fits heap seat.registers (source_of seat.command) here.fits.own.registers_fit in
+    let small_stamp : set_stamp number (seat.sets + 1) < 2 ^ 32 = omega (arith, here.few, set_numbered seat.command seat.made seat.sets here.way.0.1 here.way.0.0.numbered) in
     let groups : 16 * heap.groups ≤ 2 ^ 16 = omega (arith, here.limits.groups_fit) in
     record {
       step = record {
         in_table = (here.fits.way.reached_within, part_small (field_of seat.command));
-        wide = λ found small. register_wide heap (new_register seat) (stamp_of number (seat.sets + 1)) groups fit small_stamp;
-        leads = λ found led. register_leads heap (new_register seat) (stamp_of number (seat.sets + 1)) (part_of (field_of seat.command)) (part_some (field_of seat.command)) groups fit small_stamp;
+        wide = λ found small. register_wide heap (new_register_of seat) (set_stamp number (seat.sets + 1)) groups fit small_stamp;
+        leads = λ found led. register_leads heap (new_register_of seat) (set_stamp number (seat.sets + 1)) (part_of (field_of seat.command)) (part_some (field_of seat.command)) groups fit small_stamp;
       };
       fits = λ found small led. fits_closed heap seat seat.registers (seat.sets + 1) (rests_at heap number seat Swapping here) here.fits.own.registers_whole here.fits.own.registers_fit;
       near = λ found. record { fewer = omega arith; paid = omega arith };

@@ -9,19 +9,19 @@ use Rattle.heap_model.specs.declared.heap.Heap.{Heap}
 use Rattle.core_machine.specs.Moves.{Move, move_at, seat_after}
 use Rattle.core_machine.specs.declared.place.Place.{Place}
 use Rattle.core_machine.specs.declared.place.Place.TheVariants as places
-use Rattle.core_machine.specs.declared.place.Reaching.{Reaching}
-use Rattle.core_machine.specs.machine.Machine.{State, MayBegin, begun}
-use Rattle.core_machine.specs.seat.Awaiting.{awaited, awaited_at}
+use Rattle.core_machine.specs.declared.place.Access.{Access}
+use Rattle.core_machine.specs.machine.Machine.{State, MayBegin, after_begin}
+use Rattle.core_machine.specs.seat.Awaiting.{entries_awaited, entries_awaited_at}
 use Rattle.core_machine.specs.seat.Fits.{Fits, FitsPlace, FitsWay, FitsAnswer, IsSilent, IsAtRest}
-use Rattle.core_machine.specs.seat.FitsReaching.{IsNowhere}
+use Rattle.core_machine.specs.seat.FitsAccess.{IsNowhere}
 use Rattle.core_machine.specs.seat.Seat.{Seat}
-use Rattle.core_machine.specs.table.Loaded.{FoundWithin}
+use Rattle.core_machine.specs.table.Decode.{FoundPointsWithin}
 use Rattle.core_machine.specs.table.Operation.{address_of}
 use Rattle.core_machine.proofs.call_lemmas.Awaits.{Adds}
 use Rattle.core_machine.proofs.call_lemmas.Owes.{owes_at, steps_at, Nears, owes}
 use Rattle.core_machine.proofs.call_lemmas.Saying.{Says, Leads, IsGoing}
 use Rattle.core_machine.proofs.seat_lemmas.Aside.{IsAside, present_busy, aside_idle, gone_aside}
-use Rattle.core_machine.proofs.seat_lemmas.FittingReaching.{Rests}
+use Rattle.core_machine.proofs.seat_lemmas.FittingAccess.{Rests}
 use Rattle.core_machine.proofs.table_lemmas.StepStands.{StepStands}
 
 -- a seat whose data fit together stands at this place
@@ -37,7 +37,7 @@ pub record IsAt (heap : Heap) (number : ℕ) (seat : Seat) (place : Place) : Typ
 pub record MoveStands (heap : Heap) (number : ℕ) (seat : Seat) (place : Place) (move : Move) : Type 0 where
   pub step : StepStands heap move.step
   -- the seat's data fit together after it, where the word found leads within the heap
-  pub fits : (found : ℕ) → found < 2 ^ 64 → FoundWithin heap (address_of move.step) found → Fits heap (move.told found)
+  pub fits : (found : ℕ) → found < 2 ^ 64 → FoundPointsWithin heap (address_of move.step) found → Fits heap (move.told found)
   -- fewer steps are left, and no more entries are added than were owed
   pub near : (found : ℕ) → Nears heap (seat_after move found) (owes_at seat place) (steps_at heap seat place) (length (move.adds found))
   -- the seat's own list, with what is awaited, grows as the history does
@@ -67,12 +67,12 @@ aside_at heap number seat place here busy nowhere silent = record {
 }
 
 -- at a place of reaching
-pub rests_at : (heap : Heap) (number : ℕ) (seat : Seat) (place : Reaching) → IsAt heap number seat (places.Reaching place) → Rests heap seat
+pub rests_at : (heap : Heap) (number : ℕ) (seat : Seat) (place : Access) → IsAt heap number seat (places.Access place) → Rests heap seat
 rests_at heap number seat place here = record {
   fits = here.fits;
   rest = here.hand;
   silent = here.answer;
-  present = present_at heap number seat (places.Reaching place) here (λ e. cc);
+  present = present_at heap number seat (places.Access place) here (λ e. cc);
 }
 
 -- a seat whose data fit together may begin this command
@@ -86,7 +86,7 @@ pub record BeginStands (heap : Heap) (number : ℕ) (seat : Seat) (command : Com
   pub fits : Fits heap begun_
   -- it adds no entry, and awaits none
   pub kept : begun_.mine ≡ seat.mine
-  pub awaits : (words : List ℕ) → awaited heap words number begun_ ≡ []
+  pub awaits : (words : List ℕ) → entries_awaited heap words number begun_ ≡ []
   -- it has told nothing
   pub says : Says seat number command begun_ [] begun_.place
   -- it owes no more than twice its need and two
@@ -94,7 +94,7 @@ pub record BeginStands (heap : Heap) (number : ℕ) (seat : Seat) (command : Com
 
 -- so stands the begin of this command
 abbrev pub CommandStands : Command → Type 0
-CommandStands command = (heap : Heap) (number : ℕ) (seat : Seat) → IsReady heap seat command → BeginStands heap number seat command (begun heap seat command)
+CommandStands command = (heap : Heap) (number : ℕ) (seat : Seat) → IsReady heap seat command → BeginStands heap number seat command (after_begin heap seat command)
 
 module _ (heap : Heap) (number : ℕ) (seat : Seat) (command : Command) (ready : IsReady heap seat command) where
   pub rest_ready : IsAtRest seat
@@ -113,7 +113,7 @@ module _ (heap : Heap) (number : ℕ) (seat : Seat) (command : Command) (ready :
 
   -- at a place where nothing is in the hand, reached or about to be answered
   pub resting_begins : (place : Place) → FitsPlace heap (placed_at place) place → FitsWay (placed_at place) place → FitsAnswer (placed_at place) place
-      → ((words : List ℕ) → awaited_at heap words number (placed_at place) place ≡ []) → Says seat number command (placed_at place) [] place
+      → ((words : List ℕ) → entries_awaited_at heap words number (placed_at place) place ≡ []) → Says seat number command (placed_at place) [] place
       → owes_at (placed_at place) place ≤ 2 * need_of command + 2 → BeginStands heap number seat command (placed_at place)
   resting_begins place hand way answer awaits says owed = record {
     fits = record {

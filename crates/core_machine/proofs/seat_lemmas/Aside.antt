@@ -6,16 +6,16 @@ use Rattle.heap_model.specs.declared.heap.Heap.{Heap}
 use Rattle.core_machine.specs.declared.place.Place.{Place}
 use Rattle.core_machine.specs.declared.place.Place.TheVariants as places
 use Rattle.core_machine.specs.declared.seat.register.Register.{Register}
-use Rattle.core_machine.specs.table.Loaded.{head_in, IsWithinHeap}
-use Rattle.core_machine.specs.seat.Seat.{Seat, over}
-use Rattle.core_machine.specs.seat.FitsReaching.{HasNoWay, IsNowhere}
+use Rattle.core_machine.specs.table.Decode.{head_of, IsWithinHeap}
+use Rattle.core_machine.specs.seat.Seat.{Seat, after_call}
+use Rattle.core_machine.specs.seat.FitsAccess.{HasNoWay, IsNowhere}
 use Rattle.core_machine.specs.seat.Fits.{FitsRegister, FitsWay, FitsAnswer, HasNoAnswer, IsAtRest, IsSilent, Fits, FitsPlace, AreFragments}
 
 -- the registers fit, nothing is reached, loaded or about to be answered, and the seat hasn't left
 pub record StandsAside (heap : Heap) (registers : List Register) (reached links loaded asked shaded : ℕ) (left : Bool) : Type 0 where
   pub registers_fit : All (FitsRegister heap) registers
   pub reached_within : reached < 16 * heap.groups
-  pub loaded_within : IsWithinHeap heap (head_in loaded)
+  pub loaded_within : IsWithinHeap heap (head_of loaded)
   pub asked_small : asked < 2 ^ 64
   pub nowhere : HasNoWay reached links loaded
   pub silent : HasNoAnswer asked shaded
@@ -73,7 +73,7 @@ fits_hand heap seat hand stored tried given place fits aside within at_place way
 
 -- the call is over: of the seat's own data its registers, its reserve and its cursor matter alone
 pub fits_over : (heap : Heap) (seat : Seat) → length seat.registers ≡ 16 → All (FitsRegister heap) seat.registers → seat.cursor < heap.groups → length seat.reserve ≤ 15
-    → All (λ fragment. fragment / 16 ≡ seat.cursor) seat.reserve → (seat.left ≡ true → seat.reserve ≡ []) → Fits heap (over seat)
+    → All (λ fragment. fragment / 16 ≡ seat.cursor) seat.reserve → (seat.left ≡ true → seat.reserve ≡ []) → Fits heap (after_call seat)
 fits_over heap seat whole fit cursor small of_cursor gone = record {
   own = record {
     registers_whole = whole;
@@ -98,12 +98,12 @@ fits_over heap seat whole fit cursor small of_cursor gone = record {
 }
 
 rest_over : (seat : Seat) → seat.place ≡ places.Idle → IsAtRest seat → IsNowhere seat → IsSilent seat
-    → over seat ≡ record seat { hand = seat.hand; body = seat.body; stored = seat.stored; tried = seat.tried; given = seat.given; place = seat.place; reached = seat.reached; links = seat.links; loaded = seat.loaded; asked = seat.asked; shaded = seat.shaded }
+    → after_call seat ≡ record seat { hand = seat.hand; body = seat.body; stored = seat.stored; tried = seat.tried; given = seat.given; place = seat.place; reached = seat.reached; links = seat.links; loaded = seat.loaded; asked = seat.asked; shaded = seat.shaded }
 rest_over seat here rest nowhere silent =
     rw (here, rest.empty_hand, rest.no_body, rest.none_stored, rest.none_tried, rest.none_given, nowhere.none_reached, nowhere.no_links, nowhere.none_loaded, silent.none_asked, silent.none_shaded) refl
 
 -- a seat without a call in flight has nothing of one
-pub over_idle : (heap : Heap) (seat : Seat) → Fits heap seat → seat.place ≡ places.Idle → over seat ≡ seat
+pub over_idle : (heap : Heap) (seat : Seat) → Fits heap seat → seat.place ≡ places.Idle → after_call seat ≡ seat
 over_idle heap seat fits here =
     let rest : IsAtRest seat = subst (FitsPlace heap seat) here fits.at_place in
     let nowhere : IsNowhere seat = subst (FitsWay seat) here fits.way_at_place in
@@ -111,7 +111,7 @@ over_idle heap seat fits here =
     rest_over seat here rest nowhere silent
 
 -- a seat that makes nothing and answers no phase has its way alone of a call
-pub over_way : (seat : Seat) → IsAtRest seat → IsSilent seat → over seat ≡ record seat { reached = 0; links = 0; loaded = 0; place = places.Idle }
+pub over_way : (seat : Seat) → IsAtRest seat → IsSilent seat → after_call seat ≡ record seat { reached = 0; links = 0; loaded = 0; place = places.Idle }
 over_way seat rest silent = by where
-  by : over seat ≡ record seat { hand = seat.hand; body = seat.body; stored = seat.stored; tried = seat.tried; given = seat.given; reached = 0; links = 0; loaded = 0; place = places.Idle; asked = seat.asked; shaded = seat.shaded }
+  by : after_call seat ≡ record seat { hand = seat.hand; body = seat.body; stored = seat.stored; tried = seat.tried; given = seat.given; reached = 0; links = 0; loaded = 0; place = places.Idle; asked = seat.asked; shaded = seat.shaded }
   by = rw (rest.empty_hand, rest.no_body, rest.none_stored, rest.none_tried, rest.none_given, silent.none_asked, silent.none_shaded) refl

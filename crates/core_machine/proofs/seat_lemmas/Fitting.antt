@@ -13,8 +13,8 @@ use Rattle.core_machine.specs.declared.place.Making.{Making}
 use Rattle.core_machine.specs.declared.place.Making.TheVariants.{Gathering, Returning, Refusing}
 use Rattle.core_machine.specs.seat.Commands.{IsRecord}
 use Rattle.core_machine.specs.seat.Seat.{Seat, need}
-use Rattle.core_machine.specs.seat.Making.{gathered, settled, refused, returning, goes_on, last_claimed, next_group}
-use Rattle.core_machine.specs.seat.Fits.{AreFragments, MakesRecord, Refuses, FitsMaking, Fits}
+use Rattle.core_machine.specs.seat.Making.{fragments_gathered, after_gather, after_shortage, refusal_place, gather_next, last_claimed, next_group_of}
+use Rattle.core_machine.specs.seat.Fits.{AreFragments, MakesRecord, SeatIsRefusing, FitsMaking, Fits}
 use Rattle.core_machine.proofs.seat_lemmas.Aside.{IsAside, gone_aside}
 use Rattle.core_machine.proofs.table_lemmas.Owned.{within_group}
 
@@ -24,20 +24,20 @@ need_of_record (New d fields) record_ range = (omega arith, omega arith)
 need_of_record _ record_ range = absurd record_
 
 -- a seat goes on in one of three ways
-pub goes_on_cases : (P : Seat → Type 0) (heap : Heap) (seat : Seat) → (need seat ≤ length (gathered seat) → P (settled heap seat))
-    → (length (gathered seat) < need seat → seat.tried < heap.groups → P (record seat { place = places.Making Gathering }))
-    → (length (gathered seat) < need seat → heap.groups ≤ seat.tried → P (refused seat)) → P (goes_on heap seat)
+pub goes_on_cases : (P : Seat → Type 0) (heap : Heap) (seat : Seat) → (need seat ≤ length (fragments_gathered seat) → P (after_gather heap seat))
+    → (length (fragments_gathered seat) < need seat → seat.tried < heap.groups → P (record seat { place = places.Making Gathering }))
+    → (length (fragments_gathered seat) < need seat → heap.groups ≤ seat.tried → P (after_shortage seat)) → P (gather_next heap seat)
 goes_on_cases P heap seat enough more few =
-    elim (leb_tells (need seat) (length (gathered seat))) as (λ _. P (goes_on heap seat)) [
+    elim (leb_tells (need seat) (length (fragments_gathered seat))) as (λ _. P (gather_next heap seat)) [
       | inl yes_ ↦ rw yes_.0 (enough yes_.1)
-      | inr lacks ↦ rw lacks.0 (elim (leb_tells (suc seat.tried) heap.groups) as (λ _. P (cond (leb (suc seat.tried) heap.groups) (record seat { place = places.Making Gathering }) (refused seat))) [
+      | inr lacks ↦ rw lacks.0 (elim (leb_tells (suc seat.tried) heap.groups) as (λ _. P (cond (leb (suc seat.tried) heap.groups) (record seat { place = places.Making Gathering }) (after_shortage seat))) [
         | inl left ↦ rw left.0 (more lacks.1 left.1)
         | inr all ↦ rw all.0 (few lacks.1 (omega (arith, all.1)))
       ])
     ]
 
 -- a refusal gives back, or is told
-pub returning_cases : (P : Making → Type 0) (hand : List ℕ) → (hand ≡ [] → P Refusing) → (0 < length hand → P Returning) → P (returning hand)
+pub returning_cases : (P : Making → Type 0) (hand : List ℕ) → (hand ≡ [] → P Refusing) → (0 < length hand → P Returning) → P (refusal_place hand)
 returning_cases P [] none some = none refl
 returning_cases P (fragment ∷ more) none some = some (omega arith)
 
@@ -54,29 +54,29 @@ pub record IsGathered (heap : Heap) (seat : Seat) : Type 0 where
   pub none_given : seat.given ≡ 0
   pub tried_within : seat.tried ≤ heap.groups
   pub few : length seat.reserve + length seat.hand ≤ need seat + 15
-  pub rest_of_last : All (λ fragment. fragment / 16 ≡ last_claimed heap seat) (drop (need seat) (gathered seat))
+  pub rest_of_last : All (λ fragment. fragment / 16 ≡ last_claimed heap seat) (drop (need seat) (fragments_gathered seat))
   pub aside : IsAside heap seat
 
 pub last_claimed_within : (heap : Heap) (seat : Seat) → seat.cursor < heap.groups → last_claimed heap seat < heap.groups
 last_claimed_within heap seat within =
     elim (eqb_tells seat.tried 0) as (λ _. last_claimed heap seat < heap.groups) [ inl e ↦ rw e.0 within | inr e ↦ rw e.0 (omega arith) ]
 
-fits_settled : (heap : Heap) (seat : Seat) → IsGathered heap seat → need seat ≤ length (gathered seat) → Fits heap (settled heap seat)
+fits_settled : (heap : Heap) (seat : Seat) → IsGathered heap seat → need seat ≤ length (fragments_gathered seat) → Fits heap (after_gather heap seat)
 fits_settled heap seat is enough =
     let some = need_of_record seat.command is.makes.a_record is.makes.in_range in
-    let all : AreFragments heap (gathered seat) =
+    let all : AreFragments heap (fragments_gathered seat) =
     All-append (λ fragment. fragment < 16 * heap.groups) seat.reserve seat.hand
     (within_group heap seat.cursor seat.reserve is.cursor_within is.reserve_of_cursor) is.hand_within in
-    let used : AreFragments heap (take (need seat) (gathered seat)) =
-    All-take (λ fragment. fragment < 16 * heap.groups) (need seat) (gathered seat) all in
+    let used : AreFragments heap (take (need seat) (fragments_gathered seat)) =
+    All-take (λ fragment. fragment < 16 * heap.groups) (need seat) (fragments_gathered seat) all in
     let long = length-append seat.reserve seat.hand in
-    let whole : length (take (need seat) (gathered seat)) ≡ need seat = omega (arith, length-take (need seat) (gathered seat)) in
+    let whole : length (take (need seat) (fragments_gathered seat)) ≡ need seat = omega (arith, length-take (need seat) (fragments_gathered seat)) in
     record {
       own = record {
         registers_whole = is.registers_whole;
         registers_fit = is.aside.registers_fit;
         cursor_within = last_claimed_within heap seat is.cursor_within;
-        small_reserve = omega (arith, length-drop (need seat) (gathered seat), is.few);
+        small_reserve = omega (arith, length-drop (need seat) (fragments_gathered seat), is.few);
         reserve_of_cursor = is.rest_of_last;
       };
       hand = record {
@@ -95,8 +95,8 @@ fits_settled heap seat is enough =
     }
 
 -- the place of a refusal tells whether anything is to be given back
-pub fits_returning : (heap : Heap) (seat : Seat) (hand : List ℕ) → Refuses heap seat → seat.hand ≡ hand
-    → FitsMaking heap seat (returning hand)
+pub fits_returning : (heap : Heap) (seat : Seat) (hand : List ℕ) → SeatIsRefusing heap seat → seat.hand ≡ hand
+    → FitsMaking heap seat (refusal_place hand)
 fits_returning heap seat [] refuses is = (refuses, is)
 fits_returning heap seat (fragment ∷ more) refuses is = (refuses, rw is (omega arith))
 
@@ -132,17 +132,17 @@ fits_gathering heap seat is left few = fits_gathered heap seat Gathering is
     record { makes = is.makes; no_body = is.no_body; none_stored = is.none_stored; none_given = is.none_given; groups_left = left; too_few = few }
 
 fits_refused : (heap : Heap) (seat : Seat) → IsGathered heap seat → seat.tried ≡ heap.groups
-    → length seat.reserve + length seat.hand < need seat → Fits heap (refused seat)
-fits_refused heap seat is all few = fits_gathered heap seat (returning seat.hand) is
-    (fits_returning heap (refused seat) seat.hand
+    → length seat.reserve + length seat.hand < need seat → Fits heap (after_shortage seat)
+fits_refused heap seat is all few = fits_gathered heap seat (refusal_place seat.hand) is
+    (fits_returning heap (after_shortage seat) seat.hand
     (record { makes = is.makes; no_body = is.no_body; none_stored = is.none_stored; all_tried = all; too_few = omega (arith, is.none_given) }) refl)
 
-pub fits_goes_on : (heap : Heap) (seat : Seat) → IsGathered heap seat → Fits heap (goes_on heap seat)
+pub fits_goes_on : (heap : Heap) (seat : Seat) → IsGathered heap seat → Fits heap (gather_next heap seat)
 fits_goes_on heap seat is =
     let long = length-append seat.reserve seat.hand in
     goes_on_cases (Fits heap) heap seat (λ enough. fits_settled heap seat is enough) (λ few left. fits_gathering heap seat is left (omega arith))
     (λ few all. fits_refused heap seat is (omega (arith, is.tried_within)) (omega arith))
 
 -- the group that is claimed next
-pub next_within : (heap : Heap) (seat : Seat) → seat.cursor < heap.groups → next_group heap seat < heap.groups
+pub next_within : (heap : Heap) (seat : Seat) → seat.cursor < heap.groups → next_group_of heap seat < heap.groups
 next_within heap seat within = omega arith

@@ -1,5 +1,5 @@
 -- Reading and writing the words of a table.
-use Rattle.std.proofs.Common.{◌≡◌, ◌≢◌, ℕ, ◌<◌, ◌^◌, inl, inr, List, length, get_or, set, suc, refl, sym, subst, arith}
+use Rattle.std.proofs.Common.{◌≡◌, ◌≢◌, ℕ, ◌+◌, ◌*◌, ◌<◌, ◌≤◌, ◌^◌, inl, inr, List, length, get_or, set, zero, suc, refl, sym, subst, arith, lt-ltb, le-ltb}
 use Rattle.std.proofs.lemmas.List.{get_or-set_same, get_or-set_other, set-get_or, length-set, get_or_past, set_past}
 use Rattle.std.specs.List.{All}
 use Rattle.std.proofs.lemmas.Bool.Decides.{leb_tells}
@@ -7,7 +7,40 @@ use Rattle.std.proofs.lemmas.List.Elements.{All-set}
 use Rattle.heap_model.specs.declared.heap.Heap.{Heap}
 use Rattle.core_machine.specs.declared.table.address.Address.{Address}
 use Rattle.core_machine.specs.declared.table.address.Address.TheVariants.{Phase, Answer, Budget, Spot, Control, Word, Spine}
-use Rattle.core_machine.specs.table.Layout.{table_length, index_of, InTable, HasWord, at, put}
+use Rattle.core_machine.specs.table.Layout.{table_length, spine_index, index_of, InTable, HasWord, at, put}
+
+-- a spine word stands among as many words as both halves have exactly where its offset is below those of one
+pub spine_within : (spine half offset : ℕ) → half < 2 → offset < 2 * spine → spine_index spine half offset < 4 * spine
+spine_within spine zero offset below within = rw (lt-ltb offset (2 * spine) within) (omega arith)
+spine_within spine (suc zero) offset below within = rw (lt-ltb offset (2 * spine) within) (omega arith)
+spine_within spine (suc (suc n)) offset below within = absurd (omega arith)
+
+pub spine_past : (spine half offset : ℕ) → 2 * spine ≤ offset → 4 * spine ≤ spine_index spine half offset
+spine_past spine half offset past = rw (le-ltb offset (2 * spine) past) (omega arith)
+
+-- no two words of the halves stand in one place
+half_apart : (spine half half' offset offset' : ℕ) → half < 2 → half' < 2 → offset < 2 * spine → offset' < 2 * spine
+    → 2 * spine * half + offset ≡ 2 * spine * half' + offset' → (half ≡ half') × (offset ≡ offset')
+half_apart spine zero zero offset offset' b b' w w' same = (refl, omega arith)
+half_apart spine zero (suc zero) offset offset' b b' w w' same = absurd (omega arith)
+half_apart spine (suc zero) zero offset offset' b b' w w' same = absurd (omega arith)
+half_apart spine (suc zero) (suc zero) offset offset' b b' w w' same = (refl, omega arith)
+half_apart spine (suc (suc n)) half' offset offset' b b' w w' same = absurd (omega arith)
+half_apart spine half (suc (suc n)) offset offset' b b' w w' same = absurd (omega arith)
+
+spine_apart : (spine half half' offset offset' : ℕ) → half < 2 → half' < 2 → spine_index spine half offset ≡ spine_index spine half' offset'
+    → (half ≡ half') × (offset ≡ offset')
+spine_apart spine half half' offset offset' b b' same =
+    elim (leb_tells (suc offset) (2 * spine)) as (λ _. (half ≡ half') × (offset ≡ offset')) [
+      | inl in_ ↦ elim (leb_tells (suc offset') (2 * spine)) as (λ _. (half ≡ half') × (offset ≡ offset')) [
+        | inl in' ↦ half_apart spine half half' offset offset' b b' in_.1 in'.1 (rw (in_.0, in'.0) at same)
+        | inr out' ↦ absurd (omega (arith, same, spine_within spine half offset b in_.1, spine_past spine half' offset' (omega (arith, out'.1))))
+      ]
+      | inr out ↦ elim (leb_tells (suc offset') (2 * spine)) as (λ _. (half ≡ half') × (offset ≡ offset')) [
+        | inl in' ↦ absurd (omega (arith, same, spine_within spine half' offset' b' in'.1, spine_past spine half offset (omega (arith, out.1))))
+        | inr out' ↦ let apart : 2 * offset + half ≡ 2 * offset' + half' = rw (out.0, out'.0) at same in (omega arith, omega arith)
+      ]
+    ]
 
 -- a word of the table stands in it
 pub index_within : (heap : Heap) (a : Address) → HasWord heap a → index_of heap a < table_length heap
@@ -17,7 +50,7 @@ index_within heap Budget within = omega arith
 index_within heap Spot within = omega arith
 index_within heap (Control group) within = omega arith
 index_within heap (Word fragment part) within = omega arith
-index_within heap (Spine half offset) within = omega (arith, within.0, within.1)
+index_within heap (Spine half offset) within = let few = spine_within heap.spine half offset within.0 within.1 in omega arith
 
 pub length-put : (heap : Heap) (words : List ℕ) (a : Address) (word : ℕ) → length (put heap words a word) ≡ length words
 unfolding put
@@ -90,8 +123,7 @@ index_apart heap (Spine half offset) Spot here there same = absurd (omega arith)
 index_apart heap (Spine half offset) (Control group') here there same = absurd (omega arith)
 index_apart heap (Spine half offset) (Word fragment' part') here there same = absurd (omega arith)
 index_apart heap (Spine half offset) (Spine half' offset') here there same =
-    let e : half ≡ half' = omega arith in
-    let f : offset ≡ offset' = omega arith in
+    let e = spine_apart heap.spine half half' offset offset' here there (omega arith) in
     cc
 
 -- other words stay

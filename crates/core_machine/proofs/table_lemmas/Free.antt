@@ -11,7 +11,7 @@ use Rattle.core_machine.specs.table.Fragments.{is_clear, clear_among, clear_in}
 use Rattle.core_machine.specs.table.Layout.{at, put, table_length}
 use Rattle.core_machine.specs.table.Operation.{all_taken}
 use Rattle.core_machine.specs.machine.Sums.{sum_upto}
-use Rattle.core_machine.specs.machine.Calls.{free_fragments}
+use Rattle.core_machine.specs.machine.Calls.{free_count}
 use Rattle.core_machine.proofs.table_lemmas.Addresses.{at-put_same, at-put_other}
 
 -- sums of functions that are the same below the bound
@@ -68,8 +68,8 @@ clear_in-claimed group word = filter_none (is_clear (bit_or word all_taken)) (ra
 
 -- a claim takes what was clear in its group
 pub free-claimed : (heap : Heap) (words : List ℕ) (group : ℕ) → length words ≡ table_length heap → group < heap.groups
-    → free_fragments heap (put heap words (Control group) (bit_or (at heap words (Control group)) all_taken)) + length (clear_in group (at heap words (Control group)))
-    ≡ free_fragments heap words
+    → free_count heap (put heap words (Control group) (bit_or (at heap words (Control group)) all_taken)) + length (clear_in group (at heap words (Control group)))
+    ≡ free_count heap words
 free-claimed heap words group table within =
     let now = put heap words (Control group) (bit_or (at heap words (Control group)) all_taken) in
     let here : length (clear_in group (at heap now (Control group))) ≡ 0 =

@@ -1,6 +1,5 @@
 -- Every step leaves words that lead within the heap.
-use Rattle.std.proofs.Common.{suc, ◌≡◌, ℕ, ◌+◌, ◌*◌, ◌/◌, ◌%◌, ◌^◌, ◌<◌, ◌≤◌, true, false, cond, eqb, ltb, List, length, get_or, Some, None, inl, inr, subst, sym, ap, arith}
-use Rattle.std.specs.Prelude.{IfSome}
+use Rattle.std.proofs.Common.{suc, ◌≡◌, ℕ, ◌+◌, ◌*◌, ◌^◌, ◌<◌, ◌≤◌, true, false, cond, eqb, ltb, List, length, get_or, Some, None, inl, inr, subst, sym, ap, arith}
 use Rattle.std.proofs.lemmas.Bool.Decides.{eqb_tells, leb_tells}
 use Rattle.std.proofs.lemmas.List.{get_or_past}
 use Rattle.heap_words.specs.declared.cell.Cell.{Cell}
@@ -11,39 +10,38 @@ use Rattle.heap_words.specs.Cell.{cell_word}
 use Rattle.heap_words.specs.Name.{name_word}
 use Rattle.heap_model.specs.declared.heap.Heap.{Heap}
 use Rattle.core_machine.specs.declared.table.address.Address.{Address}
-use Rattle.core_machine.specs.declared.table.address.Address.TheVariants.{Phase, Answer, Budget, Spot, Control, Word, Spine}
 use Rattle.core_machine.specs.declared.seat.register.Register.{Register}
 use Rattle.core_machine.specs.declared.seat.register.Register.TheVariants.{Nil, Number, Object}
 use Rattle.core_machine.specs.table.Layout.{at, put, index_of, InTable}
-use Rattle.core_machine.specs.table.Loaded.{lead_of, first_lead, referred, IsWithinHeap, LeadWithin, FoundWithin}
-use Rattle.core_machine.specs.table.Newborn.{link_after, head_word, record_word}
+use Rattle.core_machine.specs.table.Decode.{pointer_in, first_pointer, reference_of, IsWithinHeap, PointersWithin, FoundPointsWithin}
+use Rattle.core_machine.specs.table.Newborn.{link_after, head_word_of, record_word_of}
 use Rattle.core_machine.specs.seat.Registers.{register_word}
 use Rattle.core_machine.specs.seat.Fits.{AreFragments, FitsRegister}
 use Rattle.core_machine.proofs.table_lemmas.Addresses.{at-put_other, index_apart, put-tells}
 use Rattle.core_machine.proofs.table_lemmas.CellWords.{cell_of-cell_word}
 
 -- another word in the place of one
-pub leads-put : (heap : Heap) (words : List ℕ) (a : Address) (word : ℕ) → InTable heap a → FoundWithin heap a word
-    → LeadWithin heap words → LeadWithin heap (put heap words a word)
+pub leads-put : (heap : Heap) (words : List ℕ) (a : Address) (word : ℕ) → InTable heap a → FoundPointsWithin heap a word
+    → PointersWithin heap words → PointersWithin heap (put heap words a word)
 leads-put heap words a word in_table led leads b there =
-    elim (eqb_tells (index_of heap a) (index_of heap b)) as (λ _. FoundWithin heap b (at heap (put heap words a word) b)) [
+    elim (eqb_tells (index_of heap a) (index_of heap b)) as (λ _. FoundPointsWithin heap b (at heap (put heap words a word) b)) [
       | inl one ↦
-          subst (λ (c : Address). FoundWithin heap c (at heap (put heap words a word) c)) (index_apart heap a b in_table there one.1)
-          (put-tells (FoundWithin heap a) heap words a word led (leads a in_table))
+          subst (λ (c : Address). FoundPointsWithin heap c (at heap (put heap words a word) c)) (index_apart heap a b in_table there one.1)
+          (put-tells (FoundPointsWithin heap a) heap words a word led (leads a in_table))
       | inr other ↦
-          subst (FoundWithin heap b) (sym (at-put_other heap words a b word in_table there (λ same. other.1 (sym (ap (index_of heap) same))))) (leads b there)
+          subst (FoundPointsWithin heap b) (sym (at-put_other heap words a b word in_table there (λ same. other.1 (sym (ap (index_of heap) same))))) (leads b there)
     ]
 
 -- where the word of a cell leads
 pub cell_lead : (part : ℕ) (kind : Kind) (value stamp : ℕ) → value < 2 ^ 30 → stamp < 2 ^ 32
-    → lead_of part (cell_word (record { kind = kind; value = value; stamp = stamp }))
-    ≡ cond (eqb part 0) (first_lead kind (record { kind = kind; value = value; stamp = stamp })) (referred kind value)
+    → pointer_in part (cell_word (record { kind = kind; value = value; stamp = stamp }))
+    ≡ cond (eqb part 0) (first_pointer kind (record { kind = kind; value = value; stamp = stamp })) (reference_of kind value)
 cell_lead part kind value stamp small short =
-    ap (λ (c : Cell). cond (eqb part 0) (first_lead c.kind c) (referred c.kind c.value)) (cell_of-cell_word kind value stamp small short)
+    ap (λ (c : Cell). cond (eqb part 0) (first_pointer c.kind c) (reference_of c.kind c.value)) (cell_of-cell_word kind value stamp small short)
 
 -- a register's word leads to its object
 pub register_leads : (heap : Heap) (register : Register) (stamp part : ℕ) → eqb part 0 ≡ false → 16 * heap.groups ≤ 2 ^ 16 → FitsRegister heap register → stamp < 2 ^ 32
-    → IsWithinHeap heap (lead_of part (register_word register stamp))
+    → IsWithinHeap heap (pointer_in part (register_word register stamp))
 register_leads heap Nil stamp part some few fit small = subst (IsWithinHeap heap) (sym (cell_lead part kinds.Nil 0 stamp (omega arith) small)) (rw some tt)
 register_leads heap (Number n) stamp part some few fit small = subst (IsWithinHeap heap) (sym (cell_lead part kinds.Number n stamp fit small)) (rw some tt)
 register_leads heap (Object head id) stamp part some few fit small = subst (IsWithinHeap heap) (sym (cell_lead part kinds.Reference head stamp (omega (arith, fit)) small)) (rw some fit)
@@ -57,43 +55,42 @@ fragment_within heap fragments i some each =
     ]
 
 -- the word 0 leads nowhere
-pub zero_leads : (heap : Heap) (part : ℕ) → IsWithinHeap heap (lead_of part 0)
-zero_leads heap part = elim (eqb_tells part 0) as (λ _. IsWithinHeap heap (lead_of part 0)) [ inl e ↦ rw e.0 tt | inr e ↦ rw e.0 tt ]
+pub zero_leads : (heap : Heap) (part : ℕ) → IsWithinHeap heap (pointer_in part 0)
+zero_leads heap part = elim (eqb_tells part 0) as (λ _. IsWithinHeap heap (pointer_in part 0)) [ inl e ↦ rw e.0 tt | inr e ↦ rw e.0 tt ]
 
 meta_leads : (heap : Heap) (fields next : ℕ) → fields < 2 ^ 13 → next < 16 * heap.groups → 16 * heap.groups ≤ 2 ^ 16
-    → IsWithinHeap heap (lead_of 0 (cell_word (record { kind = kinds.Fixed; value = fields; stamp = next })))
+    → IsWithinHeap heap (pointer_in 0 (cell_word (record { kind = kinds.Fixed; value = fields; stamp = next })))
 meta_leads heap fields next few within small =
     let short : ltb fields (2 ^ 29) ≡ true = grind arith in
     subst (IsWithinHeap heap) (sym (cell_lead 0 kinds.Fixed fields next (omega arith) (omega arith)))
     (rw short (elim (eqb_tells next 0) as (λ _. IsWithinHeap heap (cond (eqb next 0) None (Some next))) [ inl e ↦ rw e.0 tt | inr e ↦ rw e.0 within ]))
 
-name_leads : (heap : Heap) (name : Name) → name.owner < 2 ^ 30 → name.count < 2 ^ 32 → IsWithinHeap heap (lead_of 1 (name_word name))
+name_leads : (heap : Heap) (name : Name) → name.owner < 2 ^ 30 → name.count < 2 ^ 32 → IsWithinHeap heap (pointer_in 1 (name_word name))
 name_leads heap name owner count = subst (IsWithinHeap heap) (sym (cell_lead 1 kinds.Fixed name.owner name.count owner count)) tt
 
 link_leads : (heap : Heap) (fragments : List ℕ) (k : ℕ) → 0 < heap.groups → 16 * heap.groups ≤ 2 ^ 16 → AreFragments heap fragments
-    → IsWithinHeap heap (lead_of 0 (link_after fragments k))
+    → IsWithinHeap heap (pointer_in 0 (link_after fragments k))
 link_leads heap fragments k some few each =
     let next = fragment_within heap fragments (k + 1) some each in
-    elim (leb_tells (suc (k + 1)) (length fragments)) as (λ _. IsWithinHeap heap (lead_of 0 (link_after fragments k))) [
+    elim (leb_tells (suc (k + 1)) (length fragments)) as (λ _. IsWithinHeap heap (pointer_in 0 (link_after fragments k))) [
       | inl more ↦ rw more.0 (subst (IsWithinHeap heap) (sym (cell_lead 0 kinds.Reference (get_or fragments (k + 1) 0) 0 (omega arith) (omega arith))) next)
       | inr last ↦ rw last.0 tt
     ]
 
 -- a newborn's words lead to its own fragments
 pub record_leads : (heap : Heap) (name : Name) (fields : ℕ) (fragments : List ℕ) (k part : ℕ) → name.owner < 2 ^ 30 → name.count < 2 ^ 32 → fields < 2 ^ 13
-    → 0 < heap.groups → 16 * heap.groups ≤ 2 ^ 16 → AreFragments heap fragments → IsWithinHeap heap (lead_of part (record_word name fields fragments k part))
+    → 0 < heap.groups → 16 * heap.groups ≤ 2 ^ 16 → AreFragments heap fragments → IsWithinHeap heap (pointer_in part (record_word_of name fields fragments k part))
 record_leads heap name fields fragments k part owner count few some small each =
-    elim (eqb_tells k 0) as (λ _. IsWithinHeap heap (lead_of part (record_word name fields fragments k part))) [
-      | inl head ↦ rw head.0 (elim (eqb_tells part 0) as (λ _. IsWithinHeap heap (lead_of part (head_word name fields fragments part))) [
-        | inl meta ↦ subst (λ (p : ℕ). IsWithinHeap heap (lead_of p (head_word name fields fragments p))) (sym meta.1) (meta_leads heap fields (get_or fragments 1 0) few (fragment_within heap fragments 1 some each) small)
-        | inr other ↦ elim (eqb_tells part 1) as (λ _. IsWithinHeap heap (lead_of part (head_word name fields fragments part))) [
-          | inl named ↦ subst (λ (p : ℕ). IsWithinHeap heap (lead_of p (head_word name fields fragments p))) (sym named.1) (name_leads heap name owner count)
+    elim (eqb_tells k 0) as (λ _. IsWithinHeap heap (pointer_in part (record_word_of name fields fragments k part))) [
+      | inl head ↦ rw head.0 (elim (eqb_tells part 0) as (λ _. IsWithinHeap heap (pointer_in part (head_word_of name fields fragments part))) [
+        | inl meta ↦ subst (λ (p : ℕ). IsWithinHeap heap (pointer_in p (head_word_of name fields fragments p))) (sym meta.1) (meta_leads heap fields (get_or fragments 1 0) few (fragment_within heap fragments 1 some each) small)
+        | inr other ↦ elim (eqb_tells part 1) as (λ _. IsWithinHeap heap (pointer_in part (head_word_of name fields fragments part))) [
+          | inl named ↦ subst (λ (p : ℕ). IsWithinHeap heap (pointer_in p (head_word_of name fields fragments p))) (sym named.1) (name_leads heap name owner count)
           | inr cell ↦ rw (other.0, cell.0) tt
         ]
       ])
-      | inr chain ↦ rw chain.0 (elim (eqb_tells part 0) as (λ _. IsWithinHeap heap (lead_of part (cond (eqb part 0) (link_after fragments k) 0))) [
-        | inl link ↦ subst (λ (p : ℕ). IsWithinHeap heap (lead_of p (cond (eqb p 0) (link_after fragments k) 0))) (sym link.1) (link_leads heap fragments k some small each)
+      | inr chain ↦ rw chain.0 (elim (eqb_tells part 0) as (λ _. IsWithinHeap heap (pointer_in part (cond (eqb part 0) (link_after fragments k) 0))) [
+        | inl link ↦ subst (λ (p : ℕ). IsWithinHeap heap (pointer_in p (cond (eqb p 0) (link_after fragments k) 0))) (sym link.1) (link_leads heap fragments k some small each)
         | inr cell ↦ rw cell.0 tt
       ])
     ]
-

@@ -6,8 +6,8 @@ use Rattle.std.proofs.lemmas.Nat.{and_le_r, or_lt}
 use Rattle.std.proofs.Math.Pow.{pow-lt}
 use Rattle.std.proofs.lemmas.Bool.Decides.{eqb_tells, leb_tells}
 use Rattle.std.proofs.lemmas.Nat.Bits.{bit_at_or, bit_at_and, bit_at_not, bit_at_ones, bit_at_ones_above, bit_at-lt, bit_at-zero, bit_at-pow_same, bit_at-pow_other, same_from_bits, same_from_bits_below}
-use Rattle.core_machine.specs.table.Fragments.{is_clear, clear_among, clear_in, mask}
-use Rattle.core_machine.specs.table.Operation.{all_taken, untaken}
+use Rattle.core_machine.specs.table.Fragments.{is_clear, clear_among, clear_in, mask_of}
+use Rattle.core_machine.specs.table.Operation.{all_taken, word_without_taken}
 use Rattle.core_machine.proofs.table_lemmas.Clear.{clear_among-more, clear_among-zero}
 
 -- whether some fragment of the list has place i in its group, as a bit
@@ -37,8 +37,8 @@ mask_from bits (fragment ∷ more) i =
     omega arith
 
 -- a bit of a mask tells whether some fragment has its place
-pub mask-bit : (fragments : List ℕ) (i : ℕ) → bit_at (mask fragments) i ≡ some_at i fragments
-unfolding mask
+pub mask-bit : (fragments : List ℕ) (i : ℕ) → bit_at (mask_of fragments) i ≡ some_at i fragments
+unfolding mask_of
 mask-bit fragments i = let all = mask_from 0 fragments i in let zero_ = bit_at-zero i in omega arith
 
 -- a fragment's place is below sixteen
@@ -54,8 +54,8 @@ mask_from-lt bits [] small = small
 mask_from-lt bits (fragment ∷ more) small = mask_from-lt (bit_or bits (2 ^ (fragment % 16))) more (or_lt 16 bits (2 ^ (fragment % 16)) small (pow-lt {i = fragment % 16} {j = 16} (omega arith)))
 
 -- a mask has sixteen bits
-pub mask-lt : (fragments : List ℕ) → mask fragments < 2 ^ 16
-unfolding mask
+pub mask-lt : (fragments : List ℕ) → mask_of fragments < 2 ^ 16
+unfolding mask_of
 mask-lt fragments = mask_from-lt 0 fragments (omega arith)
 
 -- the last of the fragments that were looked at
@@ -116,20 +116,20 @@ or_full group word none = same_from_bits (bit_or word all_taken) word (full grou
         ]
 
 -- to give back what was claimed leaves the word as it was
-pub untaken-claimed : (group word : ℕ) → word < 2 ^ 64 → untaken (mask (clear_in group word)) (bit_or word all_taken) ≡ word
+pub untaken-claimed : (group word : ℕ) → word < 2 ^ 64 → word_without_taken (mask_of (clear_in group word)) (bit_or word all_taken) ≡ word
 untaken-claimed group word fits =
-    same_from_bits_below 64 (untaken (mask (clear_in group word)) (bit_or word all_taken)) word
-    (omega (arith, and_le_r (bit_or word all_taken) (2 ^ 64 - 1 - mask (clear_in group word)))) fits (bits_same group word)
+    same_from_bits_below 64 (word_without_taken (mask_of (clear_in group word)) (bit_or word all_taken)) word
+    (omega (arith, and_le_r (bit_or word all_taken) (2 ^ 64 - 1 - mask_of (clear_in group word)))) fits (bits_same group word)
   where
-    bits_same : (group word : ℕ) (i : ℕ) → i < 64 → bit_at (untaken (mask (clear_in group word)) (bit_or word all_taken)) i ≡ bit_at word i
+    bits_same : (group word : ℕ) (i : ℕ) → i < 64 → bit_at (word_without_taken (mask_of (clear_in group word)) (bit_or word all_taken)) i ≡ bit_at word i
     bits_same group word i within =
-        let and_ = bit_at_and (bit_or word all_taken) (2 ^ 64 - 1 - mask (clear_in group word)) i in
+        let and_ = bit_at_and (bit_or word all_taken) (2 ^ 64 - 1 - mask_of (clear_in group word)) i in
         let or_ = bit_at_or word all_taken i in
         let small = bit_at-lt word i in
         let lt = mask-lt (clear_in group word) in
-        let not_ = bit_at_not w64 (mask (clear_in group word)) i (omega arith) within in
+        let not_ = bit_at_not w64 (mask_of (clear_in group word)) i (omega arith) within in
         let one = mask-bit (clear_in group word) i in
-        elim (leb_tells 16 i) as (λ _. bit_at (untaken (mask (clear_in group word)) (bit_or word all_taken)) i ≡ bit_at word i) [
+        elim (leb_tells 16 i) as (λ _. bit_at (word_without_taken (mask_of (clear_in group word)) (bit_or word all_taken)) i ≡ bit_at word i) [
           | inl above ↦
               let ones = bit_at_ones_above 16 i above.1 in
               let none = some_at-above i (clear_in group word) above.1 in

@@ -14,13 +14,13 @@ use Rattle.heap_model.specs.Command.{IsCommand}
 use Rattle.core_machine.specs.declared.seat.register.Register.{Register}
 use Rattle.core_machine.specs.declared.seat.register.Register.TheVariants.{Nil, Number, Object}
 use Rattle.core_machine.specs.seat.Registers.{register_word}
-use Rattle.core_machine.specs.seat.FitsReaching.{IsSet}
+use Rattle.core_machine.specs.seat.FitsAccess.{IsSet}
 use Rattle.core_machine.specs.seat.Commands.{IsRecord, fields_of}
-use Rattle.core_machine.specs.table.Newborn.{link_after, head_word, record_word}
-use Rattle.core_machine.specs.table.Operation.{birth_bits, shade_bit}
-use Rattle.core_machine.specs.seat.Seat.{HasNumber}
+use Rattle.core_machine.specs.table.Newborn.{link_after, head_word_of, record_word_of}
+use Rattle.core_machine.specs.table.Operation.{birth_bits_of, shade_bit_of}
+use Rattle.core_machine.specs.seat.Seat.{HasNumberLeft}
 use Rattle.core_machine.specs.seat.Fits.{AreFragments, FitsRegister}
-use Rattle.core_machine.specs.seat.Reaching.{named}
+use Rattle.core_machine.specs.seat.Access.{after_name}
 
 -- a record has few fields
 pub fields_few : (command : Command) → IsRecord command → IsCommand command → fields_of command ≤ 47
@@ -40,33 +40,33 @@ link_wide fragments k small =
     elim (leb_tells (suc (k + 1)) (length fragments)) as (λ _. link_after fragments k < 2 ^ 64) [ inl more ↦ rw more.0 (omega arith) | inr last ↦ rw last.0 (omega arith) ]
 
 head_wide : (name : Name) (fields : ℕ) (fragments : List ℕ) (part : ℕ) → name.owner < 2 ^ 30 → name.count < 2 ^ 32 → fields < 2 ^ 13 → get_or fragments 1 0 < 2 ^ 16
-    → head_word name fields fragments part < 2 ^ 64
+    → head_word_of name fields fragments part < 2 ^ 64
 head_wide name fields fragments part owner count few small =
-    elim (eqb_tells part 0) as (λ _. head_word name fields fragments part < 2 ^ 64) [
+    elim (eqb_tells part 0) as (λ _. head_word_of name fields fragments part < 2 ^ 64) [
       | inl meta ↦ rw meta.0 (omega arith)
-      | inr other ↦ rw other.0 (elim (eqb_tells part 1) as (λ _. cond (eqb part 1) (name_word name) 0 < 2 ^ 64) [ inl named ↦ rw named.0 (omega arith) | inr cell ↦ rw cell.0 (omega arith) ])
+      | inr other ↦ rw other.0 (elim (eqb_tells part 1) as (λ _. cond (eqb part 1) (name_word name) 0 < 2 ^ 64) [ inl after_name ↦ rw after_name.0 (omega arith) | inr cell ↦ rw cell.0 (omega arith) ])
     ]
 
 -- the words of a record are words
 pub record_wide : (name : Name) (fields : ℕ) (fragments : List ℕ) (k part : ℕ) → name.owner < 2 ^ 30 → name.count < 2 ^ 32 → fields < 2 ^ 13
-    → ((i : ℕ) → get_or fragments i 0 < 2 ^ 16) → record_word name fields fragments k part < 2 ^ 64
+    → ((i : ℕ) → get_or fragments i 0 < 2 ^ 16) → record_word_of name fields fragments k part < 2 ^ 64
 record_wide name fields fragments k part owner count few small =
-    elim (eqb_tells k 0) as (λ _. record_word name fields fragments k part < 2 ^ 64) [
+    elim (eqb_tells k 0) as (λ _. record_word_of name fields fragments k part < 2 ^ 64) [
       | inl head ↦ rw head.0 (head_wide name fields fragments part owner count few (small 1))
       | inr other ↦ rw other.0 (elim (eqb_tells part 0) as (λ _. cond (eqb part 0) (link_after fragments k) 0 < 2 ^ 64) [ inl link ↦ rw link.0 (link_wide fragments k (small (k + 1))) | inr cell ↦ rw cell.0 (omega arith) ])
     ]
 
-pub birth_wide : (black : Bool) (bits word : ℕ) → bits < 2 ^ 16 → word < 2 ^ 64 → bit_or word (birth_bits black bits) < 2 ^ 64
+pub birth_wide : (black : Bool) (bits word : ℕ) → bits < 2 ^ 16 → word < 2 ^ 64 → bit_or word (birth_bits_of black bits) < 2 ^ 64
 birth_wide false bits word small wide = or_lt 64 word (bits * 2 ^ 16) wide (omega arith)
 birth_wide true bits word small wide = or_lt 64 word (bits * 2 ^ 16 + bits * 2 ^ 32 + bits * 2 ^ 48) wide (omega arith)
 
 -- a set has a stamp left
-pub set_numbered : (command : Command) (made sets : ℕ) → IsSet command → HasNumber made sets command → sets + 1 < 2 ^ 26
+pub set_numbered : (command : Command) (made sets : ℕ) → IsSet command → HasNumberLeft made sets command → sets + 1 < 2 ^ 26
 set_numbered (Set r i v) made sets a_set numbered = numbered
 set_numbered _ made sets a_set numbered = absurd a_set
 
 -- the bit of a shade is one of a word's
-pub shade_wide : (fragment word : ℕ) → word < 2 ^ 64 → bit_or word (shade_bit fragment) < 2 ^ 64
+pub shade_wide : (fragment word : ℕ) → word < 2 ^ 64 → bit_or word (shade_bit_of fragment) < 2 ^ 64
 shade_wide fragment word wide =
     let below : 2 ^ (32 + fragment % 16) ≤ 2 ^ 63 = pow-le-pow_right {n = 2} (omega arith) {i = 32 + fragment % 16} {j = 63} (omega arith) in
     or_lt 64 word (2 ^ (32 + fragment % 16)) wide (omega arith)

@@ -6,10 +6,10 @@ use Rattle.std.proofs.lemmas.Bool.Decides.{eqb_tells, leb_tells}
 use Rattle.heap_model.specs.declared.heap.Heap.{Heap}
 use Rattle.core_machine.specs.declared.seat.register.Register.{Register}
 use Rattle.core_machine.specs.declared.seat.register.Register.TheVariants.{Nil, Number, Object}
-use Rattle.core_machine.specs.table.Loaded.{head_in, lead_of, IsWithinHeap}
-use Rattle.core_machine.specs.seat.Reaching.{part_of}
-use Rattle.core_machine.specs.seat.Registers.{head_of, heads, register_in}
-use Rattle.core_machine.specs.seat.Polling.{roots}
+use Rattle.core_machine.specs.table.Decode.{head_of, pointer_in, IsWithinHeap}
+use Rattle.core_machine.specs.seat.Access.{part_of}
+use Rattle.core_machine.specs.seat.Registers.{register_head, heads_of, register_in}
+use Rattle.core_machine.specs.seat.Handshake.{roots}
 use Rattle.core_machine.specs.seat.Seat.{Seat}
 use Rattle.core_machine.specs.seat.Fits.{FitsRegister, Fits}
 use Rattle.std.proofs.lemmas.List.{get_or_past}
@@ -19,7 +19,7 @@ pub part_some : (i : ℕ) → eqb (part_of i) 0 ≡ false
 part_some i = grind arith
 
 -- a field leads where it refers to
-pub head_leads : (heap : Heap) (i found : ℕ) → IsWithinHeap heap (lead_of (part_of i) found) → IsWithinHeap heap (head_in found)
+pub head_leads : (heap : Heap) (i found : ℕ) → IsWithinHeap heap (pointer_in (part_of i) found) → IsWithinHeap heap (head_of found)
 head_leads heap i found led = rw (part_some i) at led
 
 -- what is there is within
@@ -28,14 +28,14 @@ some_within heap None some led = cc
 some_within heap (Some f) some led = led
 
 -- so is a register's object
-pub head_within : (heap : Heap) (register : Register) → IsSome (head_of register) → FitsRegister heap register → unwrap_or (head_of register) 0 < 16 * heap.groups
+pub head_within : (heap : Heap) (register : Register) → IsSome (register_head register) → FitsRegister heap register → unwrap_or (register_head register) 0 < 16 * heap.groups
 head_within heap Nil some fit = cc
 head_within heap (Number n) some fit = cc
 head_within heap (Object head id) some fit = fit
 
 -- and each object of the registers
-heads_within : (heap : Heap) (registers : List Register) (i : ℕ) → All (FitsRegister heap) registers → i < length (heads registers)
-    → get_or (heads registers) i 0 < 16 * heap.groups
+heads_within : (heap : Heap) (registers : List Register) (i : ℕ) → All (FitsRegister heap) registers → i < length (heads_of registers)
+    → get_or (heads_of registers) i 0 < 16 * heap.groups
 heads_within heap [] i fit within = absurd (omega arith)
 heads_within heap (Nil ∷ more) i fit within = heads_within heap more i (λ j d l. fit (suc j) d (omega arith)) within
 heads_within heap (Number n ∷ more) i fit within = heads_within heap more i (λ j d l. fit (suc j) d (omega arith)) within
@@ -50,7 +50,7 @@ roots_within heap seat i fits within =
     ] within
 
 -- there are at most as many as registers
-pub few_heads : (registers : List Register) → length (heads registers) ≤ length registers
+pub few_heads : (registers : List Register) → length (heads_of registers) ≤ length registers
 few_heads [] = omega arith
 few_heads (Nil ∷ more) = let rest = few_heads more in omega arith
 few_heads (Number n ∷ more) = let rest = few_heads more in omega arith

@@ -14,6 +14,7 @@ use Rattle.core_machine.specs.declared.step.Step.TheVariants.{Turning}
 use Rattle.core_machine.specs.declared.step.TurningStep.{TurningStep}
 use Rattle.core_machine.specs.declared.step.TurningStep.TheVariants as turning
 
+-- what the machine keeps of the collector
 pub record Collector : Type 0 where
   -- the phase
   pub phase : ℕ
@@ -29,26 +30,26 @@ abbrev pub opening_collector : Collector
 opening_collector = record { phase = 0; stage = stages.Looking; looked = 0; log = [] }
 
 -- the seat with this word has answered the phase, or has left
-abbrev pub has_answered : ℕ → ℕ → Bool
-has_answered phase word = if word == phase then true else word == LEFT
+abbrev pub has_answered_of : ℕ → ℕ → Bool
+has_answered_of phase word = if word == phase then true else word == LEFT
 
 -- every seat has answered. Where marking begins the work is still to come: the collector looks from seat 0 again
-abbrev pub looked_all : Heap → Collector → Collector
-looked_all heap collector =
+abbrev pub after_last_look : Heap → Collector → Collector
+after_last_look heap collector =
     if collector.phase % cycle_phases == marking then record collector { looked = 0 } else record collector { looked = heap.seats; stage = stages.Advancing }
 
 -- one more seat has answered
-abbrev pub looked_on : Heap → Collector → Collector
-looked_on heap collector =
-    if nat_lt (collector.looked + 1) heap.seats then record collector { looked = collector.looked + 1 } else looked_all heap collector
+abbrev pub after_counted_look : Heap → Collector → Collector
+after_counted_look heap collector =
+    if nat_lt (collector.looked + 1) heap.seats then record collector { looked = collector.looked + 1 } else after_last_look heap collector
 
 -- a seat's word was found: a seat that hasn't answered is looked at again
-abbrev pub looked_at : Heap → Collector → ℕ → Collector
-looked_at heap collector found = if has_answered collector.phase found then looked_on heap collector else collector
+abbrev pub after_look : Heap → Collector → ℕ → Collector
+after_look heap collector found = if has_answered_of collector.phase found then after_counted_look heap collector else collector
 
 -- the next phase has begun
-abbrev pub advanced : Collector → Collector
-advanced collector = record collector { phase = collector.phase + 1; stage = stages.Looking; looked = 0 }
+abbrev pub after_advance : Collector → Collector
+after_advance collector = record collector { phase = collector.phase + 1; stage = stages.Looking; looked = 0 }
 
 -- what one turn of the collector does: each turn is a row that says all of it
 pub record Turn : Type 1 where
@@ -70,22 +71,24 @@ quiet_turn step told answer = record { step = Turning step; told = told; adds = 
 -- it waits where the seat hasn't answered
 abbrev pub look_answer : Collector → ℕ → TurnAnswer
 look_answer collector found =
-    if has_answered collector.phase found then Stepped else Waits collector.looked found collector.phase
+    if has_answered_of collector.phase found then Stepped else Waits collector.looked found collector.phase
 
+-- the next seat's word is loaded
 abbrev pub look_turn : Heap → Collector → Turn
 look_turn heap collector =
-    quiet_turn (turning.LookLoad collector.looked) (looked_at heap collector) (look_answer collector)
+    quiet_turn (turning.LookLoad collector.looked) (after_look heap collector) (look_answer collector)
 
 -- below the last two numbers of a word there is one left for the next phase
 abbrev pub advance_turn : Collector → Turn
 advance_turn collector = record {
   step = Turning (turning.AdvanceStore (collector.phase + 1));
-  told = λ found. advanced collector;
+  told = λ found. after_advance collector;
   adds = Advance (collector.phase + 1) ∷ [];
   answer = λ found. Stepped;
   may = collector.phase < 2 ^ 64 - 2;
 }
 
+-- the turn at each stage
 abbrev pub turn_at : Heap → Collector → Stage → Turn
 turn_at heap collector stages.Looking = look_turn heap collector
 turn_at heap collector stages.Advancing = advance_turn collector

@@ -14,8 +14,8 @@ use Rattle.core_machine.specs.declared.table.address.Address.TheVariants.{Phase,
 use Rattle.core_machine.specs.declared.place.Place.TheVariants.{Idle}
 use Rattle.core_machine.specs.table.Fragments.{clear_in}
 use Rattle.core_machine.specs.table.Layout.{at, SameTable}
-use Rattle.core_machine.specs.machine.Machine.{State, seat_at, Event, Begins, Steps, Run, after_all, history}
-use Rattle.core_machine.specs.seat.Making.{next_id}
+use Rattle.core_machine.specs.machine.Machine.{State, seat_at, Event, Begins, Steps, Run, state_after_all, history}
+use Rattle.core_machine.specs.seat.Making.{next_object_id}
 use Rattle.core_machine.specs.seat.Seat.{Seat}
 use Rattle.core_machine.specs.machine.Sums.{sum_upto}
 
@@ -25,14 +25,14 @@ call_events number command steps = Begins number command ∷ replicate steps (St
 
 -- an entry of the seat that tells no reply: it takes or gives back fragments, or answers a phase
 abbrev pub IsBeside : ℕ → Entry → Type 0
-IsBeside number (Takes q count) = q ≡ number
-IsBeside number (GivesBack q count) = q ≡ number
-IsBeside number (Answers q phase) = q ≡ number
+IsBeside number (Takes other count) = other ≡ number
+IsBeside number (GivesBack other count) = other ≡ number
+IsBeside number (Answers other phase) = other ≡ number
 IsBeside number _ = ⊥
 
 -- the phase word is the phase that the seat answered last, or the next
-abbrev pub IsNear : Heap → State → ℕ → Type 0
-IsNear heap state number =
+abbrev pub IsPhaseNear : Heap → State → ℕ → Type 0
+IsPhaseNear heap state number =
     (at heap state.words Phase ≡ (seat_at state number).answered) ⊎ (at heap state.words Phase ≡ (seat_at state number).answered + 1)
 
 -- the second state is the first after the call's steps; its entries, the reply last and no other, are the seat's and the history's, and
@@ -40,13 +40,13 @@ IsNear heap state number =
 pub record PlaysCall (heap : Heap) (old new : State) (number : ℕ) (command : Command) (reply : Reply) : Type 0 where
   pub steps : ℕ
   pub can : Run heap old (call_events number command steps)
-  pub ends : new ≡ after_all heap old (call_events number command steps)
+  pub ends : new ≡ state_after_all heap old (call_events number command steps)
   pub idle : (seat_at new number).place ≡ Idle
   pub before : List Entry
   pub shown : history heap old (call_events number command steps) ≡ before ++ Said number command reply ∷ []
   pub mine : (seat_at new number).mine ≡ (seat_at old number).mine ++ (before ++ Said number command reply ∷ [])
   pub beside : AllByRecursion (IsBeside number) before
-  pub comes : (command ≡ Poll → IsNear heap old number)
+  pub comes : (command ≡ Poll → IsPhaseNear heap old number)
       → ComesBefore number (length (seat_at old number).reserve) (seat_at old number).answered command reply before
 
 -- a call makes one object at most and does one set at most, and by no call but a leave the seat has left
@@ -61,12 +61,12 @@ TellsLeave old new number =
     (seat_at new number).mine ≡ (seat_at old number).mine ++ leave_entries number (length (seat_at old number).reserve)
 
 -- the fragments whose taken bit isn't set
-abbrev pub free_fragments : Heap → List ℕ → ℕ
-free_fragments heap words = sum_upto heap.groups (λ group. length (clear_in group (at heap words (Control group))))
+abbrev pub free_count : Heap → List ℕ → ℕ
+free_count heap words = sum_upto heap.groups (λ group. length (clear_in group (at heap words (Control group))))
 
 -- what a seat can have: its reserve, and the fragments that are free
 abbrev pub within_reach : Heap → State → ℕ → ℕ
-within_reach heap state number = length (seat_at state number).reserve + free_fragments heap state.words
+within_reach heap state number = length (seat_at state number).reserve + free_count heap state.words
 
 -- registers, reserve and cursor are as before
 pub record KeepsOwn (old new : Seat) : Type 0 where
@@ -83,7 +83,7 @@ pub record IsRefused (heap : Heap) (old new : State) (number : ℕ) (command : C
 
 -- a record is made exactly where enough is within reach, and else the call is refused
 pub record AnswersNew (heap : Heap) (old new : State) (number : ℕ) (command : Command) (reply : Reply) : Type 0 where
-  pub made : need_of command ≤ within_reach heap old number → reply ≡ Made (next_id number (seat_at old number))
+  pub made : need_of command ≤ within_reach heap old number → reply ≡ Made (next_object_id number (seat_at old number))
   pub refused : within_reach heap old number < need_of command → IsRefused heap old new number command reply
 
 -- the reply refuses a get, a set or a len
@@ -104,5 +104,5 @@ reply_of (Said number command reply) = Some reply
 reply_of _ = None
 
 -- the reply that the last of the entries tells
-abbrev pub last_reply : List Entry → Option Reply
-last_reply entries = option_and_then reply_of (slice_get entries (length entries - 1))
+abbrev pub last_reply_of : List Entry → Option Reply
+last_reply_of entries = option_and_then reply_of (slice_get entries (length entries - 1))

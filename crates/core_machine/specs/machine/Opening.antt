@@ -12,8 +12,8 @@ use Rattle.core_machine.specs.declared.table.address.Address.{Address}
 use Rattle.core_machine.specs.declared.table.address.Address.TheVariants.{Phase, Answer, Budget, Spot, Control, Word, Spine}
 use Rattle.core_machine.specs.declared.seat.register.Register.TheVariants.{Nil, Object}
 use Rattle.core_machine.specs.table.Layout.{at, InTable, table_length}
-use Rattle.core_machine.specs.table.Newborn.{record_word}
-use Rattle.core_machine.specs.seat.Seat.{Seat, nobody}
+use Rattle.core_machine.specs.table.Newborn.{record_word_of}
+use Rattle.core_machine.specs.seat.Seat.{Seat, absent_seat}
 use Rattle.core_machine.specs.collector.Collector.{opening_collector}
 use Rattle.core_machine.specs.machine.Machine.{State}
 
@@ -21,6 +21,7 @@ use Rattle.core_machine.specs.machine.Machine.{State}
 abbrev pub board : List ℕ
 board = 0 ∷ 1 ∷ 2 ∷ 3 ∷ 4 ∷ 5 ∷ 6 ∷ 7 ∷ 8 ∷ 9 ∷ 10 ∷ []
 
+-- the board's name
 abbrev pub board_name : Name
 board_name = record { owner = 0; count = 0 }
 
@@ -36,7 +37,7 @@ opening_word heap Budget = 0
 opening_word heap Spot = spot_word (record { half = 0; offset = 0 })
 opening_word heap (Control group) = if group == 0 then board_group else 0
 opening_word heap (Word fragment part) =
-    if nat_lt fragment board_fragments then record_word board_name board_fields board fragment part else 0
+    if nat_lt fragment board_fragments then record_word_of board_name board_fields board fragment part else 0
 opening_word heap (Spine half offset) = 0
 
 -- the word at an address once every number from the seats up to this one has left
@@ -52,7 +53,7 @@ with_left heap upto (Spine half offset) word = word
 -- the word at an address once so many of the board's words are written
 abbrev pub with_board : ℕ → Address → ℕ → ℕ
 with_board count (Word fragment part) word =
-    if nat_lt (4 * fragment + part) count then record_word board_name board_fields board fragment part else word
+    if nat_lt (4 * fragment + part) count then record_word_of board_name board_fields board fragment part else word
 with_board count Phase word = word
 with_board count (Answer number) word = word
 with_board count Budget word = word
@@ -63,7 +64,7 @@ with_board count (Spine half offset) word = word
 -- a seat at the opening: register 0 holds the board, and each seat's cursor stands at a group of its own as far as there are as many
 abbrev pub opening_seat : Heap → ℕ → Seat
 opening_seat heap number =
-    record nobody { registers = Object 0 ids.Board ∷ replicate last_register Nil; cursor = number % heap.groups; left = false }
+    record absent_seat { registers = Object 0 ids.Board ∷ replicate last_register Nil; cursor = number % heap.groups; left = false }
 
 -- the state is the one in which the heap opens
 pub record IsOpening (heap : Heap) (state : State) : Type 0 where

@@ -7,7 +7,7 @@ use Rattle.core_machine.specs.declared.step.Step.{Step}
 use Rattle.core_machine.specs.collector.Collector.{Collector, next_turn}
 use Rattle.core_machine.specs.seat.Fits.{Fits, CollectorFits}
 use Rattle.core_machine.specs.table.Layout.{table_length}
-use Rattle.core_machine.specs.table.Loaded.{LeadWithin}
+use Rattle.core_machine.specs.table.Decode.{PointersWithin}
 use Rattle.core_machine.specs.Moves.{due_step}
 use Rattle.core_machine.specs.seat.Seat.{Seat}
 use Rattle.core_machine.specs.machine.Machine.{State, seat_at, Event, Steps, Turns}
@@ -65,7 +65,7 @@ pub record IsMachine (heap : Heap) (state : State) : Type 0 where
   pub limits : IsHeap heap
   pub table : length state.words ≡ table_length heap
   pub wide : All (λ word. word < 2 ^ 64) state.words
-  pub leads : LeadWithin heap state.words
+  pub leads : PointersWithin heap state.words
   pub seated : length state.seats ≡ heap.seats
   pub fit : (number : ℕ) → number < length state.seats → Fits heap (seat_at state number)
   pub collector_fit : CollectorFits heap state.collector

@@ -8,28 +8,28 @@ use Rattle.core_machine.specs.declared.place.Place.{Place}
 use Rattle.core_machine.specs.declared.place.Place.TheVariants as places
 use Rattle.core_machine.specs.declared.seat.register.Register.{Register}
 use Rattle.core_machine.specs.declared.seat.register.Register.TheVariants.{Nil, Number, Object}
-use Rattle.core_machine.specs.seat.FitsReaching.{FitsReaching, IsNowhere}
-use Rattle.core_machine.specs.table.Loaded.{head_in, IsWithinHeap}
+use Rattle.core_machine.specs.seat.FitsAccess.{FitsAccess, IsNowhere}
+use Rattle.core_machine.specs.table.Decode.{head_of, IsWithinHeap}
 use Rattle.core_machine.specs.seat.Seat.{Seat}
-pub use Rattle.core_machine.specs.seat.FitsMaking.{AreFragments, HasNoHand, IsAtRest, MakesRecord, Gathers, Refuses, HasBody, FitsMaking}
-pub use Rattle.core_machine.specs.seat.FitsAnswering.{IsLocal, FitsLeaving, HasNoAnswer, IsSilent, Answers, FitsPolling}
+pub use Rattle.core_machine.specs.seat.FitsMaking.{AreFragments, HasNoHand, IsAtRest, MakesRecord, SeatIsGathering, SeatIsRefusing, HasBody, FitsMaking}
+pub use Rattle.core_machine.specs.seat.FitsHandshake.{IsLocal, FitsLeaving, HasNoAnswer, IsSilent, SeatIsAnswering, FitsPolling}
 pub use Rattle.core_machine.specs.collector.FitsTurns.{FitsStage, CollectorFits}
 
 -- what is in the hand at a place
 abbrev pub FitsPlace : Heap → Seat → Place → Type 0
 FitsPlace heap seat places.Idle = IsAtRest seat
 FitsPlace heap seat (places.Making place) = FitsMaking heap seat place
-FitsPlace heap seat places.Telling = IsAtRest seat × IsCommand seat.command × IsLocal seat.registers seat.command
-FitsPlace heap seat (places.Reaching place) = IsAtRest seat
+FitsPlace heap seat places.Local = IsAtRest seat × IsCommand seat.command × IsLocal seat.registers seat.command
+FitsPlace heap seat (places.Access place) = IsAtRest seat
 FitsPlace heap seat (places.Polling place) = IsAtRest seat
 FitsPlace heap seat (places.Leaving place) = IsAtRest seat × (seat.command ≡ commands.Leave) × FitsLeaving seat place
 
 -- what was reached and loaded there
 abbrev pub FitsWay : Seat → Place → Type 0
-FitsWay seat (places.Reaching place) = FitsReaching seat place
+FitsWay seat (places.Access place) = FitsAccess seat place
 FitsWay seat places.Idle = IsNowhere seat
 FitsWay seat (places.Making place) = IsNowhere seat
-FitsWay seat places.Telling = IsNowhere seat
+FitsWay seat places.Local = IsNowhere seat
 FitsWay seat (places.Polling place) = IsNowhere seat
 FitsWay seat (places.Leaving place) = IsNowhere seat
 
@@ -38,8 +38,8 @@ abbrev pub FitsAnswer : Seat → Place → Type 0
 FitsAnswer seat (places.Polling place) = FitsPolling seat place
 FitsAnswer seat places.Idle = IsSilent seat
 FitsAnswer seat (places.Making place) = IsSilent seat
-FitsAnswer seat places.Telling = IsSilent seat
-FitsAnswer seat (places.Reaching place) = IsSilent seat
+FitsAnswer seat places.Local = IsSilent seat
+FitsAnswer seat (places.Access place) = IsSilent seat
 FitsAnswer seat (places.Leaving place) = IsSilent seat
 
 -- a register's number is within the limit, and its object's first fragment is one of the heap's
@@ -69,7 +69,7 @@ pub record HandFits (heap : Heap) (hand body : List ℕ) : Type 0 where
 -- what a call has reached and loaded
 pub record WayFits (heap : Heap) (reached loaded : ℕ) : Type 0 where
   pub reached_within : reached < group_fragments * heap.groups
-  pub loaded_within : IsWithinHeap heap (head_in loaded)
+  pub loaded_within : IsWithinHeap heap (head_of loaded)
 
 -- the seat's own data fit together
 pub record Fits (heap : Heap) (seat : Seat) : Type 0 where

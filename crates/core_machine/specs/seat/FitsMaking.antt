@@ -22,6 +22,7 @@ pub record HasNoHand (hand body : List ℕ) (stored tried given : ℕ) : Type 0 
   pub none_tried : tried ≡ 0
   pub none_given : given ≡ 0
 
+-- the seat has nothing in its hand
 abbrev pub IsAtRest : Seat → Type 0
 IsAtRest seat = HasNoHand seat.hand seat.body seat.stored seat.tried seat.given
 
@@ -40,8 +41,9 @@ pub record IsGathering (heap : Heap) (command : Command) (made : ℕ) (reserve h
   pub groups_left : tried < heap.groups
   pub too_few : length reserve + length hand < need_of command
 
-abbrev pub Gathers : Heap → Seat → Type 0
-Gathers heap seat = IsGathering heap seat.command seat.made seat.reserve seat.hand seat.body seat.stored seat.tried seat.given
+-- the seat is still gathering
+abbrev pub SeatIsGathering : Heap → Seat → Type 0
+SeatIsGathering heap seat = IsGathering heap seat.command seat.made seat.reserve seat.hand seat.body seat.stored seat.tried seat.given
 
 -- every group was claimed, and too little was gathered, with what was given back since
 pub record IsRefusing (heap : Heap) (command : Command) (made : ℕ) (reserve hand body : List ℕ) (stored tried given : ℕ) : Type 0 where
@@ -51,8 +53,9 @@ pub record IsRefusing (heap : Heap) (command : Command) (made : ℕ) (reserve ha
   pub all_tried : tried ≡ heap.groups
   pub too_few : length reserve + length hand + given < need_of command
 
-abbrev pub Refuses : Heap → Seat → Type 0
-Refuses heap seat = IsRefusing heap seat.command seat.made seat.reserve seat.hand seat.body seat.stored seat.tried seat.given
+-- the seat gives back what it claimed, or tells its refusal
+abbrev pub SeatIsRefusing : Heap → Seat → Type 0
+SeatIsRefusing heap seat = IsRefusing heap seat.command seat.made seat.reserve seat.hand seat.body seat.stored seat.tried seat.given
 
 -- the object has its fragments
 pub record HasFragments (command : Command) (made : ℕ) (body : List ℕ) (tried given : ℕ) : Type 0 where
@@ -61,13 +64,15 @@ pub record HasFragments (command : Command) (made : ℕ) (body : List ℕ) (trie
   pub none_tried : tried ≡ 0
   pub none_given : given ≡ 0
 
+-- the seat's new object has its fragments
 abbrev pub HasBody : Seat → Type 0
 HasBody seat = HasFragments seat.command seat.made seat.body seat.tried seat.given
 
+-- what is true of the seat's data at each place of making
 abbrev pub FitsMaking : Heap → Seat → Making → Type 0
-FitsMaking heap seat Gathering = Gathers heap seat
-FitsMaking heap seat Returning = Refuses heap seat × (0 < length seat.hand)
-FitsMaking heap seat Refusing = Refuses heap seat × (seat.hand ≡ [])
+FitsMaking heap seat Gathering = SeatIsGathering heap seat
+FitsMaking heap seat Returning = SeatIsRefusing heap seat × (0 < length seat.hand)
+FitsMaking heap seat Refusing = SeatIsRefusing heap seat × (seat.hand ≡ [])
 FitsMaking heap seat Storing = HasBody seat × (seat.hand ≡ seat.body) × (seat.stored < 4 * length seat.body)
 FitsMaking heap seat Bearing =
     HasBody seat × (0 < length seat.hand) × (length seat.hand ≤ length seat.body) × (seat.stored ≡ 4 * length seat.body)

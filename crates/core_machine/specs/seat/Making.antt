@@ -11,94 +11,96 @@ use Rattle.core_machine.specs.declared.place.Place.TheVariants as places
 use Rattle.core_machine.specs.declared.seat.register.Register.TheVariants.{Object}
 use Rattle.core_machine.specs.seat.Commands.{target_of, fields_of}
 use Rattle.core_machine.specs.table.Fragments.{part_in, part_out, clear_in}
-use Rattle.core_machine.specs.table.Newborn.{record_word}
-use Rattle.core_machine.specs.seat.Seat.{Seat, need, over}
+use Rattle.core_machine.specs.table.Newborn.{record_word_of}
+use Rattle.core_machine.specs.seat.Seat.{Seat, need, after_call}
 
 -- the group that is claimed next: from the cursor's on, wrapping at the last
-abbrev pub next_group : Heap → Seat → ℕ
-next_group heap seat = (seat.cursor + seat.tried) % heap.groups
+abbrev pub next_group_of : Heap → Seat → ℕ
+next_group_of heap seat = (seat.cursor + seat.tried) % heap.groups
 
 -- the group that was claimed last; the cursor's where none was
 abbrev pub last_claimed : Heap → Seat → ℕ
 last_claimed heap seat = if seat.tried == 0 then seat.cursor else (seat.cursor + seat.tried - 1) % heap.groups
 
 -- the reserve, and then what the call claimed
-abbrev pub gathered : Seat → List ℕ
-gathered seat = seat.reserve ++ seat.hand
+abbrev pub fragments_gathered : Seat → List ℕ
+fragments_gathered seat = seat.reserve ++ seat.hand
 
 -- enough is gathered: the first fragments are the new object's, the rest is the reserve, of the group that was claimed last
-abbrev pub settled : Heap → Seat → Seat
-settled heap seat = record seat {
-  reserve = drop (need seat) (gathered seat);
+abbrev pub after_gather : Heap → Seat → Seat
+after_gather heap seat = record seat {
+  reserve = drop (need seat) (fragments_gathered seat);
   cursor = last_claimed heap seat;
-  hand = take (need seat) (gathered seat);
-  body = take (need seat) (gathered seat);
+  hand = take (need seat) (fragments_gathered seat);
+  body = take (need seat) (fragments_gathered seat);
   tried = 0;
   place = places.Making Storing;
 }
 
 -- where a refusal stands while these fragments are to be given back
-abbrev pub returning : List ℕ → Making
-returning [] = Refusing
-returning (fragment ∷ more) = Returning
+abbrev pub refusal_place : List ℕ → Making
+refusal_place [] = Refusing
+refusal_place (fragment ∷ more) = Returning
 
 -- too little is gathered: what was claimed is given back
-abbrev pub refused : Seat → Seat
-refused seat = record seat { place = places.Making (returning seat.hand) }
+abbrev pub after_shortage : Seat → Seat
+after_shortage seat = record seat { place = places.Making (refusal_place seat.hand) }
 
 -- enough is gathered, or the next group is claimed, or, after all groups, the call is refused
-abbrev pub goes_on : Heap → Seat → Seat
-goes_on heap seat =
-    if nat_le (need seat) (length (gathered seat)) then settled heap seat
+abbrev pub gather_next : Heap → Seat → Seat
+gather_next heap seat =
+    if nat_le (need seat) (length (fragments_gathered seat)) then after_gather heap seat
     else if nat_lt seat.tried heap.groups then record seat { place = places.Making Gathering }
-    else refused seat
+    else after_shortage seat
 
 -- a group was claimed: what was clear in its control word is in the hand
-abbrev pub claimed : Heap → Seat → ℕ → Seat
-claimed heap seat found =
-    goes_on heap (record seat { hand = seat.hand ++ clear_in (next_group heap seat) found; tried = seat.tried + 1 })
+abbrev pub after_claim : Heap → Seat → ℕ → Seat
+after_claim heap seat found =
+    gather_next heap (record seat { hand = seat.hand ++ clear_in (next_group_of heap seat) found; tried = seat.tried + 1 })
 
 -- the group of the first fragment, and of the last
-abbrev pub first_group : List ℕ → ℕ
-first_group fragments = slice_index_or fragments 0 0 / group_fragments
+abbrev pub first_group_of : List ℕ → ℕ
+first_group_of fragments = slice_index_or fragments 0 0 / group_fragments
 
-abbrev pub last_group : List ℕ → ℕ
-last_group fragments = slice_index_or fragments (length fragments - 1) 0 / group_fragments
+-- the group of the last fragment
+abbrev pub last_group_of : List ℕ → ℕ
+last_group_of fragments = slice_index_or fragments (length fragments - 1) 0 / group_fragments
 
 -- the fragments of the hand's first group were given back
-abbrev pub given_back : Seat → Seat
-given_back seat = record seat {
-  hand = part_out (first_group seat.hand) seat.hand;
-  given = seat.given + length (part_in (first_group seat.hand) seat.hand);
-  place = places.Making (returning (part_out (first_group seat.hand) seat.hand));
+abbrev pub after_give_back : Seat → Seat
+after_give_back seat = record seat {
+  hand = part_out (first_group_of seat.hand) seat.hand;
+  given = seat.given + length (part_in (first_group_of seat.hand) seat.hand);
+  place = places.Making (refusal_place (part_out (first_group_of seat.hand) seat.hand));
 }
 
 -- the name and the id of the seat's next object
 abbrev pub next_name : ℕ → Seat → Name
 next_name number seat = record { owner = number + 1; count = seat.made }
 
-abbrev pub next_id : ℕ → Seat → Id
-next_id number seat = Made number seat.made
+-- the id of the seat's next object
+abbrev pub next_object_id : ℕ → Seat → Id
+next_object_id number seat = Made number seat.made
 
 -- word `part` of fragment k of the object that is made
-abbrev pub newborn_word : ℕ → Seat → ℕ → ℕ → ℕ
-newborn_word number seat k part = record_word (next_name number seat) (fields_of seat.command) seat.body k part
+abbrev pub newborn_word_of : ℕ → Seat → ℕ → ℕ → ℕ
+newborn_word_of number seat k part = record_word_of (next_name number seat) (fields_of seat.command) seat.body k part
 
 -- where the fragments stand when so many words are stored
-abbrev pub storing : ℕ → List ℕ → Making
-storing stored body = if stored == 4 * length body then Bearing else Storing
+abbrev pub store_place : ℕ → List ℕ → Making
+store_place stored body = if stored == 4 * length body then Bearing else Storing
 
 -- one more word was stored
-abbrev pub stored_more : Seat → Seat
-stored_more seat = record seat { stored = seat.stored + 1; place = places.Making (storing (seat.stored + 1) seat.body) }
+abbrev pub after_store : Seat → Seat
+after_store seat = record seat { stored = seat.stored + 1; place = places.Making (store_place (seat.stored + 1) seat.body) }
 
 -- the fragments of the hand's last group were born
-abbrev pub born : Seat → Seat
-born seat = record seat { hand = part_out (last_group seat.hand) seat.hand }
+abbrev pub after_birth : Seat → Seat
+after_birth seat = record seat { hand = part_out (last_group_of seat.hand) seat.hand }
 
 -- the last fragments were born: the register holds the new object
-abbrev pub made_last : ℕ → Seat → Seat
-made_last number seat = over (record seat {
-  registers = slice_set seat.registers (target_of seat.command) (Object (slice_index_or seat.body 0 0) (next_id number seat));
+abbrev pub after_last_birth : ℕ → Seat → Seat
+after_last_birth number seat = after_call (record seat {
+  registers = slice_set seat.registers (target_of seat.command) (Object (slice_index_or seat.body 0 0) (next_object_id number seat));
   made = seat.made + 1;
 })

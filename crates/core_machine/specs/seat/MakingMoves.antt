@@ -11,76 +11,85 @@ use Rattle.core_machine.specs.declared.place.Making.TheVariants.{Gathering, Retu
 use Rattle.core_machine.specs.declared.step.Step.TheVariants as steps
 use Rattle.core_machine.specs.declared.step.MakingStep.{MakingStep}
 use Rattle.core_machine.specs.declared.step.MakingStep.TheVariants.{Claim, GiveBack, NewbornStore, Birth, LastBirth}
-use Rattle.core_machine.specs.table.Fragments.{in_group, part_in, clear_in, mask}
-use Rattle.core_machine.specs.seat.Seat.{Seat, need, over}
-use Rattle.core_machine.specs.seat.Making.{next_group, claimed, first_group, last_group, given_back, next_id, newborn_word, stored_more, born, made_last}
+use Rattle.core_machine.specs.table.Fragments.{in_group, part_in, clear_in, mask_of}
+use Rattle.core_machine.specs.seat.Seat.{Seat, need, after_call}
+use Rattle.core_machine.specs.seat.Making.{next_group_of, after_claim, first_group_of, last_group_of, after_give_back, next_object_id, newborn_word_of, after_store, after_birth, after_last_birth}
 use Rattle.core_machine.specs.Move.{Move, plain_move}
 
 -- the entry of a claim, where it got some
 abbrev pub takes_some : ℕ → ℕ → List Entry
 takes_some number count = if count == 0 then [] else Takes number count ∷ []
 
+-- the next group's clear fragments are claimed
 abbrev pub claim_move : Heap → ℕ → Seat → Move
 claim_move heap number seat =
-    plain_move (steps.Making (Claim (next_group heap seat))) (claimed heap seat)
-    (λ found. takes_some number (length (clear_in (next_group heap seat) found)))
+    plain_move (steps.Making (Claim (next_group_of heap seat))) (after_claim heap seat)
+    (λ found. takes_some number (length (clear_in (next_group_of heap seat) found)))
 
 -- the fragments of the hand's first group
 abbrev pub first_part : Seat → List ℕ
-first_part seat = part_in (first_group seat.hand) seat.hand
+first_part seat = part_in (first_group_of seat.hand) seat.hand
 
+-- the fragments of the hand's first group are given back
 abbrev pub give_back_move : ℕ → Seat → Move
 give_back_move number seat =
-    plain_move (steps.Making (GiveBack (first_group seat.hand) (mask (first_part seat)))) (λ found. given_back seat)
+    plain_move (steps.Making (GiveBack (first_group_of seat.hand) (mask_of (first_part seat)))) (λ found. after_give_back seat)
     (λ found. GivesBack number (length (first_part seat)) ∷ [])
 
 -- what a refusal shows: what was needed, and the reserve with what was claimed
 abbrev pub full_entry : ℕ → Seat → Entry
 full_entry number seat = Said number seat.command (replies.Full (need seat) (length seat.reserve + seat.given))
 
+-- the refusal is told, at a load of the phase
 abbrev pub refusal_move : ℕ → Seat → Move
-refusal_move number seat = plain_move steps.PollLoad (λ found. over seat) (λ found. full_entry number seat ∷ [])
+refusal_move number seat = plain_move steps.PollLoad (λ found. after_call seat) (λ found. full_entry number seat ∷ [])
 
 -- the store of word `part` of fragment k of the object
 abbrev pub word_store : ℕ → Seat → ℕ → ℕ → MakingStep
-word_store number seat k part = NewbornStore (slice_index_or seat.body k 0) part (newborn_word number seat k part)
+word_store number seat k part = NewbornStore (slice_index_or seat.body k 0) part (newborn_word_of number seat k part)
 
 -- the store that is due: the words come fragment by fragment
 abbrev pub due_store : ℕ → Seat → MakingStep
 due_store number seat = word_store number seat (seat.stored / 4) (seat.stored % 4)
 
+-- the next word of the new object is stored
 abbrev pub store_move : ℕ → Seat → Move
-store_move number seat = plain_move (steps.Making (due_store number seat)) (λ found. stored_more seat) (λ found. [])
+store_move number seat = plain_move (steps.Making (due_store number seat)) (λ found. after_store seat) (λ found. [])
 
 -- births are black from the answer to a cycle's phase of black births on, until that to its clearing
-abbrev pub bears_black : Seat → Bool
-bears_black seat =
+abbrev pub bears_black_of : Seat → Bool
+bears_black_of seat =
     if nat_le black_births (seat.answered % cycle_phases) then nat_lt (seat.answered % cycle_phases) clearing else false
 
 -- the fragments of the hand's last group
 abbrev pub last_part : Seat → List ℕ
-last_part seat = part_in (last_group seat.hand) seat.hand
+last_part seat = part_in (last_group_of seat.hand) seat.hand
 
 -- the hand has no other group than its last
 abbrev pub is_last_birth : Seat → Bool
-is_last_birth seat = list_all (in_group (last_group seat.hand)) seat.hand
+is_last_birth seat = list_all (in_group (last_group_of seat.hand)) seat.hand
 
+-- the fragments of the hand's last group are born
 abbrev pub birth_move : Seat → Move
 birth_move seat =
-    plain_move (steps.Making (Birth (last_group seat.hand) (mask (last_part seat)) (bears_black seat)))
-    (λ found. born seat) (λ found. [])
+    plain_move (steps.Making (Birth (last_group_of seat.hand) (mask_of (last_part seat)) (bears_black_of seat)))
+    (λ found. after_birth seat) (λ found. [])
 
+-- the entry that the object is made
 abbrev pub made_entry : ℕ → Seat → Entry
-made_entry number seat = Said number seat.command (replies.Made (next_id number seat))
+made_entry number seat = Said number seat.command (replies.Made (next_object_id number seat))
 
+-- the last fragments are born, and the object is made
 abbrev pub last_birth_move : ℕ → Seat → Move
 last_birth_move number seat =
-    plain_move (steps.Making (LastBirth (last_group seat.hand) (mask (last_part seat)) (bears_black seat)))
-    (λ found. made_last number seat) (λ found. made_entry number seat ∷ [])
+    plain_move (steps.Making (LastBirth (last_group_of seat.hand) (mask_of (last_part seat)) (bears_black_of seat)))
+    (λ found. after_last_birth number seat) (λ found. made_entry number seat ∷ [])
 
+-- the birth that is due
 abbrev pub bearing_move : ℕ → Seat → Move
 bearing_move number seat = if is_last_birth seat then last_birth_move number seat else birth_move seat
 
+-- the move at each place of making
 abbrev pub making_move : Heap → ℕ → Seat → Making → Move
 making_move heap number seat Gathering = claim_move heap number seat
 making_move heap number seat Returning = give_back_move number seat

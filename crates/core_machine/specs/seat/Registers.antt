@@ -23,14 +23,14 @@ value_of (Number n) = values.Number n
 value_of (Object head id) = values.Object id
 
 -- the first fragment of the object that a register holds
-abbrev pub head_of : Register → Option ℕ
-head_of (Object head id) = Some head
-head_of Nil = None
-head_of (Number n) = None
+abbrev pub register_head : Register → Option ℕ
+register_head (Object head id) = Some head
+register_head Nil = None
+register_head (Number n) = None
 
 -- the first fragments of the objects that the registers hold, register 0 first
-abbrev pub heads : List Register → List ℕ
-heads registers = filter_map head_of registers
+abbrev pub heads_of : List Register → List ℕ
+heads_of registers = filter_map register_head registers
 
 -- the cell of a register's value under a stamp; a reference is the first fragment
 abbrev pub cell_of_register : Register → ℕ → Cell

@@ -11,6 +11,7 @@ use Rattle.core_machine.specs.declared.place.Place.{Place}
 use Rattle.core_machine.specs.declared.place.Place.TheVariants.{Idle}
 use Rattle.core_machine.specs.declared.seat.register.Register.{Register}
 
+-- a seat's own data
 pub record Seat : Type 0 where
   -- the sixteen registers
   pub registers : List Register
@@ -54,8 +55,8 @@ pub record Seat : Type 0 where
   pub mine : List Entry
 
 -- what stands for a seat that isn't there: one that has left, without anything
-abbrev pub nobody : Seat
-nobody = record {
+abbrev pub absent_seat : Seat
+absent_seat = record {
   registers = [];
   reserve = [];
   cursor = 0;
@@ -83,14 +84,14 @@ abbrev pub need : Seat → ℕ
 need seat = need_of seat.command
 
 -- where so many objects were made and sets done, a name is left for the object that the command makes, or a stamp for its set
-abbrev pub HasNumber : ℕ → ℕ → Command → Type 0
-HasNumber made sets (commands.New d fields) = made + 1 < name_limit
-HasNumber made sets (commands.Set r i v) = sets + 1 < stamp_limit
-HasNumber made sets _ = Unit {0}
+abbrev pub HasNumberLeft : ℕ → ℕ → Command → Type 0
+HasNumberLeft made sets (commands.New d fields) = made + 1 < name_limit
+HasNumberLeft made sets (commands.Set r i v) = sets + 1 < stamp_limit
+HasNumberLeft made sets _ = Unit {0}
 
 -- the call is over, and nothing of it is left
-abbrev pub over : Seat → Seat
-over seat = record seat {
+abbrev pub after_call : Seat → Seat
+after_call seat = record seat {
   hand = [];
   body = [];
   stored = 0;
@@ -109,5 +110,5 @@ abbrev pub with_entries : Seat → List Entry → Seat
 with_entries seat entries = record seat { mine = seat.mine ++ entries }
 
 -- the seat's call is over, with this reply
-abbrev pub replied : ℕ → Seat → Reply → Seat
-replied number seat reply = with_entries (over seat) (Said number seat.command reply ∷ [])
+abbrev pub seat_after_reply : ℕ → Seat → Reply → Seat
+seat_after_reply number seat reply = with_entries (after_call seat) (Said number seat.command reply ∷ [])

@@ -1,5 +1,5 @@
 -- The words of a heap's table, and where each of them stands.
-use Rattle.std.specs.Prelude.{◌≡◌, ℕ, ◌+◌, ◌*◌, ◌<◌, List, slice_index, slice_set}
+use Rattle.std.specs.Prelude.{◌≡◌, ℕ, ◌+◌, ◌*◌, ◌<◌, nat_lt, if◌then◌else◌, List, slice_index, slice_set}
 use Rattle.heap_model.specs.declared.heap.Heap.{Heap}
 use Rattle.heap_model.specs.Limits.{group_fragments, most_seats}
 use Rattle.core_machine.specs.declared.table.address.Address.{Address}
@@ -9,8 +9,12 @@ use Rattle.core_machine.specs.declared.table.address.Address.TheVariants.{Phase,
 abbrev pub table_length : Heap → ℕ
 table_length heap = 19 + 65 * heap.groups + 4 * heap.spine
 
--- where a word stands: the phase, sixteen answers, the budget, the spot, the control words, the fragments, and the words of the two
--- halves by turns; a spine word whose offset is too large stands past the end of the table, in no other's place
+-- where a spine word stands behind the fragments: the words of half 0, then those of half 1; where its offset is too large, past the end of
+-- the table, in no other's place
+abbrev pub spine_index : ℕ → ℕ → ℕ → ℕ
+spine_index spine half offset = if nat_lt offset (2 * spine) then 2 * spine * half + offset else 2 * offset + half
+
+-- where a word stands: the phase, sixteen answers, the budget, the spot, the control words, the fragments, the spine words
 abbrev pub index_of : Heap → Address → ℕ
 index_of heap Phase = 0
 index_of heap (Answer seat) = 1 + seat
@@ -18,7 +22,7 @@ index_of heap Budget = 17
 index_of heap Spot = 18
 index_of heap (Control group) = 19 + group
 index_of heap (Word fragment part) = 19 + heap.groups + 4 * fragment + part
-index_of heap (Spine half offset) = 19 + 65 * heap.groups + 2 * offset + half
+index_of heap (Spine half offset) = 19 + 65 * heap.groups + spine_index heap.spine half offset
 
 -- the address is one of the heap's; of a spine word the offset is left open, since past the end of the table 0 is read and nothing written
 abbrev pub InTable : Heap → Address → Type 0

@@ -20,11 +20,11 @@ abbrev pub record_meta : ℕ → List ℕ → ℕ
 record_meta fields fragments = meta_word (record { array = false; length = fields; next = slice_index_or fragments 1 0 })
 
 -- the words of its first fragment
-abbrev pub head_word : Name → ℕ → List ℕ → ℕ → ℕ
-head_word name fields fragments part =
+abbrev pub head_word_of : Name → ℕ → List ℕ → ℕ → ℕ
+head_word_of name fields fragments part =
     if part == 0 then record_meta fields fragments else if part == 1 then name_word name else 0
 
 -- word `part` of fragment k of a record whose fields were never set
-abbrev pub record_word : Name → ℕ → List ℕ → ℕ → ℕ → ℕ
-record_word name fields fragments k part =
-    if k == 0 then head_word name fields fragments part else if part == 0 then link_after fragments k else 0
+abbrev pub record_word_of : Name → ℕ → List ℕ → ℕ → ℕ → ℕ
+record_word_of name fields fragments k part =
+    if k == 0 then head_word_of name fields fragments part else if part == 0 then link_after fragments k else 0

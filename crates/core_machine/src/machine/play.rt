@@ -3,7 +3,7 @@ ghost use Rattle.heap_model.specs.declared.command.Command.TheVariants.{Leave};
 ghost use Rattle.heap_model.specs.account.Space.{need_of};
 ghost use Rattle.core_machine.specs.machine.Machine.{Begins, Can, seat_at};
 ghost use Rattle.core_machine.specs.seat.Commands.{IsRecord};
-ghost use Rattle.core_machine.specs.machine.Calls.{PlaysCall, CountsCall, TellsLeave, AnswersNew, IsPlaceRefusal, LeavesAll, last_reply as last_reply_of};
+ghost use Rattle.core_machine.specs.machine.Calls.{PlaysCall, CountsCall, TellsLeave, AnswersNew, IsPlaceRefusal, LeavesAll, last_reply_of};
 ghost use Rattle.core_machine.specs.machine.Value.{spare_of, SpendsRoom};
 
 use crate::machine::Machine;

@@ -1,7 +1,7 @@
 ghost use Rattle.std.specs.Prelude.{◌≡◌, ℕ, ◌*◌, ◌≤◌, length};
 ghost use Rattle.heap_model.specs.Heap.{IsHeap};
 ghost use Rattle.heap_model.specs.Limits.{group_fragments};
-ghost use Rattle.core_machine.specs.machine.Calls.{free_fragments};
+ghost use Rattle.core_machine.specs.machine.Calls.{free_count};
 ghost use Rattle.core_machine.specs.table.Fragments.{clear_in};
 ghost use Rattle.core_machine.specs.table.Layout.{table_length};
 
@@ -14,7 +14,7 @@ use heap_words::Group;
 impl Machine {
     /// How many fragments have no taken bit.
     pub fn free(&self) -> usize
-        ensures free { result ≡ free_fragments self.now.heap self.now.state.words }
+        ensures free { result ≡ free_count self.now.heap self.now.state.words }
         ensures few { result ≤ group_fragments * self.now.heap.groups }
     {
         free_in(&self.words, &self.heap)
@@ -25,7 +25,7 @@ impl Machine {
 fn free_in(words: &[u64], heap: &Heap) -> usize
     requires limits { IsHeap heap.now }
     requires table { length words.now ≡ table_length heap.now }
-    ensures free { result ≡ free_fragments heap.now words.now }
+    ensures free { result ≡ free_count heap.now words.now }
     ensures few { result ≤ group_fragments * heap.now.groups }
 {
     let mut free = 0;

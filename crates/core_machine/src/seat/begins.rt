@@ -1,9 +1,9 @@
 ghost use Rattle.std.specs.Prelude.{◌≡◌, ◌<◌, ◌↔◌, IsTrue};
 ghost use Rattle.core_machine.specs.seat.Commands.{IsServed};
-ghost use Rattle.core_machine.specs.seat.Seat.{HasNumber};
+ghost use Rattle.core_machine.specs.seat.Seat.{HasNumberLeft};
 ghost use Rattle.heap_model.specs.Heap.{IsHeap};
 ghost use Rattle.core_machine.specs.seat.Fits.{Fits};
-ghost use Rattle.core_machine.specs.machine.Machine.{MayBegin, begun};
+ghost use Rattle.core_machine.specs.machine.Machine.{MayBegin, after_begin};
 
 use crate::place::{Place, Polling};
 use crate::seat::SeatParty;
@@ -46,7 +46,7 @@ impl SeatParty {
 
     /// Whether a name is left for the object that the command makes, or a stamp for its set.
     fn has_number(&self, command: &Command) -> bool
-        ensures { IsTrue result ↔ HasNumber self.now.seat.made self.now.seat.sets command.now }
+        ensures { IsTrue result ↔ HasNumberLeft self.now.seat.made self.now.seat.sets command.now }
     {
         match command {
             Command::New { .. } => self.made < u32::MAX,
@@ -60,7 +60,7 @@ impl SeatParty {
         requires limits { IsHeap heap.now }
         requires fits { Fits heap.now self.old.seat }
         requires may { MayBegin self.old.seat command }
-        ensures seat { self.new.seat ≡ begun heap.now self.old.seat command }
+        ensures seat { self.new.seat ≡ after_begin heap.now self.old.seat command }
         ensures spare { self.new.spare ≡ self.old.spare }
     {
         self.command = command;
@@ -74,7 +74,7 @@ impl SeatParty {
             Command::Num { .. }
             | Command::Nil { .. }
             | Command::Copy { .. }
-            | Command::Same { .. } => self.place = Place::Telling,
+            | Command::Same { .. } => self.place = Place::Local,
             Command::Array { .. } | Command::Collect => unreachable!(),
         }
     }

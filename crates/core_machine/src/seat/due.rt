@@ -1,13 +1,13 @@
 ghost use Rattle.std.specs.Prelude.{◌≡◌, ◌<◌};
 ghost use Rattle.heap_model.specs.Heap.{IsHeap};
-ghost use Rattle.core_machine.specs.declared.step.Step.TheVariants.{Reaching as Reaches};
+ghost use Rattle.core_machine.specs.declared.step.Step.TheVariants.{Access as Accesses};
 ghost use Rattle.core_machine.specs.seat.Fits.{Fits, FitsMaking, FitsPolling};
-ghost use Rattle.core_machine.specs.seat.FitsReaching.{FitsReaching};
-ghost use Rattle.core_machine.specs.Moves.{due_step, making_move, reaching_move, polling_move, leaving_move};
+ghost use Rattle.core_machine.specs.seat.FitsAccess.{FitsAccess};
+ghost use Rattle.core_machine.specs.Moves.{due_step, making_move, access_move, polling_move, leaving_move};
 
-use crate::place::{Leaving, Making, Place, Polling, Reaching};
+use crate::place::{Access, Leaving, Making, Place, Polling};
 use crate::seat::SeatParty;
-use crate::step::{AnsweringStep, MakingStep, ReachingStep, Step};
+use crate::step::{AccessStep, HandshakeStep, MakingStep, Step};
 use heap_model::Heap;
 
 impl SeatParty {
@@ -30,35 +30,35 @@ impl SeatParty {
         }
     }
 
-    /// The step of reaching that is due.
-    fn due_reaching(&self, heap: &Heap, number: u8, place: Reaching) -> ReachingStep
+    /// The step of access that is due.
+    fn due_access(&self, heap: &Heap, number: u8, place: Access) -> AccessStep
         requires limits { IsHeap heap.now }
         requires number { number < heap.now.seats }
         requires fits { Fits heap.now self.now.seat }
-        requires at_place { FitsReaching self.now.seat place }
-        ensures { Reaches result ≡ (reaching_move heap.now number self.now.seat place).step }
+        requires at_place { FitsAccess self.now.seat place }
+        ensures { Accesses result ≡ (access_move heap.now number self.now.seat place).step }
     {
         let fragment = self.reached;
         match place {
-            Reaching::Opening | Reaching::Walking => ReachingStep::WalkLoad { fragment },
-            Reaching::Getting => ReachingStep::GetLoad {
+            Access::LoadingMeta | Access::Walking => AccessStep::WalkLoad { fragment },
+            Access::Getting => AccessStep::GetLoad {
                 fragment,
                 part: self.field_part(),
             },
-            Reaching::Naming => ReachingStep::NameLoad {
+            Access::Naming => AccessStep::NameLoad {
                 head: self.loaded_head(),
             },
-            Reaching::LoadingOld => ReachingStep::OldLoad {
+            Access::LoadingOld => AccessStep::OldLoad {
                 fragment,
                 part: self.field_part(),
             },
-            Reaching::ShadingOld => ReachingStep::Shade {
+            Access::ShadingOld => AccessStep::Shade {
                 fragment: self.loaded_head(),
             },
-            Reaching::ShadingNew => ReachingStep::Shade {
+            Access::ShadingNew => AccessStep::Shade {
                 fragment: self.new_register().head().unwrap_or(0),
             },
-            Reaching::Swapping => ReachingStep::Swap {
+            Access::Swapping => AccessStep::Swap {
                 fragment,
                 part: self.field_part(),
                 word: self.new_word(number),
@@ -73,10 +73,10 @@ impl SeatParty {
     {
         match place {
             Polling::Asking => Step::PollLoad,
-            Polling::Shading => Step::Reaching(ReachingStep::Shade {
+            Polling::Shading => Step::Access(AccessStep::Shade {
                 fragment: self.next_root(),
             }),
-            Polling::Answering => Step::Answering(AnsweringStep::AnswerStore {
+            Polling::Answering => Step::Handshake(HandshakeStep::AnswerStore {
                 seat: number,
                 phase: self.asked,
             }),
@@ -89,7 +89,7 @@ impl SeatParty {
     {
         match place {
             Leaving::Emptying => Step::Making(self.last_give_back()),
-            Leaving::Parting => Step::Answering(AnsweringStep::LeaveStore { seat: number }),
+            Leaving::Parting => Step::Handshake(HandshakeStep::LeaveStore { seat: number }),
         }
     }
 
@@ -103,8 +103,8 @@ impl SeatParty {
         match self.place {
             Place::Idle => None,
             Place::Making(place) => Some(self.due_making(heap, number, place)),
-            Place::Telling => Some(Step::PollLoad),
-            Place::Reaching(place) => Some(Step::Reaching(self.due_reaching(heap, number, place))),
+            Place::Local => Some(Step::PollLoad),
+            Place::Access(place) => Some(Step::Access(self.due_access(heap, number, place))),
             Place::Polling(place) => Some(self.due_polling(number, place)),
             Place::Leaving(place) => Some(self.due_leaving(number, place)),
         }

@@ -2,9 +2,9 @@ ghost use Rattle.std.specs.Prelude.{◌≡◌, ℕ, ◌+◌, ◌<◌, ◌≤◌,
 ghost use Rattle.heap_model.specs.Heap.{IsHeap};
 ghost use Rattle.heap_model.specs.Limits.{most_reserve};
 ghost use Rattle.core_machine.specs.declared.step.Step.TheVariants.{Making as Makes};
-ghost use Rattle.core_machine.specs.seat.Fits.{Gathers, Refuses};
+ghost use Rattle.core_machine.specs.seat.Fits.{SeatIsGathering, SeatIsRefusing};
 ghost use Rattle.core_machine.specs.seat.Seat.{need};
-ghost use Rattle.core_machine.specs.seat.Making.{next_group as next_group_of, last_claimed, goes_on, settled, returning as returning_of};
+ghost use Rattle.core_machine.specs.seat.Making.{next_group_of, last_claimed, gather_next, after_gather, refusal_place};
 ghost use Rattle.core_machine.specs.Moves.{claim_move, give_back_move, refusal_move, seat_after, first_part};
 ghost use Rattle.core_machine.specs.machine.Value.{KeepsRoom};
 
@@ -16,7 +16,7 @@ use heap_model::{Entry, Heap, Reply};
 
 /// Where a refusal stands while these fragments are to be given back.
 fn returning(hand: &[u16]) -> Making
-    ensures { result ≡ returning_of hand.now }
+    ensures { result ≡ refusal_place hand.now }
 {
     if hand.is_empty() {
         Making::Refusing
@@ -42,7 +42,7 @@ impl SeatParty {
         requires enough { need self.old.seat ≤ length self.old.seat.reserve + length self.old.seat.hand }
         requires few { length self.old.seat.reserve + length self.old.seat.hand ≤ need self.old.seat + most_reserve }
         requires record { need self.old.seat ≤ 16 }
-        ensures seat { self.new.seat ≡ settled heap.now self.old.seat }
+        ensures seat { self.new.seat ≡ after_gather heap.now self.old.seat }
         ensures spare { self.new.spare ≡ self.old.spare }
     {
         let all = joined(self.reserve.as_slice(), self.hand.as_slice());
@@ -63,7 +63,7 @@ impl SeatParty {
         requires small { self.old.seat.cursor + self.old.seat.tried < 65536 }
         requires few { length self.old.seat.reserve + length self.old.seat.hand ≤ need self.old.seat + most_reserve }
         requires record { need self.old.seat ≤ 16 }
-        ensures seat { self.new.seat ≡ goes_on heap.now self.old.seat }
+        ensures seat { self.new.seat ≡ gather_next heap.now self.old.seat }
         ensures spare { self.new.spare ≡ self.old.spare }
     {
         if self.reserve.len() + self.hand.len() >= self.command.need() as usize {
@@ -79,7 +79,7 @@ impl SeatParty {
     pub(crate) fn learn_claim(&mut self, heap: &Heap, number: u8, found: u64)
         requires limits { IsHeap heap.now }
         requires cursor { self.old.seat.cursor < heap.now.groups }
-        requires gathers { Gathers heap.now self.old.seat }
+        requires gathers { SeatIsGathering heap.now self.old.seat }
         requires spare { 0 < self.old.spare }
         ensures seat { self.new.seat ≡ seat_after (claim_move heap.now number self.old.seat) found }
         ensures spare { KeepsRoom self.old self.new }
@@ -112,7 +112,7 @@ impl SeatParty {
 
     /// Gave back the fragments of the hand's first group.
     pub(crate) fn learn_give_back(&mut self, heap: &Heap, number: u8)
-        requires refuses { Refuses heap.now self.old.seat }
+        requires refuses { SeatIsRefusing heap.now self.old.seat }
         requires some { 0 < length self.old.seat.hand }
         requires spare { 0 < self.old.spare }
         ensures seat { self.new.seat ≡ seat_after (give_back_move number self.old.seat) 0 }

@@ -2,13 +2,13 @@ ghost use Rattle.std.specs.Prelude.{◌≡◌, ◌<◌, ◌≤◌, length, IfSom
 ghost use Rattle.heap_model.specs.Heap.{IsHeap};
 ghost use Rattle.heap_model.specs.Limits.{register_count, most_reserve};
 ghost use Rattle.core_machine.specs.seat.Fits.{Fits, FitsMaking, FitsPolling};
-ghost use Rattle.core_machine.specs.seat.FitsReaching.{FitsReaching};
-ghost use Rattle.core_machine.specs.table.Loaded.{FoundWithin};
-ghost use Rattle.core_machine.specs.Moves.{next_move, seat_moved, seat_after, making_move, reaching_move, polling_move, leaving_move};
+ghost use Rattle.core_machine.specs.seat.FitsAccess.{FitsAccess};
+ghost use Rattle.core_machine.specs.table.Decode.{FoundPointsWithin};
+ghost use Rattle.core_machine.specs.Moves.{next_move, seat_after_due, seat_after, making_move, access_move, polling_move, leaving_move};
 ghost use Rattle.core_machine.specs.table.Operation.{address_of};
 ghost use Rattle.core_machine.specs.machine.Value.{KeepsRoom};
 
-use crate::place::{Leaving, Making, Place, Polling, Reaching};
+use crate::place::{Access, Leaving, Making, Place, Polling};
 use crate::seat::SeatParty;
 use heap_model::Heap;
 
@@ -32,26 +32,26 @@ impl SeatParty {
         }
     }
 
-    /// Learns what a step of reaching found.
-    fn learn_reaching(&mut self, heap: &Heap, number: u8, place: Reaching, found: u64)
+    /// Learns what a step of access found.
+    fn learn_access(&mut self, heap: &Heap, number: u8, place: Access, found: u64)
         requires limits { IsHeap heap.now }
         requires number { number < heap.now.seats }
         requires fits { Fits heap.now self.old.seat }
-        requires at_place { FitsReaching self.old.seat place }
-        requires found { FoundWithin heap.now (address_of (reaching_move heap.now number self.old.seat place).step) found }
+        requires at_place { FitsAccess self.old.seat place }
+        requires found { FoundPointsWithin heap.now (address_of (access_move heap.now number self.old.seat place).step) found }
         requires spare { 0 < self.old.spare }
-        ensures seat { self.new.seat ≡ seat_after (reaching_move heap.now number self.old.seat place) found }
+        ensures seat { self.new.seat ≡ seat_after (access_move heap.now number self.old.seat place) found }
         ensures spare { KeepsRoom self.old self.new }
     {
         match place {
-            Reaching::Opening => self.learn_meta(number, found),
-            Reaching::Walking => self.learn_link(found),
-            Reaching::Getting => self.learn_get(number, found),
-            Reaching::Naming => self.learn_name(number, found),
-            Reaching::LoadingOld => self.learn_old(found),
-            Reaching::ShadingOld => self.finish_old(),
-            Reaching::ShadingNew => self.place = Place::Reaching(Reaching::Swapping),
-            Reaching::Swapping => self.learn_swap(number, found),
+            Access::LoadingMeta => self.learn_meta(number, found),
+            Access::Walking => self.learn_link(found),
+            Access::Getting => self.learn_get(number, found),
+            Access::Naming => self.learn_name(number, found),
+            Access::LoadingOld => self.learn_old(found),
+            Access::ShadingOld => self.finish_old(),
+            Access::ShadingNew => self.place = Place::Access(Access::Swapping),
+            Access::Swapping => self.learn_swap(number, found),
         }
     }
 
@@ -88,16 +88,16 @@ impl SeatParty {
         requires limits { IsHeap heap.now }
         requires number { number < heap.now.seats }
         requires fits { Fits heap.now self.old.seat }
-        requires found { IfSome (next_move heap.now number self.old.seat) (λ move. FoundWithin heap.now (address_of move.step) found) }
+        requires found { IfSome (next_move heap.now number self.old.seat) (λ move. FoundPointsWithin heap.now (address_of move.step) found) }
         requires spare { 1 < self.old.spare }
-        ensures seat { self.new.seat ≡ seat_moved self.old.seat (next_move heap.now number self.old.seat) found }
+        ensures seat { self.new.seat ≡ seat_after_due self.old.seat (next_move heap.now number self.old.seat) found }
         ensures spare { KeepsRoom self.old self.new }
     {
         match self.place {
             Place::Idle => (),
             Place::Making(place) => self.learn_making(heap, number, place, found),
-            Place::Telling => self.learn_told(number),
-            Place::Reaching(place) => self.learn_reaching(heap, number, place, found),
+            Place::Local => self.learn_local(number),
+            Place::Access(place) => self.learn_access(heap, number, place, found),
             Place::Polling(place) => self.learn_polling(number, place, found),
             Place::Leaving(place) => self.learn_leaving(number, place),
         }

@@ -1,5 +1,5 @@
 ghost use Rattle.std.specs.Prelude.{◌≡◌};
-ghost use Rattle.core_machine.specs.seat.Registers.{value_of, head_of, register_word, IsSmall};
+ghost use Rattle.core_machine.specs.seat.Registers.{value_of, register_head, register_word, IsSmall};
 
 use heap_model::{Id, Value};
 use heap_words::{Cell, Kind};
@@ -26,7 +26,7 @@ impl Register {
 
     /// The first fragment of the object that it holds.
     pub fn head(&self) -> Option<u16>
-        ensures { result ≡ head_of self.now }
+        ensures { result ≡ register_head self.now }
     {
         match *self {
             Register::Object { head, .. } => Some(head),

@@ -1,5 +1,5 @@
 ghost use Rattle.std.specs.Prelude.{◌≡◌};
-ghost use Rattle.core_machine.specs.table.Operation.{applied};
+ghost use Rattle.core_machine.specs.table.Operation.{operation_result};
 
 /// What an atomic step does with the one word that it touches; it finds the word as it was before.
 #[derive(Clone, Copy)]
@@ -19,7 +19,7 @@ pub enum Operation {
 impl Operation {
     /// The word that it leaves where it found this one.
     pub fn written(&self, found: u64) -> u64
-        ensures { result ≡ applied self.now found }
+        ensures { result ≡ operation_result self.now found }
     {
         match *self {
             Operation::Load => found,

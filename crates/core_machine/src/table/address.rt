@@ -1,5 +1,5 @@
-ghost use Rattle.std.specs.Prelude.{◌≡◌, ◌<◌, ◌↔◌};
-ghost use Rattle.core_machine.specs.table.Layout.{index_of, InTable, HasWord, table_length};
+ghost use Rattle.std.specs.Prelude.{◌≡◌, ◌*◌, ◌<◌, ◌^◌, ◌↔◌};
+ghost use Rattle.core_machine.specs.table.Layout.{spine_index as spine_index_of, index_of, InTable, HasWord, table_length};
 ghost use Rattle.heap_model.specs.Heap.{IsHeap};
 
 use heap_model::Heap;
@@ -23,6 +23,24 @@ pub enum Address {
     Spine { half: u8, offset: u32 },
 }
 
+/// Where a spine word stands behind the fragments; past both halves where its offset is too large.
+fn spine_index(spine: usize, half: u8, offset: usize) -> usize
+    requires spine { spine < 2 ^ 32 }
+    requires half { half < 2 }
+    requires offset { offset < 2 ^ 32 }
+    ensures index { result ≡ spine_index_of spine half offset }
+    ensures within { offset < 2 * spine ↔ result < 4 * spine }
+{
+    if offset >= 2 * spine {
+        return 2 * offset + half as usize;
+    }
+    if half == 0 {
+        offset
+    } else {
+        2 * spine + offset
+    }
+}
+
 impl Address {
     /// Where the word stands in the table; past its end where a spine word's offset is too large.
     pub fn index(&self, heap: &Heap) -> usize
@@ -40,7 +58,7 @@ impl Address {
             Address::Control(group) => 19 + group as usize,
             Address::Word { fragment, part } => 19 + groups + 4 * fragment as usize + part as usize,
             Address::Spine { half, offset } => {
-                19 + 65 * groups + 2 * offset as usize + half as usize
+                19 + 65 * groups + spine_index(heap.spine as usize, half, offset as usize)
             }
         }
     }

@@ -1,8 +1,8 @@
 ghost use Rattle.std.specs.Prelude.{◌≡◌, ◌+◌, ◌*◌, ◌<◌, ◌≤◌, ◌++◌, ◌/◌, ◌-◌, length, slice_index_or};
 ghost use Rattle.std.specs.List.{list_all};
 ghost use Rattle.heap_model.specs.Limits.{group_fragments, most_groups};
-ghost use Rattle.core_machine.specs.seat.Making.{first_group as first_group_of, last_group as last_group_of};
-ghost use Rattle.core_machine.specs.table.Fragments.{in_group, part_in, part_out, mask as mask_of, clear_in};
+ghost use Rattle.core_machine.specs.seat.Making.{first_group_of, last_group_of};
+ghost use Rattle.core_machine.specs.table.Fragments.{in_group, part_in, part_out, mask_of, clear_in};
 
 use arrayvec::ArrayVec;
 use heap_model::limits::{GROUP_FRAGMENTS, MOST_RESERVE};
@@ -24,7 +24,7 @@ pub type Reserve = ArrayVec<u16, MOST_KEPT>;
 pub type Hand = ArrayVec<u16, MOST_HELD>;
 
 /// The bits of those fragments that are of this group.
-#[tactic(auto, unfolding(crate::specs::table::Fragments::mask))]
+#[tactic(auto, unfolding(crate::specs::table::Fragments::mask_of))]
 pub fn mask_in(fragments: &[u16], group: u16) -> u16
     ensures { result ≡ mask_of (part_in group fragments.now) }
 {
@@ -35,7 +35,7 @@ pub fn mask_in(fragments: &[u16], group: u16) -> u16
 }
 
 /// The bits of these fragments.
-#[tactic(auto, unfolding(crate::specs::table::Fragments::mask))]
+#[tactic(auto, unfolding(crate::specs::table::Fragments::mask_of))]
 pub fn mask(fragments: &[u16]) -> u16
     ensures { result ≡ mask_of fragments.now }
 {

@@ -1,5 +1,5 @@
 ghost use Rattle.std.specs.Prelude.{◌≡◌, ◌<◌, ◌≤◌, ◌^◌, length};
-ghost use Rattle.core_machine.specs.table.Newborn.{record_word as record_word_of, link_after, head_word as head_word_of, record_meta};
+ghost use Rattle.core_machine.specs.table.Newborn.{record_word_of, link_after, head_word_of, record_meta};
 
 use heap_words::{Cell, Kind, Meta, Name};
 

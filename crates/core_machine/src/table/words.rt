@@ -1,7 +1,7 @@
 ghost use Rattle.std.specs.Prelude.{◌≡◌, length};
 ghost use Rattle.heap_model.specs.Heap.{IsHeap};
 ghost use Rattle.core_machine.specs.table.Layout.{at, put, InTable};
-ghost use Rattle.core_machine.specs.table.Operation.{address_of, written};
+ghost use Rattle.core_machine.specs.table.Operation.{address_of, word_after};
 
 use crate::step::Step;
 use crate::table::address::Address;
@@ -41,7 +41,7 @@ pub fn perform(words: &mut Vec<u64>, heap: &Heap, step: &Step) -> u64
     requires limits { IsHeap heap.now }
     requires in_table { InTable heap.now (address_of step.now) }
     ensures found { result ≡ at heap.now words.old.items (address_of step.now) }
-    ensures words { words.new.items ≡ put heap.now words.old.items (address_of step.now) (written step.now result) }
+    ensures words { words.new.items ≡ put heap.now words.old.items (address_of step.now) (word_after step.now result) }
 {
     let index = step.address().index(heap);
     if index >= words.len() {

@@ -7,13 +7,13 @@ use Rattle.core_machine.specs.seat.Commands.{fields_of}
 use Rattle.core_machine.specs.seat.Fits.{AreFragments}
 use Rattle.core_machine.specs.table.Fragments.{part_in, part_out, tally}
 use Rattle.core_machine.specs.table.Layout.{at}
-use Rattle.core_machine.specs.table.Loaded.{lead_of}
-use Rattle.core_machine.specs.seat.Making.{newborn_word, next_name}
+use Rattle.core_machine.specs.table.Decode.{pointer_in}
+use Rattle.core_machine.specs.seat.Making.{newborn_word_of, next_name}
 use Rattle.core_machine.specs.seat.Seat.{Seat}
 use Rattle.core_rule.specs.Book.{Colour, White, Black, fragment_at}
-use Rattle.core_rule.specs.Colours.{Leads, IsMarked}
+use Rattle.core_rule.specs.Colours.{WordPointsTo, IsMarked}
 use Rattle.core_rule.specs.Holding.{Holding}
-use Rattle.core_rule.specs.Owners.{Owner, Bears, bears_bit}
+use Rattle.core_rule.specs.Owners.{Owner, Borne, bears_bit}
 use Rattle.core_rule.specs.Together.{IsInOrder}
 use Rattle.core_rule.proofs.hand.Bodies.{body_borne, body_once}
 use Rattle.core_rule.proofs.owners.Handed.{none_or_some}
@@ -26,53 +26,53 @@ use Rattle.core_rule.proofs.lists.Parts.{parts_tally}
 use Rattle.core_rule.proofs.lists.Tallies.{one_at_some}
 
 -- what a seat bears is its own
-pub is_borne : (q : ℕ) (o : Owner) → 1 ≤ bears_bit q o → o ≡ Bears q
-is_borne q (Bears r) some = ap Bears (one_at_some r q some)
-is_borne q _ some = absurd (omega (arith, some))
+pub is_borne : (number : ℕ) (o : Owner) → 1 ≤ bears_bit number o → o ≡ Borne number
+is_borne number (Borne r) some = ap Borne (one_at_some r number some)
+is_borne number _ some = absurd (omega (arith, some))
 
 -- a body's words are stored, its fragments those of the heap, and its hand is the front of it
-module _ (heap : Heap) (words : List ℕ) (owner : ℕ → Owner) (colour : ℕ → Colour) (q : ℕ) (seat : Seat) (limits : IsHeap heap) (here : q < heap.seats)
+module _ (heap : Heap) (words : List ℕ) (owner : ℕ → Owner) (colour : ℕ → Colour) (number : ℕ) (seat : Seat) (limits : IsHeap heap) (here : number < heap.seats)
     (numbered : seat.made + 1 < 2 ^ 32) (few : fields_of seat.command ≤ 47) (some : 1 ≤ length seat.body) (within : AreFragments heap seat.body)
-    (holding : Holding owner q seat.reserve seat.hand seat.body) (births : AreBorne owner colour q true)
-    (stored : (k part : ℕ) → k < length seat.body → part < 4 → at heap words (Word (fragment_at seat.body k) part) ≡ newborn_word q seat k part) where
+    (holding : Holding owner number seat.reserve seat.hand seat.body) (births : AreBorne owner colour number true)
+    (stored : (k part : ℕ) → k < length seat.body → part < 4 → at heap words (Word (fragment_at seat.body k) part) ≡ newborn_word_of number seat k part) where
   once : (f : ℕ) → tally f seat.body ≤ 1
-  once f = body_once owner q seat.reserve seat.hand seat.body holding some f
+  once f = body_once owner number seat.reserve seat.hand seat.body holding some f
 
   -- a word of the body leads to the body's next fragment
-  body_leads : (k part g : ℕ) → k < length seat.body → Leads heap words (fragment_at seat.body k) part g → (k + 1 < length seat.body) × (g ≡ get_or seat.body (k + 1) 0)
+  body_leads : (k part g : ℕ) → k < length seat.body → WordPointsTo heap words (fragment_at seat.body k) part g → (k + 1 < length seat.body) × (g ≡ get_or seat.body (k + 1) 0)
   body_leads k part g below leads =
       newborn_leads seat.body (λ i less. let inside : get_or seat.body i 0 < 16 * heap.groups = within i 0 less in omega (arith, inside, limits.groups_fit))
-      (next_name q seat) (fields_of seat.command) k part g (omega (arith, here, limits.seats_fit)) (omega (arith, numbered)) (omega (arith, few))
-      (ap (lead_of part) (sym (stored k part below leads.below)) ∙ leads.to)
+      (next_name number seat) (fields_of seat.command) k part g (omega (arith, here, limits.seats_fit)) (omega (arith, numbered)) (omega (arith, few))
+      (ap (pointer_in part) (sym (stored k part below leads.below)) ∙ leads.to)
 
   module _ (g : ℕ) (order : IsInOrder heap (part_out g seat.hand) seat.body) where
     -- what the body has behind a fragment of the group is of the group, or borne
     behind : (k : ℕ) → k + 1 < length seat.body → 1 ≤ tally (fragment_at seat.body k) (part_in g seat.hand)
-        → (1 ≤ tally (fragment_at seat.body (k + 1)) (part_in g seat.hand)) ⊎ (1 ≤ bears_bit q (owner (fragment_at seat.body (k + 1))))
+        → (1 ≤ tally (fragment_at seat.body (k + 1)) (part_in g seat.hand)) ⊎ (1 ≤ bears_bit number (owner (fragment_at seat.body (k + 1))))
     behind k more there =
         let f : ℕ = fragment_at seat.body k in
         let x : ℕ = fragment_at seat.body (k + 1) in
         let away : tally f (part_out g seat.hand) ≡ 0
-        = omega (arith, there, parts_tally g f seat.hand, hand_once owner q seat.reserve seat.hand seat.body holding f) in
+        = omega (arith, there, parts_tally g f seat.hand, hand_once owner number seat.reserve seat.hand seat.body holding f) in
         let past : tally x (part_out g seat.hand) ≡ 0 = past_front (part_out g seat.hand) order.born seat.body k order.front once more away in
         let in_body : 1 ≤ tally x seat.body = tally_at seat.body (k + 1) more in
         let parted = parts_tally g x seat.hand in
-        let borne = body_borne owner q seat.reserve seat.hand seat.body holding some x in
+        let borne = body_borne owner number seat.reserve seat.hand seat.body holding some x in
         elim (none_or_some (tally x (part_in g seat.hand))) [
           | inl none ↦ inr (omega (arith, past, in_body, parted, borne, none))
           | inr among ↦ inl among
         ]
 
     -- so a fragment of the group leads to one of the group, or to a marked one
-    pub born_ahead : (f part x : ℕ) → 1 ≤ tally f (part_in g seat.hand) → Leads heap words f part x → (1 ≤ tally x (part_in g seat.hand)) ⊎ IsMarked colour x
+    pub born_ahead : (f part x : ℕ) → 1 ≤ tally f (part_in g seat.hand) → WordPointsTo heap words f part x → (1 ≤ tally x (part_in g seat.hand)) ⊎ IsMarked colour x
     born_ahead f part x there leads =
-        let in_body : 1 ≤ tally f seat.body = omega (arith, there, parts_tally g f seat.hand, body_borne owner q seat.reserve seat.hand seat.body holding some f) in
+        let in_body : 1 ≤ tally f seat.body = omega (arith, there, parts_tally g f seat.hand, body_borne owner number seat.reserve seat.hand seat.body holding some f) in
         let place = place_within f seat.body in
         let k : ℕ = place_of f seat.body in
-        let next = body_leads k part x (place in_body).0 (subst (λ y. Leads heap words y part x) (sym (place in_body).1) leads) in
+        let next = body_leads k part x (place in_body).0 (subst (λ y. WordPointsTo heap words y part x) (sym (place in_body).1) leads) in
         elim (behind k next.0 (subst (λ y. 1 ≤ tally y (part_in g seat.hand)) (sym (place in_body).1) there)) [
           | inl among ↦ inl (subst (λ y. 1 ≤ tally y (part_in g seat.hand)) (sym next.1) among)
-          | inr borne ↦ inr (λ white. absurd (dark (sym (births x (subst (λ y. owner y ≡ Bears q) (sym next.1) (is_borne q _ borne))) ∙ white)))
+          | inr borne ↦ inr (λ white. absurd (dark (sym (births x (subst (λ y. owner y ≡ Borne number) (sym next.1) (is_borne number _ borne))) ∙ white)))
         ]
       where
         dark : Black ≢ White

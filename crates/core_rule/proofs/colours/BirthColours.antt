@@ -4,14 +4,14 @@ use Rattle.std.proofs.Common.{◌≡◌, ◌≢◌, ◌⊎◌, ℕ, suc, ◌+◌
 use Rattle.std.proofs.lemmas.Bool.Decides.{nat_tests, leb_tells}
 use Rattle.heap_model.specs.declared.heap.Heap.{Heap}
 use Rattle.core_machine.specs.declared.table.address.Address.TheVariants.{Control}
-use Rattle.core_machine.specs.table.Fragments.{part_in, mask, tally}
+use Rattle.core_machine.specs.table.Fragments.{part_in, mask_of, tally}
 use Rattle.core_machine.specs.table.Layout.{at, put, table_length}
-use Rattle.core_machine.specs.seat.MakingMoves.{bears_black}
-use Rattle.core_machine.specs.table.Operation.{all_taken, untaken, birth_bits}
+use Rattle.core_machine.specs.seat.MakingMoves.{bears_black_of}
+use Rattle.core_machine.specs.table.Operation.{all_taken, word_without_taken, birth_bits_of}
 use Rattle.core_machine.specs.seat.Seat.{Seat}
 use Rattle.core_rule.specs.Book.{Colour, White, Grey, Black, fragment_at}
-use Rattle.core_rule.specs.Colours.{Marks, Leads, IsMarked, IsBetween, Coloured, marked_bit, scanned_bit}
-use Rattle.core_rule.specs.Owners.{Owner, Keeps, born_bit}
+use Rattle.core_rule.specs.Colours.{Marks, WordPointsTo, IsMarked, IsBetween, Coloured, marked_bit, scanned_bit}
+use Rattle.core_rule.specs.Owners.{Owner, Kept, born_bit}
 use Rattle.core_rule.specs.Phases.{IsNear}
 use Rattle.core_rule.proofs.owners.Handed.{none_or_some}
 use Rattle.core_rule.proofs.words.MarkBits.{claim_past, untaken_past, birth_marked, birth_scanned}
@@ -55,7 +55,7 @@ black_late n none = elim (leb_tells 2 n) as (λ _. (if nat_lt 1 n then nat_lt n 
   | inr early ↦ rw early.0 refl
 ]
 
-pub white_early : (phase : ℕ) (seat : Seat) → IsNear phase seat.answered → phase % 7 ≤ 1 → bears_black seat ≡ false
+pub white_early : (phase : ℕ) (seat : Seat) → IsNear phase seat.answered → phase % 7 ≤ 1 → bears_black_of seat ≡ false
 white_early phase seat near early = black_late (seat.answered % 7) (λ late below. elim near [
   | inl same ↦ omega (arith, early, same, late)
   | inr before ↦ omega (arith, early, before, late, below)
@@ -82,13 +82,13 @@ module _ (heap : Heap) (words now : List ℕ) (owner later : ℕ → Owner) (col
   module _ (fragments now_fragments : ℕ → List ℕ) (phase : ℕ)
       (late : phase % 7 ≤ 1 → black ≡ false)
       (bears : (f : ℕ) → born_bit (later f) ≡ born_bit (owner f) + tally f fs)
-      (leads : (f part g : ℕ) → Leads heap now f part g → Leads heap words f part g)
-      (ahead : black ≡ true → (f part g : ℕ) → 1 ≤ tally f fs → Leads heap words f part g → (1 ≤ tally g fs) ⊎ IsMarked colour g) where
+      (leads : (f part g : ℕ) → WordPointsTo heap now f part g → WordPointsTo heap words f part g)
+      (ahead : black ≡ true → (f part g : ℕ) → 1 ≤ tally f fs → WordPointsTo heap words f part g → (1 ≤ tally g fs) ⊎ IsMarked colour g) where
     white_birth : phase % 7 ≤ 1 → birth_colour black ≡ White
     white_birth early = ap birth_colour (late early)
 
     -- a black fragment was born black now, or was black
-    black_birth : (b : Bool) → b ≡ black → (f part g : ℕ) → 1 ≤ tally f fs → birth_colour b ≡ Black → Leads heap words f part g → IsMarked borne g
+    black_birth : (b : Bool) → b ≡ black → (f part g : ℕ) → 1 ≤ tally f fs → birth_colour b ≡ Black → WordPointsTo heap words f part g → IsMarked borne g
     black_birth true is f part g there black_now to = elim (ahead (sym is) f part g there to) [
       | inl among ↦ λ white. black_apart (ap birth_colour is ∙ sym (painted_in (birth_colour black) colour fs g among) ∙ white)
       | inr before ↦ marks_stay g before
@@ -96,7 +96,7 @@ module _ (heap : Heap) (words now : List ℕ) (owner later : ℕ → Owner) (col
     black_birth false is f part g there black_now to = absurd (black_apart (sym black_now))
 
     -- so the colours are right
-    pub birth_coloured : (IsBetween 1 5 phase → (f i k : ℕ) → later f ≡ Keeps i k → IsMarked borne f → IsMarked borne (fragment_at (now_fragments i) 0))
+    pub birth_coloured : (IsBetween 1 5 phase → (f i k : ℕ) → later f ≡ Kept i k → IsMarked borne f → IsMarked borne (fragment_at (now_fragments i) 0))
         → Coloured heap words owner colour fragments phase → Coloured heap now later borne now_fragments phase
     birth_coloured first stands = record {
       rest = λ rests f. painted_cases (λ c. c ≡ White) (birth_colour black) colour fs f (λ there. white_birth (omega (arith, rests))) (λ away. stands.rest rests f);
@@ -122,19 +122,19 @@ marks_claim heap words colour g whole below marks =
 
 -- nor does a give back
 pub marks_give : (heap : Heap) (words : List ℕ) (colour : ℕ → Colour) (g : ℕ) (fs : List ℕ) → length words ≡ table_length heap → g < heap.groups → Marks heap words colour
-    → Marks heap (put heap words (Control g) (untaken (mask fs) (at heap words (Control g)))) colour
+    → Marks heap (put heap words (Control g) (word_without_taken (mask_of fs) (at heap words (Control g)))) colour
 marks_give heap words colour g fs whole below marks =
-    marks_after heap words colour colour g (untaken (mask fs) (at heap words (Control g))) whole below marks
-    (λ f here. untaken_past (at heap words (Control g)) (mask fs) (mask-lt fs) (32 + f % 16) (omega arith) (omega arith) ∙ found_marked heap words colour colour g 0 whole below marks f here)
-    (λ f here. untaken_past (at heap words (Control g)) (mask fs) (mask-lt fs) (48 + f % 16) (omega arith) (omega arith) ∙ found_scanned heap words colour colour g 0 whole below marks f here)
+    marks_after heap words colour colour g (word_without_taken (mask_of fs) (at heap words (Control g))) whole below marks
+    (λ f here. untaken_past (at heap words (Control g)) (mask_of fs) (mask-lt fs) (32 + f % 16) (omega arith) (omega arith) ∙ found_marked heap words colour colour g 0 whole below marks f here)
+    (λ f here. untaken_past (at heap words (Control g)) (mask_of fs) (mask-lt fs) (48 + f % 16) (omega arith) (omega arith) ∙ found_scanned heap words colour colour g 0 whole below marks f here)
     (λ f apart. refl)
 
 -- the mask has the bits of the part
-mask_of : (g f : ℕ) (fs : List ℕ) → f / 16 ≡ g → ((x : ℕ) → tally x fs ≤ 1) → bit_at (mask (part_in g fs)) (f % 16) ≡ tally f (part_in g fs)
-mask_of g f fs here once =
+birth_mask : (g f : ℕ) (fs : List ℕ) → f / 16 ≡ g → ((x : ℕ) → tally x fs ≤ 1) → bit_at (mask_of (part_in g fs)) (f % 16) ≡ tally f (part_in g fs)
+birth_mask g f fs here once =
     let place : 16 * g + f % 16 ≡ f = omega (arith, here) in
-    let bit : bit_at (mask (part_in g fs)) (f % 16) ≡ tally f fs
-    = subst (λ x. bit_at (mask (part_in g fs)) (f % 16) ≡ tally x fs) place (mask_bit g (f % 16) fs (omega arith) (once (16 * g + f % 16))) in
+    let bit : bit_at (mask_of (part_in g fs)) (f % 16) ≡ tally f fs
+    = subst (λ x. bit_at (mask_of (part_in g fs)) (f % 16) ≡ tally x fs) place (mask_bit g (f % 16) fs (omega arith) (once (16 * g + f % 16))) in
     bit ∙ sym (part_in-here g f fs here)
 
 module _ (bit : Colour → ℕ) (none : bit White ≡ 0) (all : bit Black ≡ 1) (colour : ℕ → Colour) (fs : List ℕ) (f : ℕ) where
@@ -156,18 +156,18 @@ module _ (bit : Colour → ℕ) (none : bit White ≡ 0) (all : bit Black ≡ 1)
 -- a birth gives its fragments its colour
 pub marks_birth : (heap : Heap) (words : List ℕ) (colour : ℕ → Colour) (g : ℕ) (fs : List ℕ) (black : Bool) → length words ≡ table_length heap → g < heap.groups
     → ((f : ℕ) → tally f fs ≤ 1) → ((f : ℕ) → 1 ≤ tally f (part_in g fs) → colour f ≡ White) → Marks heap words colour
-    → Marks heap (put heap words (Control g) (bit_or (at heap words (Control g)) (birth_bits black (mask (part_in g fs))))) (painted (birth_colour black) colour (part_in g fs))
+    → Marks heap (put heap words (Control g) (bit_or (at heap words (Control g)) (birth_bits_of black (mask_of (part_in g fs))))) (painted (birth_colour black) colour (part_in g fs))
 marks_birth heap words colour g fs black whole below once white marks =
     let found : ℕ = at heap words (Control g) in
     let coloured : ℕ → Colour = painted (birth_colour black) colour (part_in g fs) in
-    let word : ℕ = bit_or found (birth_bits black (mask (part_in g fs))) in
+    let word : ℕ = bit_or found (birth_bits_of black (mask_of (part_in g fs))) in
     marks_after heap words colour coloured g word whole below marks
-    (λ f here. bit_painted marked_bit refl refl colour (part_in g fs) f black (bit_at word (32 + f % 16)) (bit_at found (32 + f % 16)) (bit_at (mask (part_in g fs)) (f % 16))
-    (birth_marked found (mask (part_in g fs)) (mask-lt (part_in g fs)) (f % 16) (omega arith) black)
-    (found_marked heap words colour colour g 0 whole below marks f here) (mask_of g f fs here once) (part_once f) (white f))
-    (λ f here. bit_painted scanned_bit refl refl colour (part_in g fs) f black (bit_at word (48 + f % 16)) (bit_at found (48 + f % 16)) (bit_at (mask (part_in g fs)) (f % 16))
-    (birth_scanned found (mask (part_in g fs)) (mask-lt (part_in g fs)) (f % 16) (omega arith) black)
-    (found_scanned heap words colour colour g 0 whole below marks f here) (mask_of g f fs here once) (part_once f) (white f))
+    (λ f here. bit_painted marked_bit refl refl colour (part_in g fs) f black (bit_at word (32 + f % 16)) (bit_at found (32 + f % 16)) (bit_at (mask_of (part_in g fs)) (f % 16))
+    (birth_marked found (mask_of (part_in g fs)) (mask-lt (part_in g fs)) (f % 16) (omega arith) black)
+    (found_marked heap words colour colour g 0 whole below marks f here) (birth_mask g f fs here once) (part_once f) (white f))
+    (λ f here. bit_painted scanned_bit refl refl colour (part_in g fs) f black (bit_at word (48 + f % 16)) (bit_at found (48 + f % 16)) (bit_at (mask_of (part_in g fs)) (f % 16))
+    (birth_scanned found (mask_of (part_in g fs)) (mask-lt (part_in g fs)) (f % 16) (omega arith) black)
+    (found_scanned heap words colour colour g 0 whole below marks f here) (birth_mask g f fs here once) (part_once f) (white f))
     (λ f apart. painted_out (birth_colour black) colour (part_in g fs) f (part_in-away g f fs apart))
   where
     part_once : (f : ℕ) → tally f (part_in g fs) ≤ 1

@@ -1,11 +1,11 @@
 -- What a seat has borne has one colour, by the machine's test of the seat's answer as by the rule's window.
 use Rattle.std.proofs.Common.{◌≡◌, ℕ, Bool, true, false, refl, ap, ◌∙◌, if◌then◌else◌}
 use Rattle.heap_model.specs.PhasePlan.{black_births, sweep}
-use Rattle.core_machine.specs.seat.MakingMoves.{bears_black}
+use Rattle.core_machine.specs.seat.MakingMoves.{bears_black_of}
 use Rattle.core_machine.specs.seat.Seat.{Seat}
 use Rattle.core_rule.specs.Book.{Colour, White, Black}
 use Rattle.core_rule.specs.Colours.{BornColours, IsBetween}
-use Rattle.core_rule.specs.Owners.{Owner, Bears}
+use Rattle.core_rule.specs.Owners.{Owner, Borne}
 use Rattle.core_rule.proofs.cycle.Barriers.{black_window, window_black}
 
 -- the colour of a birth
@@ -14,30 +14,30 @@ birth_colour black = if black then Black else White
 
 -- what a seat has borne of the object that it makes is black, or white
 abbrev pub AreBorne : (ℕ → Owner) → (ℕ → Colour) → ℕ → Bool → Type 0
-AreBorne owner colour q black = (f : ℕ) → owner f ≡ Bears q → colour f ≡ birth_colour black
+AreBorne owner colour number black = (f : ℕ) → owner f ≡ Borne number → colour f ≡ birth_colour black
 
-module _ (owner : ℕ → Owner) (colour : ℕ → Colour) (q : ℕ) (seat : Seat) where
-  pub births_are : BornColours owner colour q seat.answered → AreBorne owner colour q (bears_black seat)
-  births_are births = by (bears_black seat) refl
+module _ (owner : ℕ → Owner) (colour : ℕ → Colour) (number : ℕ) (seat : Seat) where
+  pub births_are : BornColours owner colour number seat.answered → AreBorne owner colour number (bears_black_of seat)
+  births_are births = by (bears_black_of seat) refl
     where
-      by : (black : Bool) → bears_black seat ≡ black → AreBorne owner colour q black
+      by : (black : Bool) → bears_black_of seat ≡ black → AreBorne owner colour number black
       by true on = births.dark (black_window seat on)
       by false off = births.light (λ between. absurd (cc (off, window_black seat between)))
 
-  pub are_births : AreBorne owner colour q (bears_black seat) → BornColours owner colour q seat.answered
+  pub are_births : AreBorne owner colour number (bears_black_of seat) → BornColours owner colour number seat.answered
   are_births borne = record {
     dark = λ between f is. borne f is ∙ ap birth_colour (window_black seat between);
-    light = λ apart f is. by apart (bears_black seat) refl f is;
+    light = λ apart f is. by apart (bears_black_of seat) refl f is;
   }
     where
-      by : ¬ IsBetween black_births sweep seat.answered → (black : Bool) → bears_black seat ≡ black → (f : ℕ) → owner f ≡ Bears q → colour f ≡ White
+      by : ¬ IsBetween black_births sweep seat.answered → (black : Bool) → bears_black_of seat ≡ black → (f : ℕ) → owner f ≡ Borne number → colour f ≡ White
       by apart true on f is = absurd (apart (black_window seat on))
       by apart false off f is = borne f is ∙ ap birth_colour off
 
 -- it keeps the colour where the seat bears no more
-pub births_stay : (owner later : ℕ → Owner) (colour coloured : ℕ → Colour) (q answer : ℕ) → ((f : ℕ) → later f ≡ Bears q → (owner f ≡ Bears q) × (coloured f ≡ colour f))
-    → BornColours owner colour q answer → BornColours later coloured q answer
-births_stay owner later colour coloured q answer before births = record {
+pub births_stay : (owner later : ℕ → Owner) (colour coloured : ℕ → Colour) (number answer : ℕ) → ((f : ℕ) → later f ≡ Borne number → (owner f ≡ Borne number) × (coloured f ≡ colour f))
+    → BornColours owner colour number answer → BornColours later coloured number answer
+births_stay owner later colour coloured number answer before births = record {
   dark = λ between f borne. (before f borne).1 ∙ births.dark between f (before f borne).0;
   light = λ apart f borne. (before f borne).1 ∙ births.light apart f (before f borne).0;
 }

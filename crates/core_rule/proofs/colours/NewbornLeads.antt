@@ -7,12 +7,12 @@ use Rattle.heap_words.specs.declared.cell.Cell.{Cell}
 use Rattle.heap_words.specs.declared.kind.Kind.TheVariants as kinds
 use Rattle.heap_words.specs.declared.name.Name.{Name}
 use Rattle.heap_words.specs.Name.{name_word}
-use Rattle.core_machine.specs.table.Loaded.{lead_of, head_in, first_lead, referred}
-use Rattle.core_machine.specs.table.Newborn.{record_meta, link_after, record_word}
+use Rattle.core_machine.specs.table.Decode.{pointer_in, head_of, first_pointer, reference_of}
+use Rattle.core_machine.specs.table.Newborn.{record_meta, link_after, record_word_of}
 use Rattle.core_machine.proofs.table_lemmas.CellWords.{cell_of-cell_word}
 
 -- a word of 0 leads nowhere
-zero_leads : (part : ℕ) → lead_of part 0 ≡ None
+zero_leads : (part : ℕ) → pointer_in part 0 ≡ None
 zero_leads zero = refl
 zero_leads (suc part) = let later : eqb (suc part) 0 ≡ false = grind arith in rw later refl
 
@@ -44,52 +44,52 @@ module _ (fragments : List ℕ) (small : (i : ℕ) → i < length fragments → 
         (next_there 1 g (λ none. some.1 (same ∙ none)), let it : n ≡ g = cc in sym it ∙ same)
   ]
 
-  meta_leads : (fields g : ℕ) → fields < 2 ^ 29 → lead_of 0 (record_meta fields fragments) ≡ Some g → IsNext 0 g
+  meta_leads : (fields g : ℕ) → fields < 2 ^ 29 → pointer_in 0 (record_meta fields fragments) ≡ Some g → IsNext 0 g
   meta_leads fields g few leads =
-      let word : lead_of 0 (record_meta fields fragments) ≡ cond {A = Option ℕ} (eqb (get_or fragments 1 0) 0) None (Some (get_or fragments 1 0))
-      = ap (λ (c : Cell). first_lead c.kind c) (cell_of-cell_word kinds.Fixed fields (get_or fragments 1 0) (omega (arith, few)) (omega (arith, next_small 1)))
+      let word : pointer_in 0 (record_meta fields fragments) ≡ cond {A = Option ℕ} (eqb (get_or fragments 1 0) 0) None (Some (get_or fragments 1 0))
+      = ap (λ (c : Cell). first_pointer c.kind c) (cell_of-cell_word kinds.Fixed fields (get_or fragments 1 0) (omega (arith, few)) (omega (arith, next_small 1)))
       ∙ rw (lt-ltb fields (2 ^ 29) few) refl in
       second_of (get_or fragments 1 0) g refl (sym word ∙ leads)
 
-  name_leads : (name : Name) → name.owner < 2 ^ 30 → name.count < 2 ^ 32 → head_in (name_word name) ≡ None
-  name_leads name owner count = ap (λ (c : Cell). referred c.kind c.value) (cell_of-cell_word kinds.Fixed name.owner name.count owner count)
+  name_leads : (name : Name) → name.owner < 2 ^ 30 → name.count < 2 ^ 32 → head_of (name_word name) ≡ None
+  name_leads name owner count = ap (λ (c : Cell). reference_of c.kind c.value) (cell_of-cell_word kinds.Fixed name.owner name.count owner count)
 
-  link_leads : (k g : ℕ) → lead_of 0 (link_after fragments k) ≡ Some g → IsNext k g
-  link_leads k g = elim (leb_tells (suc (k + 1)) (length fragments)) as (λ _. lead_of 0 (link_after fragments k) ≡ Some g → IsNext k g) [
+  link_leads : (k g : ℕ) → pointer_in 0 (link_after fragments k) ≡ Some g → IsNext k g
+  link_leads k g = elim (leb_tells (suc (k + 1)) (length fragments)) as (λ _. pointer_in 0 (link_after fragments k) ≡ Some g → IsNext k g) [
     | inl more ↦ λ leads.
-        let word : lead_of 0 (link_after fragments k) ≡ Some (get_or fragments (k + 1) 0)
-        = rw more.0 (ap (λ (c : Cell). first_lead c.kind c) (cell_of-cell_word kinds.Reference (get_or fragments (k + 1) 0) 0 (next_small (k + 1)) (omega arith))) in
+        let word : pointer_in 0 (link_after fragments k) ≡ Some (get_or fragments (k + 1) 0)
+        = rw more.0 (ap (λ (c : Cell). first_pointer c.kind c) (cell_of-cell_word kinds.Reference (get_or fragments (k + 1) 0) 0 (next_small (k + 1)) (omega arith))) in
         let is : Some (get_or fragments (k + 1) 0) ≡ Some g = sym word ∙ leads in
         (omega (arith, more.1), let it : get_or fragments (k + 1) 0 ≡ g = cc in sym it)
     | inr last ↦ λ leads.
         let none : link_after fragments k ≡ 0 = rw last.0 refl in
-        absurd (nowhere (lead_of 0 (link_after fragments k)) g (ap (lead_of 0) none) leads)
+        absurd (nowhere (pointer_in 0 (link_after fragments k)) g (ap (pointer_in 0) none) leads)
   ]
 
   module _ (name : Name) (fields : ℕ) where
-    link_word_at : (k : ℕ) → record_word name fields fragments (suc k) 0 ≡ link_after fragments (suc k)
+    link_word_at : (k : ℕ) → record_word_of name fields fragments (suc k) 0 ≡ link_after fragments (suc k)
     link_word_at k = let later : eqb (suc k) 0 ≡ false = grind arith in rw later refl
 
-    head_zero : (part : ℕ) → record_word name fields fragments 0 (suc (suc part)) ≡ 0
+    head_zero : (part : ℕ) → record_word_of name fields fragments 0 (suc (suc part)) ≡ 0
     head_zero part =
         let some : eqb (suc (suc part)) 0 ≡ false = grind arith in
         let later : eqb (suc (suc part)) 1 ≡ false = grind arith in
         rw (some, later) refl
 
-    part_zero : (k part : ℕ) → record_word name fields fragments (suc k) (suc part) ≡ 0
+    part_zero : (k part : ℕ) → record_word_of name fields fragments (suc k) (suc part) ≡ 0
     part_zero k part =
         let later : eqb (suc k) 0 ≡ false = grind arith in
         let some : eqb (suc part) 0 ≡ false = grind arith in
         rw (later, some) refl
 
-    no_lead : (part word g : ℕ) → word ≡ 0 → lead_of part word ≢ Some g
-    no_lead part word g none = nowhere (lead_of part word) g (ap (lead_of part) none ∙ zero_leads part)
+    no_lead : (part word g : ℕ) → word ≡ 0 → pointer_in part word ≢ Some g
+    no_lead part word g none = nowhere (pointer_in part word) g (ap (pointer_in part) none ∙ zero_leads part)
 
     -- by a meta or a link to the fragment after its own, and nowhere else
     pub newborn_leads : (k part g : ℕ) → name.owner < 2 ^ 30 → name.count < 2 ^ 32 → fields < 2 ^ 29
-        → lead_of part (record_word name fields fragments k part) ≡ Some g → IsNext k g
+        → pointer_in part (record_word_of name fields fragments k part) ≡ Some g → IsNext k g
     newborn_leads zero zero g owner count few leads = meta_leads fields g few leads
-    newborn_leads zero (suc zero) g owner count few leads = absurd (nowhere (head_in (name_word name)) g (name_leads name owner count) leads)
+    newborn_leads zero (suc zero) g owner count few leads = absurd (nowhere (head_of (name_word name)) g (name_leads name owner count) leads)
     newborn_leads zero (suc (suc part)) g owner count few leads = absurd (no_lead (suc (suc part)) _ g (head_zero part) leads)
-    newborn_leads (suc k) zero g owner count few leads = link_leads (suc k) g (ap (lead_of 0) (sym (link_word_at k)) ∙ leads)
+    newborn_leads (suc k) zero g owner count few leads = link_leads (suc k) g (ap (pointer_in 0) (sym (link_word_at k)) ∙ leads)
     newborn_leads (suc k) (suc part) g owner count few leads = absurd (no_lead (suc part) _ g (part_zero k part) leads)

@@ -8,11 +8,11 @@ use Rattle.std.proofs.lemmas.Nat.Bits.{bit_at_or, bit_at-pow_same, bit_at-pow_ot
 use Rattle.heap_model.specs.declared.heap.Heap.{Heap}
 use Rattle.core_machine.specs.declared.table.address.Address.TheVariants.{Control}
 use Rattle.core_machine.specs.table.Layout.{at, put, table_length}
-use Rattle.core_machine.specs.table.Operation.{shade_bit}
+use Rattle.core_machine.specs.table.Operation.{shade_bit_of}
 use Rattle.core_rule.specs.Book.{Colour, White, Grey, Black, fragment_at}
 use Rattle.core_rule.specs.Colours.{Marks, IsMarked, Coloured, marked_bit, scanned_bit}
 use Rattle.core_rule.specs.ControlWords.{Bits}
-use Rattle.core_rule.specs.Owners.{Owner, Keeps, born_bit}
+use Rattle.core_rule.specs.Owners.{Owner, Kept, born_bit}
 use Rattle.core_rule.proofs.words.ControlLemmas.{bits_after, found_taken, found_born}
 use Rattle.core_rule.proofs.colours.LeadsFrames.{leads_control}
 use Rattle.core_rule.proofs.colours.MarkWords.{marks_after, found_marked, found_scanned}
@@ -85,10 +85,10 @@ module _ (colour : ℕ → Colour) (f : ℕ) where
 -- the bits of a control word after a shade
 module _ (word f x : ℕ) where
   abbrev shaded_word : ℕ
-  shaded_word = bit_or word (shade_bit f)
+  shaded_word = bit_or word (shade_bit_of f)
 
   other_bit : (i : ℕ) → i ≢ 32 + f % 16 → bit_at shaded_word i ≡ bit_at word i
-  other_bit i apart = rw (bit_at_or word (shade_bit f) i, bit_at-pow_other (32 + f % 16) i apart) (omega arith)
+  other_bit i apart = rw (bit_at_or word (shade_bit_of f) i, bit_at-pow_other (32 + f % 16) i apart) (omega arith)
 
   shade_taken : bit_at shaded_word (x % 16) ≡ bit_at word (x % 16)
   shade_taken = other_bit (x % 16) (λ e. omega (arith, e))
@@ -102,25 +102,25 @@ module _ (word f x : ℕ) where
   shade_marked_other : x % 16 ≢ f % 16 → bit_at shaded_word (32 + x % 16) ≡ bit_at word (32 + x % 16)
   shade_marked_other apart = other_bit (32 + x % 16) (λ e. apart (omega (arith, e)))
 
-shade_marked : (word f : ℕ) → bit_at (bit_or word (shade_bit f)) (32 + f % 16) ≡ 1
-shade_marked word f = rw (bit_at_or word (shade_bit f) (32 + f % 16), bit_at-pow_same (32 + f % 16)) (omega (arith, bit_at-lt word (32 + f % 16)))
+shade_marked : (word f : ℕ) → bit_at (bit_or word (shade_bit_of f)) (32 + f % 16) ≡ 1
+shade_marked word f = rw (bit_at_or word (shade_bit_of f) (32 + f % 16), bit_at-pow_same (32 + f % 16)) (omega (arith, bit_at-lt word (32 + f % 16)))
 
 module _ (heap : Heap) (words : List ℕ) (owner : ℕ → Owner) (colour : ℕ → Colour) (f : ℕ) (whole : length words ≡ table_length heap) (within : f < 16 * heap.groups) where
   abbrev pub shaded_words : List ℕ
-  shaded_words = put heap words (Control (f / 16)) (bit_or (at heap words (Control (f / 16))) (shade_bit f))
+  shaded_words = put heap words (Control (f / 16)) (bit_or (at heap words (Control (f / 16))) (shade_bit_of f))
 
   below : f / 16 < heap.groups
   below = omega (arith, within)
 
   -- the control words have the same owners
   pub bits_shade : Bits heap words owner → Bits heap shaded_words owner
-  bits_shade bits = bits_after heap words owner owner (f / 16) (bit_or (at heap words (Control (f / 16))) (shade_bit f)) whole below bits
+  bits_shade bits = bits_after heap words owner owner (f / 16) (bit_or (at heap words (Control (f / 16))) (shade_bit_of f)) whole below bits
       (λ x here. shade_taken (at heap words (Control (f / 16))) f x ∙ found_taken heap words owner (f / 16) whole below bits x here)
       (λ x here. shade_born (at heap words (Control (f / 16))) f x ∙ found_born heap words owner (f / 16) whole below bits x here)
       (λ x apart. refl) (λ x apart. refl) bits.outside
 
-  marked_now : Marks heap words colour → (x : ℕ) → x / 16 ≡ f / 16 → bit_at (bit_or (at heap words (Control (f / 16))) (shade_bit f)) (32 + x % 16) ≡ marked_bit (with_mark colour f x)
-  marked_now marks x here = elim (eqb_tells x f) as (λ _. bit_at (bit_or (at heap words (Control (f / 16))) (shade_bit f)) (32 + x % 16) ≡ marked_bit (with_mark colour f x)) [
+  marked_now : Marks heap words colour → (x : ℕ) → x / 16 ≡ f / 16 → bit_at (bit_or (at heap words (Control (f / 16))) (shade_bit_of f)) (32 + x % 16) ≡ marked_bit (with_mark colour f x)
+  marked_now marks x here = elim (eqb_tells x f) as (λ _. bit_at (bit_or (at heap words (Control (f / 16))) (shade_bit_of f)) (32 + x % 16) ≡ marked_bit (with_mark colour f x)) [
     | inl same ↦ rw (same.1, mark_here colour f, marked_whole (colour f)) (shade_marked (at heap words (Control (f / 16))) f)
     | inr other ↦ shade_marked_other (at heap words (Control (f / 16))) f x (λ e. other.1 (omega (arith, e, here)))
         ∙ found_marked heap words colour colour (f / 16) 0 whole below marks x here ∙ ap marked_bit (sym (mark_away colour f x other.1))
@@ -134,13 +134,13 @@ module _ (heap : Heap) (words : List ℕ) (owner : ℕ → Owner) (colour : ℕ 
 
   -- and the new colours
   pub marks_shade : Marks heap words colour → Marks heap shaded_words (with_mark colour f)
-  marks_shade marks = marks_after heap words colour (with_mark colour f) (f / 16) (bit_or (at heap words (Control (f / 16))) (shade_bit f)) whole below marks
+  marks_shade marks = marks_after heap words colour (with_mark colour f) (f / 16) (bit_or (at heap words (Control (f / 16))) (shade_bit_of f)) whole below marks
       (marked_now marks)
       (λ x here. shade_scanned (at heap words (Control (f / 16))) f x ∙ found_scanned heap words colour colour (f / 16) 0 whole below marks x here ∙ sym (scanned_now x))
       (λ x apart. mark_away colour f x (λ e. apart (ap (λ y. y / 16) e)))
 
   -- which are right where a kept object's first fragment was shaded, and the heap doesn't rest
-  pub coloured_shade : (fragments : ℕ → List ℕ) (phase i : ℕ) → owner f ≡ Keeps i 0 → f ≡ fragment_at (fragments i) 0
+  pub coloured_shade : (fragments : ℕ → List ℕ) (phase i : ℕ) → owner f ≡ Kept i 0 → f ≡ fragment_at (fragments i) 0
       → phase % 7 ≢ 0 → Coloured heap words owner colour fragments phase → Coloured heap shaded_words owner (with_mark colour f) fragments phase
   coloured_shade fragments phase i kept first runs stands = record {
     rest = λ rests. absurd (runs rests);
@@ -153,9 +153,9 @@ module _ (heap : Heap) (words : List ℕ) (owner : ℕ → Owner) (colour : ℕ 
         (stands.black making x part g (mark_black colour f x black) (leads_control heap words (f / 16) _ below x part g leads));
     first = λ making x j k keeps now. elim (mark_was colour f x now) [
       | inl same ↦
-          let both : Keeps j k ≡ Keeps i 0 = sym keeps ∙ ap owner same ∙ kept in
-          let number : j ≡ i = cc in
-          subst (λ n. IsMarked (with_mark colour f) (fragment_at (fragments n) 0)) (sym number) (subst (IsMarked (with_mark colour f)) first (mark_marks colour f))
+          let both : Kept j k ≡ Kept i 0 = sym keeps ∙ ap owner same ∙ kept in
+          let index : j ≡ i = cc in
+          subst (λ n. IsMarked (with_mark colour f) (fragment_at (fragments n) 0)) (sym index) (subst (IsMarked (with_mark colour f)) first (mark_marks colour f))
       | inr was ↦ mark_keeps colour f _ (stands.first making x j k keeps was)
     ];
   }

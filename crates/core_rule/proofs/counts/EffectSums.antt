@@ -23,19 +23,19 @@ pub total_but-other : (s : ℕ) (part : Effect → ℕ) (history : List Entry) (
     → total_but s part (history ++ entry ∷ []) ≡ total_but s part history + part (effect_of entry)
 total_but-other s part history entry other = rw (total_but-more s part history entry, other) refl
 
-module _ (history : List Entry) (q k : ℕ) where
+module _ (history : List Entry) (number k : ℕ) where
   -- nothing is given up where a seat takes
-  pub given_up-takes : (s : ℕ) → given_up s (history ++ entries.Takes q k ∷ []) ≡ given_up s history
-  given_up-takes s = elim (cases_Bool (q == s)) as (λ _. given_up s (history ++ entries.Takes q k ∷ []) ≡ given_up s history) [
-    | inl own ↦ omega (arith, total-more (λ e. e.freed) history (entries.Takes q k), total_but-own s (λ e. e.given) history (entries.Takes q k) own)
-    | inr other ↦ omega (arith, total-more (λ e. e.freed) history (entries.Takes q k), total_but-other s (λ e. e.given) history (entries.Takes q k) other)
+  pub given_up-takes : (s : ℕ) → given_up s (history ++ entries.Takes number k ∷ []) ≡ given_up s history
+  given_up-takes s = elim (cases_Bool (number == s)) as (λ _. given_up s (history ++ entries.Takes number k ∷ []) ≡ given_up s history) [
+    | inl own ↦ omega (arith, total-more (λ e. e.freed) history (entries.Takes number k), total_but-own s (λ e. e.given) history (entries.Takes number k) own)
+    | inr other ↦ omega (arith, total-more (λ e. e.freed) history (entries.Takes number k), total_but-other s (λ e. e.given) history (entries.Takes number k) other)
   ]
 
   -- what another gives back is given up
-  pub given_up-gives : (s : ℕ) → (q == s) ≡ false → given_up s (history ++ entries.GivesBack q k ∷ []) ≡ given_up s history + k
+  pub given_up-gives : (s : ℕ) → (number == s) ≡ false → given_up s (history ++ entries.GivesBack number k ∷ []) ≡ given_up s history + k
   given_up-gives s other =
-      omega (arith, total-more (λ e. e.freed) history (entries.GivesBack q k), total_but-other s (λ e. e.given) history (entries.GivesBack q k) other)
+      omega (arith, total-more (λ e. e.freed) history (entries.GivesBack number k), total_but-other s (λ e. e.given) history (entries.GivesBack number k) other)
 
-  pub given_up-own : (s : ℕ) → (q == s) ≡ true → given_up s (history ++ entries.GivesBack q k ∷ []) ≡ given_up s history
+  pub given_up-own : (s : ℕ) → (number == s) ≡ true → given_up s (history ++ entries.GivesBack number k ∷ []) ≡ given_up s history
   given_up-own s own =
-      omega (arith, total-more (λ e. e.freed) history (entries.GivesBack q k), total_but-own s (λ e. e.given) history (entries.GivesBack q k) own)
+      omega (arith, total-more (λ e. e.freed) history (entries.GivesBack number k), total_but-own s (λ e. e.given) history (entries.GivesBack number k) own)

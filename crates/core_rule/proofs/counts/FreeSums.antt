@@ -3,9 +3,9 @@ use Rattle.std.specs.Int.{bit_at}
 use Rattle.std.proofs.Common.{◌≡◌, ℕ, ◌+◌, ◌*◌, ◌/◌, ◌%◌, ◌<◌, List, length, ◌∙◌, arith, refl}
 use Rattle.heap_model.specs.declared.entry.Entry.{Entry}
 use Rattle.heap_model.specs.declared.heap.Heap.{Heap}
-use Rattle.heap_model.specs.account.Space.{gained, lost}
+use Rattle.heap_model.specs.account.Space.{fragments_gained, fragments_lost}
 use Rattle.core_machine.specs.declared.table.address.Address.TheVariants.{Control}
-use Rattle.core_machine.specs.machine.Calls.{free_fragments}
+use Rattle.core_machine.specs.machine.Calls.{free_count}
 use Rattle.core_machine.specs.table.Fragments.{clear_in}
 use Rattle.core_machine.specs.table.Layout.{at}
 use Rattle.core_machine.specs.machine.Sums.{sum_upto}
@@ -43,12 +43,12 @@ module _ (heap : Heap) (words : List ℕ) (owner : ℕ → Owner) (bits : Bits h
   clear_free : (g : ℕ) → g < heap.groups → length (clear_in g (at heap words (Control g))) ≡ free_in owner g
   clear_free g below = length-clear g (at heap words (Control g)) owner (λ j less. group_bit g j below less)
 
-  free_words : free_fragments heap words ≡ free_in_all heap owner
+  free_words : free_count heap words ≡ free_in_all heap owner
   free_words = sum_same heap.groups (λ g. length (clear_in g (at heap words (Control g)))) (λ g. free_in owner g) clear_free
       ∙ sum_blocks 16 heap.groups (λ f. free_bit (owner f))
 
 -- what is free is in no use
-pub free_unused : (heap : Heap) (owner : ℕ → Owner) (history : List Entry) → AreUsed heap owner history → free_in_all heap owner + gained history ≡ 16 * heap.groups + lost history
+pub free_unused : (heap : Heap) (owner : ℕ → Owner) (history : List Entry) → AreUsed heap owner history → free_in_all heap owner + fragments_gained history ≡ 16 * heap.groups + fragments_lost history
 free_unused heap owner history used = omega (arith, used, taken_and_free (16 * heap.groups) owner)
 
 -- so is what is clear in the control words

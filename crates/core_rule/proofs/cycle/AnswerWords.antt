@@ -12,29 +12,29 @@ use Rattle.core_rule.proofs.frames.EntryFrames.{SameFragments}
 use Rattle.core_rule.proofs.colours.LeadsFrames.{leads_same}
 use Rattle.core_rule.proofs.colours.MarkWords.{marks_same}
 
-module _ (heap : Heap) (words : List ℕ) (q n : ℕ) (small : q < 16) where
+module _ (heap : Heap) (words : List ℕ) (number n : ℕ) (small : number < 16) where
   abbrev now : List ℕ
-  now = put heap words (Answer q) n
+  now = put heap words (Answer number) n
 
   pub fragments_answer : SameFragments heap words now
   fragments_answer = record {
-    controls = λ group below. at-put_apart heap words (Answer q) (Control group) n (λ e. omega (arith, e, small));
-    parts = λ f part. at-put_apart heap words (Answer q) (Word f part) n (λ e. omega (arith, e, small));
+    controls = λ group below. at-put_apart heap words (Answer number) (Control group) n (λ e. omega (arith, e, small));
+    parts = λ f part. at-put_apart heap words (Answer number) (Word f part) n (λ e. omega (arith, e, small));
   }
 
   pub heap_cycle_answer : (phase : ℕ) (owner : ℕ → Owner) (colour : ℕ → Colour) (fragments : ℕ → List ℕ)
       → HeapInCycle heap words phase owner colour fragments → HeapInCycle heap now phase owner colour fragments
   heap_cycle_answer phase owner colour fragments cycle = record {
-    word = at-put_apart heap words (Answer q) Phase n (λ e. omega (arith, e)) ∙ cycle.word;
+    word = at-put_apart heap words (Answer number) Phase n (λ e. omega (arith, e)) ∙ cycle.word;
     so_far = cycle.so_far;
     marks = marks_same heap words now colour fragments_answer.controls cycle.marks;
     coloured = coloured_stays heap words now owner owner colour fragments phase
         (λ marking f part x born leads. inl (leads_same heap words now f part x (fragments_answer.parts f part) leads)) (λ f marked born. born) (λ f i k keeps. keeps) cycle.coloured;
   }
 
-  pub leaves_answer : (owner : ℕ → Owner) (colour : ℕ → Colour) (phase r : ℕ) → r ≢ q → LeavesCycle heap words now owner owner colour colour phase r
+  pub leaves_answer : (owner : ℕ → Owner) (colour : ℕ → Colour) (phase r : ℕ) → r ≢ number → LeavesCycle heap words now owner owner colour colour phase r
   leaves_answer owner colour phase r apart = record {
-    answer = at-put_apart heap words (Answer q) (Answer r) n (λ e. apart (omega (arith, e)));
+    answer = at-put_apart heap words (Answer number) (Answer r) n (λ e. apart (omega (arith, e)));
     leads = λ marking f part x born leads. inl (leads_same heap words now f part x (fragments_answer.parts f part) leads);
     marks = λ f marked. marked;
     births = λ f bears. (bears, refl);

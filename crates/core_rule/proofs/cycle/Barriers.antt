@@ -3,10 +3,10 @@
 use Rattle.std.proofs.Common.{◌≡◌, ℕ, ◌%◌, ◌<◌, true, false, inl, inr, refl, arith, ◌==◌, ◌≢◌, nat_lt, if◌then◌else◌}
 use Rattle.std.proofs.lemmas.Bool.Decides.{nat_tests}
 use Rattle.heap_model.specs.PhasePlan.{barriers, black_births, sweep}
-use Rattle.core_machine.specs.table.Loaded.{head_in, lead_of}
-use Rattle.core_machine.specs.seat.MakingMoves.{bears_black}
-use Rattle.core_machine.specs.seat.Reaching.{has_barrier}
-use Rattle.core_machine.specs.seat.ReachingMoves.{field_part}
+use Rattle.core_machine.specs.table.Decode.{head_of, pointer_in}
+use Rattle.core_machine.specs.seat.MakingMoves.{bears_black_of}
+use Rattle.core_machine.specs.seat.Access.{has_barrier_of}
+use Rattle.core_machine.specs.seat.AccessMoves.{field_part_of}
 use Rattle.core_machine.specs.seat.Seat.{Seat}
 use Rattle.core_rule.specs.Colours.{IsBetween}
 use Rattle.core_rule.specs.Phases.{IsNear}
@@ -20,17 +20,17 @@ is_inside low high n above below = grind (arith, nat_tests, above, below)
 
 module _ (seat : Seat) where
   -- a set's barrier is on from the answer to a cycle's phase of barriers on, up to that to its sweep
-  pub barrier_window : has_barrier seat ≡ true → IsBetween barriers sweep seat.answered
+  pub barrier_window : has_barrier_of seat ≡ true → IsBetween barriers sweep seat.answered
   barrier_window on = let both = inside 0 6 (seat.answered % 7) on in record { from = omega (arith, both.0); upto = omega (arith, both.1) }
 
-  pub window_barrier : IsBetween barriers sweep seat.answered → has_barrier seat ≡ true
+  pub window_barrier : IsBetween barriers sweep seat.answered → has_barrier_of seat ≡ true
   window_barrier between = is_inside 0 6 (seat.answered % 7) (omega (arith, between.from)) (omega (arith, between.upto))
 
   -- births are black from the answer to its phase of black births on
-  pub black_window : bears_black seat ≡ true → IsBetween black_births sweep seat.answered
+  pub black_window : bears_black_of seat ≡ true → IsBetween black_births sweep seat.answered
   black_window black = let both = inside 1 6 (seat.answered % 7) black in record { from = omega (arith, both.0); upto = omega (arith, both.1) }
 
-  pub window_black : IsBetween black_births sweep seat.answered → bears_black seat ≡ true
+  pub window_black : IsBetween black_births sweep seat.answered → bears_black_of seat ≡ true
   window_black between = is_inside 1 6 (seat.answered % 7) (omega (arith, between.from)) (omega (arith, between.upto))
 
 module _ (phase answer : ℕ) (near : IsNear phase answer) where
@@ -49,11 +49,11 @@ module _ (phase answer : ℕ) (near : IsNear phase answer) where
   ]
 
 -- a field is no first word
-pub field_lead : (seat : Seat) (word : ℕ) → lead_of (field_part seat) word ≡ head_in word
+pub field_lead : (seat : Seat) (word : ℕ) → pointer_in (field_part_of seat) word ≡ head_of word
 field_lead seat word = by _ (omega arith)
   where
-    by : (part : ℕ) → 0 < part → lead_of part word ≡ head_in word
+    by : (part : ℕ) → 0 < part → pointer_in part word ≡ head_of word
     by part some = let later : (part == 0) ≡ false = grind (arith, some) in rw later refl
 
-pub part_below : (seat : Seat) → field_part seat < 4
+pub part_below : (seat : Seat) → field_part_of seat < 4
 part_below seat = omega arith

@@ -6,17 +6,17 @@ use Rattle.core_machine.specs.declared.table.address.Address.TheVariants.{Contro
 use Rattle.core_machine.specs.declared.place.Making.TheVariants.{Bearing}
 use Rattle.core_machine.specs.declared.place.Place.TheVariants as places
 use Rattle.core_machine.specs.seat.Fits.{HasBody}
-use Rattle.core_machine.specs.table.Fragments.{mask, tally}
+use Rattle.core_machine.specs.table.Fragments.{mask_of, tally}
 use Rattle.core_machine.specs.table.Layout.{at, put}
 use Rattle.core_machine.specs.machine.Machine.{State, seat_at}
-use Rattle.core_machine.specs.seat.Making.{last_group, newborn_word}
-use Rattle.core_machine.specs.Moves.{bears_black, last_part}
-use Rattle.core_machine.specs.table.Operation.{birth_bits}
+use Rattle.core_machine.specs.seat.Making.{last_group_of, newborn_word_of}
+use Rattle.core_machine.specs.Moves.{bears_black_of, last_part}
+use Rattle.core_machine.specs.table.Operation.{birth_bits_of}
 use Rattle.core_machine.specs.seat.Seat.{Seat}
 use Rattle.core_rule.specs.Book.{Book, Colour, fragment_at}
 use Rattle.core_rule.specs.Colours.{IsMarked, IsBetween}
 use Rattle.core_rule.specs.Cycle.{HeapInCycle}
-use Rattle.core_rule.specs.Owners.{born_bit, Owner, Keeps as KeepsPart}
+use Rattle.core_rule.specs.Owners.{born_bit, Owner, Kept as KeepsPart}
 use Rattle.core_rule.specs.Rule.{Rule, SeatStands}
 use Rattle.core_rule.proofs.colours.BirthAhead.{born_ahead}
 use Rattle.core_rule.proofs.colours.Births.{birth_colour, AreBorne, births_are}
@@ -28,21 +28,21 @@ use Rattle.core_rule.proofs.colours.LeadsFrames.{leads_control}
 use Rattle.core_rule.proofs.cycle.MakingCycle.{phase_after_control}
 use Rattle.core_rule.proofs.hand.MakingSeats.{bears_late, last_within, few_fields}
 
-module _ (heap : Heap) (state : State) (book : Book) (q : ℕ) (rule : Rule heap state book) (here : q < heap.seats) (place : (seat_at state q).place ≡ places.Making Bearing) where
+module _ (heap : Heap) (state : State) (book : Book) (number : ℕ) (rule : Rule heap state book) (here : number < heap.seats) (place : (seat_at state number).place ≡ places.Making Bearing) where
   abbrev seat : Seat
-  seat = seat_at state q
+  seat = seat_at state number
 
   abbrev g : ℕ
-  g = last_group seat.hand
+  g = last_group_of seat.hand
 
   abbrev pub words_born : List ℕ
-  words_born = put heap state.words (Control g) (bit_or (at heap state.words (Control g)) (birth_bits (bears_black seat) (mask (last_part seat))))
+  words_born = put heap state.words (Control g) (bit_or (at heap state.words (Control g)) (birth_bits_of (bears_black_of seat) (mask_of (last_part seat))))
 
   abbrev pub colours_born : ℕ → Colour
-  colours_born = painted (birth_colour (bears_black seat)) book.colour (last_part seat)
+  colours_born = painted (birth_colour (bears_black_of seat)) book.colour (last_part seat)
 
-  stands : SeatStands heap state.words book q seat
-  stands = rule.seats_stand q here
+  stands : SeatStands heap state.words book number seat
+  stands = rule.seats_stand number here
 
   at_place : HasBody seat × (0 < length seat.hand) × (length seat.hand ≤ length seat.body) × (seat.stored ≡ 4 * length seat.body)
   at_place = rw place at stands.fits.at_place
@@ -56,11 +56,11 @@ module _ (heap : Heap) (state : State) (book : Book) (q : ℕ) (rule : Rule heap
 
   -- nothing of the part was born
   unborn : (f : ℕ) → 1 ≤ tally f (last_part seat) → born_bit (book.owner f) ≡ 0
-  unborn f there = ap born_bit (part_held book.owner q seat.reserve seat.hand seat.body stands.own.holding g f there)
+  unborn f there = ap born_bit (part_held book.owner number seat.reserve seat.hand seat.body stands.own.holding g f there)
 
   -- what was marked stays so
   pub marks_born : (f : ℕ) → IsMarked book.colour f → IsMarked colours_born f
-  marks_born = marks_stay heap state.words words_born book.owner book.owner book.colour (last_part seat) (bears_black seat) unborn rule.heap_stands.cycle.coloured.born
+  marks_born = marks_stay heap state.words words_born book.owner book.owner book.colour (last_part seat) (bears_black_of seat) unborn rule.heap_stands.cycle.coloured.born
 
   -- the heap's part stands
   pub heap_born : (later : ℕ → Owner) (fragments : ℕ → List ℕ) → ((f : ℕ) → born_bit (later f) ≡ born_bit (book.owner f) + tally f (last_part seat))
@@ -68,18 +68,18 @@ module _ (heap : Heap) (state : State) (book : Book) (q : ℕ) (rule : Rule heap
       → HeapInCycle heap words_born (phase book.history) later colours_born fragments
   heap_born later fragments bears first =
       let cycle = rule.heap_stands.cycle in
-      let black : Bool = bears_black seat in
+      let black : Bool = bears_black_of seat in
       record {
         word = phase_after_control heap state.words _ g ∙ cycle.word;
         so_far = cycle.so_far;
-        marks = marks_birth heap state.words book.colour g seat.hand black rule.machine.table group_born (hand_once book.owner q seat.reserve seat.hand seat.body stands.own.holding)
+        marks = marks_birth heap state.words book.colour g seat.hand black rule.machine.table group_born (hand_once book.owner number seat.reserve seat.hand seat.body stands.own.holding)
             (was_white heap state.words words_born book.owner later book.colour (last_part seat) black unborn cycle.coloured.born) cycle.marks;
         coloured = birth_coloured heap state.words words_born book.owner later book.colour (last_part seat) black unborn cycle.coloured.born book.fragments fragments (phase book.history)
-            (bears_late heap state book q Bearing rule here place) bears
+            (bears_late heap state book number Bearing rule here place) bears
             (λ f k x leads. leads_control heap state.words g _ group_born f k x leads)
-            (λ dark. born_ahead heap state.words book.owner book.colour q seat rule.machine.limits here at_place.0.makes.numbered (few_fields seat at_place.0) some_born stands.fits.hand.body_within stands.own.holding
-            (subst (AreBorne book.owner book.colour q) dark (births_are book.owner book.colour q seat stands.cycle.births))
-            (all_stored heap state.words seat.body (newborn_word q seat) seat.stored at_place.3 stands.own.stored)
+            (λ dark. born_ahead heap state.words book.owner book.colour number seat rule.machine.limits here at_place.0.makes.numbered (few_fields seat at_place.0) some_born stands.fits.hand.body_within stands.own.holding
+            (subst (AreBorne book.owner book.colour number) dark (births_are book.owner book.colour number seat stands.cycle.births))
+            (all_stored heap state.words seat.body (newborn_word_of number seat) seat.stored at_place.3 stands.own.stored)
             g (born_in_order heap seat.cursor seat.tried seat.hand seat.body stands.fits.hand.hand_within some_born stands.own.together))
             first cycle.coloured;
       }

@@ -6,24 +6,24 @@ use Rattle.core_machine.specs.declared.place.Place.{Place}
 use Rattle.core_machine.specs.declared.place.Place.TheVariants as places
 use Rattle.core_machine.specs.declared.place.Polling.{Polling}
 use Rattle.core_machine.specs.declared.place.Polling.TheVariants.{Asking, Shading, Answering}
-use Rattle.core_machine.specs.declared.place.Reaching.{Reaching}
-use Rattle.core_machine.specs.declared.place.Reaching.TheVariants.{ShadingOld, ShadingNew, Swapping}
+use Rattle.core_machine.specs.declared.place.Access.{Access}
+use Rattle.core_machine.specs.declared.place.Access.TheVariants.{ShadingOld, ShadingNew, Swapping}
 use Rattle.core_machine.specs.table.Layout.{at}
-use Rattle.core_machine.specs.seat.ReachingMoves.{field_part}
+use Rattle.core_machine.specs.seat.AccessMoves.{field_part_of}
 use Rattle.core_machine.specs.seat.Seat.{Seat}
 use Rattle.core_rule.specs.Book.{Colour, White, Black}
-use Rattle.core_rule.specs.Colours.{IsMarked, Leads, IsBetween, Coloured, BornColours}
+use Rattle.core_rule.specs.Colours.{IsMarked, WordPointsTo, IsBetween, Coloured, BornColours}
 use Rattle.core_rule.specs.Cycle.{SeatInCycle}
-use Rattle.core_rule.specs.Flight.{Flight, Watches, FieldStands, ShadedStands, RootsStand, WhileReaching, WhilePolling}
-use Rattle.core_rule.specs.Owners.{Owner, Bears, Keeps, born_bit}
-use Rattle.core_rule.specs.Phases.{Answers, AnswerStands}
+use Rattle.core_rule.specs.Flight.{Flight, DeletionBarrier, FieldStands, ShadedStands, RootsStand, WhileAccess, WhilePolling}
+use Rattle.core_rule.specs.Owners.{Owner, Borne, Kept, born_bit}
+use Rattle.core_rule.specs.Phases.{AnswersAgree, AnswerStands}
 use Rattle.core_rule.proofs.colours.Births.{births_stay}
 use Rattle.core_rule.proofs.lists.Options.{if_some}
 
 -- what holds on the way goes on to hold
-pub while_reaching : (P Q : Reaching → Type 0) → ((place : Reaching) → P place → Q place) → (place : Place) → WhileReaching P place → WhileReaching Q place
-while_reaching P Q more (places.Reaching place) holds = more place holds
-while_reaching P Q more _ holds = tt
+pub while_access : (P Q : Access → Type 0) → ((place : Access) → P place → Q place) → (place : Place) → WhileAccess P place → WhileAccess Q place
+while_access P Q more (places.Access place) holds = more place holds
+while_access P Q more _ holds = tt
 
 -- so does what holds while the phase is answered
 pub while_polling : (P Q : Polling → Type 0) → ((place : Polling) → P place → Q place) → (place : Place) → WhilePolling P place → WhilePolling Q place
@@ -38,27 +38,27 @@ roots_stay colour coloured seat marks Shading roots = λ r before. if_some (IsMa
 roots_stay colour coloured seat marks Answering roots = λ r. if_some (IsMarked colour) (IsMarked coloured) marks _ (roots r)
 
 -- a set has loaded its field's old value
-abbrev pub IsWatching : Reaching → Type 0
+abbrev pub IsWatching : Access → Type 0
 IsWatching ShadingOld = Unit {0}
 IsWatching ShadingNew = Unit {0}
 IsWatching Swapping = Unit {0}
 IsWatching _ = ⊥
 
 -- what holds on the way goes on to hold at its place
-reaching_at : (P Q : Reaching → Type 0) (place : Place) → ((reaching : Reaching) → place ≡ places.Reaching reaching → P reaching → Q reaching)
-    → WhileReaching P place → WhileReaching Q place
-reaching_at P Q (places.Reaching reaching) more holds = more reaching refl holds
-reaching_at P Q _ more holds = tt
+access_at : (P Q : Access → Type 0) (place : Place) → ((reaching : Access) → place ≡ places.Access reaching → P reaching → Q reaching)
+    → WhileAccess P place → WhileAccess Q place
+access_at P Q (places.Access reaching) more holds = more reaching refl holds
+access_at P Q _ more holds = tt
 
 -- while black fragments are made, the words of born ones lead where they led, or to what is marked
 abbrev pub LeadsStay : Heap → List ℕ → List ℕ → (ℕ → Owner) → (ℕ → Colour) → ℕ → Type 0
 LeadsStay heap words now owner coloured phase =
-    IsBetween 2 5 phase → (f part g : ℕ) → born_bit (owner f) ≡ 1 → Leads heap now f part g → Leads heap words f part g ⊎ IsMarked coloured g
+    IsBetween 2 5 phase → (f part g : ℕ) → born_bit (owner f) ≡ 1 → WordPointsTo heap now f part g → WordPointsTo heap words f part g ⊎ IsMarked coloured g
 
 -- more is marked, and what is watched leads to no more than it did but for what is marked
 pub watches_stay : (heap : Heap) (words now : List ℕ) (colour coloured : ℕ → Colour) → ((f : ℕ) → IsMarked colour f → IsMarked coloured f)
-    → (f part : ℕ) → ((g : ℕ) → Leads heap now f part g → Leads heap words f part g ⊎ IsMarked coloured g)
-    → (old : Option ℕ) → Watches heap words colour f part old → Watches heap now coloured f part old
+    → (f part : ℕ) → ((g : ℕ) → WordPointsTo heap now f part g → WordPointsTo heap words f part g ⊎ IsMarked coloured g)
+    → (old : Option ℕ) → DeletionBarrier heap words colour f part old → DeletionBarrier heap now coloured f part old
 watches_stay heap words now colour coloured marks f part leads old watches g later = elim (leads g later) [
   | inl before ↦ elim (watches g before) [
     | inl same ↦ inl same
@@ -68,30 +68,30 @@ watches_stay heap words now colour coloured marks f part leads old watches g lat
 ]
 
 module _ (heap : Heap) (words now : List ℕ) (colour coloured : ℕ → Colour) (seat : Seat) (marks : (f : ℕ) → IsMarked colour f → IsMarked coloured f) where
-  pub field_stays : (place : Reaching)
-      → (IsWatching place → (g : ℕ) → Leads heap now seat.reached (field_part seat) g → Leads heap words seat.reached (field_part seat) g ⊎ IsMarked coloured g)
+  pub field_stays : (place : Access)
+      → (IsWatching place → (g : ℕ) → WordPointsTo heap now seat.reached (field_part_of seat) g → WordPointsTo heap words seat.reached (field_part_of seat) g ⊎ IsMarked coloured g)
       → FieldStands heap words colour seat place → FieldStands heap now coloured seat place
   field_stays ShadingOld leads field = watches_stay heap words now colour coloured marks _ _ (leads tt) _ field
   field_stays ShadingNew leads field = watches_stay heap words now colour coloured marks _ _ (leads tt) _ field
   field_stays Swapping leads field = watches_stay heap words now colour coloured marks _ _ (leads tt) _ field
   field_stays _ leads field = tt
 
-  shaded_stays : (place : Reaching) → ShadedStands colour seat place → ShadedStands coloured seat place
+  shaded_stays : (place : Access) → ShadedStands colour seat place → ShadedStands coloured seat place
   shaded_stays ShadingNew shaded = if_some (IsMarked colour) (IsMarked coloured) marks _ shaded
   shaded_stays Swapping shaded = λ on. (if_some (IsMarked colour) (IsMarked coloured) marks _ (shaded on).0, if_some (IsMarked colour) (IsMarked coloured) marks _ (shaded on).1)
   shaded_stays _ shaded = tt
 
 -- what a step of another party leaves of what a seat needs: its answer, where the heap's words lead, what is marked, and what it bears
-pub record LeavesCycle (heap : Heap) (words now : List ℕ) (owner later : ℕ → Owner) (colour coloured : ℕ → Colour) (phase q : ℕ) : Type 0 where
-  pub answer : at heap now (Answer q) ≡ at heap words (Answer q)
+pub record LeavesCycle (heap : Heap) (words now : List ℕ) (owner later : ℕ → Owner) (colour coloured : ℕ → Colour) (phase number : ℕ) : Type 0 where
+  pub answer : at heap now (Answer number) ≡ at heap words (Answer number)
   pub leads : LeadsStay heap words now owner coloured phase
   pub marks : (f : ℕ) → IsMarked colour f → IsMarked coloured f
-  pub births : (f : ℕ) → later f ≡ Bears q → (owner f ≡ Bears q) × (coloured f ≡ colour f)
+  pub births : (f : ℕ) → later f ≡ Borne number → (owner f ≡ Borne number) × (coloured f ≡ colour f)
 
 -- a step that changes nothing leaves all of it
-pub leaves_same : (heap : Heap) (words : List ℕ) (owner : ℕ → Owner) (colour : ℕ → Colour) (phase q : ℕ)
-    → LeavesCycle heap words words owner owner colour colour phase q
-leaves_same heap words owner colour phase q = record {
+pub leaves_same : (heap : Heap) (words : List ℕ) (owner : ℕ → Owner) (colour : ℕ → Colour) (phase number : ℕ)
+    → LeavesCycle heap words words owner owner colour colour phase number
+leaves_same heap words owner colour phase number = record {
   answer = refl;
   leads = λ marking f part g born leads. inl leads;
   marks = λ f marked. marked;
@@ -100,13 +100,13 @@ leaves_same heap words owner colour phase q = record {
 
 -- what a set has loaded its field's old value of is born
 abbrev pub WatchesBorn : (ℕ → Owner) → Seat → Type 0
-WatchesBorn owner seat = (reaching : Reaching) → seat.place ≡ places.Reaching reaching → IsWatching reaching → born_bit (owner seat.reached) ≡ 1
+WatchesBorn owner seat = (reaching : Access) → seat.place ≡ places.Access reaching → IsWatching reaching → born_bit (owner seat.reached) ≡ 1
 
 -- so its part stands
-pub cycle_stays : (heap : Heap) (words now : List ℕ) (owner later : ℕ → Owner) (colour coloured : ℕ → Colour) (phase answers : ℕ) (gone : Bool) (q : ℕ) (seat : Seat)
-    → LeavesCycle heap words now owner later colour coloured phase q → WatchesBorn owner seat
-    → SeatInCycle heap words phase answers gone owner colour q seat → SeatInCycle heap now phase answers gone later coloured q seat
-cycle_stays heap words now owner later colour coloured phase answers gone q seat leaves watched cycle = record {
+pub cycle_stays : (heap : Heap) (words now : List ℕ) (owner later : ℕ → Owner) (colour coloured : ℕ → Colour) (phase answers : ℕ) (gone : Bool) (number : ℕ) (seat : Seat)
+    → LeavesCycle heap words now owner later colour coloured phase number → WatchesBorn owner seat
+    → SeatInCycle heap words phase answers gone owner colour number seat → SeatInCycle heap now phase answers gone later coloured number seat
+cycle_stays heap words now owner later colour coloured phase answers gone number seat leaves watched cycle = record {
   answers_told = record {
     told = cycle.answers_told.told;
     leaves = cycle.answers_told.leaves;
@@ -116,14 +116,14 @@ cycle_stays heap words now owner later colour coloured phase answers gone q seat
   };
   answer = cycle.answer;
   flight = record {
-    set = λ marking snapped. reaching_at (FieldStands heap words colour seat) (FieldStands heap now coloured seat) seat.place
+    set = λ marking snapped. access_at (FieldStands heap words colour seat) (FieldStands heap now coloured seat) seat.place
         (λ reaching is. field_stays heap words now colour coloured seat leaves.marks reaching (λ watching g lead. leaves.leads marking _ _ g (watched reaching is watching) lead))
         (cycle.flight.set marking snapped);
-    shaded = λ marking. while_reaching (ShadedStands colour seat) (ShadedStands coloured seat)
+    shaded = λ marking. while_access (ShadedStands colour seat) (ShadedStands coloured seat)
         (shaded_stays heap words now colour coloured seat leaves.marks) seat.place (cycle.flight.shaded marking);
     roots = λ begins. while_polling (RootsStand colour seat) (RootsStand coloured seat) (roots_stay colour coloured seat leaves.marks) seat.place (cycle.flight.roots begins);
   };
-  births = births_stay owner later colour coloured q seat.answered leaves.births cycle.births;
+  births = births_stay owner later colour coloured number seat.answered leaves.births cycle.births;
 }
 
 -- what it has answered, and whether it has left, is as before
@@ -132,10 +132,10 @@ pub record SameAnswer (seat next : Seat) : Type 0 where
   pub left : next.left ≡ seat.left
   pub asked : next.asked ≡ seat.asked
 
-pub answers_same : (heap : Heap) (words now : List ℕ) (phase answers : ℕ) (gone : Bool) (q : ℕ) (seat next : Seat) → SameAnswer seat next
-    → at heap now (Answer q) ≡ at heap words (Answer q)
-    → Answers heap words phase answers gone q seat.left seat.answered seat.asked → Answers heap now phase answers gone q next.left next.answered next.asked
-answers_same heap words now phase answers gone q seat next same word told = rw (same.answered, same.left, same.asked) record {
+pub answers_same : (heap : Heap) (words now : List ℕ) (phase answers : ℕ) (gone : Bool) (number : ℕ) (seat next : Seat) → SameAnswer seat next
+    → at heap now (Answer number) ≡ at heap words (Answer number)
+    → AnswersAgree heap words phase answers gone number seat.left seat.answered seat.asked → AnswersAgree heap now phase answers gone number next.left next.answered next.asked
+answers_same heap words now phase answers gone number seat next same word told = rw (same.answered, same.left, same.asked) record {
   told = told.told;
   leaves = told.leaves;
   word = word ∙ told.word;
@@ -144,28 +144,28 @@ answers_same heap words now phase answers gone q seat next same word told = rw (
 }
 
 -- a seat that goes on, by what it has in flight then
-pub cycle_by_flight : (heap : Heap) (words now : List ℕ) (owner later : ℕ → Owner) (colour coloured : ℕ → Colour) (phase answers : ℕ) (gone : Bool) (q : ℕ) (seat next : Seat)
-    → SameAnswer seat next → at heap now (Answer q) ≡ at heap words (Answer q) → AnswerStands phase next.answered next.asked next.place
-    → Flight heap now coloured phase next → BornColours later coloured q next.answered
-    → SeatInCycle heap words phase answers gone owner colour q seat → SeatInCycle heap now phase answers gone later coloured q next
-cycle_by_flight heap words now owner later colour coloured phase answers gone q seat next same word answer flight births cycle = record {
-  answers_told = answers_same heap words now phase answers gone q seat next same word cycle.answers_told;
+pub cycle_by_flight : (heap : Heap) (words now : List ℕ) (owner later : ℕ → Owner) (colour coloured : ℕ → Colour) (phase answers : ℕ) (gone : Bool) (number : ℕ) (seat next : Seat)
+    → SameAnswer seat next → at heap now (Answer number) ≡ at heap words (Answer number) → AnswerStands phase next.answered next.asked next.place
+    → Flight heap now coloured phase next → BornColours later coloured number next.answered
+    → SeatInCycle heap words phase answers gone owner colour number seat → SeatInCycle heap now phase answers gone later coloured number next
+cycle_by_flight heap words now owner later colour coloured phase answers gone number seat next same word answer flight births cycle = record {
+  answers_told = answers_same heap words now phase answers gone number seat next same word cycle.answers_told;
   answer = answer;
   flight = flight;
   births = births;
 }
 
 -- the history tells the same
-pub cycle_told : (heap : Heap) (words : List ℕ) (phase later_phase answers later_answers : ℕ) (gone later_gone : Bool) (owner : ℕ → Owner) (colour : ℕ → Colour) (q : ℕ) (seat : Seat)
+pub cycle_told : (heap : Heap) (words : List ℕ) (phase later_phase answers later_answers : ℕ) (gone later_gone : Bool) (owner : ℕ → Owner) (colour : ℕ → Colour) (number : ℕ) (seat : Seat)
     → later_phase ≡ phase → later_answers ≡ answers → later_gone ≡ gone
-    → SeatInCycle heap words phase answers gone owner colour q seat → SeatInCycle heap words later_phase later_answers later_gone owner colour q seat
-cycle_told heap words phase later_phase answers later_answers gone later_gone owner colour q seat a b c cycle = rw (a, b, c) cycle
+    → SeatInCycle heap words phase answers gone owner colour number seat → SeatInCycle heap words later_phase later_answers later_gone owner colour number seat
+cycle_told heap words phase later_phase answers later_answers gone later_gone owner colour number seat a b c cycle = rw (a, b, c) cycle
 
 -- the colours stay right where so the heap's words lead, what is marked stays born, and what is kept was kept
 pub coloured_stays : (heap : Heap) (words now : List ℕ) (owner later : ℕ → Owner) (colour : ℕ → Colour) (fragments : ℕ → List ℕ) (phase : ℕ)
     → LeadsStay heap words now owner colour phase
     → ((f : ℕ) → IsMarked colour f → born_bit (owner f) ≡ 1 → born_bit (later f) ≡ 1)
-    → ((f i k : ℕ) → later f ≡ Keeps i k → owner f ≡ Keeps i k)
+    → ((f i k : ℕ) → later f ≡ Kept i k → owner f ≡ Kept i k)
     → Coloured heap words owner colour fragments phase → Coloured heap now later colour fragments phase
 coloured_stays heap words now owner later colour fragments phase leads born kept stands = record {
   rest = stands.rest;

@@ -3,7 +3,7 @@ use Rattle.std.proofs.Common.{◌≡◌, ℕ, List, [], ◌∷◌, ◌++◌, fal
 use Rattle.heap_model.specs.declared.entry.Entry.{Entry}
 use Rattle.heap_model.specs.declared.heap.Heap.{Heap}
 use Rattle.heap_model.specs.account.Effects.{effect_of, is_of}
-use Rattle.heap_model.specs.account.PhaseCounts.{phase, answered, has_left, is_leave_of}
+use Rattle.heap_model.specs.account.PhaseCounts.{phase, last_answer, has_left, is_leave_of}
 use Rattle.core_machine.specs.seat.Seat.{Seat}
 use Rattle.core_rule.specs.Book.{Colour}
 use Rattle.core_rule.specs.Cycle.{HeapInCycle, SeatInCycle}
@@ -15,14 +15,14 @@ module _ (heap : Heap) (words : List ℕ) (owner : ℕ → Owner) (colour : ℕ 
   pub heap_cycle_more : (fragments : ℕ → List ℕ) → HeapInCycle heap words (phase history) owner colour fragments → HeapInCycle heap words (phase (history ++ entry ∷ [])) owner colour fragments
   heap_cycle_more fragments cycle = subst (λ p. HeapInCycle heap words p owner colour fragments) (sym (phase_stays history entry none)) cycle
 
-  module _ (q : ℕ) (seat : Seat) (cycle : SeatInCycle heap words (phase history) (answered q history) (has_left q history) owner colour q seat) where
+  module _ (number : ℕ) (seat : Seat) (cycle : SeatInCycle heap words (phase history) (last_answer number history) (has_left number history) owner colour number seat) where
     -- it is another's
-    pub cycle_other : is_of q entry ≡ false → SeatInCycle heap words (phase (history ++ entry ∷ [])) (answered q (history ++ entry ∷ [])) (has_left q (history ++ entry ∷ [])) owner colour q seat
-    cycle_other other = cycle_told heap words _ _ _ _ _ _ owner colour q seat (phase_stays history entry none) (answered_other history entry q other)
-        (left_stays history entry q (no_leave history entry q other)) cycle
+    pub cycle_other : is_of number entry ≡ false → SeatInCycle heap words (phase (history ++ entry ∷ [])) (last_answer number (history ++ entry ∷ [])) (has_left number (history ++ entry ∷ [])) owner colour number seat
+    cycle_other other = cycle_told heap words _ _ _ _ _ _ owner colour number seat (phase_stays history entry none) (answered_other history entry number other)
+        (left_stays history entry number (no_leave history entry number other)) cycle
 
     -- it is the seat's
-    pub cycle_own : (effect_of entry).answers ≡ 0 → is_leave_of q entry ≡ false
-        → SeatInCycle heap words (phase (history ++ entry ∷ [])) (answered q (history ++ entry ∷ [])) (has_left q (history ++ entry ∷ [])) owner colour q seat
-    cycle_own silent stays = cycle_told heap words _ _ _ _ _ _ owner colour q seat (phase_stays history entry none) (answered_stays history entry q silent)
-        (left_stays history entry q stays) cycle
+    pub cycle_own : (effect_of entry).answers ≡ 0 → is_leave_of number entry ≡ false
+        → SeatInCycle heap words (phase (history ++ entry ∷ [])) (last_answer number (history ++ entry ∷ [])) (has_left number (history ++ entry ∷ [])) owner colour number seat
+    cycle_own silent stays = cycle_told heap words _ _ _ _ _ _ owner colour number seat (phase_stays history entry none) (answered_stays history entry number silent)
+        (left_stays history entry number stays) cycle

@@ -4,16 +4,16 @@ use Rattle.heap_model.specs.declared.graph.cell.Cell.{Cell}
 use Rattle.heap_model.specs.declared.heap.Heap.{Heap}
 use Rattle.heap_model.specs.declared.id.Id.{Id}
 use Rattle.heap_model.specs.account.Cycles.{graph_of}
-use Rattle.heap_model.specs.graph.State.{State as Graph}
+use Rattle.heap_model.specs.graph.Graph.{Graph}
 use Rattle.core_machine.specs.machine.Machine.{State, seat_at}
 use Rattle.core_rule.specs.Rule.{Rule}
 use Rattle.core_machine.specs.declared.table.address.Address.TheVariants.{Phase, Answer, Word}
 use Rattle.core_machine.specs.declared.place.Place.TheVariants as places
-use Rattle.core_machine.specs.declared.place.Reaching.{Reaching}
-use Rattle.core_machine.specs.declared.place.Reaching.TheVariants.{ShadingOld, ShadingNew, Swapping}
+use Rattle.core_machine.specs.declared.place.Access.{Access}
+use Rattle.core_machine.specs.declared.place.Access.TheVariants.{ShadingOld, ShadingNew, Swapping}
 use Rattle.core_machine.specs.seat.Commands.{field_of}
 use Rattle.core_machine.specs.table.Layout.{put}
-use Rattle.core_machine.specs.seat.Reaching.{row_of}
+use Rattle.core_machine.specs.seat.Access.{row_of}
 use Rattle.core_machine.specs.seat.Seat.{Seat}
 use Rattle.core_rule.specs.Book.{Book, Colour}
 use Rattle.core_rule.specs.Cycle.{HeapInCycle}
@@ -27,7 +27,7 @@ use Rattle.core_rule.proofs.colours.LeadsFrames.{leads_same}
 use Rattle.core_rule.proofs.colours.MarkWords.{marks_same}
 
 module _ (cells : ℕ → List Cell) (made : List Id) (owner : ℕ → Owner) (fragments : ℕ → List ℕ) (seat : Seat) where
-  way_found : (reaching : Reaching) → IsWatching reaching → WayStands cells made owner fragments seat (places.Reaching reaching) → Finds cells made owner fragments seat
+  way_found : (reaching : Access) → IsWatching reaching → WayStands cells made owner fragments seat (places.Access reaching) → Finds cells made owner fragments seat
   way_found ShadingOld watches way = way.0
   way_found ShadingNew watches way = way.0
   way_found Swapping watches way = way.0
@@ -41,7 +41,7 @@ watched_born heap state book rule r below reaching is watches =
     let stands = rule.heap_stands in
     let finds = way_found (cells_at g book.made) book.made book.owner book.fragments seat reaching watches
     (subst (WayStands (cells_at g book.made) book.made book.owner book.fragments seat) is (rule.seats_stand r below).names.way) in
-    let i : ℕ = finds.number in
+    let i : ℕ = finds.index in
     let k : ℕ = row_of (field_of seat.command) - seat.links in
     let row : row_of (field_of seat.command) < length (book.fragments i)
     = row_there heap state.words g book.made book.owner book.fragments rule.machine.limits stands.control_words stands.ids stands.objects i finds.way.below finds.way.kept (field_of seat.command) finds.within in

@@ -8,7 +8,7 @@ use Rattle.core_machine.specs.seat.Seat.{Seat}
 use Rattle.core_rule.specs.Book.{Colour}
 use Rattle.core_rule.specs.Colours.{Marks, IsMarked, BornColours}
 use Rattle.core_rule.specs.Cycle.{HeapInCycle, SeatInCycle}
-use Rattle.core_rule.specs.Owners.{Owner, Bears, born_bit, handed}
+use Rattle.core_rule.specs.Owners.{Owner, Borne, born_bit, owner_after}
 use Rattle.core_rule.proofs.words.Addresses.{at-put_apart}
 use Rattle.core_rule.proofs.colours.Births.{birth_colour, AreBorne, births_stay}
 use Rattle.core_rule.proofs.colours.BirthColours.{painted, painted_in, painted_out}
@@ -23,12 +23,12 @@ module _ (heap : Heap) (words : List ℕ) (n : ℕ) where
   pub phase_after_control : (g : ℕ) → at heap (put heap words (Control g) n) Phase ≡ at heap words Phase
   phase_after_control g = at-put_apart heap words (Control g) Phase n (λ e. omega (arith, e))
 
-  pub answer_after_control : (g q : ℕ) → q < 16 → at heap (put heap words (Control g) n) (Answer q) ≡ at heap words (Answer q)
-  answer_after_control g q few = at-put_apart heap words (Control g) (Answer q) n (λ e. omega (arith, e, few))
+  pub answer_after_control : (g number : ℕ) → number < 16 → at heap (put heap words (Control g) n) (Answer number) ≡ at heap words (Answer number)
+  answer_after_control g number few = at-put_apart heap words (Control g) (Answer number) n (λ e. omega (arith, e, few))
 
 -- another seat's part stays
 pub cycle_control : (heap : Heap) (words : List ℕ) (owner later : ℕ → Owner) (colour coloured : ℕ → Colour) (now answers : ℕ) (gone : Bool) (r : ℕ) (seat : Seat) (g word : ℕ)
-    → g < heap.groups → r < 16 → ((f : ℕ) → IsMarked colour f → IsMarked coloured f) → ((f : ℕ) → later f ≡ Bears r → (owner f ≡ Bears r) × (coloured f ≡ colour f)) → WatchesBorn owner seat
+    → g < heap.groups → r < 16 → ((f : ℕ) → IsMarked colour f → IsMarked coloured f) → ((f : ℕ) → later f ≡ Borne r → (owner f ≡ Borne r) × (coloured f ≡ colour f)) → WatchesBorn owner seat
     → SeatInCycle heap words now answers gone owner colour r seat → SeatInCycle heap (put heap words (Control g) word) now answers gone later coloured r seat
 cycle_control heap words owner later colour coloured now answers gone r seat g word below few marks births watched cycle =
     cycle_stays heap words (put heap words (Control g) word) owner later colour coloured now answers gone r seat
@@ -41,42 +41,42 @@ cycle_control heap words owner later colour coloured now answers gone r seat g w
     watched cycle
 
 -- a seat that goes on with the same answer, and bears no more, has its part in the cycle
-pub cycle_goes_on : (heap : Heap) (words later_words : List ℕ) (owner later : ℕ → Owner) (colour : ℕ → Colour) (now answers : ℕ) (gone : Bool) (q : ℕ) (seat next : Seat)
-    → SameAnswer seat next → IsApart next.place → at heap later_words (Answer q) ≡ at heap words (Answer q) → ((f : ℕ) → later f ≡ Bears q → owner f ≡ Bears q)
-    → SeatInCycle heap words now answers gone owner colour q seat → SeatInCycle heap later_words now answers gone later colour q next
-cycle_goes_on heap words later_words owner later colour now answers gone q seat next same apart word before cycle =
-    cycle_apart heap words later_words owner later colour colour now answers gone q seat next same apart word
-    (births_stay owner later colour colour q next.answered (λ f borne. (before f borne, refl)) (subst (BornColours owner colour q) (sym same.answered) cycle.births)) cycle
+pub cycle_goes_on : (heap : Heap) (words later_words : List ℕ) (owner later : ℕ → Owner) (colour : ℕ → Colour) (now answers : ℕ) (gone : Bool) (number : ℕ) (seat next : Seat)
+    → SameAnswer seat next → IsApart next.place → at heap later_words (Answer number) ≡ at heap words (Answer number) → ((f : ℕ) → later f ≡ Borne number → owner f ≡ Borne number)
+    → SeatInCycle heap words now answers gone owner colour number seat → SeatInCycle heap later_words now answers gone later colour number next
+cycle_goes_on heap words later_words owner later colour now answers gone number seat next same apart word before cycle =
+    cycle_apart heap words later_words owner later colour colour now answers gone number seat next same apart word
+    (births_stay owner later colour colour number next.answered (λ f borne. (before f borne, refl)) (subst (BornColours owner colour number) (sym same.answered) cycle.births)) cycle
 
 -- no seat bears more
-pub borne_before : (o : Owner) (owner : ℕ → Owner) (fs : List ℕ) (r f : ℕ) → o ≢ Bears r → handed o owner fs f ≡ Bears r → owner f ≡ Bears r
-borne_before o owner fs r f none = handed_cases (λ x. x ≡ Bears r → owner f ≡ Bears r) o owner fs f (λ there is. absurd (none is)) (λ away is. is)
+pub borne_before : (o : Owner) (owner : ℕ → Owner) (fs : List ℕ) (r f : ℕ) → o ≢ Borne r → owner_after o owner fs f ≡ Borne r → owner f ≡ Borne r
+borne_before o owner fs r f none = handed_cases (λ x. x ≡ Borne r → owner f ≡ Borne r) o owner fs f (λ there is. absurd (none is)) (λ away is. is)
 
 -- the heap's part stays
 pub heap_hands : (heap : Heap) (words : List ℕ) (owner : ℕ → Owner) (colour : ℕ → Colour) (fragments : ℕ → List ℕ) (now g word : ℕ) (o : Owner) (fs : List ℕ)
-    → g < heap.groups → born_bit o ≡ 0 → ((f : ℕ) → 1 ≤ tally f fs → born_bit (owner f) ≡ 0) → SameKept owner (handed o owner fs) → Marks heap (put heap words (Control g) word) colour
-    → HeapInCycle heap words now owner colour fragments → HeapInCycle heap (put heap words (Control g) word) now (handed o owner fs) colour fragments
+    → g < heap.groups → born_bit o ≡ 0 → ((f : ℕ) → 1 ≤ tally f fs → born_bit (owner f) ≡ 0) → SameKept owner (owner_after o owner fs) → Marks heap (put heap words (Control g) word) colour
+    → HeapInCycle heap words now owner colour fragments → HeapInCycle heap (put heap words (Control g) word) now (owner_after o owner fs) colour fragments
 heap_hands heap words owner colour fragments now g word o fs below unborn none same marks cycle = record {
   word = phase_after_control heap words word g ∙ cycle.word;
   so_far = cycle.so_far;
   marks = marks;
-  coloured = coloured_stays heap words (put heap words (Control g) word) owner (handed o owner fs) colour fragments now
+  coloured = coloured_stays heap words (put heap words (Control g) word) owner (owner_after o owner fs) colour fragments now
       (λ marking f part x born leads. inl (leads_control heap words g word below f part x leads))
       (λ f marked born. stays born_bit o owner fs (λ x there. none x there ∙ sym unborn) f ∙ born)
       same.was cycle.coloured;
 }
 
-module _ (owner : ℕ → Owner) (colour : ℕ → Colour) (fs : List ℕ) (q : ℕ) (black : Bool) where
+module _ (owner : ℕ → Owner) (colour : ℕ → Colour) (fs : List ℕ) (number : ℕ) (black : Bool) where
   -- what a seat bears has the colour of its births
-  pub born_more : AreBorne owner colour q black → AreBorne (handed (Bears q) owner fs) (painted (birth_colour black) colour fs) q black
+  pub born_more : AreBorne owner colour number black → AreBorne (owner_after (Borne number) owner fs) (painted (birth_colour black) colour fs) number black
   born_more births f borne = elim (none_or_some (tally f fs)) as (λ _. painted (birth_colour black) colour fs f ≡ birth_colour black) [
-    | inl away ↦ painted_out (birth_colour black) colour fs f away ∙ births f (sym (handed_out (Bears q) owner fs f away) ∙ borne)
+    | inl away ↦ painted_out (birth_colour black) colour fs f away ∙ births f (sym (handed_out (Borne number) owner fs f away) ∙ borne)
     | inr there ↦ painted_in (birth_colour black) colour fs f there
   ]
 
   -- what others bear stays
-  pub born_others : (r : ℕ) → r ≢ q → (f : ℕ) → handed (Bears q) owner fs f ≡ Bears r → (owner f ≡ Bears r) × (painted (birth_colour black) colour fs f ≡ colour f)
-  born_others r apart f borne = elim (none_or_some (tally f fs)) as (λ _. (owner f ≡ Bears r) × (painted (birth_colour black) colour fs f ≡ colour f)) [
-    | inl away ↦ (sym (handed_out (Bears q) owner fs f away) ∙ borne, painted_out (birth_colour black) colour fs f away)
-    | inr there ↦ let both : Bears q ≡ Bears r = sym (handed_in (Bears q) owner fs f there) ∙ borne in absurd (apart (let same : q ≡ r = cc in sym same))
+  pub born_others : (r : ℕ) → r ≢ number → (f : ℕ) → owner_after (Borne number) owner fs f ≡ Borne r → (owner f ≡ Borne r) × (painted (birth_colour black) colour fs f ≡ colour f)
+  born_others r apart f borne = elim (none_or_some (tally f fs)) as (λ _. (owner f ≡ Borne r) × (painted (birth_colour black) colour fs f ≡ colour f)) [
+    | inl away ↦ (sym (handed_out (Borne number) owner fs f away) ∙ borne, painted_out (birth_colour black) colour fs f away)
+    | inr there ↦ let both : Borne number ≡ Borne r = sym (handed_in (Borne number) owner fs f there) ∙ borne in absurd (apart (let same : number ≡ r = cc in sym same))
   ]

@@ -6,22 +6,22 @@ use Rattle.core_machine.specs.declared.table.address.Address.TheVariants.{Answer
 use Rattle.core_machine.specs.declared.place.Place.{Place}
 use Rattle.core_machine.specs.declared.place.Place.TheVariants as places
 use Rattle.core_machine.specs.declared.place.Polling.TheVariants.{Asking, Shading, Answering}
-use Rattle.core_machine.specs.declared.place.Reaching.TheVariants.{ShadingNew, Swapping}
+use Rattle.core_machine.specs.declared.place.Access.TheVariants.{ShadingNew, Swapping}
 use Rattle.core_machine.specs.seat.Fits.{Fits, FitsWay}
 use Rattle.core_machine.specs.table.Layout.{at}
 use Rattle.core_machine.specs.seat.Seat.{Seat}
 use Rattle.core_rule.specs.Book.{Colour}
-use Rattle.core_rule.specs.Colours.{Leads, IsBetween, Coloured}
+use Rattle.core_rule.specs.Colours.{WordPointsTo, IsBetween, Coloured}
 use Rattle.core_rule.specs.Cycle.{SeatInCycle}
-use Rattle.core_rule.specs.Flight.{FieldStands, ShadedStands, RootsStand, WhileReaching, WhilePolling}
+use Rattle.core_rule.specs.Flight.{FieldStands, ShadedStands, RootsStand, WhileAccess, WhilePolling}
 use Rattle.core_rule.specs.Owners.{Owner}
 use Rattle.core_rule.specs.Phases.{AnswerStands}
 use Rattle.core_rule.proofs.cycle.Barriers.{barrier_window}
-use Rattle.core_rule.proofs.cycle.CycleFrames.{while_reaching, field_stays}
+use Rattle.core_rule.proofs.cycle.CycleFrames.{while_access, field_stays}
 
 -- no fragment is black in the first phase, and none is marked before it
 pub coloured_next : (heap : Heap) (words now : List ℕ) (owner : ℕ → Owner) (colour : ℕ → Colour) (fragments : ℕ → List ℕ) (phase : ℕ) → phase < 3
-    → ((f part g : ℕ) → Leads heap now f part g → Leads heap words f part g)
+    → ((f part g : ℕ) → WordPointsTo heap now f part g → WordPointsTo heap words f part g)
     → Coloured heap words owner colour fragments phase → Coloured heap now owner colour fragments (phase + 1)
 coloured_next heap words now owner colour fragments phase early leads stands = record {
   rest = λ ended f. absurd (omega (arith, ended, early));
@@ -46,9 +46,9 @@ present_or_idle heap seat fits = by seat.left (λ gone. (fits.gone gone).idle)
     by false idle = inl refl
 
 -- without the barrier no set shades
-unshaded : (colour : ℕ → Colour) (seat : Seat) (place : Place) → FitsWay seat place → seat.answered ≡ 0 → WhileReaching (ShadedStands colour seat) place
-unshaded colour seat (places.Reaching ShadingNew) fits off = let on = barrier_window seat fits.1 in absurd (omega (arith, on.from, off))
-unshaded colour seat (places.Reaching Swapping) fits off = λ on. absurd (omega (arith, on.from, off))
+unshaded : (colour : ℕ → Colour) (seat : Seat) (place : Place) → FitsWay seat place → seat.answered ≡ 0 → WhileAccess (ShadedStands colour seat) place
+unshaded colour seat (places.Access ShadingNew) fits off = let on = barrier_window seat fits.1 in absurd (omega (arith, on.from, off))
+unshaded colour seat (places.Access Swapping) fits off = λ on. absurd (omega (arith, on.from, off))
 unshaded colour seat _ fits off = tt
 
 -- what a seat at a place is about to answer, it has not answered
@@ -66,11 +66,11 @@ module _ (seat : Seat) (phase : ℕ) where
   waits _ asks same = tt
 
 -- where every seat that is there has answered the phase, each seat's part stands when the next one begins
-pub cycle_next : (heap : Heap) (words now : List ℕ) (owner : ℕ → Owner) (colour : ℕ → Colour) (phase answers : ℕ) (gone : Bool) (q : ℕ) (seat : Seat) → phase < 3
-    → at heap now (Answer q) ≡ at heap words (Answer q) → ((f part g : ℕ) → Leads heap now f part g → Leads heap words f part g)
+pub cycle_next : (heap : Heap) (words now : List ℕ) (owner : ℕ → Owner) (colour : ℕ → Colour) (phase answers : ℕ) (gone : Bool) (number : ℕ) (seat : Seat) → phase < 3
+    → at heap now (Answer number) ≡ at heap words (Answer number) → ((f part g : ℕ) → WordPointsTo heap now f part g → WordPointsTo heap words f part g)
     → Fits heap seat → (gone ≡ false → answers ≡ phase)
-    → SeatInCycle heap words phase answers gone owner colour q seat → SeatInCycle heap now (phase + 1) answers gone owner colour q seat
-cycle_next heap words now owner colour phase answers gone q seat early word leads fits done cycle =
+    → SeatInCycle heap words phase answers gone owner colour number seat → SeatInCycle heap now (phase + 1) answers gone owner colour number seat
+cycle_next heap words now owner colour phase answers gone number seat early word leads fits done cycle =
     let told = cycle.answers_told in
     let has : seat.left ≡ false → seat.answered ≡ phase = λ present. sym told.told ∙ done (told.leaves ∙ present) in
     record {
@@ -87,17 +87,17 @@ cycle_next heap words now owner colour phase answers gone q seat early word lead
       ];
       flight = record {
         set = λ marking snapped. elim (present_or_idle heap seat fits) [
-          | inl present ↦ while_reaching (FieldStands heap words colour seat) (FieldStands heap now colour seat)
+          | inl present ↦ while_access (FieldStands heap words colour seat) (FieldStands heap now colour seat)
               (λ reaching. field_stays heap words now colour colour seat (λ f marked. marked) reaching (λ watching g later. inl (leads _ _ g later))) seat.place
               (cycle.flight.set (subst (IsBetween 2 5) (has present) snapped) snapped)
-          | inr idle ↦ subst (WhileReaching (FieldStands heap now colour seat)) (sym idle) tt
+          | inr idle ↦ subst (WhileAccess (FieldStands heap now colour seat)) (sym idle) tt
         ];
         shaded = λ marking. elim (present_or_idle heap seat fits) [
           | inl present ↦ elim (eqb_tells phase 0) [
             | inl none ↦ unshaded colour seat seat.place fits.way_at_place (has present ∙ none.1)
             | inr some ↦ cycle.flight.shaded record { from = omega (arith, some.1, early); upto = omega (arith, early) }
           ]
-          | inr idle ↦ subst (WhileReaching (ShadedStands colour seat)) (sym idle) tt
+          | inr idle ↦ subst (WhileAccess (ShadedStands colour seat)) (sym idle) tt
         ];
         roots = λ begins. elim (present_or_idle heap seat fits) [
           | inl present ↦ unasked seat phase colour seat.place cycle.answer (has present)

@@ -5,8 +5,8 @@ use Rattle.heap_model.specs.PhasePlan.{cycle_phases, marking}
 use Rattle.core_machine.specs.declared.place.Polling.TheVariants.{Shading, Answering}
 use Rattle.core_machine.specs.declared.seat.register.Register.{Register}
 use Rattle.core_machine.specs.declared.seat.register.Register.TheVariants as registers
-use Rattle.core_machine.specs.seat.Polling.{roots, answer_place}
-use Rattle.core_machine.specs.seat.Registers.{register_in, head_of, heads}
+use Rattle.core_machine.specs.seat.Handshake.{roots, answer_place}
+use Rattle.core_machine.specs.seat.Registers.{register_in, register_head, heads_of}
 use Rattle.core_machine.specs.seat.Seat.{Seat}
 use Rattle.core_rule.specs.Book.{Colour}
 use Rattle.core_rule.specs.Colours.{IsMarked}
@@ -15,8 +15,8 @@ use Rattle.core_rule.proofs.colours.ShadeColours.{with_mark, mark_marks, mark_ke
 use Rattle.core_rule.proofs.lists.Options.{if_some}
 
 -- a register's object stands among those of all registers, behind those of the registers before it
-pub head_there : (held : List Register) (r head : ℕ) → head_of (register_in held r) ≡ Some head
-    → (objects_before held r < length (heads held)) × (get_or (heads held) (objects_before held r) 0 ≡ head)
+pub head_there : (held : List Register) (r head : ℕ) → register_head (register_in held r) ≡ Some head
+    → (objects_before held r < length (heads_of held)) × (get_or (heads_of held) (objects_before held r) 0 ≡ head)
 head_there [] r head is = cc
 head_there (registers.Nil ∷ held) zero head is = cc
 head_there (registers.Nil ∷ held) (suc r) head is = head_there held r head is
@@ -30,32 +30,32 @@ abbrev pub FrontMarked : (ℕ → Colour) → List Register → ℕ → Type 0
 FrontMarked colour held n = (r : ℕ) → objects_before held r < n → IsRootMarked colour held r
 
 -- a fact of a register's object, where it holds one
-at_root : (P : ℕ → Type 0) (held : List Register) (r : ℕ) → ((head : ℕ) → head_of (register_in held r) ≡ Some head → P head) → IfSome (head_of (register_in held r)) P
-at_root P held r each = by (head_of (register_in held r)) refl
+at_root : (P : ℕ → Type 0) (held : List Register) (r : ℕ) → ((head : ℕ) → register_head (register_in held r) ≡ Some head → P head) → IfSome (register_head (register_in held r)) P
+at_root P held r each = by (register_head (register_in held r)) refl
   where
-    by : (o : Option ℕ) → head_of (register_in held r) ≡ o → IfSome o P
+    by : (o : Option ℕ) → register_head (register_in held r) ≡ o → IfSome o P
     by None is = tt
     by (Some head) is = each head is
 
 module _ (colour : ℕ → Colour) (held : List Register) (n : ℕ) (front : FrontMarked colour held n) where
   -- so each register's is, where there are no more
-  all_marked : length (heads held) ≤ n → (r : ℕ) → IsRootMarked colour held r
+  all_marked : length (heads_of held) ≤ n → (r : ℕ) → IsRootMarked colour held r
   all_marked all r = at_root (IsMarked colour) held r (λ head is.
       subst (λ o. IfSome o (IsMarked colour)) is (front r (omega (arith, (head_there held r head is).0, all))))
 
   -- and one more is, once it was shaded
-  pub front_more : FrontMarked (with_mark colour (slice_index_or (heads held) n 0)) held (n + 1)
+  pub front_more : FrontMarked (with_mark colour (slice_index_or (heads_of held) n 0)) held (n + 1)
   front_more r less = elim (cases_lt (objects_before held r) n) [
-    | inl before ↦ if_some (IsMarked colour) (IsMarked (with_mark colour (slice_index_or (heads held) n 0))) (mark_keeps colour (slice_index_or (heads held) n 0)) _ (front r before)
+    | inl before ↦ if_some (IsMarked colour) (IsMarked (with_mark colour (slice_index_or (heads_of held) n 0))) (mark_keeps colour (slice_index_or (heads_of held) n 0)) _ (front r before)
     | inr past ↦
         let same : objects_before held r ≡ n = omega (arith, less, past) in
-        at_root (IsMarked (with_mark colour (slice_index_or (heads held) n 0))) held r (λ head is.
-        subst (IsMarked (with_mark colour (slice_index_or (heads held) n 0))) (ap (λ m. get_or (heads held) m 0) (sym same) ∙ (head_there held r head is).1)
-        (mark_marks colour (slice_index_or (heads held) n 0)))
+        at_root (IsMarked (with_mark colour (slice_index_or (heads_of held) n 0))) held r (λ head is.
+        subst (IsMarked (with_mark colour (slice_index_or (heads_of held) n 0))) (ap (λ m. get_or (heads_of held) m 0) (sym same) ∙ (head_there held r head is).1)
+        (mark_marks colour (slice_index_or (heads_of held) n 0)))
   ]
 
 -- where marking begins the roots are all registers' objects
-pub roots_all : (seat : Seat) → seat.asked % cycle_phases ≡ marking → roots seat ≡ heads seat.registers
+pub roots_all : (seat : Seat) → seat.asked % cycle_phases ≡ marking → roots seat ≡ heads_of seat.registers
 roots_all seat begins = rw (eq-eqb (seat.asked % 7) 3 begins) refl
 
 -- so whoever answers then has marked each of them

@@ -6,19 +6,19 @@ use Rattle.heap_model.specs.account.Cycles.{graph_of}
 use Rattle.heap_model.specs.account.PhaseCounts.{phase}
 use Rattle.core_machine.specs.declared.table.address.Address.TheVariants.{Answer, Phase, Word}
 use Rattle.core_machine.specs.declared.place.Place.TheVariants as places
-use Rattle.core_machine.specs.declared.place.Reaching.TheVariants.{Swapping}
+use Rattle.core_machine.specs.declared.place.Access.TheVariants.{Swapping}
 use Rattle.core_machine.specs.table.Layout.{at, put}
-use Rattle.core_machine.specs.table.Loaded.{head_in, lead_of}
+use Rattle.core_machine.specs.table.Decode.{head_of, pointer_in}
 use Rattle.core_machine.specs.machine.Machine.{State, seat_at}
-use Rattle.core_machine.specs.seat.ReachingMoves.{field_part, new_register}
-use Rattle.core_machine.specs.seat.Registers.{head_of as head_of_register}
+use Rattle.core_machine.specs.seat.AccessMoves.{field_part_of, new_register_of}
+use Rattle.core_machine.specs.seat.Registers.{register_head as head_of_register}
 use Rattle.core_machine.specs.seat.Seat.{Seat}
-use Rattle.core_rule.specs.Book.{Book, head_of}
+use Rattle.core_rule.specs.Book.{Book, object_head}
 use Rattle.core_rule.specs.Colours.{IsMarked, IsBetween}
 use Rattle.core_rule.specs.Cycle.{HeapInCycle}
-use Rattle.core_rule.specs.Flight.{ShadedStands, WhileReaching}
+use Rattle.core_rule.specs.Flight.{ShadedStands, WhileAccess}
 use Rattle.core_rule.specs.Objects.{NamesKept, value_word}
-use Rattle.core_rule.specs.Registers.{Holds}
+use Rattle.core_rule.specs.Registers.{HoldsValue}
 use Rattle.core_rule.specs.Rule.{Rule}
 use Rattle.core_rule.proofs.words.Addresses.{at-put_apart, control_after_word}
 use Rattle.core_rule.proofs.ways.AtObject.{is_near}
@@ -31,38 +31,38 @@ use Rattle.core_rule.proofs.colours.MarkWords.{marks_same}
 use Rattle.core_rule.proofs.lists.Options.{of_some}
 use Rattle.core_rule.proofs.ways.Told.{head_in-value}
 
-module _ (heap : Heap) (state : State) (book : Book) (q : ℕ) (rule : Rule heap state book) (here : q < heap.seats)
-    (place : (seat_at state q).place ≡ places.Reaching Swapping)
-    (value : Value) (stamp : ℕ) (holds : Holds book.made book.owner book.fragments (new_register (seat_at state q)) value)
-    (names : NamesKept book.made book.owner book.fragments value) (small : stamp < 2 ^ 32) (word : ℕ) (is_word : word ≡ value_word (head_of book.made book.fragments) value stamp) where
+module _ (heap : Heap) (state : State) (book : Book) (number : ℕ) (rule : Rule heap state book) (here : number < heap.seats)
+    (place : (seat_at state number).place ≡ places.Access Swapping)
+    (value : Value) (stamp : ℕ) (holds : HoldsValue book.made book.owner book.fragments (new_register_of (seat_at state number)) value)
+    (names : NamesKept book.made book.owner book.fragments value) (small : stamp < 2 ^ 32) (word : ℕ) (is_word : word ≡ value_word (object_head book.made book.fragments) value stamp) where
   abbrev seat : Seat
-  seat = seat_at state q
+  seat = seat_at state number
 
   abbrev p : ℕ
   p = phase book.history
 
   abbrev words_swapped : List ℕ
-  words_swapped = put heap state.words (Word seat.reached (field_part seat)) word
+  words_swapped = put heap state.words (Word seat.reached (field_part_of seat)) word
 
   -- the new word leads to the register's object
-  new_leads : lead_of (field_part seat) word ≡ head_of_register (new_register seat)
+  new_leads : pointer_in (field_part_of seat) word ≡ head_of_register (new_register_of seat)
   new_leads =
-      field_lead seat word ∙ ap head_in is_word
-      ∙ head_in-value (head_of book.made book.fragments) value stamp
+      field_lead seat word ∙ ap head_of is_word
+      ∙ head_in-value (object_head book.made book.fragments) value stamp
       (has_room heap state.words (graph_of heap book.history) book.made book.owner book.fragments rule.machine.limits rule.heap_stands.control_words value names) small
-      ∙ sym (held_head book.made book.owner book.fragments (new_register seat) value holds)
+      ∙ sym (held_head book.made book.owner book.fragments (new_register_of seat) value holds)
 
   -- which is marked while black fragments are made
-  new_marked : IsBetween 2 5 p → (x : ℕ) → lead_of (field_part seat) word ≡ Some x → IsMarked book.colour x
+  new_marked : IsBetween 2 5 p → (x : ℕ) → pointer_in (field_part_of seat) word ≡ Some x → IsMarked book.colour x
   new_marked making x leads =
-      let stands = rule.seats_stand q here in
+      let stands = rule.seats_stand number here in
       let shaded : ShadedStands book.colour seat Swapping
-      = subst (λ y. WhileReaching (ShadedStands book.colour seat) y) place (stands.cycle.flight.shaded (record { from = omega (arith, making.from); upto = making.upto })) in
-      let on = barrier_making p seat.answered (is_near heap state book q rule here Swapping place) making in
-      of_some (IsMarked book.colour) (head_of_register (new_register seat)) x (sym new_leads ∙ leads) (shaded on).1
+      = subst (λ y. WhileAccess (ShadedStands book.colour seat) y) place (stands.cycle.flight.shaded (record { from = omega (arith, making.from); upto = making.upto })) in
+      let on = barrier_making p seat.answered (is_near heap state book number rule here Swapping place) making in
+      of_some (IsMarked book.colour) (head_of_register (new_register_of seat)) x (sym new_leads ∙ leads) (shaded on).1
 
   leads_now : LeadsStay heap state.words words_swapped book.owner book.colour p
-  leads_now making f part x born leads = elim (leads_put heap state.words seat.reached (field_part seat) word rule.machine.table (part_below seat) f part x leads) [
+  leads_now making f part x born leads = elim (leads_put heap state.words seat.reached (field_part_of seat) word rule.machine.table (part_below seat) f part x leads) [
     | inl before ↦ inl before
     | inr new ↦ inr (new_marked making x new.2)
   ]
@@ -72,18 +72,18 @@ module _ (heap : Heap) (state : State) (book : Book) (q : ℕ) (rule : Rule heap
   heap_swapped =
       let cycle = rule.heap_stands.cycle in
       record {
-        word = at-put_apart heap state.words (Word seat.reached (field_part seat)) Phase word (λ e. omega (arith, e)) ∙ cycle.word;
+        word = at-put_apart heap state.words (Word seat.reached (field_part_of seat)) Phase word (λ e. omega (arith, e)) ∙ cycle.word;
         so_far = cycle.so_far;
-        marks = marks_same heap state.words words_swapped book.colour (λ group below. control_after_word heap state.words word seat.reached (field_part seat) group below) cycle.marks;
+        marks = marks_same heap state.words words_swapped book.colour (λ group below. control_after_word heap state.words word seat.reached (field_part_of seat) group below) cycle.marks;
         coloured = coloured_stays heap state.words words_swapped book.owner book.owner book.colour book.fragments p leads_now (λ x marked born. born) (λ x i k keeps. keeps) cycle.coloured;
       }
 
   -- no answer changes
   pub answer_swapped : (r : ℕ) → r < heap.seats → at heap words_swapped (Answer r) ≡ at heap state.words (Answer r)
-  answer_swapped r below = at-put_apart heap state.words (Word seat.reached (field_part seat)) (Answer r) word (λ e. omega (arith, e, below, rule.machine.limits.seats_fit))
+  answer_swapped r below = at-put_apart heap state.words (Word seat.reached (field_part_of seat)) (Answer r) word (λ e. omega (arith, e, below, rule.machine.limits.seats_fit))
 
   -- and what the others need is left
-  pub leaves_swapped : (r : ℕ) → r < heap.seats → r ≢ q → LeavesCycle heap state.words words_swapped book.owner book.owner book.colour book.colour p r
+  pub leaves_swapped : (r : ℕ) → r < heap.seats → r ≢ number → LeavesCycle heap state.words words_swapped book.owner book.owner book.colour book.colour p r
   leaves_swapped r below apart = record {
     answer = answer_swapped r below;
     leads = leads_now;

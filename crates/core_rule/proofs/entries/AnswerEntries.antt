@@ -13,12 +13,12 @@ use Rattle.heap_model.specs.account.Cycles.{graph_of}
 use Rattle.heap_model.specs.account.Effects.{is_of}
 use Rattle.heap_model.specs.graph.Growth.{after_reply}
 use Rattle.heap_model.specs.graph.Legal.{Accepts}
-use Rattle.heap_model.specs.graph.Objects.{party}
-use Rattle.heap_model.specs.account.PhaseCounts.{phase, answered}
+use Rattle.heap_model.specs.graph.Objects.{graph_seat}
+use Rattle.heap_model.specs.account.PhaseCounts.{phase, last_answer}
 use Rattle.heap_model.specs.account.Phases.{ShowsPhases}
 use Rattle.heap_model.specs.graph.Replies.{Says}
 use Rattle.heap_model.specs.account.Space.{taken_of, spent_of}
-use Rattle.heap_model.specs.graph.State.{State as Graph, opening}
+use Rattle.heap_model.specs.graph.Graph.{Graph, opening}
 use Rattle.heap_model.proofs.Histories.{graph_after-more}
 use Rattle.core_rule.specs.Book.{Book}
 use Rattle.core_rule.proofs.entries.Legality.{keeps_answers, keeps_said}
@@ -26,12 +26,12 @@ use Rattle.core_rule.proofs.entries.OwnEntries.{total_of-own}
 use Rattle.core_rule.proofs.entries.PhaseEntries.{phase_stays, answered_rises}
 use Rattle.core_rule.proofs.frames.SeatFrames.{with_entry}
 
-module _ (heap : Heap) (book : Book) (q p : ℕ) (command : Command) (polls : command ≡ commands.Poll) where
+module _ (heap : Heap) (book : Book) (number p : ℕ) (command : Command) (polls : command ≡ commands.Poll) where
   abbrev pub answer_entry : Entry
-  answer_entry = Answers q p
+  answer_entry = Answers number p
 
   abbrev pub reply_entry : Entry
-  reply_entry = Said q command (replies.Phase p)
+  reply_entry = Said number command (replies.Phase p)
 
   -- the book after the first, and after both
   abbrev pub middle_book : Book
@@ -46,39 +46,39 @@ module _ (heap : Heap) (book : Book) (q p : ℕ) (command : Command) (polls : co
   abbrev middle : Graph
   middle = graph_of heap middle_book.history
 
-  own : is_of q answer_entry ≡ true
-  own = eq-eqb q q refl
+  own : is_of number answer_entry ≡ true
+  own = eq-eqb number number refl
 
   -- the graph is the same after each of the two
   pub graph_answer : middle ≡ g
   graph_answer = graph_after-more (opening heap) book.history answer_entry
 
   pub graph_reply : graph_of heap answered_book.history ≡ middle
-  graph_reply = graph_after-more (opening heap) middle_book.history reply_entry ∙ ap (λ c. after_reply middle q c (replies.Phase p)) polls
+  graph_reply = graph_after-more (opening heap) middle_book.history reply_entry ∙ ap (λ c. after_reply middle number c (replies.Phase p)) polls
 
   -- and so is the phase
   pub phase_answer : phase middle_book.history ≡ phase book.history
   phase_answer = phase_stays book.history answer_entry refl
 
   -- the reply is the graph's
-  pub accepts_reply : (party g q).left ≡ false → Accepts middle reply_entry
-  accepts_reply present = (rw graph_answer present, subst IsCommand (sym polls) tt, subst (λ c. Says middle q c (replies.Phase p)) (sym polls) tt)
+  pub accepts_reply : (graph_seat g number).left ≡ false → Accepts middle reply_entry
+  accepts_reply present = (rw graph_answer present, subst IsCommand (sym polls) tt, subst (λ c. Says middle number c (replies.Phase p)) (sym polls) tt)
 
-  module _ (now : p ≡ phase book.history) (next : p ≡ answered q book.history + 1) where
+  module _ (now : p ≡ phase book.history) (next : p ≡ last_answer number book.history + 1) where
     -- the seat has answered the phase
-    pub has_answered : answered q middle_book.history ≡ p
-    has_answered = answered_rises book.history answer_entry q own refl ∙ omega (arith, next)
+    pub has_answered : last_answer number middle_book.history ≡ p
+    has_answered = answered_rises book.history answer_entry number own refl ∙ omega (arith, next)
 
     -- each keeps the rules
     pub keeps_answer : KeepsSpace heap false book.history answer_entry
-    keeps_answer = keeps_answers heap false book.history q p (now, omega (arith, next))
+    keeps_answer = keeps_answers heap false book.history number p (now, omega (arith, next))
 
-    pub keeps_reply : spent_of q book.history ≤ taken_of q book.history → taken_of q book.history ≤ spent_of q book.history + 15 → KeepsSpace heap false middle_book.history reply_entry
+    pub keeps_reply : spent_of number book.history ≤ taken_of number book.history → taken_of number book.history ≤ spent_of number book.history + 15 → KeepsSpace heap false middle_book.history reply_entry
     keeps_reply enough little =
-        let taken : taken_of q middle_book.history ≡ taken_of q book.history = omega (arith, total_of-own q (λ e. e.taken) book.history answer_entry own) in
-        let spent : spent_of q middle_book.history ≡ spent_of q book.history
-        = omega (arith, total_of-own q (λ e. e.given) book.history answer_entry own, total_of-own q (λ e. e.born) book.history answer_entry own) in
-        keeps_said heap false middle_book.history q command (replies.Phase p) refl tt tt
-        (subst (λ c. ShowsPhases heap false middle_book.history q c (replies.Phase p)) (sym polls) (now ∙ sym phase_answer, sym has_answered))
+        let taken : taken_of number middle_book.history ≡ taken_of number book.history = omega (arith, total_of-own number (λ e. e.taken) book.history answer_entry own) in
+        let spent : spent_of number middle_book.history ≡ spent_of number book.history
+        = omega (arith, total_of-own number (λ e. e.given) book.history answer_entry own, total_of-own number (λ e. e.born) book.history answer_entry own) in
+        keeps_said heap false middle_book.history number command (replies.Phase p) refl tt tt
+        (subst (λ c. ShowsPhases heap false middle_book.history number c (replies.Phase p)) (sym polls) (now ∙ sym phase_answer, sym has_answered))
         (omega (arith, taken, spent, enough))
-        (subst (λ c. taken_of q middle_book.history ≤ spent_of q middle_book.history + most_kept c) (sym polls) (omega (arith, taken, spent, little)))
+        (subst (λ c. taken_of number middle_book.history ≤ spent_of number middle_book.history + most_kept c) (sym polls) (omega (arith, taken, spent, little)))

@@ -25,14 +25,14 @@ pub none_awaited : (place now : Place) (d r : ℕ) → place ≡ now → ¬ IsAw
 none_awaited place now d r is none awaited = none (subst (λ p. IsAwaited p d r) is awaited)
 
 -- a seat with nothing at hand has little, and spent no more than it took
-module _ (heap : Heap) (state : State) (book : Book) (q : ℕ) (rule : Rule heap state book) (here : q < heap.seats) (rest : IsAtRest (seat_at state q)) where
-  pub own_reserve : length (seat_at state q).reserve + spent_of q book.history ≡ taken_of q book.history
+module _ (heap : Heap) (state : State) (book : Book) (number : ℕ) (rule : Rule heap state book) (here : number < heap.seats) (rest : IsAtRest (seat_at state number)) where
+  pub own_reserve : length (seat_at state number).reserve + spent_of number book.history ≡ taken_of number book.history
   own_reserve =
-      let seat : Seat = seat_at state q in
-      bare_hand seat.reserve seat.hand seat.body (spent_of q book.history) (taken_of q book.history) rest.empty_hand rest.no_body (rule.seats_stand q here).told.counts.unborn
+      let seat : Seat = seat_at state number in
+      bare_hand seat.reserve seat.hand seat.body (spent_of number book.history) (taken_of number book.history) rest.empty_hand rest.no_body (rule.seats_stand number here).told.counts.unborn
 
-  pub spent_own : spent_of q book.history ≤ taken_of q book.history
+  pub spent_own : spent_of number book.history ≤ taken_of number book.history
   spent_own = omega (arith, own_reserve)
 
-  pub few_own : taken_of q book.history ≤ spent_of q book.history + 15
-  few_own = omega (arith, own_reserve, (rule.seats_stand q here).fits.own.small_reserve)
+  pub few_own : taken_of number book.history ≤ spent_of number book.history + 15
+  few_own = omega (arith, own_reserve, (rule.seats_stand number here).fits.own.small_reserve)

@@ -14,7 +14,7 @@ use Rattle.core_rule.proofs.gather.SinceCall.{no_reply_yet}
 
 -- the call of q begins when the history has this length
 abbrev pub begins : ℕ → ℕ → (ℕ → ℕ) → ℕ → ℕ
-begins q n begun r = if r == q then n else begun r
+begins number n begun r = if r == number then n else begun r
 
 -- all that a seat has is as before, but what it gathers, its place and its way
 pub record SameData (seat next : Seat) : Type 0 where
@@ -32,10 +32,10 @@ pub same_data : (seat : Seat) (place : Place) (command : Command) (reached links
 same_data seat place command reached links cursor tried given reserve hand body =
     record { registers = refl; stored = refl; mine = refl; made = refl; sets = refl; answered = refl; left = refl; asked = refl }
 
-module _ (heap : Heap) (words : List ℕ) (book : Book) (q : ℕ) where
+module _ (heap : Heap) (words : List ℕ) (book : Book) (number : ℕ) where
   -- the book after it
   abbrev pub book_begun : Book
-  book_begun = record book { begun = begins q (length book.history) book.begun }
+  book_begun = record book { begun = begins number (length book.history) book.begun }
 
   -- the heap stands
   pub heap_begins : HeapStands heap words book → HeapStands heap words book_begun
@@ -50,18 +50,18 @@ module _ (heap : Heap) (words : List ℕ) (book : Book) (q : ℕ) where
   }
 
   -- the call began, and isn't answered yet
-  pub began_now : (place : Place) → Began book.history q (book_begun.begun q) place
-  began_now place = rw begun_now record { earlier = omega arith; unanswered = λ active. no_reply_yet q book.history }
+  pub began_now : (place : Place) → Began book.history number (book_begun.begun number) place
+  began_now place = rw begun_now record { earlier = omega arith; unanswered = λ active. no_reply_yet number book.history }
     where
-      begun_now : book_begun.begun q ≡ length book.history
-      begun_now = rw (eq-eqb q q refl) refl
+      begun_now : book_begun.begun number ≡ length book.history
+      begun_now = rw (eq-eqb number number refl) refl
 
   -- each other seat stands
-  pub other_begins : (r : ℕ) (seat : Seat) → r ≢ q → SeatStands heap words book r seat → SeatStands heap words book_begun r seat
+  pub other_begins : (r : ℕ) (seat : Seat) → r ≢ number → SeatStands heap words book r seat → SeatStands heap words book_begun r seat
   other_begins r seat apart other = record {
     fits = other.fits;
     own = other.own;
     names = other.names;
-    told = rw (of_other r q (λ e. apart (sym e))) other.told;
+    told = rw (of_other r number (λ e. apart (sym e))) other.told;
     cycle = other.cycle;
   }

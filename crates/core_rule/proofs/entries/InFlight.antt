@@ -25,7 +25,7 @@ awaits_none making place d r is awaited = subst (λ p. IsAwaited p d r) is await
 -- no more groups are tried than there are
 pub tried_within : (heap : Heap) (seat : Seat) (place : Place) → FitsPlace heap seat place → seat.tried ≤ heap.groups
 tried_within heap seat places.Idle fits = omega (arith, fits.none_tried)
-tried_within heap seat (places.Reaching place) fits = omega (arith, fits.none_tried)
+tried_within heap seat (places.Access place) fits = omega (arith, fits.none_tried)
 tried_within heap seat (places.Polling place) fits = omega (arith, fits.none_tried)
 tried_within heap seat (places.Making Gathering) fits = omega (arith, fits.groups_left)
 tried_within heap seat (places.Making Returning) fits = omega (arith, fits.0.all_tried)
@@ -34,7 +34,7 @@ tried_within heap seat _ fits = omega (arith, fits.0.none_tried)
 
 -- no more is stored than the object has
 pub stored_within : (heap : Heap) (seat : Seat) (place : Place) → FitsPlace heap seat place → seat.stored ≤ 4 * length seat.body
-stored_within heap seat places.Telling fits = omega (arith, fits.0.none_stored)
+stored_within heap seat places.Local fits = omega (arith, fits.0.none_stored)
 stored_within heap seat (places.Leaving place) fits = omega (arith, fits.0.none_stored)
 stored_within heap seat (places.Making Returning) fits = omega (arith, fits.0.none_stored)
 stored_within heap seat (places.Making Refusing) fits = omega (arith, fits.0.none_stored)
@@ -47,20 +47,20 @@ pub window_more : (history : List Entry) (begun : ℕ) (entry : Entry) → begun
 window_more history begun entry earlier = drop-append-le begun history (entry ∷ []) earlier
 
 -- a call goes on past an entry that is no reply to it
-pub began_past : (history : List Entry) (entry : Entry) (q begun : ℕ) (place now : Place) → is_reply_to q entry ≡ false → (¬ IsAnswered now → ¬ IsAnswered place)
-    → Began history q begun place → Began (history ++ entry ∷ []) q begun now
-began_past history entry q begun place now no_reply busy began = record {
+pub began_past : (history : List Entry) (entry : Entry) (number begun : ℕ) (place now : Place) → is_reply_to number entry ≡ false → (¬ IsAnswered now → ¬ IsAnswered place)
+    → Began history number begun place → Began (history ++ entry ∷ []) number begun now
+began_past history entry number begun place now no_reply busy began = record {
   earlier = rw (length-append history (entry ∷ [])) (omega (arith, began.earlier));
-  unanswered = λ still. rw (window_more history begun entry began.earlier, any-more (is_reply_to q) (drop begun history) entry, began.unanswered (busy still), no_reply) refl;
+  unanswered = λ still. rw (window_more history begun entry began.earlier, any-more (is_reply_to number) (drop begun history) entry, began.unanswered (busy still), no_reply) refl;
 }
 
 -- and where no entry is added
-pub began_on : (history : List Entry) (q begun : ℕ) (place now : Place) → ¬ IsAnswered place → Began history q begun place → Began history q begun now
-began_on history q begun place now busy began = record { earlier = began.earlier; unanswered = λ still. began.unanswered busy }
+pub began_on : (history : List Entry) (number begun : ℕ) (place now : Place) → ¬ IsAnswered place → Began history number begun place → Began history number begun now
+began_on history number begun place now busy began = record { earlier = began.earlier; unanswered = λ still. began.unanswered busy }
 
 -- a seat that is told stands idle
-pub began_idle : (history : List Entry) (entry : Entry) (q begun : ℕ) (place : Place) → Began history q begun place → Began (history ++ entry ∷ []) q begun places.Idle
-began_idle history entry q begun place began = record {
+pub began_idle : (history : List Entry) (entry : Entry) (number begun : ℕ) (place : Place) → Began history number begun place → Began (history ++ entry ∷ []) number begun places.Idle
+began_idle history entry number begun place began = record {
   earlier = rw (length-append history (entry ∷ [])) (omega (arith, began.earlier));
   unanswered = λ busy. absurd (busy tt);
 }

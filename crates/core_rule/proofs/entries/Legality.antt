@@ -14,8 +14,8 @@ use Rattle.heap_model.specs.graph.Legal.{Accepts}
 use Rattle.heap_model.specs.Needs.{record_fragments, made_by}
 use Rattle.heap_model.specs.account.Phases.{AnswersPhase, BeginsPhase, ShowsPhases}
 use Rattle.heap_model.specs.account.Refusals.{FindsSpace, ShowsSpace, ShowsSpine}
-use Rattle.heap_model.specs.account.Space.{gained, lost, taken_of, spent_of}
-use Rattle.heap_model.specs.graph.State.{opening}
+use Rattle.heap_model.specs.account.Space.{fragments_gained, fragments_lost, taken_of, spent_of}
+use Rattle.heap_model.specs.graph.Graph.{opening}
 use Rattle.heap_model.proofs.Histories.{AcceptsAll-more, KeepsSpaceAfter-more}
 
 -- a legal history with one more entry that keeps the rules
@@ -40,9 +40,9 @@ keeps_begins heap play before p next = record {
   shows = tt;
 }
 
-module _ (heap : Heap) (play : Bool) (before : List Entry) (q : ℕ) where
+module _ (heap : Heap) (play : Bool) (before : List Entry) (number : ℕ) where
   -- a seat takes what is in no use
-  pub keeps_takes : (count : ℕ) → 1 ≤ count → gained before + count ≤ 16 * heap.groups + lost before → KeepsSpace heap play before (entries.Takes q count)
+  pub keeps_takes : (count : ℕ) → 1 ≤ count → fragments_gained before + count ≤ 16 * heap.groups + fragments_lost before → KeepsSpace heap play before (entries.Takes number count)
   keeps_takes count some room = record {
     takes = (some, room);
     makes = tt;
@@ -56,7 +56,7 @@ module _ (heap : Heap) (play : Bool) (before : List Entry) (q : ℕ) where
   }
 
   -- it gives back what it has
-  pub keeps_gives : (count : ℕ) → 1 ≤ count → spent_of q before + count ≤ taken_of q before → KeepsSpace heap play before (entries.GivesBack q count)
+  pub keeps_gives : (count : ℕ) → 1 ≤ count → spent_of number before + count ≤ taken_of number before → KeepsSpace heap play before (entries.GivesBack number count)
   keeps_gives count some own = record {
     takes = (some, own);
     makes = tt;
@@ -70,7 +70,7 @@ module _ (heap : Heap) (play : Bool) (before : List Entry) (q : ℕ) where
   }
 
   -- it answers the phase that comes after its last answer
-  pub keeps_answers : (p : ℕ) → AnswersPhase before (entries.Answers q p) → KeepsSpace heap play before (entries.Answers q p)
+  pub keeps_answers : (p : ℕ) → AnswersPhase before (entries.Answers number p) → KeepsSpace heap play before (entries.Answers number p)
   keeps_answers p next = record {
     takes = tt;
     makes = tt;
@@ -84,9 +84,9 @@ module _ (heap : Heap) (play : Bool) (before : List Entry) (q : ℕ) where
   }
 
   -- it makes a record of what it has, and keeps little
-  pub keeps_made : (d fields : ℕ) (id : Id) → spent_of q before + record_fragments fields ≤ taken_of q before
-      → taken_of q before ≤ spent_of q before + record_fragments fields + 15
-      → KeepsSpace heap play before (entries.Said q (commands.New d fields) (replies.Made id))
+  pub keeps_made : (d fields : ℕ) (id : Id) → spent_of number before + record_fragments fields ≤ taken_of number before
+      → taken_of number before ≤ spent_of number before + record_fragments fields + 15
+      → KeepsSpace heap play before (entries.Said number (commands.New d fields) (replies.Made id))
   keeps_made d fields id enough little = record {
     takes = tt;
     makes = (enough, little);
@@ -100,9 +100,9 @@ module _ (heap : Heap) (play : Bool) (before : List Entry) (q : ℕ) where
   }
 
   -- it tells a reply that makes nothing, where it keeps little
-  pub keeps_said : (command : Command) (reply : Reply) → made_by command reply ≡ 0 → ShowsSpace heap play before q command reply → ShowsSpine heap play before q command reply
-      → ShowsPhases heap play before q command reply → spent_of q before ≤ taken_of q before → taken_of q before ≤ spent_of q before + most_kept command
-      → KeepsSpace heap play before (entries.Said q command reply)
+  pub keeps_said : (command : Command) (reply : Reply) → made_by command reply ≡ 0 → ShowsSpace heap play before number command reply → ShowsSpine heap play before number command reply
+      → ShowsPhases heap play before number command reply → spent_of number before ≤ taken_of number before → taken_of number before ≤ spent_of number before + most_kept command
+      → KeepsSpace heap play before (entries.Said number command reply)
   keeps_said command reply none space spine phases own little = record {
     takes = tt;
     makes = (omega (arith, none, own), omega (arith, none, little));
@@ -116,8 +116,8 @@ module _ (heap : Heap) (play : Bool) (before : List Entry) (q : ℕ) where
   }
 
   -- it is refused, where it shows what was found
-  pub keeps_full : (d fields found : ℕ) → spent_of q before ≤ taken_of q before → taken_of q before ≤ spent_of q before + 15
-      → found < record_fragments fields → FindsSpace heap play before q found
-      → KeepsSpace heap play before (entries.Said q (commands.New d fields) (replies.Full (record_fragments fields) found))
+  pub keeps_full : (d fields found : ℕ) → spent_of number before ≤ taken_of number before → taken_of number before ≤ spent_of number before + 15
+      → found < record_fragments fields → FindsSpace heap play before number found
+      → KeepsSpace heap play before (entries.Said number (commands.New d fields) (replies.Full (record_fragments fields) found))
   keeps_full d fields found own little less finds =
       keeps_said (commands.New d fields) (replies.Full (record_fragments fields) found) refl (refl, less, finds) tt tt own little

@@ -9,15 +9,15 @@ use Rattle.heap_model.specs.graph.Changes.{add}
 use Rattle.heap_model.specs.Command.{IsCommand}
 use Rattle.heap_model.specs.account.Cycles.{graph_of}
 use Rattle.heap_model.specs.account.Effects.{is_of}
-use Rattle.heap_model.specs.graph.Objects.{party}
+use Rattle.heap_model.specs.graph.Objects.{graph_seat}
 use Rattle.heap_model.specs.account.Space.{taken_of, spent_of}
-use Rattle.heap_model.specs.graph.State.{State, Node, fresh, opening}
+use Rattle.heap_model.specs.graph.Graph.{Graph, Node, fresh, opening}
 use Rattle.heap_model.proofs.Histories.{graph_after-more, total-more}
 use Rattle.core_machine.specs.seat.Commands.{IsRecord, target_of, fields_of}
-use Rattle.core_machine.specs.seat.Making.{next_id}
+use Rattle.core_machine.specs.seat.Making.{next_object_id}
 use Rattle.core_machine.specs.Moves.{made_entry, last_birth_move, seat_after}
 use Rattle.core_machine.specs.seat.Seat.{Seat, need}
-use Rattle.core_rule.specs.Counts.{OwnCounts, AreUsed}
+use Rattle.core_rule.specs.Counts.{CountsAgree, AreUsed}
 use Rattle.core_rule.specs.Owners.{Owner}
 use Rattle.core_rule.proofs.hand.Bodies.{whole_body}
 use Rattle.core_rule.proofs.graph.GraphGrowth.{objects_more, left_same, sets_same}
@@ -26,40 +26,40 @@ use Rattle.core_rule.proofs.entries.OwnEntries.{counts_own}
 use Rattle.core_rule.proofs.entries.RecordCommands.{graph_made, accepts_made, made_keeps}
 
 -- the entry is its seat's
-made_own : (q : ℕ) (seat : Seat) → is_of q (made_entry q seat) ≡ true
-made_own q seat = eq-eqb q q refl
+made_own : (number : ℕ) (seat : Seat) → is_of number (made_entry number seat) ≡ true
+made_own number seat = eq-eqb number number refl
 
 -- the graph after it
-pub graph_grown : (heap : Heap) (history : List Entry) (q : ℕ) (seat : Seat) → IsRecord seat.command
-    → graph_of heap (history ++ made_entry q seat ∷ []) ≡ add (graph_of heap history) q (target_of seat.command) (fresh false (fields_of seat.command))
-graph_grown heap history q seat made =
-    graph_after-more (opening heap) history (made_entry q seat) ∙ graph_made seat.command made (graph_of heap history) q (next_id q seat)
+pub graph_grown : (heap : Heap) (history : List Entry) (number : ℕ) (seat : Seat) → IsRecord seat.command
+    → graph_of heap (history ++ made_entry number seat ∷ []) ≡ add (graph_of heap history) number (target_of seat.command) (fresh false (fields_of seat.command))
+graph_grown heap history number seat made =
+    graph_after-more (opening heap) history (made_entry number seat) ∙ graph_made seat.command made (graph_of heap history) number (next_object_id number seat)
 
 -- as many are in use
-pub used_made : (heap : Heap) (owner : ℕ → Owner) (history : List Entry) (q : ℕ) (seat : Seat) → AreUsed heap owner history → AreUsed heap owner (history ++ made_entry q seat ∷ [])
-used_made heap owner history q seat used =
-    rw (total-more (λ e. e.given) history (made_entry q seat), total-more (λ e. e.freed) history (made_entry q seat), total-more (λ e. e.taken) history (made_entry q seat))
+pub used_made : (heap : Heap) (owner : ℕ → Owner) (history : List Entry) (number : ℕ) (seat : Seat) → AreUsed heap owner history → AreUsed heap owner (history ++ made_entry number seat ∷ [])
+used_made heap owner history number seat used =
+    rw (total-more (λ e. e.given) history (made_entry number seat), total-more (λ e. e.freed) history (made_entry number seat), total-more (λ e. e.taken) history (made_entry number seat))
     (omega (arith, used))
 
-module _ (g : State) (history : List Entry) (q : ℕ) (seat : Seat) (counts : OwnCounts g history q seat) (whole : length seat.body ≡ need seat) (some : 1 ≤ length seat.body) (present : (party g q).left ≡ false) where
+module _ (g : Graph) (history : List Entry) (number : ℕ) (seat : Seat) (counts : CountsAgree g history number seat) (whole : length seat.body ≡ need seat) (some : 1 ≤ length seat.body) (present : (graph_seat g number).left ≡ false) where
   -- it has its reserve, and what the object is made of
-  all_own : length seat.reserve + need seat + spent_of q history ≡ taken_of q history
+  all_own : length seat.reserve + need seat + spent_of number history ≡ taken_of number history
   all_own =
       let body = ap length (whole_body seat.hand seat.body some) in
       omega (arith, counts.unborn, body, whole)
 
   -- the seat's counts after it
-  pub counts_made : (d : ℕ) (object : Node) (found : ℕ) → OwnCounts (add g q d object) (history ++ made_entry q seat ∷ []) q (seat_after (last_birth_move q seat) found)
+  pub counts_made : (d : ℕ) (object : Node) (found : ℕ) → CountsAgree (add g number d object) (history ++ made_entry number seat ∷ []) number (seat_after (last_birth_move number seat) found)
   counts_made d object found =
-      counts_own g (add g q d object) history q seat (seat_after (last_birth_move q seat) found) counts (made_entry q seat) (made_own q seat)
-      (ap (λ n. n + 1) counts.numbered ∙ sym (objects_more g q d object present)) (counts.stamped ∙ sym (sets_same g q d object present))
-      (left_same g q d object present ∙ sym present ∙ counts.leaves)
+      counts_own g (add g number d object) history number seat (seat_after (last_birth_move number seat) found) counts (made_entry number seat) (made_own number seat)
+      (ap (λ n. n + 1) counts.numbered ∙ sym (objects_more g number d object present)) (counts.stamped ∙ sym (sets_same g number d object present))
+      (left_same g number d object present ∙ sym present ∙ counts.leaves)
       (omega (arith, ap length (whole_body seat.hand seat.body some), whole))
 
   -- it may stand
   pub made_legal : (heap : Heap) → graph_of heap history ≡ g → IsRecord seat.command → IsCommand seat.command → length seat.reserve ≤ 15
-      → IsLegal heap false history → IsLegal heap false (history ++ made_entry q seat ∷ [])
+      → IsLegal heap false history → IsLegal heap false (history ++ made_entry number seat ∷ [])
   made_legal heap same made ranges small legal =
-      legal_more heap false history (made_entry q seat) legal
-      (rw same (accepts_made seat.command made g q (next_id q seat) ranges present (ap (Made q) counts.numbered)))
-      (made_keeps seat.command made heap false history q (next_id q seat) (omega (arith, all_own)) (omega (arith, all_own, small)))
+      legal_more heap false history (made_entry number seat) legal
+      (rw same (accepts_made seat.command made g number (next_object_id number seat) ranges present (ap (Made number) counts.numbered)))
+      (made_keeps seat.command made heap false history number (next_object_id number seat) (omega (arith, all_own)) (omega (arith, all_own, small)))

@@ -19,15 +19,15 @@ use Rattle.core_rule.specs.Owners.{Owner}
 use Rattle.core_rule.proofs.entries.InFlight.{window_more, began_past}
 
 -- an entry of a seat is no other's
-pub of_other : (q r : ℕ) → r ≢ q → (q == r) ≡ false
-of_other q r apart = elim (eqb_tells q r) as (λ _. (q == r) ≡ false) [
+pub of_other : (number r : ℕ) → r ≢ number → (number == r) ≡ false
+of_other number r apart = elim (eqb_tells number r) as (λ _. (number == r) ≡ false) [
   | inl same ↦ absurd (apart (sym same.1))
   | inr other ↦ other.0
 ]
 
 -- another's entry is no reply to the seat
 no_reply : (r : ℕ) (entry : Entry) → is_of r entry ≡ false → is_reply_to r entry ≡ false
-no_reply r (entries.Said q command reply) other = other
+no_reply r (entries.Said number command reply) other = other
 no_reply r _ other = refl
 
 -- nothing is added to what the seat did

@@ -7,16 +7,16 @@ use Rattle.heap_model.specs.declared.entry.Entry.{Entry}
 use Rattle.heap_model.specs.declared.entry.Entry.TheVariants as entries
 use Rattle.heap_model.specs.declared.reply.Reply.{Reply}
 use Rattle.heap_model.specs.account.Effects.{effect_of, is_of}
-use Rattle.heap_model.specs.account.PhaseCounts.{phase, answered, has_left, is_leave_of}
+use Rattle.heap_model.specs.account.PhaseCounts.{phase, last_answer, has_left, is_leave_of}
 use Rattle.heap_model.proofs.Histories.{total-more, total_of-more}
 use Rattle.heap_model.proofs.account_lemmas.Windows.{any-more}
 use Rattle.core_rule.specs.Counts.{is_collectors}
 use Rattle.core_rule.proofs.entries.Others.{total_of-other}
 
 -- a reply that leaves nobody: that of any other command than leave
-pub no_leave_told : (q s : ℕ) (command : Command) (reply : Reply) → command ≢ commands.Leave → is_leave_of q (entries.Said s command reply) ≡ false
-no_leave_told q s commands.Leave reply other = absurd (other refl)
-no_leave_told q s _ reply other = refl
+pub no_leave_told : (number s : ℕ) (command : Command) (reply : Reply) → command ≢ commands.Leave → is_leave_of number (entries.Said s command reply) ≡ false
+no_leave_told number s commands.Leave reply other = absurd (other refl)
+no_leave_told number s _ reply other = refl
 
 -- an entry is added
 module _ (history : List Entry) (entry : Entry) where
@@ -26,49 +26,49 @@ module _ (history : List Entry) (entry : Entry) where
   pub phase_rises : (effect_of entry).phases ≡ 1 → phase (history ++ entry ∷ []) ≡ phase history + 1
   phase_rises one = omega (arith, one, total-more (λ e. e.phases) history entry)
 
-  module _ (q : ℕ) where
-    pub answered_stays : (effect_of entry).answers ≡ 0 → answered q (history ++ entry ∷ []) ≡ answered q history
-    answered_stays none = total_of-more q (λ e. e.answers) history entry ∙ by (is_of q entry)
+  module _ (number : ℕ) where
+    pub answered_stays : (effect_of entry).answers ≡ 0 → last_answer number (history ++ entry ∷ []) ≡ last_answer number history
+    answered_stays none = total_of-more number (λ e. e.answers) history entry ∙ by (is_of number entry)
       where
-        by : (b : Bool) → answered q history + (if b then (effect_of entry).answers else 0) ≡ answered q history
+        by : (b : Bool) → last_answer number history + (if b then (effect_of entry).answers else 0) ≡ last_answer number history
         by true = omega (arith, none)
         by false = omega arith
 
-    pub answered_other : is_of q entry ≡ false → answered q (history ++ entry ∷ []) ≡ answered q history
-    answered_other other = total_of-other q (λ e. e.answers) history entry other
+    pub answered_other : is_of number entry ≡ false → last_answer number (history ++ entry ∷ []) ≡ last_answer number history
+    answered_other other = total_of-other number (λ e. e.answers) history entry other
 
-    pub answered_rises : is_of q entry ≡ true → (effect_of entry).answers ≡ 1 → answered q (history ++ entry ∷ []) ≡ answered q history + 1
-    answered_rises own one = total_of-more q (λ e. e.answers) history entry ∙ rw own (omega (arith, one))
+    pub answered_rises : is_of number entry ≡ true → (effect_of entry).answers ≡ 1 → last_answer number (history ++ entry ∷ []) ≡ last_answer number history + 1
+    answered_rises own one = total_of-more number (λ e. e.answers) history entry ∙ rw own (omega (arith, one))
 
-    answered_grows : answered q history ≤ answered q (history ++ entry ∷ [])
-    answered_grows = omega (arith, total_of-more q (λ e. e.answers) history entry)
+    answered_grows : last_answer number history ≤ last_answer number (history ++ entry ∷ [])
+    answered_grows = omega (arith, total_of-more number (λ e. e.answers) history entry)
 
-    pub left_stays : is_leave_of q entry ≡ false → has_left q (history ++ entry ∷ []) ≡ has_left q history
-    left_stays none = any-more (is_leave_of q) history entry ∙ rw none (or_false (has_left q history))
+    pub left_stays : is_leave_of number entry ≡ false → has_left number (history ++ entry ∷ []) ≡ has_left number history
+    left_stays none = any-more (is_leave_of number) history entry ∙ rw none (or_false (has_left number history))
       where
         or_false : (b : Bool) → (b || false) ≡ b
         or_false true = refl
         or_false false = refl
 
-    pub left_once : is_leave_of q entry ≡ true → has_left q (history ++ entry ∷ []) ≡ true
-    left_once leave = any-more (is_leave_of q) history entry ∙ rw leave (or_true (has_left q history))
+    pub left_once : is_leave_of number entry ≡ true → has_left number (history ++ entry ∷ []) ≡ true
+    left_once leave = any-more (is_leave_of number) history entry ∙ rw leave (or_true (has_left number history))
       where
         or_true : (b : Bool) → (b || true) ≡ true
         or_true true = refl
         or_true false = refl
 
-    present_before : has_left q (history ++ entry ∷ []) ≡ false → has_left q history ≡ false
-    present_before none = front (has_left q history) (is_leave_of q entry) (sym (any-more (is_leave_of q) history entry) ∙ none)
+    present_before : has_left number (history ++ entry ∷ []) ≡ false → has_left number history ≡ false
+    present_before none = front (has_left number history) (is_leave_of number entry) (sym (any-more (is_leave_of number) history entry) ∙ none)
       where
         front : (a b : Bool) → (a || b) ≡ false → a ≡ false
         front true b both = both
         front false b both = refl
 
     -- another's entry is no leave of the seat
-    pub no_leave : is_of q entry ≡ false → is_leave_of q entry ≡ false
+    pub no_leave : is_of number entry ≡ false → is_leave_of number entry ≡ false
     no_leave other = by entry other
       where
-        by : (e : Entry) → is_of q e ≡ false → is_leave_of q e ≡ false
+        by : (e : Entry) → is_of number e ≡ false → is_leave_of number e ≡ false
         by (entries.Said s commands.Leave reply) same = same
         by _ same = refl
 
@@ -94,11 +94,11 @@ seats_phase before (entry ∷ more) none = by (is_collectors entry) refl none (s
     by true is some rest = cc
     by false is none_more rest = ap phase (sym (regroup before entry more)) ∙ rest none_more ∙ phase_stays before entry (seats_begin_none entry is)
 
-pub answers_grow : (q : ℕ) (before added : List Entry) → answered q before ≤ answered q (before ++ added)
-answers_grow q before [] = rw (append-nil before) (omega arith)
-answers_grow q before (entry ∷ more) = rw (← regroup before entry more) (omega (arith, answered_grows before entry q, answers_grow q (before ++ entry ∷ []) more))
+pub answers_grow : (number : ℕ) (before added : List Entry) → last_answer number before ≤ last_answer number (before ++ added)
+answers_grow number before [] = rw (append-nil before) (omega arith)
+answers_grow number before (entry ∷ more) = rw (← regroup before entry more) (omega (arith, answered_grows before entry number, answers_grow number (before ++ entry ∷ []) more))
 
-pub was_present : (q : ℕ) (before added : List Entry) → has_left q (before ++ added) ≡ false → has_left q before ≡ false
-was_present q before [] present = ap (has_left q) (sym (append-nil before)) ∙ present
-was_present q before (entry ∷ more) present =
-    present_before before entry q (was_present q (before ++ entry ∷ []) more (ap (has_left q) (regroup before entry more) ∙ present))
+pub was_present : (number : ℕ) (before added : List Entry) → has_left number (before ++ added) ≡ false → has_left number before ≡ false
+was_present number before [] present = ap (has_left number) (sym (append-nil before)) ∙ present
+was_present number before (entry ∷ more) present =
+    present_before before entry number (was_present number (before ++ entry ∷ []) more (ap (has_left number) (regroup before entry more) ∙ present))

@@ -14,13 +14,13 @@ use Rattle.core_rule.specs.Counts.{AreUsed}
 use Rattle.core_rule.specs.Owners.{Owner}
 use Rattle.core_rule.proofs.entries.OwnEntries.{total_of-own}
 
-module _ (history : List Entry) (q : ℕ) (command : Command) (reply : Reply) where
+module _ (history : List Entry) (number : ℕ) (command : Command) (reply : Reply) where
   abbrev entry : Entry
-  entry = entries.Said q command reply
+  entry = entries.Said number command reply
 
   -- it is its seat's
-  pub said_own : is_of q entry ≡ true
-  said_own = eq-eqb q q refl
+  pub said_own : is_of number entry ≡ true
+  said_own = eq-eqb number number refl
 
   -- it neither takes nor gives
   pub said_used : (heap : Heap) (owner : ℕ → Owner) → AreUsed heap owner history → AreUsed heap owner (history ++ entry ∷ [])
@@ -29,8 +29,8 @@ module _ (history : List Entry) (q : ℕ) (command : Command) (reply : Reply) wh
 
   -- and spends nothing where it makes no object
   module _ (none : made_by command reply ≡ 0) where
-    pub said_taken : taken_of q (history ++ entry ∷ []) ≡ taken_of q history
-    said_taken = omega (arith, total_of-own q (λ e. e.taken) history entry said_own)
+    pub said_taken : taken_of number (history ++ entry ∷ []) ≡ taken_of number history
+    said_taken = omega (arith, total_of-own number (λ e. e.taken) history entry said_own)
 
-    pub said_spent : spent_of q (history ++ entry ∷ []) ≡ spent_of q history
-    said_spent = omega (arith, none, total_of-own q (λ e. e.given) history entry said_own, total_of-own q (λ e. e.born) history entry said_own)
+    pub said_spent : spent_of number (history ++ entry ∷ []) ≡ spent_of number history
+    said_spent = omega (arith, none, total_of-own number (λ e. e.given) history entry said_own, total_of-own number (λ e. e.born) history entry said_own)

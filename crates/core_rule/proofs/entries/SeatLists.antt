@@ -7,16 +7,16 @@ use Rattle.heap_model.specs.declared.id.Id.{Id}
 use Rattle.heap_model.specs.declared.id.Value.{Value}
 use Rattle.heap_model.specs.declared.id.Value.TheVariants as values
 use Rattle.heap_model.specs.account.Effects.{is_of}
-use Rattle.heap_model.specs.graph.Objects.{register}
-use Rattle.heap_model.specs.graph.State.{State}
+use Rattle.heap_model.specs.graph.Objects.{register_value}
+use Rattle.heap_model.specs.graph.Graph.{Graph}
 use Rattle.core_machine.specs.declared.place.Making.{Making}
 use Rattle.core_machine.specs.declared.place.Place.{Place}
 use Rattle.core_machine.specs.declared.place.Place.TheVariants as places
-use Rattle.core_machine.specs.declared.place.Reaching.TheVariants.{Naming}
+use Rattle.core_machine.specs.declared.place.Access.TheVariants.{Naming}
 use Rattle.core_machine.specs.declared.seat.register.Register.{Register}
 use Rattle.core_machine.specs.declared.seat.register.Register.TheVariants as registers
 use Rattle.core_machine.specs.seat.Seat.{Seat}
-use Rattle.core_rule.specs.Book.{head_of}
+use Rattle.core_rule.specs.Book.{object_head}
 use Rattle.core_rule.specs.Counts.{OwnList, Awaits}
 use Rattle.core_rule.specs.Gathers.{IsAnswered}
 use Rattle.core_rule.specs.Objects.{NamesKept}
@@ -26,19 +26,19 @@ use Rattle.core_rule.specs.Registers as regs
 -- what is kept stays kept, under the same first fragment
 pub record NamesStay (made now_made : List Id) (owner now_owner : ℕ → Owner) (fragments now_fragments : ℕ → List ℕ) : Type 0 where
   pub names : (id : Id) → NamesKept made owner fragments (values.Object id) → NamesKept now_made now_owner now_fragments (values.Object id)
-  pub heads : (id : Id) → NamesKept made owner fragments (values.Object id) → head_of now_made now_fragments id ≡ head_of made fragments id
+  pub heads : (id : Id) → NamesKept made owner fragments (values.Object id) → object_head now_made now_fragments id ≡ object_head made fragments id
 
 -- so a register that held a value holds it
 module _ (made now_made : List Id) (owner now_owner : ℕ → Owner) (fragments now_fragments : ℕ → List ℕ) (stay : NamesStay made now_made owner now_owner fragments now_fragments) where
-  pub holds_stays : (held : Register) (value : Value) → regs.Holds made owner fragments held value → regs.Holds now_made now_owner now_fragments held value
+  pub holds_stays : (held : Register) (value : Value) → regs.HoldsValue made owner fragments held value → regs.HoldsValue now_made now_owner now_fragments held value
   holds_stays registers.Nil value holds = holds
   holds_stays (registers.Number n) value holds = holds
   holds_stays (registers.Object head id) value holds = (holds.0, stay.names id holds.1, holds.2 ∙ sym (stay.heads id holds.1))
 
-module _ (g now : State) (made now_made : List Id) (owner now_owner : ℕ → Owner) (fragments now_fragments : ℕ → List ℕ) (q : ℕ) (seat : Seat)
-    (stay : NamesStay made now_made owner now_owner fragments now_fragments) (same : (r : ℕ) → register now q r ≡ register g q r) where
-  awaits_stay : (place : Place) (awaited : List Entry) → Awaits g made owner fragments q seat place awaited → Awaits now now_made now_owner now_fragments q seat place awaited
-  awaits_stay (places.Reaching Naming) awaited waits = record {
+module _ (g now : Graph) (made now_made : List Id) (owner now_owner : ℕ → Owner) (fragments now_fragments : ℕ → List ℕ) (number : ℕ) (seat : Seat)
+    (stay : NamesStay made now_made owner now_owner fragments now_fragments) (same : (r : ℕ) → register_value now number r ≡ register_value g number r) where
+  awaits_stay : (place : Place) (awaited : List Entry) → Awaits g made owner fragments number seat place awaited → Awaits now now_made now_owner now_fragments number seat place awaited
+  awaits_stay (places.Access Naming) awaited waits = record {
     id = waits.id;
     kept = stay.names waits.id waits.kept;
     loads = waits.loads ∙ ap Some (sym (stay.heads waits.id waits.kept));
@@ -48,8 +48,8 @@ module _ (g now : State) (made now_made : List Id) (owner now_owner : ℕ → Ow
   awaits_stay _ awaited waits = waits
 
   -- another seat's list stays, and what it awaits
-  pub list_stays : (history more : List Entry) → filter (is_of q) more ≡ filter (is_of q) history
-      → OwnList g history made owner fragments q seat → OwnList now more now_made now_owner now_fragments q seat
+  pub list_stays : (history more : List Entry) → filter (is_of number) more ≡ filter (is_of number) history
+      → OwnList g history made owner fragments number seat → OwnList now more now_made now_owner now_fragments number seat
   list_stays history more entries list = record {
     awaited = list.awaited;
     own = list.own ∙ sym entries;
@@ -60,41 +60,41 @@ module _ (g now : State) (made now_made : List Id) (owner now_owner : ℕ → Ow
 pub all_told : (mine awaited own : List Entry) → mine ++ awaited ≡ own → awaited ≡ [] → mine ≡ own
 all_told mine awaited own both none = sym (append-nil mine) ∙ (rw none at both)
 
-module _ (g : State) (history : List Entry) (made : List Id) (owner : ℕ → Owner) (fragments : ℕ → List ℕ) (q : ℕ) (seat : Seat) where
+module _ (g : Graph) (history : List Entry) (made : List Id) (owner : ℕ → Owner) (fragments : ℕ → List ℕ) (number : ℕ) (seat : Seat) where
   -- a seat that makes an object awaits nothing
-  pub making_list : (making : Making) → seat.place ≡ places.Making making → OwnList g history made owner fragments q seat → seat.mine ≡ filter (is_of q) history
+  pub making_list : (making : Making) → seat.place ≡ places.Making making → OwnList g history made owner fragments number seat → seat.mine ≡ filter (is_of number) history
   making_list making placed list =
-      all_told seat.mine list.awaited (filter (is_of q) history) list.own (subst (λ p. Awaits g made owner fragments q seat p list.awaited) placed list.awaits)
+      all_told seat.mine list.awaited (filter (is_of number) history) list.own (subst (λ p. Awaits g made owner fragments number seat p list.awaited) placed list.awaits)
 
   -- an idle seat awaits nothing
-  pub idle_list : seat.place ≡ places.Idle → OwnList g history made owner fragments q seat → seat.mine ≡ filter (is_of q) history
+  pub idle_list : seat.place ≡ places.Idle → OwnList g history made owner fragments number seat → seat.mine ≡ filter (is_of number) history
   idle_list idle list =
-      all_told seat.mine list.awaited (filter (is_of q) history) list.own (subst (λ p. Awaits g made owner fragments q seat p list.awaited) idle list.awaits)
+      all_told seat.mine list.awaited (filter (is_of number) history) list.own (subst (λ p. Awaits g made owner fragments number seat p list.awaited) idle list.awaits)
 
   -- a list that awaits nothing
-  pub whole_list : Awaits g made owner fragments q seat seat.place [] → seat.mine ≡ filter (is_of q) history → OwnList g history made owner fragments q seat
+  pub whole_list : Awaits g made owner fragments number seat seat.place [] → seat.mine ≡ filter (is_of number) history → OwnList g history made owner fragments number seat
   whole_list none own = record { awaited = []; own = append-nil seat.mine ∙ own; awaits = none }
 
   -- while an object is made
-  pub list_of_making : (making : Making) → seat.place ≡ places.Making making → seat.mine ≡ filter (is_of q) history → OwnList g history made owner fragments q seat
-  list_of_making making placed own = whole_list (subst (λ p. Awaits g made owner fragments q seat p []) (sym placed) refl) own
+  pub list_of_making : (making : Making) → seat.place ≡ places.Making making → seat.mine ≡ filter (is_of number) history → OwnList g history made owner fragments number seat
+  list_of_making making placed own = whole_list (subst (λ p. Awaits g made owner fragments number seat p []) (sym placed) refl) own
 
-module _ (g : State) (made : List Id) (owner : ℕ → Owner) (fragments : ℕ → List ℕ) (q : ℕ) (seat : Seat) where
+module _ (g : Graph) (made : List Id) (owner : ℕ → Owner) (fragments : ℕ → List ℕ) (number : ℕ) (seat : Seat) where
   -- a call that isn't answered awaits nothing
-  nothing_awaited : (place : Place) (awaited : List Entry) → ¬ IsAnswered place → Awaits g made owner fragments q seat place awaited → awaited ≡ []
-  nothing_awaited (places.Reaching Naming) awaited busy awaits = absurd (busy tt)
+  nothing_awaited : (place : Place) (awaited : List Entry) → ¬ IsAnswered place → Awaits g made owner fragments number seat place awaited → awaited ≡ []
+  nothing_awaited (places.Access Naming) awaited busy awaits = absurd (busy tt)
   nothing_awaited _ awaited busy awaits = awaits
 
-  module _ (history : List Entry) (busy : ¬ IsAnswered seat.place) (list : OwnList g history made owner fragments q seat) where
+  module _ (history : List Entry) (busy : ¬ IsAnswered seat.place) (list : OwnList g history made owner fragments number seat) where
     -- so its own list has all of its entries
-    has_all : seat.mine ≡ filter (is_of q) history
+    has_all : seat.mine ≡ filter (is_of number) history
     has_all =
-        all_told seat.mine list.awaited (filter (is_of q) history) list.own (nothing_awaited seat.place list.awaited busy list.awaits)
+        all_told seat.mine list.awaited (filter (is_of number) history) list.own (nothing_awaited seat.place list.awaited busy list.awaits)
 
     -- what is shown then is told at once, or awaited
-    pub list_more : (now : State) (later : List Entry) (new : Seat) (added awaited shown : List Entry) → new.mine ≡ seat.mine ++ added
-        → added ++ awaited ≡ shown → filter (is_of q) later ≡ filter (is_of q) history ++ shown → Awaits now made owner fragments q new new.place awaited
-        → OwnList now later made owner fragments q new
+    pub list_more : (now : Graph) (later : List Entry) (new : Seat) (added awaited shown : List Entry) → new.mine ≡ seat.mine ++ added
+        → added ++ awaited ≡ shown → filter (is_of number) later ≡ filter (is_of number) history ++ shown → Awaits now made owner fragments number new new.place awaited
+        → OwnList now later made owner fragments number new
     list_more now later new added awaited shown mine parts grown awaits = record {
       awaited = awaited;
       own = ap (λ (own : List Entry). own ++ awaited) mine ∙ append_assoc seat.mine added awaited ∙ ap (λ (x : List Entry). seat.mine ++ x) parts

@@ -6,22 +6,22 @@ use Rattle.heap_model.specs.declared.command.Command.TheVariants as commands
 use Rattle.heap_model.specs.declared.heap.Heap.{Heap}
 use Rattle.heap_model.specs.declared.id.Id.{Id}
 use Rattle.heap_model.specs.declared.id.Value.{Value}
-use Rattle.heap_model.specs.graph.State.{State as Graph}
+use Rattle.heap_model.specs.graph.Graph.{Graph}
 use Rattle.core_machine.specs.declared.place.Place.{Place}
 use Rattle.core_machine.specs.declared.place.Place.TheVariants as places
 use Rattle.core_machine.specs.declared.place.Polling.TheVariants.{Asking}
-use Rattle.core_machine.specs.declared.place.Reaching.TheVariants.{Opening}
+use Rattle.core_machine.specs.declared.place.Access.TheVariants.{LoadingMeta}
 use Rattle.core_machine.specs.declared.seat.register.Register.{Register}
 use Rattle.core_machine.specs.declared.seat.register.Register.TheVariants as registers
 use Rattle.core_machine.specs.seat.Commands.{IsRecord, IsServed, object_of, field_of}
-use Rattle.core_machine.specs.machine.Machine.{starts}
-use Rattle.core_machine.specs.seat.Reaching.{opened, row_of}
+use Rattle.core_machine.specs.machine.Machine.{call_start}
+use Rattle.core_machine.specs.seat.Access.{access_start, row_of}
 use Rattle.core_machine.specs.seat.Registers.{register_in}
 use Rattle.core_machine.specs.seat.Seat.{Seat}
-use Rattle.core_rule.specs.Book.{fragment_at, number_of}
+use Rattle.core_rule.specs.Book.{fragment_at, object_number}
 use Rattle.core_rule.specs.Counts.{Awaits}
 use Rattle.core_rule.specs.Owners.{Owner}
-use Rattle.core_rule.specs.Registers.{Holds}
+use Rattle.core_rule.specs.Registers.{HoldsValue}
 use Rattle.core_rule.specs.Ways.{WayStands, SetsOut}
 use Rattle.core_rule.proofs.entries.Begins.{SameData, same_data}
 use Rattle.core_rule.proofs.graph.Numbering.{id_at-number_of}
@@ -41,31 +41,31 @@ at_place seat place command reached links = record { same = same_data seat _ _ _
 
 -- the place is no later than the first of a way or of an answer
 abbrev pub IsFresh : Place → Type 0
-IsFresh (places.Reaching Opening) = Unit {0}
-IsFresh (places.Reaching _) = ⊥
+IsFresh (places.Access LoadingMeta) = Unit {0}
+IsFresh (places.Access _) = ⊥
 IsFresh (places.Polling Asking) = Unit {0}
 IsFresh (places.Polling _) = ⊥
 IsFresh _ = Unit {0}
 
-module _ (g : Graph) (cells : ℕ → List Cell) (made : List Id) (owner : ℕ → Owner) (fragments : ℕ → List ℕ) (q : ℕ) where
+module _ (g : Graph) (cells : ℕ → List Cell) (made : List Id) (owner : ℕ → Owner) (fragments : ℕ → List ℕ) (number : ℕ) where
   -- the seat has what it had, awaits nothing, and its way sets out from its first place
   pub record Starts (old now : Seat) : Type 0 where
     pub own : SameOwn old now
-    pub awaits : Awaits g made owner fragments q now now.place []
+    pub awaits : Awaits g made owner fragments number now now.place []
     pub way : WayStands cells made owner fragments now now.place
     pub fresh : IsFresh now.place
 
   -- the way begins at the register's object
-  sets_out : (seat : Seat) (head : ℕ) (id : Id) (value : Value) → Holds made owner fragments (registers.Object head id) value
-      → registers.Object head id ≡ register_in seat.registers (object_of seat.command) → SetsOut made owner fragments (opened seat (registers.Object head id))
+  sets_out : (seat : Seat) (head : ℕ) (id : Id) (value : Value) → HoldsValue made owner fragments (registers.Object head id) value
+      → registers.Object head id ≡ register_in seat.registers (object_of seat.command) → SetsOut made owner fragments (access_start seat (registers.Object head id))
   sets_out seat head id value holds is = record {
-    number = number_of made id;
+    index = object_number made id;
     way = record {
       below = holds.1.0;
       kept = holds.1.1;
-      holds = sym is ∙ ap (λ f. registers.Object f id) holds.2 ∙ ap (λ i. registers.Object (fragment_at (fragments (number_of made id)) 0) i) (sym (id_at-number_of made id holds.1.0));
+      holds = sym is ∙ ap (λ f. registers.Object f id) holds.2 ∙ ap (λ i. registers.Object (fragment_at (fragments (object_number made id)) 0) i) (sym (id_at-number_of made id holds.1.0));
       ahead = omega arith;
-      here = holds.2 ∙ ap (λ k. fragment_at (fragments (number_of made id)) k) (no_rest (row_of (field_of seat.command)));
+      here = holds.2 ∙ ap (λ k. fragment_at (fragments (object_number made id)) k) (no_rest (row_of (field_of seat.command)));
     };
   }
     where
@@ -73,15 +73,15 @@ module _ (g : Graph) (cells : ℕ → List Cell) (made : List Id) (owner : ℕ �
       no_rest n = omega arith
 
   -- the call of an object opens its way, and is told at once where the register holds none
-  opened_starts : (seat : Seat) (held : Register) (value : Value) → Holds made owner fragments held value
-      → held ≡ register_in seat.registers (object_of seat.command) → Starts seat (opened seat held)
+  opened_starts : (seat : Seat) (held : Register) (value : Value) → HoldsValue made owner fragments held value
+      → held ≡ register_in seat.registers (object_of seat.command) → Starts seat (access_start seat held)
   opened_starts seat registers.Nil value holds is = record { own = at_place seat _ _ _ _; awaits = refl; way = tt; fresh = tt }
   opened_starts seat (registers.Number n) value holds is = record { own = at_place seat _ _ _ _; awaits = refl; way = tt; fresh = tt }
   opened_starts seat (registers.Object head id) value holds is = record { own = at_place seat _ _ _ _; awaits = refl; way = sets_out seat head id value holds is; fresh = tt }
 
   -- any other call stands at its first step
   pub starts_other : (heap : Heap) (seat : Seat) (command : Command) → (IsRecord command → ⊥) → IsServed command → seat.command ≡ command
-      → ((r : ℕ) → (value : Value) × Holds made owner fragments (register_in seat.registers r) value) → Starts seat (starts heap seat command)
+      → ((r : ℕ) → (value : Value) × HoldsValue made owner fragments (register_in seat.registers r) value) → Starts seat (call_start heap seat command)
   starts_other heap seat (commands.Get d r i) other served is holds = opened_starts seat (register_in seat.registers r) (holds r).0 (holds r).1 (ap (λ c. register_in seat.registers (object_of c)) (sym is))
   starts_other heap seat (commands.Set r i v) other served is holds = opened_starts seat (register_in seat.registers r) (holds r).0 (holds r).1 (ap (λ c. register_in seat.registers (object_of c)) (sym is))
   starts_other heap seat (commands.Len r) other served is holds = opened_starts seat (register_in seat.registers r) (holds r).0 (holds r).1 (ap (λ c. register_in seat.registers (object_of c)) (sym is))

@@ -6,9 +6,9 @@ use Rattle.heap_model.specs.declared.heap.Heap.{Heap}
 use Rattle.heap_model.specs.account.Account.{IsLegal}
 use Rattle.heap_model.specs.account.Cycles.{graph_of}
 use Rattle.heap_model.specs.account.Effects.{effect_of, is_of}
-use Rattle.heap_model.specs.graph.Objects.{party}
-use Rattle.heap_model.specs.account.PhaseCounts.{phase, answered, has_left}
-use Rattle.heap_model.specs.graph.State.{State as Graph}
+use Rattle.heap_model.specs.graph.Objects.{graph_seat}
+use Rattle.heap_model.specs.account.PhaseCounts.{phase, last_answer, has_left}
+use Rattle.heap_model.specs.graph.Graph.{Graph}
 use Rattle.heap_model.proofs.Histories.{total-more}
 use Rattle.core_machine.specs.declared.table.address.Address.TheVariants.{Phase, Control, Word}
 use Rattle.core_machine.specs.table.Layout.{at, put}
@@ -71,9 +71,9 @@ module _ (heap : Heap) (words now : List ℕ) (same : SameFragments heap words n
   }
 
   -- a seat that it isn't of stands
-  pub seat_past : (r : ℕ) (seat : Seat) → is_of r entry ≡ false → party after r ≡ party before r
-      → SeatInCycle heap now (phase later.history) (answered r later.history) (has_left r later.history) book.owner book.colour r seat
+  pub seat_past : (r : ℕ) (seat : Seat) → is_of r entry ≡ false → graph_seat after r ≡ graph_seat before r
+      → SeatInCycle heap now (phase later.history) (last_answer r later.history) (has_left r later.history) book.owner book.colour r seat
       → SeatStands heap words book r seat → SeatStands heap now later r seat
-  seat_past r seat other party cycle stands =
-      seat_stays heap words now book entry r seat other (same_party before after r party)
+  seat_past r seat other graph_seat cycle stands =
+      seat_stays heap words now book entry r seat other (same_party before after r graph_seat)
       (λ i. ap (λ (cells : List Cell). length cells) (cells_stay before after book.made nodes i)) (λ u less. same.parts _ _ ∙ stands.own.stored u less) cycle stands

@@ -4,20 +4,20 @@ use Rattle.heap_model.specs.declared.entry.Entry.{Entry}
 use Rattle.heap_model.specs.declared.entry.Entry.TheVariants as entries
 use Rattle.heap_model.specs.declared.heap.Heap.{Heap}
 use Rattle.heap_model.specs.account.Cycles.{graph_of}
-use Rattle.heap_model.specs.graph.Objects.{party}
-use Rattle.heap_model.specs.account.PhaseCounts.{phase, answered, has_left}
+use Rattle.heap_model.specs.graph.Objects.{graph_seat}
+use Rattle.heap_model.specs.account.PhaseCounts.{phase, last_answer, has_left}
 use Rattle.heap_model.specs.account.Space.{taken_of, spent_of}
-use Rattle.heap_model.specs.graph.State.{State as Graph}
+use Rattle.heap_model.specs.graph.Graph.{Graph}
 use Rattle.core_machine.specs.declared.table.address.Address.TheVariants.{Control}
-use Rattle.core_machine.specs.table.Fragments.{mask, tally}
+use Rattle.core_machine.specs.table.Fragments.{mask_of, tally}
 use Rattle.core_machine.specs.table.Layout.{at, put}
 use Rattle.core_machine.specs.machine.Machine.{State, seat_at}
-use Rattle.core_machine.specs.table.Operation.{untaken}
+use Rattle.core_machine.specs.table.Operation.{word_without_taken}
 use Rattle.core_machine.specs.seat.Seat.{Seat}
 use Rattle.core_rule.specs.Book.{Book}
 use Rattle.core_rule.specs.ControlWords.{Bits}
 use Rattle.core_rule.specs.Cycle.{SeatInCycle}
-use Rattle.core_rule.specs.Owners.{Owner, Free, Bears, Holds, born_bit, handed}
+use Rattle.core_rule.specs.Owners.{Owner, Free, Borne, Taken, born_bit, owner_after}
 use Rattle.core_rule.specs.Rule.{Rule, HeapStands, SeatStands}
 use Rattle.core_rule.proofs.cycle.FieldFrames.{watched_born}
 use Rattle.core_rule.proofs.colours.BirthColours.{marks_give}
@@ -36,22 +36,22 @@ use Rattle.core_rule.proofs.entries.SpaceEntries.{graph_gives, legal_gives}
 use Rattle.core_rule.proofs.hand.StoredFrames.{stored_control}
 use Rattle.core_rule.proofs.cycle.Unwatched.{IsApart}
 
-free_bears_none : {r : ℕ} → Free ≢ Bears r
+free_bears_none : {r : ℕ} → Free ≢ Borne r
 free_bears_none e = cc
 
-module _ (heap : Heap) (state : State) (book : Book) (q : ℕ) (rule : Rule heap state book) (here : q < heap.seats) (g : ℕ) (fs : List ℕ) (below : g < heap.groups)
-    (held : (f : ℕ) → 1 ≤ tally f fs → book.owner f ≡ Holds q) (once : (f : ℕ) → tally f fs ≤ 1) where
+module _ (heap : Heap) (state : State) (book : Book) (number : ℕ) (rule : Rule heap state book) (here : number < heap.seats) (g : ℕ) (fs : List ℕ) (below : g < heap.groups)
+    (held : (f : ℕ) → 1 ≤ tally f fs → book.owner f ≡ Taken number) (once : (f : ℕ) → tally f fs ≤ 1) where
   abbrev word : ℕ
-  word = untaken (mask fs) (at heap state.words (Control g))
+  word = word_without_taken (mask_of fs) (at heap state.words (Control g))
 
   abbrev pub words_given : List ℕ
   words_given = put heap state.words (Control g) word
 
   abbrev entry : Entry
-  entry = entries.GivesBack q (length fs)
+  entry = entries.GivesBack number (length fs)
 
   abbrev owner : ℕ → Owner
-  owner = handed Free book.owner fs
+  owner = owner_after Free book.owner fs
 
   -- the book after it
   abbrev pub book_given : Book
@@ -62,16 +62,16 @@ module _ (heap : Heap) (state : State) (book : Book) (q : ℕ) (rule : Rule heap
 
   -- the graph is the same, and the same fragments are kept
   pub graph_given : graph_of heap book_given.history ≡ before
-  graph_given = graph_gives heap book.history q (length fs)
+  graph_given = graph_gives heap book.history number (length fs)
 
   pub kept_given : SameKept book.owner owner
-  kept_given = part_kept book.owner q fs Free free_keeps_none held
+  kept_given = part_kept book.owner number fs Free free_keeps_none held
 
   inside : (f : ℕ) → 1 ≤ tally f fs → f < 16 * heap.groups
-  inside = held_within heap state.words book.owner rule.heap_stands.control_words q fs held
+  inside = held_within heap state.words book.owner rule.heap_stands.control_words number fs held
 
   -- the heap stands
-  pub heap_given : Bits heap words_given owner → (party before q).left ≡ false → 1 ≤ length fs → spent_of q book.history + length fs ≤ taken_of q book.history
+  pub heap_given : Bits heap words_given owner → (graph_seat before number).left ≡ false → 1 ≤ length fs → spent_of number book.history + length fs ≤ taken_of number book.history
       → HeapStands heap words_given book_given
   heap_given bits present some own =
       let stands = rule.heap_stands in
@@ -81,37 +81,37 @@ module _ (heap : Heap) (state : State) (book : Book) (q : ℕ) (rule : Rule heap
         ids = rw graph_given stands.ids;
         objects = rw graph_given (objects_owners book.owner owner kept_given book.made book.fragments heap words_given before
             (objects_control heap state.words before book.made book.owner book.fragments g word below stands.objects));
-        used = give_used heap book.owner book.history q fs once inside stands.used held;
-        legal = legal_gives heap book.history q (length fs) stands.legal present some own;
+        used = give_used heap book.owner book.history number fs once inside stands.used held;
+        legal = legal_gives heap book.history number (length fs) stands.legal present some own;
         cycle = heap_cycle_more heap words_given owner book.colour book.history entry refl book.fragments
             (heap_hands heap state.words book.owner book.colour book.fragments (phase book.history) g word Free fs below
             refl (λ f there. ap born_bit (held f there)) kept_given (marks_give heap state.words book.colour g fs rule.machine.table below stands.cycle.marks) stands.cycle);
       }
 
   -- the seat has its part in the cycle, where it goes on with none of a set or an answer
-  pub cycle_given : (now : Seat) → SameAnswer (seat_at state q) now → IsApart now.place
-      → SeatInCycle heap words_given (phase book_given.history) (answered q book_given.history) (has_left q book_given.history) owner book.colour q now
+  pub cycle_given : (now : Seat) → SameAnswer (seat_at state number) now → IsApart now.place
+      → SeatInCycle heap words_given (phase book_given.history) (last_answer number book_given.history) (has_left number book_given.history) owner book.colour number now
   cycle_given now same apart =
-      let cycle = (rule.seats_stand q here).cycle in
-      cycle_own heap words_given owner book.colour book.history entry refl q now
-      (cycle_goes_on heap state.words words_given book.owner owner book.colour (phase book.history) (answered q book.history) (has_left q book.history) q (seat_at state q) now same apart
-      (answer_after_control heap state.words word g q (omega (arith, here, rule.machine.limits.seats_fit))) (λ f. borne_before Free book.owner fs q f free_bears_none) cycle) refl refl
+      let cycle = (rule.seats_stand number here).cycle in
+      cycle_own heap words_given owner book.colour book.history entry refl number now
+      (cycle_goes_on heap state.words words_given book.owner owner book.colour (phase book.history) (last_answer number book.history) (has_left number book.history) number (seat_at state number) now same apart
+      (answer_after_control heap state.words word g number (omega (arith, here, rule.machine.limits.seats_fit))) (λ f. borne_before Free book.owner fs number f free_bears_none) cycle) refl refl
 
   -- each other seat stands
-  pub other_given : (r : ℕ) → r < heap.seats → r ≢ q → SeatStands heap state.words book r (seat_at state r) → SeatStands heap words_given book_given r (seat_at state r)
+  pub other_given : (r : ℕ) → r < heap.seats → r ≢ number → SeatStands heap state.words book r (seat_at state r) → SeatStands heap words_given book_given r (seat_at state r)
   other_given r under apart other =
       let seat : Seat = seat_at state r in
-      let away = of_other q r apart in
+      let away = of_other number r apart in
       seat_left heap state.words words_given book book_given r seat record {
         calls = refl;
-        party = same_party before (graph_of heap book_given.history) r (ap (λ (g : Graph). party g r) graph_given);
+        party = same_party before (graph_of heap book_given.history) r (ap (λ (g : Graph). graph_seat g r) graph_given);
         told = told_other r book.history entry away;
         kept = rw graph_given (kept_owners before book.made book.owner owner book.fragments kept_given);
-        hand = hand_given book.owner r q fs apart held;
+        hand = hand_given book.owner r number fs apart held;
         stored = stored_control heap state.words r seat g word below other.own.stored;
-        gathers = other_gives heap book.owner book.history q fs once inside rule.heap_stands.used (book.begun r) other.told.began.earlier seat.cursor seat.tried seat.given held
+        gathers = other_gives heap book.owner book.history number fs once inside rule.heap_stands.used (book.begun r) other.told.began.earlier seat.cursor seat.tried seat.given held
             other.fits.own.cursor_within (tried_within heap seat seat.place other.fits.at_place) r apart other.told.gathers;
         cycle = cycle_other heap words_given owner book.colour book.history entry refl r seat
-            (cycle_control heap state.words book.owner owner book.colour book.colour (phase book.history) (answered r book.history) (has_left r book.history) r seat g word below
+            (cycle_control heap state.words book.owner owner book.colour book.colour (phase book.history) (last_answer r book.history) (has_left r book.history) r seat g word below
             (omega (arith, under, rule.machine.limits.seats_fit)) (λ f marked. marked) (λ f borne. (borne_before Free book.owner fs r f free_bears_none borne, refl)) (watched_born heap state book rule r under) other.cycle) away;
       } other

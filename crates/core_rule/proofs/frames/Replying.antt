@@ -8,7 +8,7 @@ use Rattle.heap_model.specs.account.Account.{KeepsSpace}
 use Rattle.heap_model.specs.account.Cycles.{graph_of}
 use Rattle.heap_model.specs.account.Effects.{effect_of, no_effect, is_of}
 use Rattle.heap_model.specs.graph.Legal.{Accepts}
-use Rattle.heap_model.specs.graph.Objects.{party}
+use Rattle.heap_model.specs.graph.Objects.{graph_seat}
 use Rattle.core_machine.specs.declared.place.Place.{Place}
 use Rattle.core_machine.specs.seat.Seat.{Seat}
 use Rattle.core_rule.specs.Book.{Book}
@@ -25,8 +25,8 @@ pub no_part : (entry : Entry) (part : Effect → ℕ) → effect_of entry ≡ no
 no_part entry part nothing none = rw nothing none
 
 -- a reply was told, and no other is to come
-pub began_told : (history : List Entry) (entry : Entry) (q begun : ℕ) (place now : Place) → IsAnswered now → Began history q begun place → Began (history ++ entry ∷ []) q begun now
-began_told history entry q begun place now answered began = record {
+pub began_told : (history : List Entry) (entry : Entry) (number begun : ℕ) (place now : Place) → IsAnswered now → Began history number begun place → Began (history ++ entry ∷ []) number begun now
+began_told history entry number begun place now answered began = record {
   earlier = rw (length-append history (entry ∷ [])) (omega (arith, began.earlier));
   unanswered = λ busy. absurd (busy answered);
 }
@@ -42,8 +42,8 @@ module _ (heap : Heap) (words : List ℕ) (book : Book) (entry : Entry) (nothing
       (heap_cycle_more heap words book.owner book.colour book.history entry (no_part entry (λ e. e.phases) nothing refl) book.fragments stands.cycle) stands
 
   -- another seat stands
-  pub other_told : (r : ℕ) (seat : Seat) → is_of r entry ≡ false → party (graph_of heap (book.history ++ entry ∷ [])) r ≡ party (graph_of heap book.history) r
+  pub other_told : (r : ℕ) (seat : Seat) → is_of r entry ≡ false → graph_seat (graph_of heap (book.history ++ entry ∷ [])) r ≡ graph_seat (graph_of heap book.history) r
       → SeatStands heap words book r seat → SeatStands heap words (with_entry book entry) r seat
-  other_told r seat other party stands =
-      seat_past heap words words (fragments_same heap words) book entry nodes r seat other party
+  other_told r seat other graph_seat stands =
+      seat_past heap words words (fragments_same heap words) book entry nodes r seat other graph_seat
       (cycle_other heap words book.owner book.colour book.history entry (no_part entry (λ e. e.phases) nothing refl) r seat stands.cycle other) stands

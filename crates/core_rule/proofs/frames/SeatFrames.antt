@@ -7,10 +7,10 @@ use Rattle.heap_model.specs.declared.id.Value.{Value}
 use Rattle.heap_model.specs.declared.id.Value.TheVariants as values
 use Rattle.heap_model.specs.account.Cycles.{graph_of}
 use Rattle.heap_model.specs.account.Effects.{is_of}
-use Rattle.heap_model.specs.graph.Objects.{party, register, Party}
-use Rattle.heap_model.specs.account.PhaseCounts.{phase, answered, has_left}
+use Rattle.heap_model.specs.graph.Objects.{graph_seat, register_value, GraphSeat}
+use Rattle.heap_model.specs.account.PhaseCounts.{phase, last_answer, has_left}
 use Rattle.heap_model.specs.account.Space.{spent_of, taken_of}
-use Rattle.heap_model.specs.graph.State.{State as Graph}
+use Rattle.heap_model.specs.graph.Graph.{Graph}
 use Rattle.core_machine.specs.declared.place.Place.{Place}
 use Rattle.core_machine.specs.declared.seat.register.Register.{Register}
 use Rattle.core_machine.specs.declared.seat.register.Register.TheVariants as registers
@@ -32,21 +32,21 @@ use Rattle.core_rule.proofs.ways.WayFrames.{ObjectStays, ways_stay}
 
 -- the graph's party has the same registers, and as many objects and sets, and has left where it had
 pub record SameParty (g now : Graph) (r : ℕ) : Type 0 where
-  pub registers : (party now r).registers ≡ (party g r).registers
-  pub objects : length (party now r).objects ≡ length (party g r).objects
-  pub sets : (party now r).sets ≡ (party g r).sets
-  pub left : (party now r).left ≡ (party g r).left
+  pub registers : (graph_seat now r).registers ≡ (graph_seat g r).registers
+  pub objects : length (graph_seat now r).objects ≡ length (graph_seat g r).objects
+  pub sets : (graph_seat now r).sets ≡ (graph_seat g r).sets
+  pub left : (graph_seat now r).left ≡ (graph_seat g r).left
 
 -- so it is where its part of the graph is the same
-pub same_party : (g now : Graph) (r : ℕ) → party now r ≡ party g r → SameParty g now r
+pub same_party : (g now : Graph) (r : ℕ) → graph_seat now r ≡ graph_seat g r → SameParty g now r
 same_party g now r same = record {
-  registers = ap (λ (p : Party). p.registers) same;
-  objects = ap (λ (p : Party). length p.objects) same;
-  sets = ap (λ (p : Party). p.sets) same;
-  left = ap (λ (p : Party). p.left) same;
+  registers = ap (λ (p : GraphSeat). p.registers) same;
+  objects = ap (λ (p : GraphSeat). length p.objects) same;
+  sets = ap (λ (p : GraphSeat). p.sets) same;
+  left = ap (λ (p : GraphSeat). p.left) same;
 }
 
-register_stays : (g now : Graph) (r : ℕ) → SameParty g now r → (i : ℕ) → register now r i ≡ register g r i
+register_stays : (g now : Graph) (r : ℕ) → SameParty g now r → (i : ℕ) → register_value now r i ≡ register_value g r i
 register_stays g now r same i = ap (λ (rs : List Value). get_or rs i values.Nil) same.registers
 
 -- the later history tells no more of the seat
@@ -91,9 +91,9 @@ kept_lengths g now made owner fragments longs = record {
 }
 
 -- so registers hold what they held
-pub registers_owners : (owner now : ℕ → Owner) → SameKept owner now → (made : List Id) (fragments : ℕ → List ℕ) (g : Graph) (q : ℕ) (held : List Register) (place : Place) (d : ℕ)
-    → Registers g made owner fragments q held place d → Registers g made now fragments q held place d
-registers_owners owner now same made fragments g q held place d old =
+pub registers_owners : (owner now : ℕ → Owner) → SameKept owner now → (made : List Id) (fragments : ℕ → List ℕ) (g : Graph) (number : ℕ) (held : List Register) (place : Place) (d : ℕ)
+    → Registers g made owner fragments number held place d → Registers g made now fragments number held place d
+registers_owners owner now same made fragments g number held place d old =
     λ r fresh. holds_stays made made owner now fragments fragments (kept_owners g made owner now fragments same).names _ _ (old r fresh)
 
 -- what a step of another leaves of a seat
@@ -105,7 +105,7 @@ pub record LeavesSeat (heap : Heap) (words : List ℕ) (book now : Book) (r : �
   pub hand : SameHand r book.owner now.owner
   pub stored : IsStored heap words r seat
   pub gathers : GathersRight heap now.owner r (drop (book.begun r) now.history) seat.cursor seat.tried seat.given
-  pub cycle : SeatInCycle heap words (phase now.history) (answered r now.history) (has_left r now.history) now.owner now.colour r seat
+  pub cycle : SeatInCycle heap words (phase now.history) (last_answer r now.history) (has_left r now.history) now.owner now.colour r seat
 
 -- so all of it stands
 pub seat_left : (heap : Heap) (words now_words : List ℕ) (book now : Book) (r : ℕ) (seat : Seat) → LeavesSeat heap now_words book now r seat
@@ -113,7 +113,7 @@ pub seat_left : (heap : Heap) (words now_words : List ℕ) (book now : Book) (r 
 seat_left heap words now_words book now r seat leaves old =
     let g : Graph = graph_of heap book.history in
     let after : Graph = graph_of heap now.history in
-    let same : (i : ℕ) → register after r i ≡ register g r i = register_stays g after r leaves.party in
+    let same : (i : ℕ) → register_value after r i ≡ register_value g r i = register_stays g after r leaves.party in
     record {
       fits = old.fits;
       own = record {
@@ -122,7 +122,7 @@ seat_left heap words now_words book now r seat leaves old =
         together = old.own.together;
       };
       names = record {
-        registers = λ i awake. subst (regs.Holds now.made now.owner now.fragments (get_or seat.registers i registers.Nil)) (sym (same i))
+        registers = λ i awake. subst (regs.HoldsValue now.made now.owner now.fragments (get_or seat.registers i registers.Nil)) (sym (same i))
             (holds_stays book.made now.made book.owner now.owner book.fragments now.fragments leaves.kept.names _ _ (old.names.registers i awake));
         way = ways_stay (cells_at g book.made) (cells_at after now.made) book.made now.made book.owner now.owner book.fragments now.fragments leaves.kept.objects seat seat.place old.names.way;
       };
@@ -149,7 +149,7 @@ pub seat_stays : (heap : Heap) (words now : List ℕ) (book : Book) (entry : Ent
     → SameParty (graph_of heap book.history) (graph_of heap (book.history ++ entry ∷ [])) r
     → ((i : ℕ) → length (cells_at (graph_of heap (book.history ++ entry ∷ [])) book.made i) ≡ length (cells_at (graph_of heap book.history) book.made i))
     → IsStored heap now r seat
-    → SeatInCycle heap now (phase (book.history ++ entry ∷ [])) (answered r (book.history ++ entry ∷ [])) (has_left r (book.history ++ entry ∷ [])) book.owner book.colour r seat
+    → SeatInCycle heap now (phase (book.history ++ entry ∷ [])) (last_answer r (book.history ++ entry ∷ [])) (has_left r (book.history ++ entry ∷ [])) book.owner book.colour r seat
     → SeatStands heap words book r seat → SeatStands heap now (with_entry book entry) r seat
 seat_stays heap words now book entry r seat other same longs stored cycle old = seat_left heap words now book (with_entry book entry) r seat record {
   calls = refl;

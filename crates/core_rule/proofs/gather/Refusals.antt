@@ -16,15 +16,15 @@ use Rattle.core_rule.proofs.entries.Others.{part_but}
 use Rattle.core_rule.proofs.gather.SinceCall.{since_call}
 
 -- after a gather over all groups that found too little, what was found is right, in a run
-pub finds_in_run : (heap : Heap) (owner : ℕ → Owner) (history : List Entry) (q begun cursor given reserve : ℕ) → cursor < heap.groups
-    → AreUsed heap owner history → reserve + spent_of q history ≡ taken_of q history
-    → list_any (is_reply_to q) (drop begun history) ≡ false
-    → GathersRight heap owner q (drop begun history) cursor heap.groups given
-    → FindsSpace heap false history q (reserve + given)
-finds_in_run heap owner history q begun cursor given reserve within used own unanswered gathers =
+pub finds_in_run : (heap : Heap) (owner : ℕ → Owner) (history : List Entry) (number begun cursor given reserve : ℕ) → cursor < heap.groups
+    → AreUsed heap owner history → reserve + spent_of number history ≡ taken_of number history
+    → list_any (is_reply_to number) (drop begun history) ≡ false
+    → GathersRight heap owner number (drop begun history) cursor heap.groups given
+    → FindsSpace heap false history number (reserve + given)
+finds_in_run heap owner history number begun cursor given reserve within used own unanswered gathers =
     let all = taken_and_free (16 * heap.groups) owner in
     let passed = passed_all heap owner cursor within in
-    let freed = since_call q (λ e. (effect_of e).freed) begun history unanswered in
-    let gave = since_call q (part_but q (λ x. x.given)) begun history unanswered in
-    let took = since_call q (part_but q (λ x. x.taken)) begun history unanswered in
+    let freed = since_call number (λ e. (effect_of e).freed) begun history unanswered in
+    let gave = since_call number (part_but number (λ x. x.given)) begun history unanswered in
+    let took = since_call number (part_but number (λ x. x.taken)) begun history unanswered in
     (omega (arith, all, passed, freed, gave, used, own, gathers.passed), omega (arith, all, took, used, own, gathers.returned))

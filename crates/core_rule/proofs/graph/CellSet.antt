@@ -7,9 +7,9 @@ use Rattle.heap_model.specs.declared.graph.cell.Cell.{Cell}
 use Rattle.heap_model.specs.declared.id.Id.{Id}
 use Rattle.heap_model.specs.declared.id.Id.TheVariants.{Board, Made}
 use Rattle.heap_model.specs.declared.id.Value.TheVariants as values
-use Rattle.heap_model.specs.graph.Changes.{with_cell, with_object_cell, with_party, count_set, write}
-use Rattle.heap_model.specs.graph.Objects.{party, node, nobody}
-use Rattle.heap_model.specs.graph.State.{State, Node, Party, fresh}
+use Rattle.heap_model.specs.graph.Changes.{with_cell, with_object_cell, with_graph_seat, count_set, write}
+use Rattle.heap_model.specs.graph.Objects.{graph_seat, node, absent_graph_seat}
+use Rattle.heap_model.specs.graph.Graph.{Graph, Node, GraphSeat, fresh}
 use Rattle.core_rule.proofs.graph.GraphSeats.{party_is, party_apart, node_stays}
 use Rattle.core_rule.proofs.frames.SeatFrames.{SameParty, same_party}
 
@@ -23,7 +23,7 @@ slice_get-set_other (x ∷ xs) (suc i) (suc j) a apart = slice_get-set_other xs 
 slice_get-set_other _ _ _ a apart = refl
 
 -- each seat has what it had after both of two such steps
-party_then : (g c now : State) (r : ℕ) → SameParty g c r → SameParty c now r → SameParty g now r
+party_then : (g c now : Graph) (r : ℕ) → SameParty g c r → SameParty c now r → SameParty g now r
 party_then g c now r one two = record {
   registers = two.registers ∙ one.registers;
   objects = two.objects ∙ one.objects;
@@ -32,60 +32,60 @@ party_then g c now r one two = record {
 }
 
 -- the object has another cell, and no other object has, nor has a seat other data
-pub record Writes (g now : State) (id : Id) (i : ℕ) (cell : Cell) : Type 0 where
+pub record Writes (g now : Graph) (id : Id) (i : ℕ) (cell : Cell) : Type 0 where
   pub written : (object : Node) → node g id ≡ Some object → node now id ≡ Some (with_cell object i cell)
   pub rest : (x : Id) → x ≢ id → node now x ≡ node g x
   pub parties : (r : ℕ) → SameParty g now r
 
 -- a seat with an object is one of the graph's
-maker_below : (seats : List Party) (t n : ℕ) (object : Node) → slice_get (get_or seats t nobody).objects n ≡ Some object → t < length seats
+maker_below : (seats : List GraphSeat) (t n : ℕ) (object : Node) → slice_get (get_or seats t absent_graph_seat).objects n ≡ Some object → t < length seats
 maker_below [] t n object there = absurd (cc)
 maker_below (p ∷ seats) zero n object there = omega arith
 maker_below (p ∷ seats) (suc t) n object there = omega (arith, maker_below seats t n object there)
 
-module _ (g : State) (t n i : ℕ) (cell : Cell) (object : Node) (there : node g (Made t n) ≡ Some object) where
-  abbrev new_party : Party
-  new_party = with_object_cell (party g t) n i cell
+module _ (g : Graph) (t n i : ℕ) (cell : Cell) (object : Node) (there : node g (Made t n) ≡ Some object) where
+  abbrev new_party : GraphSeat
+  new_party = with_object_cell (graph_seat g t) n i cell
 
   here : t < length g.seats
   here = maker_below g.seats t n object there
 
-  party_here : party (with_party g t new_party) t ≡ new_party
-  party_here = get_or-set_same g.seats t new_party nobody here
+  party_here : graph_seat (with_graph_seat g t new_party) t ≡ new_party
+  party_here = get_or-set_same g.seats t new_party absent_graph_seat here
 
-  party_there : (r : ℕ) → r ≢ t → party (with_party g t new_party) r ≡ party g r
-  party_there r apart = get_or-set_other g.seats t r new_party nobody apart
+  party_there : (r : ℕ) → r ≢ t → graph_seat (with_graph_seat g t new_party) r ≡ graph_seat g r
+  party_there r apart = get_or-set_other g.seats t r new_party absent_graph_seat apart
 
-  object_was : get_or (party g t).objects n (fresh false 0) ≡ object
-  object_was = get_or_from_slice_get (party g t).objects n object (fresh false 0) there
+  object_was : get_or (graph_seat g t).objects n (fresh false 0) ≡ object
+  object_was = get_or_from_slice_get (graph_seat g t).objects n object (fresh false 0) there
 
-  node_here : node (with_party g t new_party) (Made t n) ≡ Some (with_cell object i cell)
-  node_here = ap (λ (p : Party). slice_get p.objects n) party_here
-      ∙ slice_get-set_same (party g t).objects n (with_cell (get_or (party g t).objects n (fresh false 0)) i cell) (slice_get_within (party g t).objects n object there)
+  node_here : node (with_graph_seat g t new_party) (Made t n) ≡ Some (with_cell object i cell)
+  node_here = ap (λ (p : GraphSeat). slice_get p.objects n) party_here
+      ∙ slice_get-set_same (graph_seat g t).objects n (with_cell (get_or (graph_seat g t).objects n (fresh false 0)) i cell) (slice_get_within (graph_seat g t).objects n object there)
       ∙ ap (λ o. Some (with_cell o i cell)) object_was
 
-  node_rest : (x : Id) → x ≢ Made t n → node (with_party g t new_party) x ≡ node g x
+  node_rest : (x : Id) → x ≢ Made t n → node (with_graph_seat g t new_party) x ≡ node g x
   node_rest Board apart = refl
   node_rest (Made s m) apart = elim (cases_eq s t) [
-    | inl e ↦ subst (λ z. node (with_party g t new_party) (Made z m) ≡ node g (Made z m)) (sym e)
-        (ap (λ (p : Party). slice_get p.objects m) party_here
-        ∙ slice_get-set_other (party g t).objects n m (with_cell (get_or (party g t).objects n (fresh false 0)) i cell) (λ f. apart (cc (e, f))))
-    | inr ne ↦ ap (λ (p : Party). slice_get p.objects m) (party_there s ne)
+    | inl e ↦ subst (λ z. node (with_graph_seat g t new_party) (Made z m) ≡ node g (Made z m)) (sym e)
+        (ap (λ (p : GraphSeat). slice_get p.objects m) party_here
+        ∙ slice_get-set_other (graph_seat g t).objects n m (with_cell (get_or (graph_seat g t).objects n (fresh false 0)) i cell) (λ f. apart (cc (e, f))))
+    | inr ne ↦ ap (λ (p : GraphSeat). slice_get p.objects m) (party_there s ne)
   ]
 
-  parties_stay : (r : ℕ) → SameParty g (with_party g t new_party) r
+  parties_stay : (r : ℕ) → SameParty g (with_graph_seat g t new_party) r
   parties_stay r = elim (cases_eq r t) [
-    | inl e ↦ subst (λ z. SameParty g (with_party g t new_party) z) (sym e) record {
-      registers = ap (λ (p : Party). p.registers) party_here;
-      objects = ap (λ (p : Party). length p.objects) party_here ∙ length-set (party g t).objects n (with_cell (get_or (party g t).objects n (fresh false 0)) i cell);
-      sets = ap (λ (p : Party). p.sets) party_here;
-      left = ap (λ (p : Party). p.left) party_here;
+    | inl e ↦ subst (λ z. SameParty g (with_graph_seat g t new_party) z) (sym e) record {
+      registers = ap (λ (p : GraphSeat). p.registers) party_here;
+      objects = ap (λ (p : GraphSeat). length p.objects) party_here ∙ length-set (graph_seat g t).objects n (with_cell (get_or (graph_seat g t).objects n (fresh false 0)) i cell);
+      sets = ap (λ (p : GraphSeat). p.sets) party_here;
+      left = ap (λ (p : GraphSeat). p.left) party_here;
     }
-    | inr ne ↦ same_party g (with_party g t new_party) r (party_there r ne)
+    | inr ne ↦ same_party g (with_graph_seat g t new_party) r (party_there r ne)
   ]
 
 -- a write to an object that is there
-writes : (g : State) (id : Id) (i : ℕ) (cell : Cell) (object : Node) → node g id ≡ Some object → Writes g (write g (values.Object id) i cell) id i cell
+writes : (g : Graph) (id : Id) (i : ℕ) (cell : Cell) (object : Node) → node g id ≡ Some object → Writes g (write g (values.Object id) i cell) id i cell
 writes g Board i cell object there = record {
   written = λ o is. ap (λ x. Some (with_cell x i cell)) (the_board o is);
   rest = λ x apart. board_alone x apart;
@@ -105,28 +105,28 @@ writes g (Made t n) i cell object there = record {
 }
 
 -- after a set the graph has the cell, and its seat one set more
-pub record Sets (g now : State) (q : ℕ) (id : Id) (i : ℕ) (cell : Cell) : Type 0 where
+pub record Sets (g now : Graph) (number : ℕ) (id : Id) (i : ℕ) (cell : Cell) : Type 0 where
   pub written : (object : Node) → node g id ≡ Some object → node now id ≡ Some (with_cell object i cell)
   pub rest : (x : Id) → x ≢ id → node now x ≡ node g x
-  pub others : (r : ℕ) → r ≢ q → SameParty g now r
-  pub registers : (party now q).registers ≡ (party g q).registers
-  pub objects : length (party now q).objects ≡ length (party g q).objects
-  pub sets : (party now q).sets ≡ (party g q).sets + 1
-  pub left : (party now q).left ≡ (party g q).left
+  pub others : (r : ℕ) → r ≢ number → SameParty g now r
+  pub registers : (graph_seat now number).registers ≡ (graph_seat g number).registers
+  pub objects : length (graph_seat now number).objects ≡ length (graph_seat g number).objects
+  pub sets : (graph_seat now number).sets ≡ (graph_seat g number).sets + 1
+  pub left : (graph_seat now number).left ≡ (graph_seat g number).left
 
-pub sets_cell : (g : State) (q : ℕ) (id : Id) (i : ℕ) (cell : Cell) (object : Node) → (party g q).left ≡ false → node g id ≡ Some object
-    → Sets g (write (count_set g q) (values.Object id) i cell) q id i cell
-sets_cell g q id i cell object present there =
-    let one_more : Party = record (party g q) { sets = (party g q).sets + 1 } in
-    let counted : party (count_set g q) q ≡ one_more = party_is g q one_more present in
-    let nodes : (x : Id) → node (count_set g q) x ≡ node g x = node_stays g q one_more present refl in
-    let w = writes (count_set g q) id i cell object (nodes id ∙ there) in
+pub sets_cell : (g : Graph) (number : ℕ) (id : Id) (i : ℕ) (cell : Cell) (object : Node) → (graph_seat g number).left ≡ false → node g id ≡ Some object
+    → Sets g (write (count_set g number) (values.Object id) i cell) number id i cell
+sets_cell g number id i cell object present there =
+    let one_more : GraphSeat = record (graph_seat g number) { sets = (graph_seat g number).sets + 1 } in
+    let counted : graph_seat (count_set g number) number ≡ one_more = party_is g number one_more present in
+    let nodes : (x : Id) → node (count_set g number) x ≡ node g x = node_stays g number one_more present refl in
+    let w = writes (count_set g number) id i cell object (nodes id ∙ there) in
     record {
       written = λ o is. w.written o (nodes id ∙ is);
       rest = λ x apart. w.rest x apart ∙ nodes x;
-      others = λ r apart. party_then g (count_set g q) (write (count_set g q) (values.Object id) i cell) r (same_party g (count_set g q) r (party_apart g q one_more present r apart)) (w.parties r);
-      registers = (w.parties q).registers ∙ ap (λ (p : Party). p.registers) counted;
-      objects = (w.parties q).objects ∙ ap (λ (p : Party). length p.objects) counted;
-      sets = (w.parties q).sets ∙ ap (λ (p : Party). p.sets) counted;
-      left = (w.parties q).left ∙ ap (λ (p : Party). p.left) counted;
+      others = λ r apart. party_then g (count_set g number) (write (count_set g number) (values.Object id) i cell) r (same_party g (count_set g number) r (party_apart g number one_more present r apart)) (w.parties r);
+      registers = (w.parties number).registers ∙ ap (λ (p : GraphSeat). p.registers) counted;
+      objects = (w.parties number).objects ∙ ap (λ (p : GraphSeat). length p.objects) counted;
+      sets = (w.parties number).sets ∙ ap (λ (p : GraphSeat). p.sets) counted;
+      left = (w.parties number).left ∙ ap (λ (p : GraphSeat). p.left) counted;
     }

@@ -6,8 +6,8 @@ use Rattle.heap_model.specs.declared.id.Id.{Id}
 use Rattle.heap_model.specs.declared.id.Id.TheVariants.{Board, Made}
 use Rattle.heap_model.specs.declared.id.Value.TheVariants as values
 use Rattle.heap_model.specs.graph.Changes.{add}
-use Rattle.heap_model.specs.graph.Objects.{party, register, node, nobody}
-use Rattle.heap_model.specs.graph.State.{State, Node, Party}
+use Rattle.heap_model.specs.graph.Objects.{graph_seat, register_value, node, absent_graph_seat}
+use Rattle.heap_model.specs.graph.Graph.{Graph, Node, GraphSeat}
 
 slice_get-push : {A : Type 0} (xs : List A) (x : A) → slice_get (xs ++ x ∷ []) (length xs) ≡ Some x
 slice_get-push [] x = refl
@@ -24,59 +24,59 @@ slice_get-at_length [] = refl
 slice_get-at_length (x ∷ xs) = slice_get-at_length xs
 
 -- a seat that hasn't left is one of the graph's
-pub present_below : (g : State) (q : ℕ) → (party g q).left ≡ false → q < length g.seats
-present_below g q present = below g.seats q present
+pub present_below : (g : Graph) (number : ℕ) → (graph_seat g number).left ≡ false → number < length g.seats
+present_below g number present = below g.seats number present
   where
-    below : (seats : List Party) (q : ℕ) → (get_or seats q nobody).left ≡ false → q < length seats
-    below [] q present = absurd (cc)
+    below : (seats : List GraphSeat) (number : ℕ) → (get_or seats number absent_graph_seat).left ≡ false → number < length seats
+    below [] number present = absurd (cc)
     below (p ∷ seats) zero present = omega arith
-    below (p ∷ seats) (suc q) present = omega (arith, below seats q present)
+    below (p ∷ seats) (suc number) present = omega (arith, below seats number present)
 
-module _ (g : State) (q d : ℕ) (object : Node) (present : (party g q).left ≡ false) where
+module _ (g : Graph) (number d : ℕ) (object : Node) (present : (graph_seat g number).left ≡ false) where
   -- the seat after it
-  abbrev pub grown_party : Party
-  grown_party = record (party g q) { registers = set (party g q).registers d (values.Object (Made q (length (party g q).objects))); objects = (party g q).objects ++ object ∷ [] }
+  abbrev pub grown_party : GraphSeat
+  grown_party = record (graph_seat g number) { registers = set (graph_seat g number).registers d (values.Object (Made number (length (graph_seat g number).objects))); objects = (graph_seat g number).objects ++ object ∷ [] }
 
   -- the seat's own part of the graph, and the others'
-  party_same : party (add g q d object) q ≡ grown_party
-  party_same = get_or-set_same g.seats q grown_party nobody (present_below g q present)
+  party_same : graph_seat (add g number d object) number ≡ grown_party
+  party_same = get_or-set_same g.seats number grown_party absent_graph_seat (present_below g number present)
 
-  pub party_other : (r : ℕ) → r ≢ q → party (add g q d object) r ≡ party g r
-  party_other r apart = get_or-set_other g.seats q r grown_party nobody apart
+  pub party_other : (r : ℕ) → r ≢ number → graph_seat (add g number d object) r ≡ graph_seat g r
+  party_other r apart = get_or-set_other g.seats number r grown_party absent_graph_seat apart
 
   -- the registers: the seat's target holds the new object, the others stay
-  pub register_target : d < length (party g q).registers → register (add g q d object) q d ≡ values.Object (Made q (length (party g q).objects))
+  pub register_target : d < length (graph_seat g number).registers → register_value (add g number d object) number d ≡ values.Object (Made number (length (graph_seat g number).objects))
   register_target within =
-      ap (λ (p : Party). get_or p.registers d values.Nil) party_same
-      ∙ get_or-set_same (party g q).registers d (values.Object (Made q (length (party g q).objects))) values.Nil within
+      ap (λ (p : GraphSeat). get_or p.registers d values.Nil) party_same
+      ∙ get_or-set_same (graph_seat g number).registers d (values.Object (Made number (length (graph_seat g number).objects))) values.Nil within
 
-  pub register_rest : (i : ℕ) → i ≢ d → register (add g q d object) q i ≡ register g q i
+  pub register_rest : (i : ℕ) → i ≢ d → register_value (add g number d object) number i ≡ register_value g number i
   register_rest i apart =
-      ap (λ (p : Party). get_or p.registers i values.Nil) party_same
-      ∙ get_or-set_other (party g q).registers d i (values.Object (Made q (length (party g q).objects))) values.Nil apart
+      ap (λ (p : GraphSeat). get_or p.registers i values.Nil) party_same
+      ∙ get_or-set_other (graph_seat g number).registers d i (values.Object (Made number (length (graph_seat g number).objects))) values.Nil apart
 
   -- the seat has one object more, and hasn't left
-  pub objects_more : length (party (add g q d object) q).objects ≡ length (party g q).objects + 1
-  objects_more = ap (λ (p : Party). length p.objects) party_same ∙ omega (arith, length-append (party g q).objects (object ∷ []))
+  pub objects_more : length (graph_seat (add g number d object) number).objects ≡ length (graph_seat g number).objects + 1
+  objects_more = ap (λ (p : GraphSeat). length p.objects) party_same ∙ omega (arith, length-append (graph_seat g number).objects (object ∷ []))
 
-  pub sets_same : (party (add g q d object) q).sets ≡ (party g q).sets
-  sets_same = ap (λ (p : Party). p.sets) party_same
+  pub sets_same : (graph_seat (add g number d object) number).sets ≡ (graph_seat g number).sets
+  sets_same = ap (λ (p : GraphSeat). p.sets) party_same
 
-  pub left_same : (party (add g q d object) q).left ≡ false
-  left_same = ap (λ (p : Party). p.left) party_same ∙ present
+  pub left_same : (graph_seat (add g number d object) number).left ≡ false
+  left_same = ap (λ (p : GraphSeat). p.left) party_same ∙ present
 
   -- the new object, and the others
-  pub node_new : node (add g q d object) (Made q (length (party g q).objects)) ≡ Some object
-  node_new = ap (λ (p : Party). slice_get p.objects (length (party g q).objects)) party_same ∙ slice_get-push (party g q).objects object
+  pub node_new : node (add g number d object) (Made number (length (graph_seat g number).objects)) ≡ Some object
+  node_new = ap (λ (p : GraphSeat). slice_get p.objects (length (graph_seat g number).objects)) party_same ∙ slice_get-push (graph_seat g number).objects object
 
   -- the new id had no object, has this one, and the others keep theirs
-  pub node_none : node g (Made q (length (party g q).objects)) ≡ None
-  node_none = slice_get-at_length (party g q).objects
+  pub node_none : node g (Made number (length (graph_seat g number).objects)) ≡ None
+  node_none = slice_get-at_length (graph_seat g number).objects
 
-  pub node_other : (id : Id) → id ≢ Made q (length (party g q).objects) → node (add g q d object) id ≡ node g id
+  pub node_other : (id : Id) → id ≢ Made number (length (graph_seat g number).objects) → node (add g number d object) id ≡ node g id
   node_other Board apart = refl
-  node_other (Made s n) apart = elim (cases_eq s q) [
-    | inl e ↦ rw e (ap (λ (p : Party). slice_get p.objects n) party_same
-        ∙ slice_get-before (party g q).objects object n (λ same. apart (cc (e, same))))
-    | inr ne ↦ ap (λ (p : Party). slice_get p.objects n) (party_other s ne)
+  node_other (Made s n) apart = elim (cases_eq s number) [
+    | inl e ↦ rw e (ap (λ (p : GraphSeat). slice_get p.objects n) party_same
+        ∙ slice_get-before (graph_seat g number).objects object n (λ same. apart (cc (e, same))))
+    | inr ne ↦ ap (λ (p : GraphSeat). slice_get p.objects n) (party_other s ne)
   ]

@@ -4,44 +4,44 @@ use Rattle.std.proofs.lemmas.Bool.{cases_eq}
 use Rattle.std.proofs.lemmas.List.{get_or-set_same, get_or-set_other}
 use Rattle.heap_model.specs.declared.id.Id.{Id}
 use Rattle.heap_model.specs.declared.id.Id.TheVariants.{Board, Made}
-use Rattle.heap_model.specs.graph.Changes.{with_party}
-use Rattle.heap_model.specs.graph.Objects.{party, node, nobody}
-use Rattle.heap_model.specs.graph.State.{State, Node, Party}
+use Rattle.heap_model.specs.graph.Changes.{with_graph_seat}
+use Rattle.heap_model.specs.graph.Objects.{graph_seat, node, absent_graph_seat}
+use Rattle.heap_model.specs.graph.Graph.{Graph, Node, GraphSeat}
 use Rattle.core_rule.proofs.graph.GraphGrowth.{present_below}
 use Rattle.core_rule.proofs.graph.SameNodes.{SameNodes, nodes_same}
 
 -- each object is as before, and each other seat
-pub record SeatChanges (g now : State) (q : ℕ) : Type 0 where
+pub record SeatChanges (g now : Graph) (number : ℕ) : Type 0 where
   pub nodes : SameNodes g now
-  pub others : (r : ℕ) → r ≢ q → party now r ≡ party g r
-  pub objects : length (party now q).objects ≡ length (party g q).objects
-  pub sets : (party now q).sets ≡ (party g q).sets
+  pub others : (r : ℕ) → r ≢ number → graph_seat now r ≡ graph_seat g r
+  pub objects : length (graph_seat now number).objects ≡ length (graph_seat g number).objects
+  pub sets : (graph_seat now number).sets ≡ (graph_seat g number).sets
 
 -- nothing changes
-pub no_change : (g : State) (q : ℕ) → SeatChanges g g q
-no_change g q = record { nodes = nodes_same g g refl; others = λ r apart. refl; objects = refl; sets = refl }
+pub no_change : (g : Graph) (number : ℕ) → SeatChanges g g number
+no_change g number = record { nodes = nodes_same g g refl; others = λ r apart. refl; objects = refl; sets = refl }
 
-module _ (g : State) (q : ℕ) (p : Party) (present : (party g q).left ≡ false) where
+module _ (g : Graph) (number : ℕ) (p : GraphSeat) (present : (graph_seat g number).left ≡ false) where
   -- the seat is another then
-  pub party_is : party (with_party g q p) q ≡ p
-  party_is = get_or-set_same g.seats q p nobody (present_below g q present)
+  pub party_is : graph_seat (with_graph_seat g number p) number ≡ p
+  party_is = get_or-set_same g.seats number p absent_graph_seat (present_below g number present)
 
-  pub party_apart : (r : ℕ) → r ≢ q → party (with_party g q p) r ≡ party g r
-  party_apart r apart = get_or-set_other g.seats q r p nobody apart
+  pub party_apart : (r : ℕ) → r ≢ number → graph_seat (with_graph_seat g number p) r ≡ graph_seat g r
+  party_apart r apart = get_or-set_other g.seats number r p absent_graph_seat apart
 
-  module _ (objects : p.objects ≡ (party g q).objects) where
+  module _ (objects : p.objects ≡ (graph_seat g number).objects) where
     -- its objects are the same, and so all are
-    pub node_stays : (id : Id) → node (with_party g q p) id ≡ node g id
+    pub node_stays : (id : Id) → node (with_graph_seat g number p) id ≡ node g id
     node_stays Board = refl
-    node_stays (Made s n) = elim (cases_eq s q) [
-      | inl e ↦ subst (λ t. node (with_party g q p) (Made t n) ≡ node g (Made t n)) (sym e) (ap (λ (x : Party). slice_get x.objects n) party_is ∙ ap (λ (xs : List Node). slice_get xs n) objects)
-      | inr apart ↦ ap (λ (x : Party). slice_get x.objects n) (party_apart s apart)
+    node_stays (Made s n) = elim (cases_eq s number) [
+      | inl e ↦ subst (λ t. node (with_graph_seat g number p) (Made t n) ≡ node g (Made t n)) (sym e) (ap (λ (x : GraphSeat). slice_get x.objects n) party_is ∙ ap (λ (xs : List Node). slice_get xs n) objects)
+      | inr apart ↦ ap (λ (x : GraphSeat). slice_get x.objects n) (party_apart s apart)
     ]
 
-    pub one_changes : p.sets ≡ (party g q).sets → SeatChanges g (with_party g q p) q
+    pub one_changes : p.sets ≡ (graph_seat g number).sets → SeatChanges g (with_graph_seat g number p) number
     one_changes sets = record {
       nodes = record { nodes = node_stays };
       others = party_apart;
-      objects = ap (λ (x : Party). length x.objects) party_is ∙ ap (λ (xs : List Node). length xs) objects;
-      sets = ap (λ (x : Party). x.sets) party_is ∙ sets;
+      objects = ap (λ (x : GraphSeat). length x.objects) party_is ∙ ap (λ (xs : List Node). length xs) objects;
+      sets = ap (λ (x : GraphSeat). x.sets) party_is ∙ sets;
     }

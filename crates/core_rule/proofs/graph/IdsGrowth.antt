@@ -4,26 +4,26 @@ use Rattle.std.proofs.lemmas.Bool.{cases_lt, false≢true}
 use Rattle.heap_model.specs.declared.id.Id.{Id}
 use Rattle.heap_model.specs.graph.Objects.{node}
 use Rattle.heap_model.specs.graph.Reach.{IsMade}
-use Rattle.heap_model.specs.graph.State.{State, Node}
-use Rattle.core_rule.specs.Book.{number_of, id_at}
+use Rattle.heap_model.specs.graph.Graph.{Graph, Node}
+use Rattle.core_rule.specs.Book.{object_number, id_at}
 use Rattle.core_rule.specs.Objects.{FitsName, AreMade}
 use Rattle.core_rule.proofs.graph.Numbering.{id_tells, number_of-le, id_at-number_of, number_of-append, number_of-new, id_at-append, id_at-new, slice_get-append}
 
 -- an id with no object wasn't made
-not_made : (g : State) (id : Id) → node g id ≡ None → IsMade g id → ⊥
+not_made : (g : Graph) (id : Id) → node g id ≡ None → IsMade g id → ⊥
 not_made g id none is = false≢true (subst (λ (o : Option Node). IsSome o) none is)
 
 -- the ids of a graph that has one object more
-pub record OneMore (g now : State) (id : Id) (object : Node) : Type 0 where
+pub record OneMore (g now : Graph) (id : Id) (object : Node) : Type 0 where
   pub none : node g id ≡ None
   pub new : node now id ≡ Some object
   pub others : (x : Id) → x ≢ id → node now x ≡ node g x
 
-module _ (g now : State) (made : List Id) (id : Id) (object : Node) (ids : AreMade g made) (more : OneMore g now id object) where
+module _ (g now : Graph) (made : List Id) (id : Id) (object : Node) (ids : AreMade g made) (more : OneMore g now id object) where
   -- it had no number yet
-  pub number_new : number_of made id ≡ length made
-  number_new = elim (cases_lt (number_of made id) (length made)) [
-    | inl below ↦ absurd (not_made g id more.none (subst (λ x. IsMade g x) (id_at-number_of made id below) (ids.in_graph (number_of made id) below)))
+  pub number_new : object_number made id ≡ length made
+  number_new = elim (cases_lt (object_number made id) (length made)) [
+    | inl below ↦ absurd (not_made g id more.none (subst (λ x. IsMade g x) (id_at-number_of made id below) (ids.in_graph (object_number made id) below)))
     | inr past ↦ omega (arith, past, number_of-le made id)
   ]
 
@@ -48,24 +48,24 @@ module _ (g now : State) (made : List Id) (id : Id) (object : Node) (ids : AreMa
       (λ i below. subst (λ (o : Option Node). IsSome o) (sym (node_at i below)) (ids.in_graph i below))
       (subst (λ (o : Option Node). IsSome o) (sym (ap (node now) (id_at-new made id) ∙ more.new)) refl)
 
-  made_distinct : (i : ℕ) → i < length (made ++ id ∷ []) → number_of (made ++ id ∷ []) (id_at (made ++ id ∷ []) i) ≡ i
-  made_distinct = old_or_new (λ i. number_of (made ++ id ∷ []) (id_at (made ++ id ∷ []) i) ≡ i)
-      (λ i below. ap (number_of (made ++ id ∷ [])) (id_at-append made id i below)
+  made_distinct : (i : ℕ) → i < length (made ++ id ∷ []) → object_number (made ++ id ∷ []) (id_at (made ++ id ∷ []) i) ≡ i
+  made_distinct = old_or_new (λ i. object_number (made ++ id ∷ []) (id_at (made ++ id ∷ []) i) ≡ i)
+      (λ i below. ap (object_number (made ++ id ∷ [])) (id_at-append made id i below)
       ∙ number_of-append made id (id_at made i) (omega (arith, ids.distinct i below, below)) ∙ ids.distinct i below)
-      (ap (number_of (made ++ id ∷ [])) (id_at-new made id) ∙ number_of-new made id number_new)
+      (ap (object_number (made ++ id ∷ [])) (id_at-new made id) ∙ number_of-new made id number_new)
 
-  made_numbered : (x : Id) → IsMade now x → (number_of (made ++ id ∷ []) x < length (made ++ id ∷ [])) × (id_at (made ++ id ∷ []) (number_of (made ++ id ∷ []) x) ≡ x)
+  made_numbered : (x : Id) → IsMade now x → (object_number (made ++ id ∷ []) x < length (made ++ id ∷ [])) × (id_at (made ++ id ∷ []) (object_number (made ++ id ∷ []) x) ≡ x)
   made_numbered x is = elim (id_tells x id) [
-    | inl e ↦ subst (λ y. (number_of (made ++ id ∷ []) y < length (made ++ id ∷ [])) × (id_at (made ++ id ∷ []) (number_of (made ++ id ∷ []) y) ≡ y)) (sym e.1)
+    | inl e ↦ subst (λ y. (object_number (made ++ id ∷ []) y < length (made ++ id ∷ [])) × (id_at (made ++ id ∷ []) (object_number (made ++ id ∷ []) y) ≡ y)) (sym e.1)
         (omega (arith, number_of-new made id number_new, length_more), ap (id_at (made ++ id ∷ [])) (number_of-new made id number_new) ∙ id_at-new made id)
     | inr e ↦ old (ids.numbered x (subst (λ (o : Option Node). IsSome o) (more.others x e.1) is))
   ]
     where
-      old : (number_of made x < length made) × (id_at made (number_of made x) ≡ x)
-          → (number_of (made ++ id ∷ []) x < length (made ++ id ∷ [])) × (id_at (made ++ id ∷ []) (number_of (made ++ id ∷ []) x) ≡ x)
+      old : (object_number made x < length made) × (id_at made (object_number made x) ≡ x)
+          → (object_number (made ++ id ∷ []) x < length (made ++ id ∷ [])) × (id_at (made ++ id ∷ []) (object_number (made ++ id ∷ []) x) ≡ x)
       old it =
-          let same : number_of (made ++ id ∷ []) x ≡ number_of made x = number_of-append made id x it.0 in
-          (omega (arith, same, it.0, length_more), ap (id_at (made ++ id ∷ [])) same ∙ id_at-append made id (number_of made x) it.0 ∙ it.1)
+          let same : object_number (made ++ id ∷ []) x ≡ object_number made x = number_of-append made id x it.0 in
+          (omega (arith, same, it.0, length_more), ap (id_at (made ++ id ∷ [])) same ∙ id_at-append made id (object_number made x) it.0 ∙ it.1)
 
   -- the ids with the new one are the graph's
   pub ids_grown : FitsName id → AreMade now (made ++ id ∷ [])

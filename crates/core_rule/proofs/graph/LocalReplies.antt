@@ -10,97 +10,97 @@ use Rattle.heap_model.specs.declared.id.Value.TheVariants as values
 use Rattle.heap_model.specs.declared.reply.Reply.{Reply}
 use Rattle.heap_model.specs.declared.reply.Reply.TheVariants as replies
 use Rattle.heap_model.specs.account.Account.{most_kept}
-use Rattle.heap_model.specs.graph.Changes.{put}
+use Rattle.heap_model.specs.graph.Changes.{with_register}
 use Rattle.heap_model.specs.Command.{IsCommand}
 use Rattle.heap_model.specs.graph.Growth.{after_reply}
 use Rattle.heap_model.specs.Needs.{made_by}
-use Rattle.heap_model.specs.graph.Objects.{party, register, target, cell_of}
+use Rattle.heap_model.specs.graph.Objects.{graph_seat, register_value, target_node, cell_or_refusal}
 use Rattle.heap_model.specs.account.Phases.{ShowsPhases}
 use Rattle.heap_model.specs.account.Refusals.{ShowsSpace, ShowsSpine}
 use Rattle.heap_model.specs.graph.Replies.{Says, Gets, Sets, Compares, length_reply}
-use Rattle.heap_model.specs.graph.State.{State, Node}
+use Rattle.heap_model.specs.graph.Graph.{Graph, Node}
 use Rattle.core_machine.specs.declared.seat.register.Register.{Register}
 use Rattle.core_machine.specs.declared.seat.register.Register.TheVariants as registers
 use Rattle.core_machine.specs.seat.Fits.{IsLocal}
-use Rattle.core_machine.specs.seat.Registers.{register_in, value_of, is_same_value, head_of}
-use Rattle.core_machine.specs.seat.Telling.{answer_of, local_reply, local_registers}
+use Rattle.core_machine.specs.seat.Registers.{register_in, value_of, is_same_value, register_head}
+use Rattle.core_machine.specs.seat.Local.{answer_of, local_reply_of, local_registers}
 use Rattle.core_rule.specs.Owners.{Owner}
-use Rattle.core_rule.specs.Registers.{Holds}
+use Rattle.core_rule.specs.Registers.{HoldsValue}
 use Rattle.core_rule.proofs.graph.PutRegister.{OnlyRegisters, put_only, only_none, registers_filled}
 use Rattle.core_rule.proofs.graph.SameValues.{held_compares, holds_no_object}
 
-module _ (heap : Heap) (history : List Entry) (g : State) (q : ℕ) (made : List Id) (owner : ℕ → Owner) (fragments : ℕ → List ℕ) where
+module _ (heap : Heap) (history : List Entry) (g : Graph) (number : ℕ) (made : List Id) (owner : ℕ → Owner) (fragments : ℕ → List ℕ) where
   -- each register holds its value in the graph
-  abbrev pub HoldAll : State → List Register → Type 0
-  HoldAll now held = (i : ℕ) → Holds made owner fragments (register_in held i) (register now q i)
+  abbrev pub HoldAll : Graph → List Register → Type 0
+  HoldAll now held = (i : ℕ) → HoldsValue made owner fragments (register_in held i) (register_value now number i)
 
   -- the reply makes no object, and what it shows of space and phase is right
   pub record IsPlain (command : Command) (reply : Reply) : Type 0 where
     pub none : made_by command reply ≡ 0
-    pub space : ShowsSpace heap false history q command reply
-    pub spine : ShowsSpine heap false history q command reply
-    pub phases : ShowsPhases heap false history q command reply
+    pub space : ShowsSpace heap false history number command reply
+    pub spine : ShowsSpine heap false history number command reply
+    pub phases : ShowsPhases heap false history number command reply
     pub most : most_kept command ≡ 15
 
   -- it is the graph's, and the registers hold what they do in the graph after it
   pub record IsLocalReply (command : Command) (reply : Reply) (held : List Register) : Type 0 where
     pub plain : IsPlain command reply
-    pub says : Says g q command reply
-    pub only : OnlyRegisters g (after_reply g q command reply) q
-    pub registers : HoldAll (after_reply g q command reply) held
+    pub says : Says g number command reply
+    pub only : OnlyRegisters g (after_reply g number command reply) number
+    pub registers : HoldAll (after_reply g number command reply) held
 
-  module _ (held : List Register) (present : (party g q).left ≡ false) (whole : length held ≡ 16) (sixteen : length (party g q).registers ≡ 16) (holds : HoldAll g held) where
+  module _ (held : List Register) (present : (graph_seat g number).left ≡ false) (whole : length held ≡ 16) (sixteen : length (graph_seat g number).registers ≡ 16) (holds : HoldAll g held) where
     -- a register that is set
-    set_holds : (d : ℕ) (register : Register) (value : Value) → d ≤ 15 → Holds made owner fragments register value → HoldAll (put g q d value) (set held d register)
-    set_holds d register value within new =
-        registers_filled made owner fragments g q d value held register present (omega (arith, whole, within)) (omega (arith, sixteen, within)) new (λ i apart. holds i)
+    set_holds : (d : ℕ) (filled : Register) (value : Value) → d ≤ 15 → HoldsValue made owner fragments filled value → HoldAll (with_register g number d value) (set held d filled)
+    set_holds d filled value within new =
+        registers_filled made owner fragments g number d value held filled present (omega (arith, whole, within)) (omega (arith, sixteen, within)) new (λ i apart. holds i)
 
     -- whether two values are the same
-    same_reply : (a b : ℕ) (same : Bool) → Compares (register g q a) (register g q b) (answer_of same) → IsLocalReply (commands.Same a b) (answer_of same) held
-    same_reply a b true says = record { plain = record { none = refl; space = tt; spine = tt; phases = tt; most = refl }; says = says; only = only_none g q; registers = holds }
-    same_reply a b false says = record { plain = record { none = refl; space = tt; spine = tt; phases = tt; most = refl }; says = says; only = only_none g q; registers = holds }
+    same_reply : (a b : ℕ) (same : Bool) → Compares (register_value g number a) (register_value g number b) (answer_of same) → IsLocalReply (commands.Same a b) (answer_of same) held
+    same_reply a b true says = record { plain = record { none = refl; space = tt; spine = tt; phases = tt; most = refl }; says = says; only = only_none g number; registers = holds }
+    same_reply a b false says = record { plain = record { none = refl; space = tt; spine = tt; phases = tt; most = refl }; says = says; only = only_none g number; registers = holds }
 
-    no_target : (r : ℕ) → head_of (register_in held r) ≡ None → target g (register g q r) ≡ None
-    no_target r none = holds_no_object made owner fragments g (register_in held r) (register g q r) (holds r) none
+    no_target : (r : ℕ) → register_head (register_in held r) ≡ None → target_node g (register_value g number r) ≡ None
+    no_target r none = holds_no_object made owner fragments g (register_in held r) (register_value g number r) (holds r) none
 
-    pub local_replies : (command : Command) → IsCommand command → IsLocal held command → IsLocalReply command (local_reply held command) (local_registers held command)
+    pub local_replies : (command : Command) → IsCommand command → IsLocal held command → IsLocalReply command (local_reply_of held command) (local_registers held command)
     local_replies (commands.Num d n) ranges local = record {
       plain = record { none = refl; space = tt; spine = tt; phases = tt; most = refl };
       says = refl;
-      only = put_only g q d (values.Number n) present;
+      only = put_only g number d (values.Number n) present;
       registers = set_holds d (registers.Number n) (values.Number n) ranges.0.1 (refl, ranges.1);
     }
     local_replies (commands.Nil d) ranges local = record {
       plain = record { none = refl; space = tt; spine = tt; phases = tt; most = refl };
       says = refl;
-      only = put_only g q d values.Nil present;
+      only = put_only g number d values.Nil present;
       registers = set_holds d registers.Nil values.Nil ranges.1 refl;
     }
     local_replies (commands.Copy d r) ranges local = record {
       plain = record { none = refl; space = tt; spine = tt; phases = tt; most = refl };
       says = refl;
-      only = put_only g q d (register g q r) present;
-      registers = set_holds d (register_in held r) (register g q r) ranges.0.1 (holds r);
+      only = put_only g number d (register_value g number r) present;
+      registers = set_holds d (register_in held r) (register_value g number r) ranges.0.1 (holds r);
     }
     local_replies (commands.Same a b) ranges local =
         same_reply a b (is_same_value (value_of (register_in held a)) (value_of (register_in held b)))
-        (held_compares made owner fragments (register_in held a) (register_in held b) (register g q a) (register g q b) (holds a) (holds b))
+        (held_compares made owner fragments (register_in held a) (register_in held b) (register_value g number a) (register_value g number b) (holds a) (holds b))
     local_replies (commands.Get d r i) ranges local = record {
       plain = record { none = refl; space = tt; spine = tt; phases = tt; most = refl };
-      says = subst (λ (o : Option Node). Gets (cell_of o i) replies.NoObject) (sym (no_target r local)) refl;
-      only = only_none g q;
+      says = subst (λ (o : Option Node). Gets (cell_or_refusal o i) replies.NoObject) (sym (no_target r local)) refl;
+      only = only_none g number;
       registers = holds;
     }
     local_replies (commands.Set r i v) ranges local = record {
       plain = record { none = refl; space = tt; spine = tt; phases = tt; most = refl };
-      says = subst (λ (o : Option Node). Sets (party g q).sets (cell_of o i) replies.NoObject) (sym (no_target r local)) refl;
-      only = only_none g q;
+      says = subst (λ (o : Option Node). Sets (graph_seat g number).sets (cell_or_refusal o i) replies.NoObject) (sym (no_target r local)) refl;
+      only = only_none g number;
       registers = holds;
     }
     local_replies (commands.Len r) ranges local = record {
       plain = record { none = refl; space = tt; spine = tt; phases = tt; most = refl };
       says = subst (λ (o : Option Node). replies.NoObject ≡ length_reply o) (sym (no_target r local)) refl;
-      only = only_none g q;
+      only = only_none g number;
       registers = holds;
     }
     local_replies _ ranges local = absurd local

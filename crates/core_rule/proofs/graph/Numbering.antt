@@ -4,7 +4,7 @@ use Rattle.std.proofs.lemmas.Bool.Decides.{eqb_tells}
 use Rattle.heap_model.specs.declared.id.Id.{Id}
 use Rattle.heap_model.specs.declared.id.Id.TheVariants.{Board, Made}
 use Rattle.core_machine.specs.seat.Registers.{is_same_id}
-use Rattle.core_rule.specs.Book.{number_of, id_at}
+use Rattle.core_rule.specs.Book.{object_number, id_at}
 
 -- the test tells whether two ids are the same
 pub id_tells : (a b : Id) → ((is_same_id a b ≡ true) × (a ≡ b)) ⊎ ((is_same_id a b ≡ false) × (a ≢ b))
@@ -20,36 +20,36 @@ id_tells (Made s m) (Made t n) = elim (eqb_tells s t) as (λ _. ((is_same_id (Ma
 ]
 
 -- a number is at most how many there are
-pub number_of-le : (made : List Id) (id : Id) → number_of made id ≤ length made
+pub number_of-le : (made : List Id) (id : Id) → object_number made id ≤ length made
 number_of-le [] id = omega arith
-number_of-le (x ∷ made) id = elim (id_tells x id) as (λ _. number_of (x ∷ made) id ≤ length (x ∷ made)) [
+number_of-le (x ∷ made) id = elim (id_tells x id) as (λ _. object_number (x ∷ made) id ≤ length (x ∷ made)) [
   | inl e ↦ rw e.0 (omega arith)
   | inr e ↦ rw e.0 (omega (arith, number_of-le made id))
 ]
 
 -- an id that has a number stands there
-pub id_at-number_of : (made : List Id) (id : Id) → number_of made id < length made → id_at made (number_of made id) ≡ id
+pub id_at-number_of : (made : List Id) (id : Id) → object_number made id < length made → id_at made (object_number made id) ≡ id
 id_at-number_of [] id = λ below. absurd (omega (arith, below))
-id_at-number_of (x ∷ made) id = elim (id_tells x id) as (λ _. number_of (x ∷ made) id < length (x ∷ made) → id_at (x ∷ made) (number_of (x ∷ made) id) ≡ id) [
+id_at-number_of (x ∷ made) id = elim (id_tells x id) as (λ _. object_number (x ∷ made) id < length (x ∷ made) → id_at (x ∷ made) (object_number (x ∷ made) id) ≡ id) [
   | inl e ↦ rw e.0 (λ below. e.1)
-  | inr e ↦ rw e.0 (λ below. let one : number_of made id + 1 ≡ suc (number_of made id) = omega arith in rw one (id_at-number_of made id (omega (arith, below))))
+  | inr e ↦ rw e.0 (λ below. let one : object_number made id + 1 ≡ suc (object_number made id) = omega arith in rw one (id_at-number_of made id (omega (arith, below))))
 ]
 
 -- what was made keeps its number when one more is made
-pub number_of-append : (made : List Id) (new id : Id) → number_of made id < length made → number_of (made ++ new ∷ []) id ≡ number_of made id
+pub number_of-append : (made : List Id) (new id : Id) → object_number made id < length made → object_number (made ++ new ∷ []) id ≡ object_number made id
 number_of-append [] new id = λ below. absurd (omega (arith, below))
-number_of-append (x ∷ made) new id = elim (id_tells x id) as (λ _. number_of (x ∷ made) id < length (x ∷ made) → number_of ((x ∷ made) ++ new ∷ []) id ≡ number_of (x ∷ made) id) [
+number_of-append (x ∷ made) new id = elim (id_tells x id) as (λ _. object_number (x ∷ made) id < length (x ∷ made) → object_number ((x ∷ made) ++ new ∷ []) id ≡ object_number (x ∷ made) id) [
   | inl e ↦ rw e.0 (λ below. refl)
   | inr e ↦ rw e.0 (λ below. ap (λ n. n + 1) (number_of-append made new id (omega (arith, below))))
 ]
 
 -- a new one gets the next
-pub number_of-new : (made : List Id) (id : Id) → number_of made id ≡ length made → number_of (made ++ id ∷ []) id ≡ length made
-number_of-new [] id = λ none. elim (id_tells id id) as (λ _. number_of (id ∷ []) id ≡ 0) [
+pub number_of-new : (made : List Id) (id : Id) → object_number made id ≡ length made → object_number (made ++ id ∷ []) id ≡ length made
+number_of-new [] id = λ none. elim (id_tells id id) as (λ _. object_number (id ∷ []) id ≡ 0) [
   | inl e ↦ rw e.0 refl
   | inr e ↦ absurd (e.1 refl)
 ]
-number_of-new (x ∷ made) id = elim (id_tells x id) as (λ _. number_of (x ∷ made) id ≡ length (x ∷ made) → number_of ((x ∷ made) ++ id ∷ []) id ≡ length (x ∷ made)) [
+number_of-new (x ∷ made) id = elim (id_tells x id) as (λ _. object_number (x ∷ made) id ≡ length (x ∷ made) → object_number ((x ∷ made) ++ id ∷ []) id ≡ length (x ∷ made)) [
   | inl e ↦ rw e.0 (λ none. absurd (omega (arith, none)))
   | inr e ↦ rw e.0 (λ none. omega (arith, number_of-new made id (omega (arith, none))))
 ]

@@ -14,19 +14,19 @@ use Rattle.heap_model.specs.declared.id.Value.TheVariants.{Object}
 use Rattle.heap_model.specs.declared.reply.Reply.{Reply}
 use Rattle.heap_model.specs.declared.reply.Reply.TheVariants as replies
 use Rattle.heap_model.specs.account.Account.{KeepsSpace, most_kept}
-use Rattle.heap_model.specs.graph.Changes.{put}
+use Rattle.heap_model.specs.graph.Changes.{with_register}
 use Rattle.heap_model.specs.Command.{IsCommand}
 use Rattle.heap_model.specs.graph.Growth.{after_reply}
 use Rattle.heap_model.specs.graph.Legal.{Accepts, IsPresent}
 use Rattle.heap_model.specs.Needs.{made_by}
-use Rattle.heap_model.specs.graph.Objects.{register, node, cell_of, or_no_field}
+use Rattle.heap_model.specs.graph.Objects.{register_value, node, cell_or_refusal, or_no_field}
 use Rattle.heap_model.specs.account.Phases.{ShowsPhases}
 use Rattle.heap_model.specs.account.Refusals.{ShowsSpace, ShowsSpine}
 use Rattle.heap_model.specs.graph.Replies.{length_reply}
 use Rattle.heap_model.specs.account.Space.{taken_of, spent_of}
-use Rattle.heap_model.specs.graph.State.{State, Node}
+use Rattle.heap_model.specs.graph.Graph.{Graph, Node}
 use Rattle.core_machine.specs.seat.Commands.{target_of, object_of, field_of}
-use Rattle.core_machine.specs.seat.FitsReaching.{NamesField, IsGet}
+use Rattle.core_machine.specs.seat.FitsAccess.{NamesField, IsGet}
 use Rattle.core_rule.specs.Objects.{cells_in}
 use Rattle.core_rule.proofs.entries.Legality.{keeps_said}
 
@@ -54,7 +54,7 @@ pub target_within : (command : Command) → IsGet command → IsCommand command 
 target_within command is = get_only (λ c. IsCommand c → target_of c < 16) (λ d r i fits. omega (arith, fits.0)) command is
 
 -- an object that is there has its cells
-cell_there : (object : Option Node) (i : ℕ) → IsSome object → cell_of object i ≡ or_no_field (slice_get (cells_in object) i)
+cell_there : (object : Option Node) (i : ℕ) → IsSome object → cell_or_refusal object i ≡ or_no_field (slice_get (cells_in object) i)
 cell_there None i is = absurd (false≢true is)
 cell_there (Some x) i is = refl
 
@@ -62,54 +62,54 @@ length_there : (object : Option Node) → IsSome object → replies.Length (leng
 length_there None is = absurd (false≢true is)
 length_there (Some x) is = refl
 
-module _ (g : State) (q : ℕ) (id : Id) (command : Command) (ranges : IsCommand command) (present : IsPresent g q)
-    (made : IsSome (node g id)) (held : register g q (object_of command) ≡ Object id) where
+module _ (g : Graph) (number : ℕ) (id : Id) (command : Command) (ranges : IsCommand command) (present : IsPresent g number)
+    (made : IsSome (node g id)) (held : register_value g number (object_of command) ≡ Object id) where
   -- the length is the object's
-  pub accepts_length : IsLen command → Accepts g (Said q command (replies.Length (length (cells_in (node g id)))))
+  pub accepts_length : IsLen command → Accepts g (Said number command (replies.Length (length (cells_in (node g id)))))
   accepts_length is =
-      len_only (λ c. IsCommand c → register g q (object_of c) ≡ Object id → Accepts g (Said q c (replies.Length (length (cells_in (node g id))))))
+      len_only (λ c. IsCommand c → register_value g number (object_of c) ≡ Object id → Accepts g (Said number c (replies.Length (length (cells_in (node g id))))))
       (λ r fits holds. (present, fits, rw holds (length_there (node g id) made))) command is ranges held
 
   -- a field past the end is none of it
-  pub accepts_no_field : NamesField command → length (cells_in (node g id)) ≤ field_of command → Accepts g (Said q command replies.NoField)
+  pub accepts_no_field : NamesField command → length (cells_in (node g id)) ≤ field_of command → Accepts g (Said number command replies.NoField)
   accepts_no_field is past =
-      field_only (λ c. IsCommand c → register g q (object_of c) ≡ Object id → length (cells_in (node g id)) ≤ field_of c → Accepts g (Said q c replies.NoField))
+      field_only (λ c. IsCommand c → register_value g number (object_of c) ≡ Object id → length (cells_in (node g id)) ≤ field_of c → Accepts g (Said number c replies.NoField))
       (λ d r i fits holds none. (present, fits, rw (holds, cell_there (node g id) i made, slice_get_past (cells_in (node g id)) i none) refl))
       (λ r i v fits holds none. (present, fits, rw (holds, cell_there (node g id) i made, slice_get_past (cells_in (node g id)) i none) refl))
       command is ranges held past
 
   -- a get's value and stamp are the cell's
-  pub accepts_got : IsGet command → (cell : Cell) → slice_get (cells_in (node g id)) (field_of command) ≡ Some cell → Accepts g (Said q command (replies.Got cell.value cell.stamp))
+  pub accepts_got : IsGet command → (cell : Cell) → slice_get (cells_in (node g id)) (field_of command) ≡ Some cell → Accepts g (Said number command (replies.Got cell.value cell.stamp))
   accepts_got is cell there =
-      get_only (λ c. IsCommand c → register g q (object_of c) ≡ Object id → slice_get (cells_in (node g id)) (field_of c) ≡ Some cell → Accepts g (Said q c (replies.Got cell.value cell.stamp)))
+      get_only (λ c. IsCommand c → register_value g number (object_of c) ≡ Object id → slice_get (cells_in (node g id)) (field_of c) ≡ Some cell → Accepts g (Said number c (replies.Got cell.value cell.stamp)))
       (λ d r i fits holds at_field. (present, fits, rw (holds, cell_there (node g id) i made, at_field) refl)) command is ranges held there
 
 -- a length changes nothing of the graph, nor does a field that isn't there
-pub graph_length : (g : State) (q n : ℕ) (command : Command) → IsLen command → after_reply g q command (replies.Length n) ≡ g
-graph_length g q n command is = len_only (λ c. after_reply g q c (replies.Length n) ≡ g) (λ r. refl) command is
+pub graph_length : (g : Graph) (number n : ℕ) (command : Command) → IsLen command → after_reply g number command (replies.Length n) ≡ g
+graph_length g number n command is = len_only (λ c. after_reply g number c (replies.Length n) ≡ g) (λ r. refl) command is
 
-pub graph_no_field : (g : State) (q : ℕ) (command : Command) → NamesField command → after_reply g q command replies.NoField ≡ g
-graph_no_field g q command is = field_only (λ c. after_reply g q c replies.NoField ≡ g) (λ d r i. refl) (λ r i v. refl) command is
+pub graph_no_field : (g : Graph) (number : ℕ) (command : Command) → NamesField command → after_reply g number command replies.NoField ≡ g
+graph_no_field g number command is = field_only (λ c. after_reply g number c replies.NoField ≡ g) (λ d r i. refl) (λ r i v. refl) command is
 
 -- what a get answers stands in its register
-pub graph_got : (g : State) (q : ℕ) (value : Value) (stamp : ℕ) (command : Command) → IsGet command → after_reply g q command (replies.Got value stamp) ≡ put g q (target_of command) value
-graph_got g q value stamp command is = get_only (λ c. after_reply g q c (replies.Got value stamp) ≡ put g q (target_of c) value) (λ d r i. refl) command is
+pub graph_got : (g : Graph) (number : ℕ) (value : Value) (stamp : ℕ) (command : Command) → IsGet command → after_reply g number command (replies.Got value stamp) ≡ with_register g number (target_of command) value
+graph_got g number value stamp command is = get_only (λ c. after_reply g number c (replies.Got value stamp) ≡ with_register g number (target_of c) value) (λ d r i. refl) command is
 
-module _ (heap : Heap) (play : Bool) (before : List Entry) (q : ℕ) (own : spent_of q before ≤ taken_of q before) (little : taken_of q before ≤ spent_of q before + 15) where
+module _ (heap : Heap) (play : Bool) (before : List Entry) (number : ℕ) (own : spent_of number before ≤ taken_of number before) (little : taken_of number before ≤ spent_of number before + 15) where
   -- a reply that makes nothing and shows no space and no phase keeps the rules of space
-  keeps_bare : (command : Command) (reply : Reply) → made_by command reply ≡ 0 → most_kept command ≡ 15 → ShowsSpace heap play before q command reply
-      → ShowsSpine heap play before q command reply → ShowsPhases heap play before q command reply → KeepsSpace heap play before (Said q command reply)
-  keeps_bare command reply none most space spine phases = keeps_said heap play before q command reply none space spine phases own (omega (arith, most, little))
+  keeps_bare : (command : Command) (reply : Reply) → made_by command reply ≡ 0 → most_kept command ≡ 15 → ShowsSpace heap play before number command reply
+      → ShowsSpine heap play before number command reply → ShowsPhases heap play before number command reply → KeepsSpace heap play before (Said number command reply)
+  keeps_bare command reply none most space spine phases = keeps_said heap play before number command reply none space spine phases own (omega (arith, most, little))
 
   -- so these do
-  pub keeps_length : (n : ℕ) (command : Command) → IsLen command → KeepsSpace heap play before (Said q command (replies.Length n))
-  keeps_length n command is = len_only (λ c. KeepsSpace heap play before (Said q c (replies.Length n))) (λ r. keeps_bare (commands.Len r) (replies.Length n) refl refl tt tt tt) command is
+  pub keeps_length : (n : ℕ) (command : Command) → IsLen command → KeepsSpace heap play before (Said number command (replies.Length n))
+  keeps_length n command is = len_only (λ c. KeepsSpace heap play before (Said number c (replies.Length n))) (λ r. keeps_bare (commands.Len r) (replies.Length n) refl refl tt tt tt) command is
 
-  pub keeps_no_field : (command : Command) → NamesField command → KeepsSpace heap play before (Said q command replies.NoField)
+  pub keeps_no_field : (command : Command) → NamesField command → KeepsSpace heap play before (Said number command replies.NoField)
   keeps_no_field command is =
-      field_only (λ c. KeepsSpace heap play before (Said q c replies.NoField))
+      field_only (λ c. KeepsSpace heap play before (Said number c replies.NoField))
       (λ d r i. keeps_bare (commands.Get d r i) replies.NoField refl refl tt tt tt) (λ r i v. keeps_bare (commands.Set r i v) replies.NoField refl refl tt tt tt) command is
 
-  pub keeps_got : (value : Value) (stamp : ℕ) (command : Command) → IsGet command → KeepsSpace heap play before (Said q command (replies.Got value stamp))
+  pub keeps_got : (value : Value) (stamp : ℕ) (command : Command) → IsGet command → KeepsSpace heap play before (Said number command (replies.Got value stamp))
   keeps_got value stamp command is =
-      get_only (λ c. KeepsSpace heap play before (Said q c (replies.Got value stamp))) (λ d r i. keeps_bare (commands.Get d r i) (replies.Got value stamp) refl refl tt tt tt) command is
+      get_only (λ c. KeepsSpace heap play before (Said number c (replies.Got value stamp))) (λ d r i. keeps_bare (commands.Get d r i) (replies.Got value stamp) refl refl tt tt tt) command is

@@ -3,22 +3,22 @@ use Rattle.std.proofs.Common.{◌≡◌, ℕ, List, Option, IsSome, slice_get, s
 use Rattle.heap_model.specs.declared.heap.Heap.{Heap}
 use Rattle.heap_model.specs.declared.id.Id.{Id}
 use Rattle.heap_model.specs.graph.Objects.{node}
-use Rattle.heap_model.specs.graph.State.{State, Node}
+use Rattle.heap_model.specs.graph.Graph.{Graph, Node}
 use Rattle.core_rule.specs.Book.{id_at}
 use Rattle.core_rule.specs.Objects.{AreMade, Objects, cells_in, cells_at}
 use Rattle.core_rule.specs.Owners.{Owner}
 
 -- each object is as it was
-pub record SameNodes (g now : State) : Type 0 where
+pub record SameNodes (g now : Graph) : Type 0 where
   pub nodes : (id : Id) → node now id ≡ node g id
 
 -- so it is where nothing changes
-pub nodes_same : (g now : State) → now ≡ g → SameNodes g now
-nodes_same g now same = record { nodes = λ id. ap (λ (x : State). node x id) same }
+pub nodes_same : (g now : Graph) → now ≡ g → SameNodes g now
+nodes_same g now same = record { nodes = λ id. ap (λ (x : Graph). node x id) same }
 
-module _ (g now : State) (made : List Id) (same : SameNodes g now) where
-  pub cells_stay : (number : ℕ) → cells_at now made number ≡ cells_at g made number
-  cells_stay number = ap cells_in (same.nodes (id_at made number))
+module _ (g now : Graph) (made : List Id) (same : SameNodes g now) where
+  pub cells_stay : (index : ℕ) → cells_at now made index ≡ cells_at g made index
+  cells_stay index = ap cells_in (same.nodes (id_at made index))
 
   -- the ids are those of the objects
   pub ids_stay : AreMade g made → AreMade now made

@@ -4,15 +4,15 @@ use Rattle.std.proofs.lemmas.Bool.Decides.{eqb_tells}
 use Rattle.heap_model.specs.declared.id.Id.{Id}
 use Rattle.heap_model.specs.declared.id.Value.{Value}
 use Rattle.heap_model.specs.declared.id.Value.TheVariants as values
-use Rattle.heap_model.specs.graph.Objects.{target}
+use Rattle.heap_model.specs.graph.Objects.{target_node}
 use Rattle.heap_model.specs.graph.Replies.{Compares}
-use Rattle.heap_model.specs.graph.State.{State}
+use Rattle.heap_model.specs.graph.Graph.{Graph}
 use Rattle.core_machine.specs.declared.seat.register.Register.{Register}
 use Rattle.core_machine.specs.declared.seat.register.Register.TheVariants as registers
-use Rattle.core_machine.specs.seat.Registers.{value_of, head_of, is_same_value}
-use Rattle.core_machine.specs.seat.Telling.{answer_of}
+use Rattle.core_machine.specs.seat.Registers.{value_of, register_head, is_same_value}
+use Rattle.core_machine.specs.seat.Local.{answer_of}
 use Rattle.core_rule.specs.Owners.{Owner}
-use Rattle.core_rule.specs.Registers.{Holds}
+use Rattle.core_rule.specs.Registers.{HoldsValue}
 use Rattle.core_rule.proofs.graph.Numbering.{id_tells}
 
 abbrev Tells : Value → Value → Type 0
@@ -43,20 +43,20 @@ compares u v = elim (same_tells u v) as (λ _. Compares u v (answer_of (is_same_
 
 module _ (made : List Id) (owner : ℕ → Owner) (fragments : ℕ → List ℕ) where
   -- a register's value is the one that it holds
-  held_value : (held : Register) (value : Value) → Holds made owner fragments held value → value ≡ value_of held
+  held_value : (held : Register) (value : Value) → HoldsValue made owner fragments held value → value ≡ value_of held
   held_value registers.Nil value holds = holds
   held_value (registers.Number n) value holds = holds.0
   held_value (registers.Object head id) value holds = holds.0
 
   -- so two registers are compared as their values are
-  pub held_compares : (a b : Register) (u v : Value) → Holds made owner fragments a u → Holds made owner fragments b v
+  pub held_compares : (a b : Register) (u v : Value) → HoldsValue made owner fragments a u → HoldsValue made owner fragments b v
       → Compares u v (answer_of (is_same_value (value_of a) (value_of b)))
-  held_compares a b u v p q =
+  held_compares a b u v p number =
       subst (λ x. Compares x v (answer_of (is_same_value (value_of a) (value_of b)))) (sym (held_value a u p))
-      (subst (λ y. Compares (value_of a) y (answer_of (is_same_value (value_of a) (value_of b)))) (sym (held_value b v q)) (compares (value_of a) (value_of b)))
+      (subst (λ y. Compares (value_of a) y (answer_of (is_same_value (value_of a) (value_of b)))) (sym (held_value b v number)) (compares (value_of a) (value_of b)))
 
   -- and one with no object refers to none
-  pub holds_no_object : (g : State) (held : Register) (value : Value) → Holds made owner fragments held value → head_of held ≡ None → target g value ≡ None
-  holds_no_object g registers.Nil value holds none = subst (λ v. target g v ≡ None) (sym holds) refl
-  holds_no_object g (registers.Number n) value holds none = subst (λ v. target g v ≡ None) (sym holds.0) refl
+  pub holds_no_object : (g : Graph) (held : Register) (value : Value) → HoldsValue made owner fragments held value → register_head held ≡ None → target_node g value ≡ None
+  holds_no_object g registers.Nil value holds none = subst (λ v. target_node g v ≡ None) (sym holds) refl
+  holds_no_object g (registers.Number n) value holds none = subst (λ v. target_node g v ≡ None) (sym holds.0) refl
   holds_no_object g (registers.Object head id) value holds none = absurd (cc)

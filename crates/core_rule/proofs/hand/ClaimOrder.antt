@@ -8,10 +8,10 @@ use Rattle.std.proofs.Math.Nat.{mod-eq_of_lt, add-mod_right}
 use Rattle.heap_model.specs.declared.heap.Heap.{Heap}
 use Rattle.core_machine.specs.seat.Fits.{AreFragments}
 use Rattle.core_machine.specs.table.Fragments.{out_of_group, part_in, part_out}
-use Rattle.core_machine.specs.seat.Making.{last_group, gathered, last_claimed, goes_on}
+use Rattle.core_machine.specs.seat.Making.{last_group_of, fragments_gathered, last_claimed, gather_next}
 use Rattle.core_machine.specs.seat.Seat.{Seat, need}
 use Rattle.core_machine.proofs.seat_lemmas.Fitting.{goes_on_cases}
-use Rattle.core_rule.specs.Together.{claim_of, InClaims, IsInOrder, AreTogether}
+use Rattle.core_rule.specs.Together.{claim_rank, InClaims, IsInOrder, AreTogether}
 use Rattle.core_rule.proofs.hand.EmptyHand.{nothing_together}
 use Rattle.core_rule.proofs.lists.OrderedLists.{pairs_front, pairs_append, pairs_zero, pairs_all, group_last}
 
@@ -52,8 +52,8 @@ claim_same n s a b start first second same = elim (cases_lt a s) [
 
 module _ (heap : Heap) where
   module _ (cursor tried : ℕ) (hand fs : List ℕ) (within : cursor < heap.groups) (few : tried < heap.groups) (of_group : All (λ f. f / 16 ≡ (cursor + tried) % heap.groups) fs) where
-    claimed_next : All (λ f. claim_of heap cursor f ≡ tried) fs
-    claimed_next = All-weaker (λ f. f / 16 ≡ (cursor + tried) % heap.groups) (λ f. claim_of heap cursor f ≡ tried)
+    claimed_next : All (λ f. claim_rank heap cursor f ≡ tried) fs
+    claimed_next = All-weaker (λ f. f / 16 ≡ (cursor + tried) % heap.groups) (λ f. claim_rank heap cursor f ≡ tried)
         (λ f here. ap (λ g. (g + heap.groups - cursor) % heap.groups) here ∙ claim_ahead heap.groups cursor tried within few) fs of_group
 
     -- the fragments of the group that is claimed next come behind those that were claimed
@@ -62,12 +62,12 @@ module _ (heap : Heap) where
         let old = together.gathered refl in
         record {
           gathered = λ e. (
-            pairs_append (λ f h. claim_of heap cursor f ≤ claim_of heap cursor h) (λ f. claim_of heap cursor f < tried) (λ f. claim_of heap cursor f ≡ tried)
+            pairs_append (λ f h. claim_rank heap cursor f ≤ claim_rank heap cursor h) (λ f. claim_rank heap cursor f < tried) (λ f. claim_rank heap cursor f ≡ tried)
                 (λ f h before now. omega (arith, before, now)) hand fs old.1 claimed_next old.0
-                (pairs_all (λ f h. claim_of heap cursor f ≤ claim_of heap cursor h) (λ f. claim_of heap cursor f ≡ tried) (λ f h one two. omega (arith, one, two)) fs claimed_next),
-            All-append (λ f. claim_of heap cursor f < tried + 1) hand fs
-                (All-weaker (λ f. claim_of heap cursor f < tried) (λ f. claim_of heap cursor f < tried + 1) (λ f less. omega (arith, less)) hand old.1)
-                (All-weaker (λ f. claim_of heap cursor f ≡ tried) (λ f. claim_of heap cursor f < tried + 1) (λ f same. omega (arith, same)) fs claimed_next),
+                (pairs_all (λ f h. claim_rank heap cursor f ≤ claim_rank heap cursor h) (λ f. claim_rank heap cursor f ≡ tried) (λ f h one two. omega (arith, one, two)) fs claimed_next),
+            All-append (λ f. claim_rank heap cursor f < tried + 1) hand fs
+                (All-weaker (λ f. claim_rank heap cursor f < tried) (λ f. claim_rank heap cursor f < tried + 1) (λ f less. omega (arith, less)) hand old.1)
+                (All-weaker (λ f. claim_rank heap cursor f ≡ tried) (λ f. claim_rank heap cursor f < tried + 1) (λ f same. omega (arith, same)) fs claimed_next),
           );
           chosen = λ e. absurd (e refl);
         }
@@ -77,12 +77,12 @@ module _ (heap : Heap) where
       → InClaims heap cursor (reserve ++ hand)
   reserve_first cursor tried reserve hand within of_cursor together =
       let old = together.gathered refl in
-      let first : All (λ f. claim_of heap cursor f ≡ 0) reserve
-      = All-weaker (λ f. f / 16 ≡ cursor) (λ f. claim_of heap cursor f ≡ 0)
+      let first : All (λ f. claim_rank heap cursor f ≡ 0) reserve
+      = All-weaker (λ f. f / 16 ≡ cursor) (λ f. claim_rank heap cursor f ≡ 0)
       (λ f here. ap (λ g. (g + heap.groups - cursor) % heap.groups) here ∙ claim_behind heap.groups cursor cursor (omega arith) within ∙ omega arith) reserve of_cursor in
-      pairs_append (λ f h. claim_of heap cursor f ≤ claim_of heap cursor h) (λ f. claim_of heap cursor f ≡ 0) (λ f. claim_of heap cursor f < tried)
+      pairs_append (λ f h. claim_rank heap cursor f ≤ claim_rank heap cursor h) (λ f. claim_rank heap cursor f ≡ 0) (λ f. claim_rank heap cursor f < tried)
       (λ f h none some. omega (arith, none)) reserve hand first old.1
-      (pairs_all (λ f h. claim_of heap cursor f ≤ claim_of heap cursor h) (λ f. claim_of heap cursor f ≡ 0) (λ f h one two. omega (arith, one, two)) reserve first) old.0
+      (pairs_all (λ f h. claim_rank heap cursor f ≤ claim_rank heap cursor h) (λ f. claim_rank heap cursor f ≡ 0) (λ f h one two. omega (arith, one, two)) reserve first) old.0
 
   -- a body that is all in the hand, of fragments in order
   whole_together : (start cursor tried : ℕ) (body : List ℕ) → start < heap.groups → InClaims heap start body → AreTogether heap cursor tried body body
@@ -94,12 +94,12 @@ module _ (heap : Heap) where
   -- the first of them are the object's
   pub together_goes_on : (seat : Seat) → seat.body ≡ [] → seat.cursor < heap.groups → All (λ f. f / 16 ≡ seat.cursor) seat.reserve
       → AreTogether heap seat.cursor seat.tried seat.hand seat.body
-      → AreTogether heap (goes_on heap seat).cursor (goes_on heap seat).tried (goes_on heap seat).hand (goes_on heap seat).body
+      → AreTogether heap (gather_next heap seat).cursor (gather_next heap seat).tried (gather_next heap seat).hand (gather_next heap seat).body
   together_goes_on seat none within of_cursor together =
       goes_on_cases (λ s. AreTogether heap s.cursor s.tried s.hand s.body) heap seat
-      (λ enough. whole_together seat.cursor (last_claimed heap seat) 0 (take (need seat) (gathered seat)) within
-      (pairs_front (λ f h. claim_of heap seat.cursor f ≤ claim_of heap seat.cursor h) (take (need seat) (gathered seat)) (drop (need seat) (gathered seat))
-      (rw (take-append-drop (need seat) (gathered seat))
+      (λ enough. whole_together seat.cursor (last_claimed heap seat) 0 (take (need seat) (fragments_gathered seat)) within
+      (pairs_front (λ f h. claim_rank heap seat.cursor f ≤ claim_rank heap seat.cursor h) (take (need seat) (fragments_gathered seat)) (drop (need seat) (fragments_gathered seat))
+      (rw (take-append-drop (need seat) (fragments_gathered seat))
       (reserve_first seat.cursor seat.tried seat.reserve seat.hand within of_cursor (subst (λ b. AreTogether heap seat.cursor seat.tried seat.hand b) none together)))))
       (λ few left. together)
       (λ few tried. together)
@@ -108,48 +108,48 @@ module _ (heap : Heap) where
   pub together_gives : (cursor tried g : ℕ) (hand body : List ℕ) → body ≡ [] → AreTogether heap cursor tried hand body → AreTogether heap cursor tried (part_out g hand) body
   together_gives cursor tried g hand body none together = record {
     gathered = λ e. (
-      AllPairs-filter (λ f h. claim_of heap cursor f ≤ claim_of heap cursor h) (out_of_group g) hand (together.gathered e).0,
-      All-filter (out_of_group g) (λ f. claim_of heap cursor f < tried) hand (together.gathered e).1,
+      AllPairs-filter (λ f h. claim_rank heap cursor f ≤ claim_rank heap cursor h) (out_of_group g) hand (together.gathered e).0,
+      All-filter (out_of_group g) (λ f. claim_rank heap cursor f < tried) hand (together.gathered e).1,
     );
     chosen = λ e. absurd (e none);
   }
 
   module _ (start : ℕ) (hand : List ℕ) (below : start < heap.groups) (within : AreFragments heap hand) (ordered : InClaims heap start hand) where
     -- what comes behind a fragment of the last one's group is of that group too
-    behind_last : AllPairs (λ f h. f / 16 ≡ last_group hand → h / 16 ≡ last_group hand) hand
-    behind_last = pairs_zero (λ f h. f / 16 ≡ last_group hand → h / 16 ≡ last_group hand) hand
+    behind_last : AllPairs (λ f h. f / 16 ≡ last_group_of hand → h / 16 ≡ last_group_of hand) hand
+    behind_last = pairs_zero (λ f h. f / 16 ≡ last_group_of hand → h / 16 ≡ last_group_of hand) hand
         (λ i j less here is. let last : ℕ = length hand - 1 in
-        let first : claim_of heap start (get_or hand i 0) ≤ claim_of heap start (get_or hand j 0) = ordered i j 0 less here in
+        let first : claim_rank heap start (get_or hand i 0) ≤ claim_rank heap start (get_or hand j 0) = ordered i j 0 less here in
         let group : (k : ℕ) → k < length hand → get_or hand k 0 / 16 < heap.groups = λ k there. let inside : get_or hand k 0 < 16 * heap.groups = within k 0 there in omega (arith, inside) in
-        let end : claim_of heap start (get_or hand j 0) ≤ claim_of heap start (get_or hand last 0) = elim (cases_lt j last) [
+        let end : claim_rank heap start (get_or hand j 0) ≤ claim_rank heap start (get_or hand last 0) = elim (cases_lt j last) [
           | inl before ↦ ordered j last 0 before (omega (arith, here))
           | inr past ↦ let same : j ≡ last = omega (arith, here, past) in rw same (omega arith)
         ] in
-        let same : claim_of heap start (get_or hand i 0) ≡ claim_of heap start (get_or hand last 0) = ap (λ g. (g + heap.groups - start) % heap.groups) is in
+        let same : claim_rank heap start (get_or hand i 0) ≡ claim_rank heap start (get_or hand last 0) = ap (λ g. (g + heap.groups - start) % heap.groups) is in
         claim_same heap.groups start (get_or hand j 0 / 16) (get_or hand last 0 / 16) below (group j here) (group last (omega (arith, here))) (omega (arith, first, end, same)))
 
     -- so the fragments of the last group are the last ones
-    last_parted : part_out (last_group hand) hand ++ part_in (last_group hand) hand ≡ hand
-    last_parted = group_last (last_group hand) hand behind_last
+    last_parted : part_out (last_group_of hand) hand ++ part_in (last_group_of hand) hand ≡ hand
+    last_parted = group_last (last_group_of hand) hand behind_last
 
   module _ (cursor tried : ℕ) (hand body : List ℕ) (within : AreFragments heap hand) (some : 1 ≤ length body) (together : AreTogether heap cursor tried hand body) where
     in_order : IsInOrder heap hand body
     in_order = together.chosen (λ none. let empty : length body ≡ 0 = ap length none in omega (arith, some, empty))
 
     -- the others are the first of the body, which stays in order
-    pub born_in_order : IsInOrder heap (part_out (last_group hand) hand) body
+    pub born_in_order : IsInOrder heap (part_out (last_group_of hand) hand) body
     born_in_order =
         let parts = last_parted in_order.start hand in_order.below within
-        (pairs_front (λ f h. claim_of heap in_order.start f ≤ claim_of heap in_order.start h) hand in_order.born (subst (InClaims heap in_order.start) in_order.front in_order.ordered)) in
+        (pairs_front (λ f h. claim_rank heap in_order.start f ≤ claim_rank heap in_order.start h) hand in_order.born (subst (InClaims heap in_order.start) in_order.front in_order.ordered)) in
         record {
           start = in_order.start;
           below = in_order.below;
           ordered = in_order.ordered;
-          born = part_in (last_group hand) hand ++ in_order.born;
-          front = in_order.front ∙ ap (λ xs. xs ++ in_order.born) (sym parts) ∙ append_assoc (part_out (last_group hand) hand) (part_in (last_group hand) hand) in_order.born;
+          born = part_in (last_group_of hand) hand ++ in_order.born;
+          front = in_order.front ∙ ap (λ xs. xs ++ in_order.born) (sym parts) ∙ append_assoc (part_out (last_group_of hand) hand) (part_in (last_group_of hand) hand) in_order.born;
         }
 
-    pub together_bears : AreTogether heap cursor tried (part_out (last_group hand) hand) body
+    pub together_bears : AreTogether heap cursor tried (part_out (last_group_of hand) hand) body
     together_bears = record {
       gathered = λ none. let empty : length body ≡ 0 = ap length none in absurd (omega (arith, some, empty));
       chosen = λ e. born_in_order;

@@ -5,31 +5,31 @@ use Rattle.heap_model.specs.declared.entry.Entry.{Entry}
 use Rattle.heap_model.specs.declared.heap.Heap.{Heap}
 use Rattle.core_machine.specs.seat.Seat.{Seat}
 use Rattle.core_rule.specs.Gathers.{GathersRight}
-use Rattle.core_rule.specs.Holding.{Holding, IsStored, whole_hand}
+use Rattle.core_rule.specs.Holding.{Holding, IsStored, fragments_in_hand}
 use Rattle.core_rule.specs.Owners.{Owner}
-use Rattle.core_rule.specs.Together.{AreTogether, claim_of}
+use Rattle.core_rule.specs.Together.{AreTogether, claim_rank}
 use Rattle.core_rule.proofs.gather.GatherMoves.{nothing_tried}
 
 -- all that is gathered stands together
 pub nothing_together : (heap : Heap) (cursor tried : ℕ) (hand body : List ℕ) → hand ≡ [] → body ≡ [] → AreTogether heap cursor tried hand body
 nothing_together heap cursor tried hand body none bare = rw (none, bare) record {
-  gathered = λ empty. (λ i j d before within. absurd (omega (arith, within)), All-nil (λ f. claim_of heap cursor f < tried));
+  gathered = λ empty. (λ i j d before within. absurd (omega (arith, within)), All-nil (λ f. claim_rank heap cursor f < tried));
   chosen = λ some. absurd (some refl);
 }
 
 -- another hand and body that are the same
-pub holding_as : (owner : ℕ → Owner) (q : ℕ) (reserve hand body reserve' hand' body' : List ℕ) → reserve' ≡ reserve → hand' ≡ hand → body' ≡ body
-    → Holding owner q reserve hand body → Holding owner q reserve' hand' body'
-holding_as owner q reserve hand body reserve' hand' body' a b c holding = rw (a, b, c) holding
+pub holding_as : (owner : ℕ → Owner) (number : ℕ) (reserve hand body reserve' hand' body' : List ℕ) → reserve' ≡ reserve → hand' ≡ hand → body' ≡ body
+    → Holding owner number reserve hand body → Holding owner number reserve' hand' body'
+holding_as owner number reserve hand body reserve' hand' body' a b c holding = rw (a, b, c) holding
 
 -- nothing is stored
-pub none_stored : (heap : Heap) (words : List ℕ) (q : ℕ) (seat : Seat) → seat.stored ≡ 0 → IsStored heap words q seat
-none_stored heap words q seat none = λ u less. absurd (omega (arith, none, less))
+pub none_stored : (heap : Heap) (words : List ℕ) (number : ℕ) (seat : Seat) → seat.stored ≡ 0 → IsStored heap words number seat
+none_stored heap words number seat none = λ u less. absurd (omega (arith, none, less))
 
 -- a gather that hasn't begun knows what it must
-pub gathers_none : (heap : Heap) (owner : ℕ → Owner) (q : ℕ) (since : List Entry) (cursor tried given : ℕ) → tried ≡ 0 → given ≡ 0 → GathersRight heap owner q since cursor tried given
-gathers_none heap owner q since cursor tried given a b = rw (a, b) (nothing_tried heap owner q since cursor)
+pub gathers_none : (heap : Heap) (owner : ℕ → Owner) (number : ℕ) (since : List Entry) (cursor tried given : ℕ) → tried ≡ 0 → given ≡ 0 → GathersRight heap owner number since cursor tried given
+gathers_none heap owner number since cursor tried given a b = rw (a, b) (nothing_tried heap owner number since cursor)
 
 -- with nothing at hand a seat has its reserve
-pub bare_unborn : (reserve reserve' hand body : List ℕ) (spent taken : ℕ) → reserve' ≡ reserve → hand ≡ [] → body ≡ [] → length reserve + spent ≡ taken → length reserve' + length (whole_hand hand body) + spent ≡ taken
+pub bare_unborn : (reserve reserve' hand body : List ℕ) (spent taken : ℕ) → reserve' ≡ reserve → hand ≡ [] → body ≡ [] → length reserve + spent ≡ taken → length reserve' + length (fragments_in_hand hand body) + spent ≡ taken
 bare_unborn reserve reserve' hand body spent taken a b c own = rw (a, c, b) (omega (arith, own))

@@ -7,11 +7,11 @@ use Rattle.core_machine.specs.declared.place.Making.{Making}
 use Rattle.core_machine.specs.declared.place.Making.TheVariants.{Gathering, Storing}
 use Rattle.core_machine.specs.declared.place.Place.TheVariants as places
 use Rattle.core_machine.specs.table.Fragments.{tally}
-use Rattle.core_machine.specs.seat.Making.{gathered, goes_on, last_claimed, returning}
+use Rattle.core_machine.specs.seat.Making.{fragments_gathered, gather_next, last_claimed, refusal_place}
 use Rattle.core_machine.specs.seat.Seat.{Seat, need}
 use Rattle.core_machine.proofs.seat_lemmas.Fitting.{goes_on_cases}
 use Rattle.core_rule.specs.Gathers.{GathersRight}
-use Rattle.core_rule.specs.Holding.{Holding, whole_hand}
+use Rattle.core_rule.specs.Holding.{Holding, fragments_in_hand}
 use Rattle.core_rule.specs.Owners.{Owner, bears_bit}
 use Rattle.core_rule.proofs.entries.Begins.{SameData, same_data}
 use Rattle.core_rule.proofs.hand.Bodies.{whole_same}
@@ -19,27 +19,27 @@ use Rattle.core_rule.proofs.gather.GatherMoves.{nothing_tried}
 use Rattle.core_rule.proofs.lists.Tallies.{tally-append, tally_parts}
 
 -- what was gathered is the seat's, however it is parted into hand and reserve
-pub holding_goes_on : (heap : Heap) (owner : ℕ → Owner) (q : ℕ) (seat : Seat) → seat.body ≡ [] → Holding owner q seat.reserve seat.hand seat.body
-    → Holding owner q (goes_on heap seat).reserve (goes_on heap seat).hand (goes_on heap seat).body
-holding_goes_on heap owner q seat none holding =
-    goes_on_cases (λ s. Holding owner q s.reserve s.hand s.body) heap seat
+pub holding_goes_on : (heap : Heap) (owner : ℕ → Owner) (number : ℕ) (seat : Seat) → seat.body ≡ [] → Holding owner number seat.reserve seat.hand seat.body
+    → Holding owner number (gather_next heap seat).reserve (gather_next heap seat).hand (gather_next heap seat).body
+holding_goes_on heap owner number seat none holding =
+    goes_on_cases (λ s. Holding owner number s.reserve s.hand s.body) heap seat
     (λ enough. record {
-      held = λ f. omega (arith, holding.held f, tally_parts f (need seat) (gathered seat), tally-append f seat.reserve seat.hand);
-      borne = λ f. rw (whole_same (take (need seat) (gathered seat))) (omega (arith, unborn f));
+      held = λ f. omega (arith, holding.held f, tally_parts f (need seat) (fragments_gathered seat), tally-append f seat.reserve seat.hand);
+      borne = λ f. rw (whole_same (take (need seat) (fragments_gathered seat))) (omega (arith, unborn f));
     })
     (λ few left. holding)
     (λ few tried. holding)
   where
-    unborn : (f : ℕ) → bears_bit q (owner f) ≡ 0
-    unborn f = let e : tally f (whole_hand seat.hand seat.body) ≡ tally f seat.hand = rw none refl in omega (arith, e, holding.borne f)
+    unborn : (f : ℕ) → bears_bit number (owner f) ≡ 0
+    unborn f = let e : tally f (fragments_in_hand seat.hand seat.body) ≡ tally f seat.hand = rw none refl in omega (arith, e, holding.borne f)
 
 -- it is as many fragments
 pub length_goes_on : (heap : Heap) (seat : Seat) → seat.body ≡ []
-    → length (goes_on heap seat).reserve + length (whole_hand (goes_on heap seat).hand (goes_on heap seat).body) ≡ length seat.reserve + length (whole_hand seat.hand seat.body)
+    → length (gather_next heap seat).reserve + length (fragments_in_hand (gather_next heap seat).hand (gather_next heap seat).body) ≡ length seat.reserve + length (fragments_in_hand seat.hand seat.body)
 length_goes_on heap seat none =
-    goes_on_cases (λ s. length s.reserve + length (whole_hand s.hand s.body) ≡ length seat.reserve + length (whole_hand seat.hand seat.body)) heap seat
-    (λ enough. rw (whole_same (take (need seat) (gathered seat)), none)
-    (omega (arith, length_parts (need seat) (gathered seat), length-append seat.reserve seat.hand)))
+    goes_on_cases (λ s. length s.reserve + length (fragments_in_hand s.hand s.body) ≡ length seat.reserve + length (fragments_in_hand seat.hand seat.body)) heap seat
+    (λ enough. rw (whole_same (take (need seat) (fragments_gathered seat)), none)
+    (omega (arith, length_parts (need seat) (fragments_gathered seat), length-append seat.reserve seat.hand)))
     (λ few left. refl)
     (λ few tried. refl)
   where
@@ -47,12 +47,12 @@ length_goes_on heap seat none =
     length_parts n xs = sym (length-append (take n xs) (drop n xs)) ∙ ap length (take-append-drop n xs)
 
 -- what a gather knows stays, where it gave nothing back
-pub gathers_goes_on : (heap : Heap) (owner : ℕ → Owner) (q : ℕ) (since : List Entry) (seat : Seat) → seat.given ≡ 0
-    → GathersRight heap owner q since seat.cursor seat.tried seat.given
-    → GathersRight heap owner q since (goes_on heap seat).cursor (goes_on heap seat).tried (goes_on heap seat).given
-gathers_goes_on heap owner q since seat none gathers =
-    goes_on_cases (λ s. GathersRight heap owner q since s.cursor s.tried s.given) heap seat
-    (λ enough. subst (λ n. GathersRight heap owner q since (last_claimed heap seat) 0 n) (sym none) (nothing_tried heap owner q since (last_claimed heap seat)))
+pub gathers_goes_on : (heap : Heap) (owner : ℕ → Owner) (number : ℕ) (since : List Entry) (seat : Seat) → seat.given ≡ 0
+    → GathersRight heap owner number since seat.cursor seat.tried seat.given
+    → GathersRight heap owner number since (gather_next heap seat).cursor (gather_next heap seat).tried (gather_next heap seat).given
+gathers_goes_on heap owner number since seat none gathers =
+    goes_on_cases (λ s. GathersRight heap owner number since s.cursor s.tried s.given) heap seat
+    (λ enough. subst (λ n. GathersRight heap owner number since (last_claimed heap seat) 0 n) (sym none) (nothing_tried heap owner number since (last_claimed heap seat)))
     (λ few left. gathers)
     (λ few tried. gathers)
 
@@ -63,9 +63,9 @@ pub record StaysMaking (old new : Seat) : Type 0 where
   pub placed : new.place ≡ places.Making making
 
 -- it is so on each way
-pub same_goes_on : (heap : Heap) (seat : Seat) → StaysMaking seat (goes_on heap seat)
+pub same_goes_on : (heap : Heap) (seat : Seat) → StaysMaking seat (gather_next heap seat)
 same_goes_on heap seat =
     goes_on_cases (λ s. StaysMaking seat s) heap seat
     (λ enough. record { same = same_data seat _ _ _ _ _ _ _ _ _ _; making = Storing; placed = refl })
     (λ few left. record { same = same_data seat _ _ _ _ _ _ _ _ _ _; making = Gathering; placed = refl })
-    (λ few tried. record { same = same_data seat _ _ _ _ _ _ _ _ _ _; making = returning seat.hand; placed = refl })
+    (λ few tried. record { same = same_data seat _ _ _ _ _ _ _ _ _ _; making = refusal_place seat.hand; placed = refl })

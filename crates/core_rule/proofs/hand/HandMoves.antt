@@ -4,8 +4,8 @@ use Rattle.std.proofs.lemmas.Bool.Decides.{leb_tells}
 use Rattle.heap_model.specs.declared.heap.Heap.{Heap}
 use Rattle.core_machine.specs.table.Fragments.{tally, part_in, part_out}
 use Rattle.core_rule.specs.ControlWords.{Bits}
-use Rattle.core_rule.specs.Holding.{Holding, whole_hand}
-use Rattle.core_rule.specs.Owners.{Owner, Free, Holds, Bears, holds_bit, bears_bit, handed}
+use Rattle.core_rule.specs.Holding.{Holding, fragments_in_hand}
+use Rattle.core_rule.specs.Owners.{Owner, Free, Taken, Borne, holds_bit, bears_bit, owner_after}
 use Rattle.core_rule.proofs.hand.Bodies.{whole_empty, whole_full}
 use Rattle.core_rule.proofs.owners.Handed.{gains, loses, stays}
 use Rattle.core_rule.proofs.owners.OwnerLemmas.{is_held, holds_once, one_owner}
@@ -13,21 +13,21 @@ use Rattle.core_rule.proofs.lists.Parts.{parts_tally}
 use Rattle.core_rule.proofs.lists.Tallies.{tally-append, one_at_same, one_at_other}
 
 -- what a seat holds is the heap's
-pub held_within : (heap : Heap) (words : List ℕ) (owner : ℕ → Owner) → Bits heap words owner → (q : ℕ) (fs : List ℕ) → ((f : ℕ) → 1 ≤ tally f fs → owner f ≡ Holds q)
+pub held_within : (heap : Heap) (words : List ℕ) (owner : ℕ → Owner) → Bits heap words owner → (number : ℕ) (fs : List ℕ) → ((f : ℕ) → 1 ≤ tally f fs → owner f ≡ Taken number)
     → (f : ℕ) → 1 ≤ tally f fs → f < 16 * heap.groups
-held_within heap words owner bits q fs held f there = elim (leb_tells (16 * heap.groups) f) as (λ _. f < 16 * heap.groups) [
-  | inl beyond ↦ absurd (one_owner q (owner f) (bits.outside f beyond.1) (held f there))
+held_within heap words owner bits number fs held f there = elim (leb_tells (16 * heap.groups) f) as (λ _. f < 16 * heap.groups) [
+  | inl beyond ↦ absurd (one_owner number (owner f) (bits.outside f beyond.1) (held f there))
   | inr within ↦ within.1
 ]
 
 -- nothing of the object is born while it isn't chosen
-none_borne : (owner : ℕ → Owner) (q : ℕ) (reserve hand body : List ℕ) → body ≡ [] → Holding owner q reserve hand body → (f : ℕ) → bears_bit q (owner f) ≡ 0
-none_borne owner q reserve hand body none holding f =
-    let same : tally f (whole_hand hand body) ≡ tally f hand = rw none refl in
+none_borne : (owner : ℕ → Owner) (number : ℕ) (reserve hand body : List ℕ) → body ≡ [] → Holding owner number reserve hand body → (f : ℕ) → bears_bit number (owner f) ≡ 0
+none_borne owner number reserve hand body none holding f =
+    let same : tally f (fragments_in_hand hand body) ≡ tally f hand = rw none refl in
     omega (arith, holding.borne f, same)
 
-pub bears_nothing : (owner : ℕ → Owner) (q : ℕ) (reserve hand body : List ℕ) → body ≡ [] → Holding owner q reserve hand body → (f : ℕ) → owner f ≢ Bears q
-bears_nothing owner q reserve hand body none holding f bears = let one : bears_bit q (owner f) ≡ 1 = ap (bears_bit q) bears ∙ one_at_same q q refl in omega (arith, none_borne owner q reserve hand body none holding f, one)
+pub bears_nothing : (owner : ℕ → Owner) (number : ℕ) (reserve hand body : List ℕ) → body ≡ [] → Holding owner number reserve hand body → (f : ℕ) → owner f ≢ Borne number
+bears_nothing owner number reserve hand body none holding f bears = let one : bears_bit number (owner f) ≡ 1 = ap (bears_bit number) bears ∙ one_at_same number number refl in omega (arith, none_borne owner number reserve hand body none holding f, one)
 
 -- the seat holds and bears what it did
 pub record SameHand (r : ℕ) (owner now : ℕ → Owner) : Type 0 where
@@ -45,78 +45,78 @@ holding_stays owner now r reserve hand body same holding = record {
 }
 
 -- free fragments go to another seat
-pub hand_claimed : (owner : ℕ → Owner) (r s : ℕ) (fs : List ℕ) → r ≢ s → ((f : ℕ) → 1 ≤ tally f fs → owner f ≡ Free) → SameHand r owner (handed (Holds s) owner fs)
+pub hand_claimed : (owner : ℕ → Owner) (r s : ℕ) (fs : List ℕ) → r ≢ s → ((f : ℕ) → 1 ≤ tally f fs → owner f ≡ Free) → SameHand r owner (owner_after (Taken s) owner fs)
 hand_claimed owner r s fs apart free = record {
-  held = stays (holds_bit r) (Holds s) owner fs (λ x there. ap (holds_bit r) (free x there) ∙ sym (one_at_other s r (λ e. apart (sym e))));
-  borne = stays (bears_bit r) (Holds s) owner fs (λ x there. ap (bears_bit r) (free x there));
+  held = stays (holds_bit r) (Taken s) owner fs (λ x there. ap (holds_bit r) (free x there) ∙ sym (one_at_other s r (λ e. apart (sym e))));
+  borne = stays (bears_bit r) (Taken s) owner fs (λ x there. ap (bears_bit r) (free x there));
 }
 
 -- fragments of another seat go to it as born ones, or to nobody
-module _ (owner : ℕ → Owner) (r s : ℕ) (fs : List ℕ) (apart : r ≢ s) (held : (f : ℕ) → 1 ≤ tally f fs → owner f ≡ Holds s) where
-  pub hand_given : SameHand r owner (handed Free owner fs)
+module _ (owner : ℕ → Owner) (r s : ℕ) (fs : List ℕ) (apart : r ≢ s) (held : (f : ℕ) → 1 ≤ tally f fs → owner f ≡ Taken s) where
+  pub hand_given : SameHand r owner (owner_after Free owner fs)
   hand_given = record {
     held = stays (holds_bit r) Free owner fs (λ x there. ap (holds_bit r) (held x there) ∙ one_at_other s r (λ e. apart (sym e)));
     borne = stays (bears_bit r) Free owner fs (λ x there. ap (bears_bit r) (held x there));
   }
 
-  pub hand_born : SameHand r owner (handed (Bears s) owner fs)
+  pub hand_born : SameHand r owner (owner_after (Borne s) owner fs)
   hand_born = record {
-    held = stays (holds_bit r) (Bears s) owner fs (λ x there. ap (holds_bit r) (held x there) ∙ one_at_other s r (λ e. apart (sym e)));
-    borne = stays (bears_bit r) (Bears s) owner fs (λ x there. ap (bears_bit r) (held x there) ∙ sym (one_at_other s r (λ e. apart (sym e))));
+    held = stays (holds_bit r) (Borne s) owner fs (λ x there. ap (holds_bit r) (held x there) ∙ one_at_other s r (λ e. apart (sym e)));
+    borne = stays (bears_bit r) (Borne s) owner fs (λ x there. ap (bears_bit r) (held x there) ∙ sym (one_at_other s r (λ e. apart (sym e))));
   }
 
-module _ (owner : ℕ → Owner) (q : ℕ) (reserve hand body : List ℕ) (holding : Holding owner q reserve hand body) where
+module _ (owner : ℕ → Owner) (number : ℕ) (reserve hand body : List ℕ) (holding : Holding owner number reserve hand body) where
   -- what is in the hand is the seat's, each fragment once
-  pub hand_held : (f : ℕ) → 1 ≤ tally f hand → owner f ≡ Holds q
-  hand_held f there = is_held q (owner f) (omega (arith, there, holding.held f))
+  pub hand_held : (f : ℕ) → 1 ≤ tally f hand → owner f ≡ Taken number
+  hand_held f there = is_held number (owner f) (omega (arith, there, holding.held f))
 
   pub hand_once : (f : ℕ) → tally f hand ≤ 1
-  hand_once f = omega (arith, holding.held f, holds_once q (owner f))
+  hand_once f = omega (arith, holding.held f, holds_once number (owner f))
 
   -- the seat claims free fragments
   module _ (fs : List ℕ) (once : (f : ℕ) → tally f fs ≤ 1) (free : (f : ℕ) → 1 ≤ tally f fs → owner f ≡ Free) where
     -- its hand has them then
-    pub holding_claims : body ≡ [] → Holding (handed (Holds q) owner fs) q reserve (hand ++ fs) body
+    pub holding_claims : body ≡ [] → Holding (owner_after (Taken number) owner fs) number reserve (hand ++ fs) body
     holding_claims none = record {
-      held = λ f. omega (arith, holding.held f, tally-append f hand fs, gains (holds_bit q) (Holds q) owner fs once (one_at_same q q refl) (λ x there. ap (holds_bit q) (free x there)) f);
+      held = λ f. omega (arith, holding.held f, tally-append f hand fs, gains (holds_bit number) (Taken number) owner fs once (one_at_same number number refl) (λ x there. ap (holds_bit number) (free x there)) f);
       borne = λ f. rw (whole_empty (hand ++ fs) body none)
-          (omega (arith, none_borne owner q reserve hand body none holding f, stays (bears_bit q) (Holds q) owner fs (λ x there. ap (bears_bit q) (free x there)) f));
+          (omega (arith, none_borne owner number reserve hand body none holding f, stays (bears_bit number) (Taken number) owner fs (λ x there. ap (bears_bit number) (free x there)) f));
     }
 
   -- those of the hand that are of a group leave it
   module _ (g : ℕ) where
     -- they are the seat's, each once
-    pub part_held : (f : ℕ) → 1 ≤ tally f (part_in g hand) → owner f ≡ Holds q
+    pub part_held : (f : ℕ) → 1 ≤ tally f (part_in g hand) → owner f ≡ Taken number
     part_held f there = hand_held f (omega (arith, there, parts_tally g f hand))
 
     pub part_once : (f : ℕ) → tally f (part_in g hand) ≤ 1
     part_once f = omega (arith, hand_once f, parts_tally g f hand)
 
-    held_less : (o : Owner) → holds_bit q o ≡ 0 → (f : ℕ) → tally f reserve + tally f (part_out g hand) ≡ holds_bit q (handed o owner (part_in g hand) f)
+    held_less : (o : Owner) → holds_bit number o ≡ 0 → (f : ℕ) → tally f reserve + tally f (part_out g hand) ≡ holds_bit number (owner_after o owner (part_in g hand) f)
     held_less o none f = omega (
       arith,
       holding.held f,
       parts_tally g f hand,
-      loses (holds_bit q) o owner (part_in g hand) part_once none (λ x there. ap (holds_bit q) (part_held x there) ∙ one_at_same q q refl) f,
+      loses (holds_bit number) o owner (part_in g hand) part_once none (λ x there. ap (holds_bit number) (part_held x there) ∙ one_at_same number number refl) f,
     )
 
     -- they are given back
-    pub holding_gives : body ≡ [] → Holding (handed Free owner (part_in g hand)) q reserve (part_out g hand) body
+    pub holding_gives : body ≡ [] → Holding (owner_after Free owner (part_in g hand)) number reserve (part_out g hand) body
     holding_gives none = record {
       held = held_less Free refl;
       borne = λ f. rw (whole_empty (part_out g hand) body none)
-          (omega (arith, none_borne owner q reserve hand body none holding f, stays (bears_bit q) Free owner (part_in g hand) (λ x there. ap (bears_bit q) (part_held x there)) f));
+          (omega (arith, none_borne owner number reserve hand body none holding f, stays (bears_bit number) Free owner (part_in g hand) (λ x there. ap (bears_bit number) (part_held x there)) f));
     }
 
     -- they are born
-    pub holding_bears : 1 ≤ length body → Holding (handed (Bears q) owner (part_in g hand)) q reserve (part_out g hand) body
+    pub holding_bears : 1 ≤ length body → Holding (owner_after (Borne number) owner (part_in g hand)) number reserve (part_out g hand) body
     holding_bears some = record {
-      held = held_less (Bears q) refl;
+      held = held_less (Borne number) refl;
       borne = λ f. rw (whole_full (part_out g hand) hand body some)
           (omega (
             arith,
             holding.borne f,
             parts_tally g f hand,
-            gains (bears_bit q) (Bears q) owner (part_in g hand) part_once (one_at_same q q refl) (λ x there. ap (bears_bit q) (part_held x there)) f,
+            gains (bears_bit number) (Borne number) owner (part_in g hand) part_once (one_at_same number number refl) (λ x there. ap (bears_bit number) (part_held x there)) f,
           ));
     }

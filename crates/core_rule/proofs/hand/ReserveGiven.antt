@@ -5,12 +5,12 @@ use Rattle.std.proofs.lemmas.Bool.{eq-eqb}
 use Rattle.std.proofs.lemmas.List.Elements.{All-head, All-tail}
 use Rattle.heap_model.specs.declared.heap.Heap.{Heap}
 use Rattle.core_machine.specs.declared.table.address.Address.TheVariants.{Control}
-use Rattle.core_machine.specs.table.Fragments.{part_in, mask, tally}
+use Rattle.core_machine.specs.table.Fragments.{part_in, mask_of, tally}
 use Rattle.core_machine.specs.table.Layout.{at, put, table_length}
-use Rattle.core_machine.specs.table.Operation.{untaken}
+use Rattle.core_machine.specs.table.Operation.{word_without_taken}
 use Rattle.core_rule.specs.ControlWords.{Bits}
 use Rattle.core_rule.specs.Holding.{Holding}
-use Rattle.core_rule.specs.Owners.{Owner, Free, Holds, holds_bit, bears_bit, handed}
+use Rattle.core_rule.specs.Owners.{Owner, Free, Taken, holds_bit, bears_bit, owner_after}
 use Rattle.core_rule.proofs.words.ControlSteps.{give_back_bits}
 use Rattle.core_rule.proofs.owners.Handed.{loses, stays}
 use Rattle.core_rule.proofs.owners.OwnerLemmas.{is_held, holds_once}
@@ -21,29 +21,29 @@ part_all : (g : ℕ) (fs : List ℕ) → All (λ f. f / 16 ≡ g) fs → part_in
 part_all g [] all = refl
 part_all g (f ∷ fs) all = rw (eq-eqb (f / 16) g (All-head (λ f. f / 16 ≡ g) f fs all)) (ap (λ rest. f ∷ rest) (part_all g fs (All-tail (λ f. f / 16 ≡ g) f fs all)))
 
-module _ (owner : ℕ → Owner) (q : ℕ) (reserve hand body : List ℕ) (holding : Holding owner q reserve hand body) where
+module _ (owner : ℕ → Owner) (number : ℕ) (reserve hand body : List ℕ) (holding : Holding owner number reserve hand body) where
   -- what is in the reserve is the seat's, each fragment once
-  pub reserve_held : (f : ℕ) → 1 ≤ tally f reserve → owner f ≡ Holds q
-  reserve_held f there = is_held q (owner f) (omega (arith, there, holding.held f))
+  pub reserve_held : (f : ℕ) → 1 ≤ tally f reserve → owner f ≡ Taken number
+  reserve_held f there = is_held number (owner f) (omega (arith, there, holding.held f))
 
   pub reserve_once : (f : ℕ) → tally f reserve ≤ 1
-  reserve_once f = omega (arith, holding.held f, holds_once q (owner f))
+  reserve_once f = omega (arith, holding.held f, holds_once number (owner f))
 
   -- and then the seat has its hand alone
-  pub holding_emptied : Holding (handed Free owner reserve) q [] hand body
+  pub holding_emptied : Holding (owner_after Free owner reserve) number [] hand body
   holding_emptied = record {
     held = λ f. omega (
       arith,
       holding.held f,
-      loses (holds_bit q) Free owner reserve reserve_once refl (λ x there. ap (holds_bit q) (reserve_held x there) ∙ one_at_same q q refl) f,
+      loses (holds_bit number) Free owner reserve reserve_once refl (λ x there. ap (holds_bit number) (reserve_held x there) ∙ one_at_same number number refl) f,
     );
     borne = λ f. holding.borne f
-        ∙ sym (ap (λ n. tally f hand + n) (stays (bears_bit q) Free owner reserve (λ x there. ap (bears_bit q) (reserve_held x there)) f));
+        ∙ sym (ap (λ n. tally f hand + n) (stays (bears_bit number) Free owner reserve (λ x there. ap (bears_bit number) (reserve_held x there)) f));
   }
 
   -- its group's control word tells so
   pub emptied_bits : (heap : Heap) (words : List ℕ) (g : ℕ) → length words ≡ table_length heap → g < heap.groups → All (λ f. f / 16 ≡ g) reserve → Bits heap words owner
-      → Bits heap (put heap words (Control g) (untaken (mask reserve) (at heap words (Control g)))) (handed Free owner reserve)
+      → Bits heap (put heap words (Control g) (word_without_taken (mask_of reserve) (at heap words (Control g)))) (owner_after Free owner reserve)
   emptied_bits heap words g whole below all bits =
-      subst (λ fs. Bits heap (put heap words (Control g) (untaken (mask fs) (at heap words (Control g)))) (handed Free owner fs)) (part_all g reserve all)
-      (give_back_bits heap words owner g whole below bits reserve q reserve_once reserve_held)
+      subst (λ fs. Bits heap (put heap words (Control g) (word_without_taken (mask_of fs) (at heap words (Control g)))) (owner_after Free owner fs)) (part_all g reserve all)
+      (give_back_bits heap words owner g whole below bits reserve number reserve_once reserve_held)

@@ -6,29 +6,29 @@ use Rattle.core_machine.specs.table.Layout.{put, at}
 use Rattle.core_machine.specs.seat.Seat.{Seat}
 use Rattle.core_rule.specs.Book.{fragment_at}
 use Rattle.core_rule.specs.Holding.{Holding, IsStored}
-use Rattle.core_rule.specs.Owners.{Owner, Keeps}
+use Rattle.core_rule.specs.Owners.{Owner, Kept}
 use Rattle.core_rule.proofs.words.Addresses.{word_after_control, fragment_other}
 use Rattle.core_rule.proofs.hand.Bodies.{body_at-own}
 use Rattle.core_rule.proofs.owners.OwnerLemmas.{IsOwn, own_keeps_none}
 
 -- a control word changes
-pub stored_control : (heap : Heap) (words : List ℕ) (q : ℕ) (seat : Seat) (group n : ℕ) → group < heap.groups → IsStored heap words q seat → IsStored heap (put heap words (Control group) n) q seat
-stored_control heap words q seat group n below old = λ u less. word_after_control heap words n group _ _ below ∙ old u less
+pub stored_control : (heap : Heap) (words : List ℕ) (number : ℕ) (seat : Seat) (group n : ℕ) → group < heap.groups → IsStored heap words number seat → IsStored heap (put heap words (Control group) n) number seat
+stored_control heap words number seat group n below old = λ u less. word_after_control heap words n group _ _ below ∙ old u less
 
 -- a word of a fragment changes that isn't the seat's
-pub stored_store : (heap : Heap) (words : List ℕ) (owner : ℕ → Owner) (q : ℕ) (seat : Seat) (f part n : ℕ)
-    → Holding owner q seat.reserve seat.hand seat.body → seat.stored ≤ 4 * length seat.body → part < 4 → (IsOwn q (owner f) → ⊥)
-    → IsStored heap words q seat → IsStored heap (put heap words (Word f part) n) q seat
-stored_store heap words owner q seat f part n holding within fits other old = λ u less.
+pub stored_store : (heap : Heap) (words : List ℕ) (owner : ℕ → Owner) (number : ℕ) (seat : Seat) (f part n : ℕ)
+    → Holding owner number seat.reserve seat.hand seat.body → seat.stored ≤ 4 * length seat.body → part < 4 → (IsOwn number (owner f) → ⊥)
+    → IsStored heap words number seat → IsStored heap (put heap words (Word f part) n) number seat
+stored_store heap words owner number seat f part n holding within fits other old = λ u less.
     let row : u / 4 < length seat.body = omega (arith, less, within) in
     fragment_other heap words n f part (fragment_at seat.body (u / 4)) (u % 4) fits (omega arith)
-    (λ e. other (subst (λ x. IsOwn q (owner x)) e (body_at-own owner q seat.reserve seat.hand seat.body holding (u / 4) row)))
+    (λ e. other (subst (λ x. IsOwn number (owner x)) e (body_at-own owner number seat.reserve seat.hand seat.body holding (u / 4) row)))
     ∙ old u less
 
 -- the control words and the words of fragments that no object keeps are as before
 pub record SameUnkept (heap : Heap) (owner : ℕ → Owner) (words now : List ℕ) : Type 0 where
   pub controls : (group : ℕ) → group < heap.groups → at heap now (Control group) ≡ at heap words (Control group)
-  pub unkept : (f part : ℕ) → ((i k : ℕ) → owner f ≢ Keeps i k) → part < 4 → at heap now (Word f part) ≡ at heap words (Word f part)
+  pub unkept : (f part : ℕ) → ((i k : ℕ) → owner f ≢ Kept i k) → part < 4 → at heap now (Word f part) ≡ at heap words (Word f part)
 
 -- so what a seat has stored stands
 pub stored_stays : (heap : Heap) (owner : ℕ → Owner) (words now : List ℕ) (r : ℕ) (seat : Seat) → SameUnkept heap owner words now → Holding owner r seat.reserve seat.hand seat.body

@@ -31,8 +31,8 @@ not_before fs j k once less below same =
 
 -- where each number stands once, places with the same number are the same
 pub same_place : (fs : List ℕ) (j k : ℕ) → ((f : ℕ) → tally f fs ≤ 1) → j < length fs → k < length fs → get_or fs j 0 ≡ get_or fs k 0 → j ≡ k
-same_place fs j k once p q same = elim (cases_lt j k) [
-  | inl less ↦ absurd (not_before fs j k once less q same)
+same_place fs j k once p number same = elim (cases_lt j k) [
+  | inl less ↦ absurd (not_before fs j k once less number same)
   | inr more ↦ elim (cases_lt k j) [
     | inl less ↦ absurd (not_before fs k j once less p (sym same))
     | inr equal ↦ omega (arith, more, equal)

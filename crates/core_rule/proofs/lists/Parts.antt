@@ -5,7 +5,7 @@ use Rattle.std.proofs.lemmas.Bool.{false≢true, true≢false, eq-eqb}
 use Rattle.std.proofs.lemmas.Bool.Decides.{eqb_tells}
 use Rattle.std.proofs.lemmas.List.Filters.{length-filter_both}
 use Rattle.core_machine.specs.table.Fragments.{in_group, out_of_group, part_in, part_out, tally}
-use Rattle.core_machine.specs.seat.Making.{first_group}
+use Rattle.core_machine.specs.seat.Making.{first_group_of}
 use Rattle.core_machine.specs.machine.Sums.{sum_upto}
 use Rattle.core_machine.proofs.table_lemmas.Bits.{bool_tells}
 use Rattle.core_machine.proofs.table_lemmas.Free.{sum_zero}
@@ -115,7 +115,7 @@ group_length g fs here =
     omega (arith, all, before, parts)
 
 -- the first group of a hand has a fragment of it
-pub first_some : (hand : List ℕ) → 0 < length hand → 1 ≤ length (part_in (first_group hand) hand)
+pub first_some : (hand : List ℕ) → 0 < length hand → 1 ≤ length (part_in (first_group_of hand) hand)
 first_some [] some = absurd (omega (arith, some))
 first_some (f ∷ hand) some = let here : in_group (f / 16) f ≡ true = eq-eqb (f / 16) (f / 16) refl in rw here (omega arith)
 

@@ -4,38 +4,38 @@ use Rattle.std.proofs.lemmas.Option.{slice_get_within, get_or_from_slice_get}
 use Rattle.heap_model.specs.declared.heap.Heap.{Heap}
 use Rattle.heap_model.specs.declared.id.Id.{Id}
 use Rattle.heap_model.specs.declared.id.Id.TheVariants.{Board}
-use Rattle.heap_model.specs.graph.State.{State}
+use Rattle.heap_model.specs.graph.Graph.{Graph}
 use Rattle.core_machine.specs.table.Fragments.{tally}
-use Rattle.core_rule.specs.Book.{fragment_at, number_of, head_of}
+use Rattle.core_rule.specs.Book.{fragment_at, object_number, object_head}
 use Rattle.core_rule.specs.Holding.{Holding}
 use Rattle.core_rule.specs.Objects.{AreMade, Objects, IsKept}
-use Rattle.core_rule.specs.Owners.{Owner, Keeps, OwnersStand, holds_bit}
+use Rattle.core_rule.specs.Owners.{Owner, Kept, OwnersStand, holds_bit}
 use Rattle.core_rule.proofs.hand.Bodies.{body_own}
 use Rattle.core_rule.proofs.owners.Handed.{none_or_some}
 use Rattle.core_rule.proofs.owners.OwnerLemmas.{IsOwn, own_keeps_none}
 
 module _ (seats : ℕ) (owner : ℕ → Owner) (owners : OwnersStand seats owner) where
   -- a fragment that is part k of object number i is 0 where both are
-  pub board_alone : (f i k : ℕ) → owner f ≡ Keeps i k → f ≡ 0 → (i ≡ 0) × (k ≡ 0)
-  board_alone f i k is first = let same : Keeps i k ≡ Keeps 0 0 = sym is ∙ ap owner first ∙ owners.board in (cc, cc)
+  pub board_alone : (f i k : ℕ) → owner f ≡ Kept i k → f ≡ 0 → (i ≡ 0) × (k ≡ 0)
+  board_alone f i k is first = let same : Kept i k ≡ Kept 0 0 = sym is ∙ ap owner first ∙ owners.board in (cc, cc)
 
   -- what a seat has isn't fragment 0
-  pub own_not_zero : (q f : ℕ) → IsOwn q (owner f) → f ≢ 0
-  own_not_zero q f own first = own_keeps_none q 0 0 (owner f) own (ap owner first ∙ owners.board)
+  pub own_not_zero : (number f : ℕ) → IsOwn number (owner f) → f ≢ 0
+  own_not_zero number f own first = own_keeps_none number 0 0 (owner f) own (ap owner first ∙ owners.board)
 
   -- which is in no reserve, no hand and no body
-  pub none_at_hand : (q : ℕ) (reserve hand body : List ℕ) → Holding owner q reserve hand body → (tally 0 reserve ≡ 0) × (tally 0 hand ≡ 0) × (tally 0 body ≡ 0)
-  none_at_hand q reserve hand body holding =
-      let none : holds_bit q (owner 0) ≡ 0 = ap (holds_bit q) owners.board in (
+  pub none_at_hand : (number : ℕ) (reserve hand body : List ℕ) → Holding owner number reserve hand body → (tally 0 reserve ≡ 0) × (tally 0 hand ≡ 0) × (tally 0 body ≡ 0)
+  none_at_hand number reserve hand body holding =
+      let none : holds_bit number (owner 0) ≡ 0 = ap (holds_bit number) owners.board in (
         omega (arith, holding.held 0, none),
         omega (arith, holding.held 0, none),
         elim (none_or_some (tally 0 body)) [
           | inl away ↦ away
-          | inr there ↦ absurd (own_not_zero q 0 (body_own owner q reserve hand body holding 0 there) refl)
+          | inr there ↦ absurd (own_not_zero number 0 (body_own owner number reserve hand body holding 0 there) refl)
         ],
       )
 
-  module _ (heap : Heap) (words : List ℕ) (g : State) (made : List Id) (fragments : ℕ → List ℕ) (objects : Objects heap words g made owner fragments) where
+  module _ (heap : Heap) (words : List ℕ) (g : Graph) (made : List Id) (fragments : ℕ → List ℕ) (objects : Objects heap words g made owner fragments) where
     -- the board is kept, always
     pub board_kept : IsKept owner fragments 0
     board_kept = (objects.back 0 0 0 owners.board).1
@@ -44,11 +44,11 @@ module _ (seats : ℕ) (owner : ℕ → Owner) (owners : OwnersStand seats owner
     pub board_first : fragment_at (fragments 0) 0 ≡ 0
     board_first = sym (objects.back 0 0 0 owners.board).3
 
-    pub board_head : AreMade g made → head_of made fragments Board ≡ 0
+    pub board_head : AreMade g made → object_head made fragments Board ≡ 0
     board_head ids =
         let some : 0 < length made = slice_get_within made 0 Board ids.board in
-        let number : number_of made Board ≡ 0 = subst (λ id. number_of made id ≡ 0) (get_or_from_slice_get made 0 Board Board ids.board) (ids.distinct 0 some) in
-        ap (λ i. fragment_at (fragments i) 0) number ∙ board_first
+        let index : object_number made Board ≡ 0 = subst (λ id. object_number made id ≡ 0) (get_or_from_slice_get made 0 Board Board ids.board) (ids.distinct 0 some) in
+        ap (λ i. fragment_at (fragments i) 0) index ∙ board_first
 
     -- no other one of a kept object is
     pub chain_not_zero : (i k : ℕ) → i < length made → IsKept owner fragments i → k < length (fragments i) → 0 < k → fragment_at (fragments i) k ≢ 0

@@ -15,15 +15,15 @@ use Rattle.heap_model.specs.declared.id.Value.{Value}
 use Rattle.heap_model.specs.declared.id.Value.TheVariants as values
 use Rattle.core_machine.specs.declared.seat.register.Register.{Register}
 use Rattle.core_machine.specs.declared.seat.register.Register.TheVariants as registers
-use Rattle.core_machine.specs.table.Loaded.{stamp_in}
-use Rattle.core_machine.specs.table.Newborn.{record_word}
-use Rattle.core_machine.specs.seat.Reaching.{row_of, part_of}
+use Rattle.core_machine.specs.table.Decode.{stamp_of}
+use Rattle.core_machine.specs.table.Newborn.{record_word_of}
+use Rattle.core_machine.specs.seat.Access.{row_of, part_of}
 use Rattle.core_machine.specs.seat.Registers.{register_word}
 use Rattle.core_rule.proofs.ways.Rows.{field_back, cell_there}
-use Rattle.core_rule.specs.Book.{head_of}
+use Rattle.core_rule.specs.Book.{object_head}
 use Rattle.core_rule.specs.Objects.{NamesKept, value_word, field_word, is_cell, object_word}
 use Rattle.core_rule.specs.Owners.{Owner}
-use Rattle.core_rule.specs.Registers.{Holds}
+use Rattle.core_rule.specs.Registers.{HoldsValue}
 use Rattle.core_rule.proofs.graph.CellSet.{slice_get-set_same, slice_get-set_other}
 
 -- where a cell stands
@@ -34,26 +34,26 @@ stands_cell k part = elim (eqb_tells k 0) as (λ _. is_cell k part ≡ true → 
 ]
 
 -- the stamp of a field's word
-stamp_of_word : (kind : Kind) (value stamp : ℕ) → stamp < 2 ^ 32 → stamp_in (cell_word (record { kind = kind; value = value; stamp = stamp })) ≡ stamp
+stamp_of_word : (kind : Kind) (value stamp : ℕ) → stamp < 2 ^ 32 → stamp_of (cell_word (record { kind = kind; value = value; stamp = stamp })) ≡ stamp
 stamp_of_word kind value stamp small = by (kind_number kind)
   where
     by : (n : ℕ) → (n * 2 ^ 62 + value * 2 ^ 32 + stamp) % 2 ^ 32 ≡ stamp
     by n = omega (arith, small)
 
-pub stamp_of_value : (head : Id → ℕ) (value : Value) (stamp : ℕ) → stamp < 2 ^ 32 → stamp_in (value_word head value stamp) ≡ stamp
+pub stamp_of_value : (head : Id → ℕ) (value : Value) (stamp : ℕ) → stamp < 2 ^ 32 → stamp_of (value_word head value stamp) ≡ stamp
 stamp_of_value head values.Nil stamp small = stamp_of_word kinds.Nil 0 stamp small
 stamp_of_value head (values.Number n) stamp small = stamp_of_word kinds.Number n stamp small
 stamp_of_value head (values.Object id) stamp small = stamp_of_word kinds.Reference (head id) stamp small
 
 -- the word of a register is that of its value, which names a kept object where it names one
 module _ (made : List Id) (owner : ℕ → Owner) (fragments : ℕ → List ℕ) where
-  pub register_is_value : (held : Register) (value : Value) (stamp : ℕ) → Holds made owner fragments held value → register_word held stamp ≡ value_word (head_of made fragments) value stamp
-  register_is_value registers.Nil value stamp holds = ap (λ v. value_word (head_of made fragments) v stamp) (sym holds)
-  register_is_value (registers.Number n) value stamp holds = ap (λ v. value_word (head_of made fragments) v stamp) (sym holds.0)
+  pub register_is_value : (held : Register) (value : Value) (stamp : ℕ) → HoldsValue made owner fragments held value → register_word held stamp ≡ value_word (object_head made fragments) value stamp
+  register_is_value registers.Nil value stamp holds = ap (λ v. value_word (object_head made fragments) v stamp) (sym holds)
+  register_is_value (registers.Number n) value stamp holds = ap (λ v. value_word (object_head made fragments) v stamp) (sym holds.0)
   register_is_value (registers.Object head id) value stamp holds =
-      ap (λ h. register_word (registers.Object h id) stamp) holds.2 ∙ ap (λ v. value_word (head_of made fragments) v stamp) (sym holds.0)
+      ap (λ h. register_word (registers.Object h id) stamp) holds.2 ∙ ap (λ v. value_word (object_head made fragments) v stamp) (sym holds.0)
 
-  pub register_names : (held : Register) (value : Value) → Holds made owner fragments held value → NamesKept made owner fragments value
+  pub register_names : (held : Register) (value : Value) → HoldsValue made owner fragments held value → NamesKept made owner fragments value
   register_names registers.Nil value holds = subst (λ v. NamesKept made owner fragments v) (sym holds) tt
   register_names (registers.Number n) value holds = subst (λ v. NamesKept made owner fragments v) (sym holds.0) holds.1
   register_names (registers.Object head id) value holds = subst (λ v. NamesKept made owner fragments v) (sym holds.0) holds.1
@@ -66,10 +66,10 @@ module _ (head : Id → ℕ) (name : Name) (cells : List Cell) (fragments : List
 
   module _ (cell : Cell) where
     other_word : (is : Bool) (m k part : ℕ) → (is ≡ true → m ≢ i)
-        → (if is then field_word head (slice_get (set cells i cell) m) else record_word name (length (set cells i cell)) fragments k part)
-        ≡ (if is then field_word head (slice_get cells m) else record_word name (length cells) fragments k part)
+        → (if is then field_word head (slice_get (set cells i cell) m) else record_word_of name (length (set cells i cell)) fragments k part)
+        ≡ (if is then field_word head (slice_get cells m) else record_word_of name (length cells) fragments k part)
     other_word true m k part apart = ap (field_word head) (slice_get-set_other cells i m cell (apart refl))
-    other_word false m k part apart = ap (λ n. record_word name n fragments k part) (length-set cells i cell)
+    other_word false m k part apart = ap (λ n. record_word_of name n fragments k part) (length-set cells i cell)
 
     -- the other words
     pub word_stays : (k part : ℕ) → part < 4 → (k ≡ row_of i → part ≡ part_of i → ⊥)

@@ -6,16 +6,16 @@ use Rattle.heap_model.specs.declared.id.Id.TheVariants.{Made}
 use Rattle.heap_model.specs.declared.id.Value.{Value}
 use Rattle.heap_model.specs.declared.id.Value.TheVariants as values
 use Rattle.heap_model.specs.graph.Changes.{add}
-use Rattle.heap_model.specs.graph.Objects.{node, party, register}
-use Rattle.heap_model.specs.graph.State.{State, Node}
+use Rattle.heap_model.specs.graph.Objects.{node, graph_seat, register_value}
+use Rattle.heap_model.specs.graph.Graph.{Graph, Node}
 use Rattle.core_machine.specs.declared.table.address.Address.TheVariants.{Word}
 use Rattle.core_machine.specs.declared.seat.register.Register.{Register}
 use Rattle.core_machine.specs.declared.seat.register.Register.TheVariants as registers
 use Rattle.core_machine.specs.table.Fragments.{tally}
 use Rattle.core_machine.specs.table.Layout.{at}
-use Rattle.core_rule.specs.Book.{fragment_at, number_of}
+use Rattle.core_rule.specs.Book.{fragment_at, object_number}
 use Rattle.core_rule.specs.Objects.{IsKept}
-use Rattle.core_rule.specs.Owners.{Owner, Keeps}
+use Rattle.core_rule.specs.Owners.{Owner, Kept}
 use Rattle.core_rule.specs.Registers.{Registers}
 use Rattle.core_rule.specs.Registers as regs
 use Rattle.core_rule.proofs.graph.GraphGrowth.{node_none, node_new, node_other, register_target, register_rest}
@@ -27,12 +27,12 @@ use Rattle.core_rule.proofs.graph.Numbering.{number_of-new}
 use Rattle.core_rule.proofs.graph.PutRegister.{registers_with}
 
 -- the graph has one object more
-pub one_more : (g : State) (q d : ℕ) (object : Node) (count : ℕ) → (party g q).left ≡ false → count ≡ length (party g q).objects
-    → OneMore g (add g q d object) (Made q count) object
-one_more g q d object count present numbered = record {
-  none = subst (λ n. node g (Made q n) ≡ None) (sym numbered) (node_none g q d object present);
-  new = ap (λ n. node (add g q d object) (Made q n)) numbered ∙ node_new g q d object present;
-  others = λ id apart. node_other g q d object present id (λ e. apart (e ∙ ap (Made q) (sym numbered)));
+pub one_more : (g : Graph) (number d : ℕ) (object : Node) (count : ℕ) → (graph_seat g number).left ≡ false → count ≡ length (graph_seat g number).objects
+    → OneMore g (add g number d object) (Made number count) object
+one_more g number d object count present numbered = record {
+  none = subst (λ n. node g (Made number n) ≡ None) (sym numbered) (node_none g number d object present);
+  new = ap (λ n. node (add g number d object) (Made number n)) numbered ∙ node_new g number d object present;
+  others = λ id apart. node_other g number d object present id (λ e. apart (e ∙ ap (Made number) (sym numbered)));
 }
 
 -- the words that were stored are those of all parts of all fragments
@@ -46,8 +46,8 @@ all_stored heap words body word stored whole each k part row fits =
     subst (λ p. at heap words (Word (fragment_at body k) p) ≡ word k p) rest
     (subst (λ i. at heap words (Word (fragment_at body i) ((4 * k + part) % 4)) ≡ word i ((4 * k + part) % 4)) quotient (each (4 * k + part) within))
 
-module _ (g : State) (q d : ℕ) (object : Node) (present : (party g q).left ≡ false) (made : List Id) (id : Id) (owner : ℕ → Owner) (fragments : ℕ → List ℕ) (body : List ℕ)
-    (free : (f i k : ℕ) → 1 ≤ tally f body → owner f ≢ Keeps i k) where
+module _ (g : Graph) (number d : ℕ) (object : Node) (present : (graph_seat g number).left ≡ false) (made : List Id) (id : Id) (owner : ℕ → Owner) (fragments : ℕ → List ℕ) (body : List ℕ)
+    (free : (f i k : ℕ) → 1 ≤ tally f body → owner f ≢ Kept i k) where
   abbrev now_owner : ℕ → Owner
   now_owner = kept_by (length made) body owner
 
@@ -55,22 +55,22 @@ module _ (g : State) (q d : ℕ) (object : Node) (present : (party g q).left ≡
   now_fragments = with_object fragments (length made) body
 
   abbrev Now : Register → Value → Type 0
-  Now held value = regs.Holds (made ++ id ∷ []) now_owner now_fragments held value
+  Now held value = regs.HoldsValue (made ++ id ∷ []) now_owner now_fragments held value
 
-  module _ (once : (f : ℕ) → tally f body ≤ 1) (some : 1 ≤ length body) (new : number_of made id ≡ length made) where
+  module _ (once : (f : ℕ) → tally f body ≤ 1) (some : 1 ≤ length body) (new : object_number made id ≡ length made) where
     holds_new : Now (registers.Object (get_or body 0 0) id) (values.Object id)
     holds_new =
-        let number : number_of (made ++ id ∷ []) id ≡ length made = number_of-new made id new in (
+        let index : object_number (made ++ id ∷ []) id ≡ length made = number_of-new made id new in (
           refl,
-          (omega (arith, number, length-append made (id ∷ [])), subst (λ i. IsKept now_owner now_fragments i) (sym number) (kept_new made id owner fragments body free once some)),
-          sym (ap (λ i. fragment_at (now_fragments i) 0) number ∙ ap (λ fs. fragment_at fs 0) (object_new fragments (length made) body)),
+          (omega (arith, index, length-append made (id ∷ [])), subst (λ i. IsKept now_owner now_fragments i) (sym index) (kept_new made id owner fragments body free once some)),
+          sym (ap (λ i. fragment_at (now_fragments i) 0) index ∙ ap (λ fs. fragment_at fs 0) (object_new fragments (length made) body)),
         )
 
     -- its own do too, but for the one that holds the new object
-    pub registers_own : (held : List Register) → d < length held → d < length (party g q).registers → id ≡ Made q (length (party g q).objects)
-        → ((i : ℕ) → regs.Holds made owner fragments (get_or held i registers.Nil) (register g q i))
-        → (i : ℕ) → Now (get_or (set held d (registers.Object (get_or body 0 0) id)) i registers.Nil) (register (add g q d object) q i)
+    pub registers_own : (held : List Register) → d < length held → d < length (graph_seat g number).registers → id ≡ Made number (length (graph_seat g number).objects)
+        → ((i : ℕ) → regs.HoldsValue made owner fragments (get_or held i registers.Nil) (register_value g number i))
+        → (i : ℕ) → Now (get_or (set held d (registers.Object (get_or body 0 0) id)) i registers.Nil) (register_value (add g number d object) number i)
     registers_own held within there next old =
-        registers_with (made ++ id ∷ []) now_owner now_fragments (add g q d object) q d held (registers.Object (get_or body 0 0) id) within
-        (subst (Now (registers.Object (get_or body 0 0) id)) (ap values.Object next ∙ sym (register_target g q d object present there)) holds_new)
-        (λ i apart. subst (Now (get_or held i registers.Nil)) (sym (register_rest g q d object present i apart)) (holds_stays made (made ++ id ∷ []) owner now_owner fragments now_fragments (names_grown made id owner fragments body free) _ _ (old i)))
+        registers_with (made ++ id ∷ []) now_owner now_fragments (add g number d object) number d held (registers.Object (get_or body 0 0) id) within
+        (subst (Now (registers.Object (get_or body 0 0) id)) (ap values.Object next ∙ sym (register_target g number d object present there)) holds_new)
+        (λ i apart. subst (Now (get_or held i registers.Nil)) (sym (register_rest g number d object present i apart)) (holds_stays made (made ++ id ∷ []) owner now_owner fragments now_fragments (names_grown made id owner fragments body free) _ _ (old i)))

@@ -5,12 +5,12 @@ use Rattle.heap_model.specs.declared.graph.cell.Cell.{Cell}
 use Rattle.heap_model.specs.declared.id.Id.{Id}
 use Rattle.heap_model.specs.declared.id.Value.{Value}
 use Rattle.heap_model.specs.declared.id.Value.TheVariants as values
-use Rattle.heap_model.specs.graph.State.{State, Node}
+use Rattle.heap_model.specs.graph.Graph.{Graph, Node}
 use Rattle.core_machine.specs.table.Fragments.{tally}
-use Rattle.core_machine.specs.table.Newborn.{record_word}
-use Rattle.core_rule.specs.Book.{fragment_at, number_of, head_of}
+use Rattle.core_machine.specs.table.Newborn.{record_word_of}
+use Rattle.core_rule.specs.Book.{fragment_at, object_number, object_head}
 use Rattle.core_rule.specs.Objects.{IsKept, NamesKept, value_word, field_word, is_cell, object_word, AreMade, cells_at, cells_in}
-use Rattle.core_rule.specs.Owners.{Owner, Keeps}
+use Rattle.core_rule.specs.Owners.{Owner, Kept}
 use Rattle.core_rule.proofs.graph.IdsGrowth.{OneMore, node_at}
 use Rattle.core_rule.proofs.owners.Keeping.{kept_by, with_object, object_old, object_new, kept_stays, kept_was, kept_part}
 use Rattle.core_rule.proofs.graph.Numbering.{id_at-append, number_of-append}
@@ -21,7 +21,7 @@ use Rattle.core_rule.proofs.ways.WayFrames.{ObjectStays}
 pub old_apart : (made : List Id) (i : ℕ) → i < length made → i ≢ length made
 old_apart made i below e = omega (arith, below, e)
 
-module _ (made : List Id) (id : Id) (owner : ℕ → Owner) (fragments : ℕ → List ℕ) (body : List ℕ) (free : (f i k : ℕ) → 1 ≤ tally f body → owner f ≢ Keeps i k) where
+module _ (made : List Id) (id : Id) (owner : ℕ → Owner) (fragments : ℕ → List ℕ) (body : List ℕ) (free : (f i k : ℕ) → 1 ≤ tally f body → owner f ≢ Kept i k) where
   abbrev now_owner : ℕ → Owner
   now_owner = kept_by (length made) body owner
 
@@ -30,15 +30,15 @@ module _ (made : List Id) (id : Id) (owner : ℕ → Owner) (fragments : ℕ →
 
   -- an object that was kept is, and no other but the new one
   pub kept_old : (i : ℕ) → i < length made → IsKept owner fragments i → IsKept now_owner now_fragments i
-  kept_old i below is = subst (λ fs. now_owner (fragment_at fs 0) ≡ Keeps i 0) (sym (object_old fragments (length made) body i (old_apart made i below)))
+  kept_old i below is = subst (λ fs. now_owner (fragment_at fs 0) ≡ Kept i 0) (sym (object_old fragments (length made) body i (old_apart made i below)))
       (kept_stays (length made) body owner free (fragment_at (fragments i) 0) i 0 is)
 
   pub kept_before : (i : ℕ) → i < length made → IsKept now_owner now_fragments i → IsKept owner fragments i
   kept_before i below is = kept_was (length made) body owner (fragment_at (fragments i) 0) i 0 (old_apart made i below)
-      (subst (λ fs. now_owner (fragment_at fs 0) ≡ Keeps i 0) (object_old fragments (length made) body i (old_apart made i below)) is)
+      (subst (λ fs. now_owner (fragment_at fs 0) ≡ Kept i 0) (object_old fragments (length made) body i (old_apart made i below)) is)
 
   pub kept_new : ((f : ℕ) → tally f body ≤ 1) → 1 ≤ length body → IsKept now_owner now_fragments (length made)
-  kept_new once some = subst (λ fs. now_owner (fragment_at fs 0) ≡ Keeps (length made) 0) (sym (object_new fragments (length made) body))
+  kept_new once some = subst (λ fs. now_owner (fragment_at fs 0) ≡ Kept (length made) 0) (sym (object_new fragments (length made) body))
       (kept_part (length made) body owner once 0 (omega arith))
 
   -- so names of kept objects name kept ones, by the same first fragments
@@ -46,44 +46,44 @@ module _ (made : List Id) (id : Id) (owner : ℕ → Owner) (fragments : ℕ →
   names_old values.Nil names = tt
   names_old (values.Number n) names = names
   names_old (values.Object x) names =
-      let same : number_of (made ++ id ∷ []) x ≡ number_of made x = number_of-append made id x names.0 in (
+      let same : object_number (made ++ id ∷ []) x ≡ object_number made x = number_of-append made id x names.0 in (
         omega (arith, same, names.0, length-append made (id ∷ [])),
-        subst (λ i. IsKept now_owner now_fragments i) (sym same) (kept_old (number_of made x) names.0 names.1),
+        subst (λ i. IsKept now_owner now_fragments i) (sym same) (kept_old (object_number made x) names.0 names.1),
       )
 
-  head_old : (x : Id) → number_of made x < length made → head_of (made ++ id ∷ []) now_fragments x ≡ head_of made fragments x
+  head_old : (x : Id) → object_number made x < length made → object_head (made ++ id ∷ []) now_fragments x ≡ object_head made fragments x
   head_old x below =
       ap (λ i. fragment_at (now_fragments i) 0) (number_of-append made id x below)
-      ∙ ap (λ fs. fragment_at fs 0) (object_old fragments (length made) body (number_of made x) (old_apart made (number_of made x) below))
+      ∙ ap (λ fs. fragment_at fs 0) (object_old fragments (length made) body (object_number made x) (old_apart made (object_number made x) below))
 
   value_old : (value : Value) (stamp : ℕ) → NamesKept made owner fragments value
-      → value_word (head_of (made ++ id ∷ []) now_fragments) value stamp ≡ value_word (head_of made fragments) value stamp
+      → value_word (object_head (made ++ id ∷ []) now_fragments) value stamp ≡ value_word (object_head made fragments) value stamp
   value_old values.Nil stamp names = refl
   value_old (values.Number n) stamp names = refl
   value_old (values.Object x) stamp names = rw (head_old x names.0) refl
 
   field_old : (cell : Option Cell) → ((c : Cell) → cell ≡ Some c → NamesKept made owner fragments c.value)
-      → field_word (head_of (made ++ id ∷ []) now_fragments) cell ≡ field_word (head_of made fragments) cell
+      → field_word (object_head (made ++ id ∷ []) now_fragments) cell ≡ field_word (object_head made fragments) cell
   field_old None names = refl
   field_old (Some c) names = value_old c.value c.stamp (names c refl)
 
   -- the words of an object that was there
   pub words_old : (name : Name) (cells : List Cell) (fs : List ℕ) (k part : ℕ) → ((j : ℕ) (c : Cell) → slice_get cells j ≡ Some c → NamesKept made owner fragments c.value)
-      → object_word (head_of (made ++ id ∷ []) now_fragments) name cells fs k part ≡ object_word (head_of made fragments) name cells fs k part
+      → object_word (object_head (made ++ id ∷ []) now_fragments) name cells fs k part ≡ object_word (object_head made fragments) name cells fs k part
   unfolding object_word
   words_old name cells fs k part names =
-      ap (λ w. cond (is_cell k part) w (record_word name (length cells) fs k part)) (field_old (slice_get cells (3 * k + part - 2)) (names (3 * k + part - 2)))
+      ap (λ w. cond (is_cell k part) w (record_word_of name (length cells) fs k part)) (field_old (slice_get cells (3 * k + part - 2)) (names (3 * k + part - 2)))
 
 -- names and ways go on when one object more is made
-pub names_grown : (made : List Id) (id : Id) (owner : ℕ → Owner) (fragments : ℕ → List ℕ) (body : List ℕ) → ((f i k : ℕ) → 1 ≤ tally f body → owner f ≢ Keeps i k)
+pub names_grown : (made : List Id) (id : Id) (owner : ℕ → Owner) (fragments : ℕ → List ℕ) (body : List ℕ) → ((f i k : ℕ) → 1 ≤ tally f body → owner f ≢ Kept i k)
     → NamesStay made (made ++ id ∷ []) owner (kept_by (length made) body owner) fragments (with_object fragments (length made) body)
 names_grown made id owner fragments body free = record {
   names = λ x kept. names_old made id owner fragments body free (values.Object x) kept;
   heads = λ x kept. head_old made id owner fragments body free x kept.0;
 }
 
-pub object_grows : (g now : State) (made : List Id) (id : Id) (owner : ℕ → Owner) (fragments : ℕ → List ℕ) (object : Node) (body : List ℕ)
-    → ((f i k : ℕ) → 1 ≤ tally f body → owner f ≢ Keeps i k) → AreMade g made → OneMore g now id object → (i : ℕ) → i < length made → IsKept owner fragments i
+pub object_grows : (g now : Graph) (made : List Id) (id : Id) (owner : ℕ → Owner) (fragments : ℕ → List ℕ) (object : Node) (body : List ℕ)
+    → ((f i k : ℕ) → 1 ≤ tally f body → owner f ≢ Kept i k) → AreMade g made → OneMore g now id object → (i : ℕ) → i < length made → IsKept owner fragments i
     → ObjectStays (cells_at g made) (cells_at now (made ++ id ∷ [])) made (made ++ id ∷ []) owner (kept_by (length made) body owner) fragments (with_object fragments (length made) body) i
 object_grows g now made id owner fragments object body free ids more i below kept = record {
   below = omega (arith, below, length-append made (id ∷ []));

@@ -4,8 +4,8 @@ use Rattle.std.proofs.lemmas.Bool.Decides.{nat_tests}
 use Rattle.std.proofs.lemmas.List.{length-replicate}
 use Rattle.heap_words.specs.declared.name.Name.{Name}
 use Rattle.heap_model.specs.declared.id.Id.{Id}
-use Rattle.heap_model.specs.graph.State.{unset}
-use Rattle.core_machine.specs.table.Newborn.{record_word}
+use Rattle.heap_model.specs.graph.Graph.{unset}
+use Rattle.core_machine.specs.table.Newborn.{record_word_of}
 use Rattle.core_rule.specs.Objects.{field_word, is_cell, object_word}
 
 -- a cell that was never set has the word 0
@@ -15,7 +15,7 @@ unset_word head (suc n) zero = refl
 unset_word head (suc n) (suc i) = unset_word head n i
 
 -- a cell's word of a newborn record is 0
-no_cell_word : (name : Name) (fields : ℕ) (fragments : List ℕ) (k part : ℕ) → is_cell k part ≡ true → record_word name fields fragments k part ≡ 0
+no_cell_word : (name : Name) (fields : ℕ) (fragments : List ℕ) (k part : ℕ) → is_cell k part ≡ true → record_word_of name fields fragments k part ≡ 0
 no_cell_word name fields fragments k part cell = grind (arith, nat_tests, cell)
 
 by_test : (b : Bool) (cell word : ℕ) → (b ≡ true → cell ≡ word) → cond b cell word ≡ word
@@ -23,6 +23,6 @@ by_test true cell word same = same refl
 by_test false cell word same = refl
 
 -- so the words are those of the object
-pub newborn_is : (head : Id → ℕ) (name : Name) (n : ℕ) (fragments : List ℕ) (k part : ℕ) → object_word head name (replicate n unset) fragments k part ≡ record_word name n fragments k part
+pub newborn_is : (head : Id → ℕ) (name : Name) (n : ℕ) (fragments : List ℕ) (k part : ℕ) → object_word head name (replicate n unset) fragments k part ≡ record_word_of name n fragments k part
 unfolding object_word
-newborn_is head name n fragments k part = rw (length-replicate n unset) (by_test (is_cell k part) (field_word head (slice_get (replicate n unset) (3 * k + part - 2))) (record_word name n fragments k part) (λ cell. rw (unset_word head n (3 * k + part - 2), no_cell_word name n fragments k part cell) refl))
+newborn_is head name n fragments k part = rw (length-replicate n unset) (by_test (is_cell k part) (field_word head (slice_get (replicate n unset) (3 * k + part - 2))) (record_word_of name n fragments k part) (λ cell. rw (unset_word head n (3 * k + part - 2), no_cell_word name n fragments k part cell) refl))

@@ -4,69 +4,69 @@ use Rattle.heap_model.specs.declared.heap.Heap.{Heap}
 use Rattle.heap_model.specs.declared.id.Id.{Id}
 use Rattle.heap_model.specs.declared.id.Value.{Value}
 use Rattle.heap_model.specs.declared.id.Value.TheVariants as values
-use Rattle.heap_model.specs.graph.State.{State}
+use Rattle.heap_model.specs.graph.Graph.{Graph}
 use Rattle.core_machine.specs.declared.table.address.Address.TheVariants.{Word, Control}
 use Rattle.core_machine.specs.table.Fragments.{tally}
 use Rattle.core_machine.specs.table.Layout.{at, put}
 use Rattle.core_rule.specs.Objects.{NamesKept, Objects}
-use Rattle.core_rule.specs.Owners.{Owner, Free, Holds, Bears, Keeps, handed}
+use Rattle.core_rule.specs.Owners.{Owner, Free, Taken, Borne, Kept, owner_after}
 use Rattle.core_rule.proofs.words.Addresses.{word_after_control, fragment_other}
 use Rattle.core_rule.proofs.owners.Handed.{handed_cases}
 
-module _ (heap : Heap) (words now : List ℕ) (g : State) (made : List Id) (owner : ℕ → Owner) (fragments : ℕ → List ℕ) where
+module _ (heap : Heap) (words now : List ℕ) (g : Graph) (made : List Id) (owner : ℕ → Owner) (fragments : ℕ → List ℕ) where
   -- no word of a kept fragment changes
-  pub objects_words : ((f i k part : ℕ) → owner f ≡ Keeps i k → part < 4 → at heap now (Word f part) ≡ at heap words (Word f part))
+  pub objects_words : ((f i k part : ℕ) → owner f ≡ Kept i k → part < 4 → at heap now (Word f part) ≡ at heap words (Word f part))
       → Objects heap words g made owner fragments → Objects heap now g made owner fragments
   objects_words same old = record {
     kept = λ i below is. let one = old.kept i below is in record {
       sized = one.sized;
       whole = one.whole;
       owned = one.owned;
-      stored = λ k part p q. same _ i k part (one.owned k p) q ∙ one.stored k part p q;
+      stored = λ k part p number. same _ i k part (one.owned k p) number ∙ one.stored k part p number;
     };
     named = old.named;
     back = old.back;
   }
 
 -- a control word changes
-pub objects_control : (heap : Heap) (words : List ℕ) (g : State) (made : List Id) (owner : ℕ → Owner) (fragments : ℕ → List ℕ) (group n : ℕ)
+pub objects_control : (heap : Heap) (words : List ℕ) (g : Graph) (made : List Id) (owner : ℕ → Owner) (fragments : ℕ → List ℕ) (group n : ℕ)
     → group < heap.groups → Objects heap words g made owner fragments → Objects heap (put heap words (Control group) n) g made owner fragments
 objects_control heap words g made owner fragments group n below old =
     objects_words heap words (put heap words (Control group) n) g made owner fragments (λ f i k part is p. word_after_control heap words n group f part below) old
 
 -- a word of a fragment that no object keeps changes
-pub objects_store : (heap : Heap) (words : List ℕ) (g : State) (made : List Id) (owner : ℕ → Owner) (fragments : ℕ → List ℕ) (f part n : ℕ)
-    → part < 4 → ((i k : ℕ) → owner f ≢ Keeps i k) → Objects heap words g made owner fragments → Objects heap (put heap words (Word f part) n) g made owner fragments
+pub objects_store : (heap : Heap) (words : List ℕ) (g : Graph) (made : List Id) (owner : ℕ → Owner) (fragments : ℕ → List ℕ) (f part n : ℕ)
+    → part < 4 → ((i k : ℕ) → owner f ≢ Kept i k) → Objects heap words g made owner fragments → Objects heap (put heap words (Word f part) n) g made owner fragments
 objects_store heap words g made owner fragments f part n within free old =
     objects_words heap words (put heap words (Word f part) n) g made owner fragments
-    (λ x i k p is q. fragment_other heap words n f part x p within q (λ e. free i k (subst (λ y. owner y ≡ Keeps i k) e is))) old
+    (λ x i k p is number. fragment_other heap words n f part x p within number (λ e. free i k (subst (λ y. owner y ≡ Kept i k) e is))) old
 
 -- the same fragments are kept, as the same parts of the same objects
 pub record SameKept (owner now : ℕ → Owner) : Type 0 where
-  pub stays : (f i k : ℕ) → owner f ≡ Keeps i k → now f ≡ Keeps i k
-  pub was : (f i k : ℕ) → now f ≡ Keeps i k → owner f ≡ Keeps i k
+  pub stays : (f i k : ℕ) → owner f ≡ Kept i k → now f ≡ Kept i k
+  pub was : (f i k : ℕ) → now f ≡ Kept i k → owner f ≡ Kept i k
 
 -- fragments that no object keeps go to an owner that keeps none
-pub handed_kept : (o : Owner) (owner : ℕ → Owner) (fs : List ℕ) → ((i k : ℕ) → o ≢ Keeps i k) → ((f i k : ℕ) → 1 ≤ tally f fs → owner f ≢ Keeps i k)
-    → SameKept owner (handed o owner fs)
+pub handed_kept : (o : Owner) (owner : ℕ → Owner) (fs : List ℕ) → ((i k : ℕ) → o ≢ Kept i k) → ((f i k : ℕ) → 1 ≤ tally f fs → owner f ≢ Kept i k)
+    → SameKept owner (owner_after o owner fs)
 handed_kept o owner fs none free = record {
-  stays = λ f i k is. handed_cases (λ x. x ≡ Keeps i k) o owner fs f (λ there. absurd (free f i k there is)) (λ away. is);
-  was = λ f i k. handed_cases (λ x. x ≡ Keeps i k → owner f ≡ Keeps i k) o owner fs f (λ there is. absurd (none i k is)) (λ away is. is);
+  stays = λ f i k is. handed_cases (λ x. x ≡ Kept i k) o owner fs f (λ there. absurd (free f i k there is)) (λ away. is);
+  was = λ f i k. handed_cases (λ x. x ≡ Kept i k → owner f ≡ Kept i k) o owner fs f (λ there is. absurd (none i k is)) (λ away is. is);
 }
 
 -- nobody's and a seat's fragments are no object's
-pub holds_keeps_none : (q i k : ℕ) → Holds q ≢ Keeps i k
-holds_keeps_none q i k e = cc
+pub holds_keeps_none : (number i k : ℕ) → Taken number ≢ Kept i k
+holds_keeps_none number i k e = cc
 
-pub bears_keeps_none : (q i k : ℕ) → Bears q ≢ Keeps i k
-bears_keeps_none q i k e = cc
+pub bears_keeps_none : (number i k : ℕ) → Borne number ≢ Kept i k
+bears_keeps_none number i k e = cc
 
-pub free_keeps_none : (i k : ℕ) → Free ≢ Keeps i k
+pub free_keeps_none : (i k : ℕ) → Free ≢ Kept i k
 free_keeps_none i k e = cc
 
 -- so where fragments that a seat holds do, the same are kept
-pub part_kept : (owner : ℕ → Owner) (q : ℕ) (fs : List ℕ) (o : Owner) → ((i k : ℕ) → o ≢ Keeps i k) → ((f : ℕ) → 1 ≤ tally f fs → owner f ≡ Holds q) → SameKept owner (handed o owner fs)
-part_kept owner q fs o none held = handed_kept o owner fs none (λ f i k there is. holds_keeps_none q i k (sym (held f there) ∙ is))
+pub part_kept : (owner : ℕ → Owner) (number : ℕ) (fs : List ℕ) (o : Owner) → ((i k : ℕ) → o ≢ Kept i k) → ((f : ℕ) → 1 ≤ tally f fs → owner f ≡ Taken number) → SameKept owner (owner_after o owner fs)
+part_kept owner number fs o none held = handed_kept o owner fs none (λ f i k there is. holds_keeps_none number i k (sym (held f there) ∙ is))
 
 module _ (owner now : ℕ → Owner) (same : SameKept owner now) (made : List Id) (fragments : ℕ → List ℕ) where
   pub names_kept : (value : Value) → NamesKept made owner fragments value → NamesKept made now fragments value
@@ -75,7 +75,7 @@ module _ (owner now : ℕ → Owner) (same : SameKept owner now) (made : List Id
   names_kept (values.Object id) names = (names.0, same.stays _ _ _ names.1)
 
   -- so the objects stand
-  pub objects_owners : (heap : Heap) (words : List ℕ) (g : State) → Objects heap words g made owner fragments → Objects heap words g made now fragments
+  pub objects_owners : (heap : Heap) (words : List ℕ) (g : Graph) → Objects heap words g made owner fragments → Objects heap words g made now fragments
   objects_owners heap words g old = record {
     kept = λ i below is. let one = old.kept i below (same.was _ _ _ is) in record {
       sized = one.sized;

@@ -6,14 +6,14 @@ use Rattle.heap_model.specs.declared.heap.Heap.{Heap}
 use Rattle.heap_model.specs.declared.id.Id.{Id}
 use Rattle.heap_model.specs.Needs.{record_fragments}
 use Rattle.heap_model.specs.graph.Objects.{node}
-use Rattle.heap_model.specs.graph.State.{State, fresh, unset}
+use Rattle.heap_model.specs.graph.Graph.{Graph, fresh, unset}
 use Rattle.core_machine.specs.declared.table.address.Address.TheVariants.{Word}
 use Rattle.core_machine.specs.table.Fragments.{tally}
 use Rattle.core_machine.specs.table.Layout.{at}
-use Rattle.core_machine.specs.table.Newborn.{record_word}
-use Rattle.core_rule.specs.Book.{fragment_at, id_at, head_of}
+use Rattle.core_machine.specs.table.Newborn.{record_word_of}
+use Rattle.core_rule.specs.Book.{fragment_at, id_at, object_head}
 use Rattle.core_rule.specs.Objects.{AreMade, IsKept, NamesKept, KeptObject, Objects, cells_in, cells_at, name_of}
-use Rattle.core_rule.specs.Owners.{Owner, Keeps}
+use Rattle.core_rule.specs.Owners.{Owner, Kept}
 use Rattle.core_rule.proofs.graph.IdsGrowth.{OneMore, old_or_new, node_at}
 use Rattle.core_rule.proofs.owners.Keeping.{kept_by, with_object, object_new, object_old, kept_stays, kept_part, kept_back}
 use Rattle.core_rule.proofs.objects.NamesGrowth.{old_apart, kept_old, kept_before, kept_new, names_old, words_old}
@@ -31,10 +31,10 @@ pub record NewBody (heap : Heap) (words : List ℕ) (owner : ℕ → Owner) (id 
   pub sized : (1 ≤ fields) × (fields ≤ 47)
   pub whole : length body ≡ record_fragments fields
   pub once : (f : ℕ) → tally f body ≤ 1
-  pub unkept : (f i k : ℕ) → 1 ≤ tally f body → owner f ≢ Keeps i k
-  pub newborn : (k part : ℕ) → k < length body → part < 4 → at heap words (Word (fragment_at body k) part) ≡ record_word (name_of id) fields body k part
+  pub unkept : (f i k : ℕ) → 1 ≤ tally f body → owner f ≢ Kept i k
+  pub newborn : (k part : ℕ) → k < length body → part < 4 → at heap words (Word (fragment_at body k) part) ≡ record_word_of (name_of id) fields body k part
 
-module _ (heap : Heap) (words : List ℕ) (g now : State) (made : List Id) (id : Id) (owner : ℕ → Owner) (fragments : ℕ → List ℕ) (fields : ℕ) (body : List ℕ)
+module _ (heap : Heap) (words : List ℕ) (g now : Graph) (made : List Id) (id : Id) (owner : ℕ → Owner) (fragments : ℕ → List ℕ) (fields : ℕ) (body : List ℕ)
     (ids : AreMade g made) (more : OneMore g now id (fresh false fields)) (new : NewBody heap words owner id fields body) (old : Objects heap words g made owner fragments) where
   abbrev now_owner : ℕ → Owner
   now_owner = kept_by (length made) body owner
@@ -45,15 +45,15 @@ module _ (heap : Heap) (words : List ℕ) (g now : State) (made : List Id) (id :
   abbrev now_made : List Id
   now_made = made ++ id ∷ []
 
-  abbrev Kept : ℕ → Id → List Cell → List ℕ → Type 0
-  Kept i x cells fs = KeptObject heap words now_owner (head_of now_made now_fragments) i x cells fs
+  abbrev IsKeptNow : ℕ → Id → List Cell → List ℕ → Type 0
+  IsKeptNow i x cells fs = KeptObject heap words now_owner (object_head now_made now_fragments) i x cells fs
 
   some : 1 ≤ length body
   some = omega (arith, new.whole)
 
-  kept_at : (i : ℕ) (x y : Id) (cells more_cells : List Cell) (fs gs : List ℕ) → x ≡ y → cells ≡ more_cells → fs ≡ gs → Kept i x cells fs → Kept i y more_cells gs
+  kept_at : (i : ℕ) (x y : Id) (cells more_cells : List Cell) (fs gs : List ℕ) → x ≡ y → cells ≡ more_cells → fs ≡ gs → IsKeptNow i x cells fs → IsKeptNow i y more_cells gs
   kept_at i x y cells more_cells fs gs e c f kept =
-      subst (λ z. Kept i y more_cells z) f (subst (λ z. Kept i y z fs) c (subst (λ z. Kept i z cells fs) e kept))
+      subst (λ z. IsKeptNow i y more_cells z) f (subst (λ z. IsKeptNow i y z fs) c (subst (λ z. IsKeptNow i z cells fs) e kept))
 
   cells_old : (i : ℕ) → i < length made → cells_at now now_made i ≡ cells_at g made i
   cells_old i below = ap cells_in (node_at g now made id (fresh false fields) ids more i below)
@@ -61,7 +61,7 @@ module _ (heap : Heap) (words : List ℕ) (g now : State) (made : List Id) (id :
   cells_new : cells_at now now_made (length made) ≡ replicate fields unset
   cells_new = ap (λ x. cells_in (node now x)) (id_at-new made id) ∙ ap cells_in more.new
 
-  old_kept : (i : ℕ) → i < length made → IsKept now_owner now_fragments i → Kept i (id_at now_made i) (cells_at now now_made i) (now_fragments i)
+  old_kept : (i : ℕ) → i < length made → IsKept now_owner now_fragments i → IsKeptNow i (id_at now_made i) (cells_at now now_made i) (now_fragments i)
   old_kept i below is =
       let before = kept_before made id owner fragments body new.unkept i below is in
       let one = old.kept i below before in
@@ -71,12 +71,12 @@ module _ (heap : Heap) (words : List ℕ) (g now : State) (made : List Id) (id :
         sized = one.sized;
         whole = one.whole;
         owned = λ k p. kept_stays (length made) body owner new.unkept _ i k (one.owned k p);
-        stored = λ k part p q. one.stored k part p q
+        stored = λ k part p number. one.stored k part p number
             ∙ sym (words_old made id owner fragments body new.unkept (name_of (id_at made i)) (cells_at g made i) (fragments i) k part
             (λ j c there. (old.named i j below before c there).0));
       }
 
-  new_kept : IsKept now_owner now_fragments (length made) → Kept (length made) (id_at now_made (length made)) (cells_at now now_made (length made)) (now_fragments (length made))
+  new_kept : IsKept now_owner now_fragments (length made) → IsKeptNow (length made) (id_at now_made (length made)) (cells_at now now_made (length made)) (now_fragments (length made))
   new_kept is =
       let long : length (replicate fields unset) ≡ fields = length-replicate fields unset in
       kept_at (length made) id (id_at now_made (length made)) (replicate fields unset) (cells_at now now_made (length made)) body (now_fragments (length made))
@@ -85,7 +85,7 @@ module _ (heap : Heap) (words : List ℕ) (g now : State) (made : List Id) (id :
         sized = (omega (arith, long, new.sized), omega (arith, long, new.sized));
         whole = new.whole ∙ ap record_fragments (sym long);
         owned = kept_part (length made) body owner new.once;
-        stored = λ k part p q. new.newborn k part p q ∙ sym (newborn_is (head_of now_made now_fragments) (name_of id) fields body k part);
+        stored = λ k part p number. new.newborn k part p number ∙ sym (newborn_is (object_head now_made now_fragments) (name_of id) fields body k part);
       }
 
   new_named : (j : ℕ) (cell : Cell) → slice_get (cells_at now now_made (length made)) j ≡ Some cell → NamesKept now_made now_owner now_fragments cell.value × (cell.stamp < 2 ^ 32)
@@ -112,7 +112,7 @@ module _ (heap : Heap) (words : List ℕ) (g now : State) (made : List Id) (id :
     same ∙ ap (λ fs. fragment_at fs k) (sym (object_new fragments (length made) body)),
   )
 
-  old_back : (f i k : ℕ) → owner f ≡ Keeps i k → Back f i k
+  old_back : (f i k : ℕ) → owner f ≡ Kept i k → Back f i k
   old_back f i k is =
       let one = old.back f i k is in
       let same : now_fragments i ≡ fragments i = object_old fragments (length made) body i (old_apart made i one.0) in (
@@ -125,7 +125,7 @@ module _ (heap : Heap) (words : List ℕ) (g now : State) (made : List Id) (id :
   -- the old objects stand, and the new one
   pub objects_grown : Objects heap words now now_made now_owner now_fragments
   objects_grown = record {
-    kept = old_or_new g now made id (fresh false fields) ids more (λ i. IsKept now_owner now_fragments i → Kept i (id_at now_made i) (cells_at now now_made i) (now_fragments i)) old_kept new_kept;
+    kept = old_or_new g now made id (fresh false fields) ids more (λ i. IsKept now_owner now_fragments i → IsKeptNow i (id_at now_made i) (cells_at now now_made i) (now_fragments i)) old_kept new_kept;
     named = λ i j below. old_or_new g now made id (fresh false fields) ids more
         (λ x. IsKept now_owner now_fragments x → (cell : Cell) → slice_get (cells_at now now_made x) j ≡ Some cell → NamesKept now_made now_owner now_fragments cell.value × (cell.stamp < 2 ^ 32))
         (λ x less. old_named x j less) (λ is. new_named j) i below;

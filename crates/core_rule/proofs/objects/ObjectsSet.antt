@@ -7,13 +7,13 @@ use Rattle.heap_model.specs.declared.heap.Heap.{Heap}
 use Rattle.heap_model.specs.declared.id.Id.{Id}
 use Rattle.heap_model.specs.Needs.{record_fragments}
 use Rattle.heap_model.specs.graph.Objects.{node}
-use Rattle.heap_model.specs.graph.State.{State as Graph, Node}
+use Rattle.heap_model.specs.graph.Graph.{Graph, Node}
 use Rattle.core_machine.specs.declared.table.address.Address.TheVariants.{Word}
 use Rattle.core_machine.specs.table.Layout.{at, put, table_length}
-use Rattle.core_machine.specs.seat.Reaching.{row_of, part_of}
-use Rattle.core_rule.specs.Book.{fragment_at, id_at, head_of, number_of}
+use Rattle.core_machine.specs.seat.Access.{row_of, part_of}
+use Rattle.core_rule.specs.Book.{fragment_at, id_at, object_head, object_number}
 use Rattle.core_rule.specs.Objects.{AreMade, IsKept, NamesKept, KeptObject, Objects, cells_in, cells_at, name_of, value_word, object_word}
-use Rattle.core_rule.specs.Owners.{Owner, Keeps}
+use Rattle.core_rule.specs.Owners.{Owner, Kept}
 use Rattle.core_rule.proofs.words.Addresses.{control_after_word, fragment_other, part_other, word_same}
 use Rattle.core_rule.proofs.graph.CellSet.{Sets, slice_get-set_same, slice_get-set_other}
 use Rattle.core_rule.proofs.objects.CellWords.{word_of_cell, word_of_set, word_stays}
@@ -25,9 +25,9 @@ pub made_node : (o : Option Node) → IsSome o → (object : Node) × (o ≡ Som
 made_node None some = absurd (cc)
 made_node (Some object) some = (object, refl)
 
-module _ (heap : Heap) (words : List ℕ) (g now : Graph) (q : ℕ) (made : List Id) (owner : ℕ → Owner) (fragments : ℕ → List ℕ) (n i : ℕ) (cell : Cell) (word : ℕ)
+module _ (heap : Heap) (words : List ℕ) (g now : Graph) (number : ℕ) (made : List Id) (owner : ℕ → Owner) (fragments : ℕ → List ℕ) (n i : ℕ) (cell : Cell) (word : ℕ)
     (ids : AreMade g made) (old : Objects heap words g made owner fragments) (below : n < length made) (kept : IsKept owner fragments n)
-    (sets : Sets g now q (id_at made n) i cell) (within : i < length (cells_at g made n)) where
+    (sets : Sets g now number (id_at made n) i cell) (within : i < length (cells_at g made n)) where
   object : (object : Node) × (node g (id_at made n) ≡ Some object)
   object = made_node (node g (id_at made n)) (ids.in_graph n below)
 
@@ -39,7 +39,7 @@ module _ (heap : Heap) (words : List ℕ) (g now : Graph) (q : ℕ) (made : List
   cells_rest x apart = ap cells_in (sets.rest x apart)
 
   id_apart : (j : ℕ) → j < length made → j ≢ n → id_at made j ≢ id_at made n
-  id_apart j less apart e = apart (sym (ids.distinct j less) ∙ ap (number_of made) e ∙ ids.distinct n below)
+  id_apart j less apart e = apart (sym (ids.distinct j less) ∙ ap (object_number made) e ∙ ids.distinct n below)
 
   -- each object is as long as before
   pub lengths_stay : (j : ℕ) → length (cells_at now made j) ≡ length (cells_at g made j)
@@ -77,7 +77,7 @@ module _ (heap : Heap) (words : List ℕ) (g now : Graph) (q : ℕ) (made : List
   now_words = put heap words (Word target (part_of i)) word
 
   abbrev head : Id → ℕ
-  head = head_of made fragments
+  head = object_head made fragments
 
   one : KeptObject heap words owner head n (id_at made n) (cells_at g made n) (fragments n)
   one = old.kept n below kept
@@ -88,7 +88,7 @@ module _ (heap : Heap) (words : List ℕ) (g now : Graph) (q : ℕ) (made : List
   part_fits : part_of i < 4
   part_fits = omega arith
 
-  target_owned : owner target ≡ Keeps n (row_of i)
+  target_owned : owner target ≡ Kept n (row_of i)
   target_owned = one.owned (row_of i) row_within
 
   -- the word of the field is the old cell's
@@ -96,11 +96,11 @@ module _ (heap : Heap) (words : List ℕ) (g now : Graph) (q : ℕ) (made : List
   found_is c there = one.stored (row_of i) (part_of i) row_within part_fits ∙ word_of_cell head (name_of (id_at made n)) (cells_at g made n) (fragments n) i c there
 
   -- another word of an object is as before
-  word_rest : (j k part : ℕ) → owner (fragment_at (fragments j) k) ≡ Keeps j k → part < 4 → (j ≡ n → k ≡ row_of i → part ≡ part_of i → ⊥)
+  word_rest : (j k part : ℕ) → owner (fragment_at (fragments j) k) ≡ Kept j k → part < 4 → (j ≡ n → k ≡ row_of i → part ≡ part_of i → ⊥)
       → at heap now_words (Word (fragment_at (fragments j) k) part) ≡ at heap words (Word (fragment_at (fragments j) k) part)
   word_rest j k part is fits apart = elim (cases_eq (fragment_at (fragments j) k) target) [
     | inl same ↦
-        let keeps : Keeps j k ≡ Keeps n (row_of i) = sym is ∙ ap owner same ∙ target_owned in
+        let keeps : Kept j k ≡ Kept n (row_of i) = sym is ∙ ap owner same ∙ target_owned in
         part_other heap words word target (part_of i) (fragment_at (fragments j) k) part (λ e. apart (cc (keeps)) (cc (keeps)) e) same
     | inr other ↦ fragment_other heap words word target (part_of i) (fragment_at (fragments j) k) part part_fits fits other
   ]

@@ -3,15 +3,15 @@ use Rattle.std.proofs.Common.{◌≡◌, ℕ, ◌+◌, ◌<◌, ◌≤◌, ◌�
 use Rattle.std.proofs.lemmas.Bool.Decides.{nat_tests}
 use Rattle.core_machine.specs.table.Fragments.{tally}
 use Rattle.core_machine.specs.machine.Sums.{sum_upto}
-use Rattle.core_rule.specs.Owners.{Owner, handed}
+use Rattle.core_rule.specs.Owners.{Owner, owner_after}
 use Rattle.core_rule.proofs.lists.SumLemmas.{sum_plus}
 use Rattle.core_rule.proofs.lists.Tallies.{sum_tally}
 
 -- a fragment of the list is the new owner's, another its owner's
-pub handed_in : (o : Owner) (owner : ℕ → Owner) (fs : List ℕ) (f : ℕ) → 1 ≤ tally f fs → handed o owner fs f ≡ o
+pub handed_in : (o : Owner) (owner : ℕ → Owner) (fs : List ℕ) (f : ℕ) → 1 ≤ tally f fs → owner_after o owner fs f ≡ o
 handed_in o owner fs f there = grind (arith, nat_tests, there)
 
-pub handed_out : (o : Owner) (owner : ℕ → Owner) (fs : List ℕ) (f : ℕ) → tally f fs ≡ 0 → handed o owner fs f ≡ owner f
+pub handed_out : (o : Owner) (owner : ℕ → Owner) (fs : List ℕ) (f : ℕ) → tally f fs ≡ 0 → owner_after o owner fs f ≡ owner f
 handed_out o owner fs f away = grind (arith, nat_tests, away)
 
 -- a count is none or some
@@ -20,43 +20,43 @@ none_or_some n = grind arith
 
 -- a fact of the new owner, by two cases
 pub handed_cases : (P : Owner → Type 0) (o : Owner) (owner : ℕ → Owner) (fs : List ℕ) (f : ℕ)
-    → (1 ≤ tally f fs → P o) → (tally f fs ≡ 0 → P (owner f)) → P (handed o owner fs f)
-handed_cases P o owner fs f there away = elim (none_or_some (tally f fs)) as (λ _. P (handed o owner fs f)) [
+    → (1 ≤ tally f fs → P o) → (tally f fs ≡ 0 → P (owner f)) → P (owner_after o owner fs f)
+handed_cases P o owner fs f there away = elim (none_or_some (tally f fs)) as (λ _. P (owner_after o owner fs f)) [
   | inl none ↦ rw (handed_out o owner fs f none) (away none)
   | inr some ↦ rw (handed_in o owner fs f some) (there some)
 ]
 
 module _ (bit : Owner → ℕ) (o : Owner) (owner : ℕ → Owner) (fs : List ℕ) (once : (f : ℕ) → tally f fs ≤ 1) where
   -- each fragment of the list gets the bit
-  pub gains : bit o ≡ 1 → ((f : ℕ) → 1 ≤ tally f fs → bit (owner f) ≡ 0) → (f : ℕ) → bit (handed o owner fs f) ≡ bit (owner f) + tally f fs
-  gains one none f = elim (none_or_some (tally f fs)) as (λ _. bit (handed o owner fs f) ≡ bit (owner f) + tally f fs) [
+  pub gains : bit o ≡ 1 → ((f : ℕ) → 1 ≤ tally f fs → bit (owner f) ≡ 0) → (f : ℕ) → bit (owner_after o owner fs f) ≡ bit (owner f) + tally f fs
+  gains one none f = elim (none_or_some (tally f fs)) as (λ _. bit (owner_after o owner fs f) ≡ bit (owner f) + tally f fs) [
     | inl away ↦ rw (handed_out o owner fs f away) (omega (arith, away))
     | inr there ↦ rw (handed_in o owner fs f there) (omega (arith, one, none f there, once f, there))
   ]
 
   -- each loses it
-  pub loses : bit o ≡ 0 → ((f : ℕ) → 1 ≤ tally f fs → bit (owner f) ≡ 1) → (f : ℕ) → bit (owner f) ≡ bit (handed o owner fs f) + tally f fs
-  loses zero one f = elim (none_or_some (tally f fs)) as (λ _. bit (owner f) ≡ bit (handed o owner fs f) + tally f fs) [
+  pub loses : bit o ≡ 0 → ((f : ℕ) → 1 ≤ tally f fs → bit (owner f) ≡ 1) → (f : ℕ) → bit (owner f) ≡ bit (owner_after o owner fs f) + tally f fs
+  loses zero one f = elim (none_or_some (tally f fs)) as (λ _. bit (owner f) ≡ bit (owner_after o owner fs f) + tally f fs) [
     | inl away ↦ rw (handed_out o owner fs f away) (omega (arith, away))
     | inr there ↦ rw (handed_in o owner fs f there) (omega (arith, zero, one f there, once f, there))
   ]
 
   -- as many more have the bit as the list has
   pub more : (n : ℕ) → ((f : ℕ) → 1 ≤ tally f fs → f < n) → bit o ≡ 1 → ((f : ℕ) → 1 ≤ tally f fs → bit (owner f) ≡ 0)
-      → sum_upto n (λ f. bit (handed o owner fs f)) ≡ sum_upto n (λ f. bit (owner f)) + length fs
+      → sum_upto n (λ f. bit (owner_after o owner fs f)) ≡ sum_upto n (λ f. bit (owner f)) + length fs
   more n below one none =
-      let sums : sum_upto n (λ f. bit (handed o owner fs f)) ≡ sum_upto n (λ f. bit (owner f)) + sum_upto n (λ f. tally f fs)
-      = sum_plus n (λ f. bit (handed o owner fs f)) (λ f. bit (owner f)) (λ f. tally f fs) (λ f less. gains one none f) in
+      let sums : sum_upto n (λ f. bit (owner_after o owner fs f)) ≡ sum_upto n (λ f. bit (owner f)) + sum_upto n (λ f. tally f fs)
+      = sum_plus n (λ f. bit (owner_after o owner fs f)) (λ f. bit (owner f)) (λ f. tally f fs) (λ f less. gains one none f) in
       omega (arith, sums, sum_tally n fs below)
 
   -- as many fewer
   pub fewer : (n : ℕ) → ((f : ℕ) → 1 ≤ tally f fs → f < n) → bit o ≡ 0 → ((f : ℕ) → 1 ≤ tally f fs → bit (owner f) ≡ 1)
-      → sum_upto n (λ f. bit (owner f)) ≡ sum_upto n (λ f. bit (handed o owner fs f)) + length fs
+      → sum_upto n (λ f. bit (owner f)) ≡ sum_upto n (λ f. bit (owner_after o owner fs f)) + length fs
   fewer n below zero one =
-      let sums : sum_upto n (λ f. bit (owner f)) ≡ sum_upto n (λ f. bit (handed o owner fs f)) + sum_upto n (λ f. tally f fs)
-      = sum_plus n (λ f. bit (owner f)) (λ f. bit (handed o owner fs f)) (λ f. tally f fs) (λ f less. loses zero one f) in
+      let sums : sum_upto n (λ f. bit (owner f)) ≡ sum_upto n (λ f. bit (owner_after o owner fs f)) + sum_upto n (λ f. tally f fs)
+      = sum_plus n (λ f. bit (owner f)) (λ f. bit (owner_after o owner fs f)) (λ f. tally f fs) (λ f less. loses zero one f) in
       omega (arith, sums, sum_tally n fs below)
 
 -- the bit stays where it is that of the new owner
-pub stays : (bit : Owner → ℕ) (o : Owner) (owner : ℕ → Owner) (fs : List ℕ) → ((f : ℕ) → 1 ≤ tally f fs → bit (owner f) ≡ bit o) → (f : ℕ) → bit (handed o owner fs f) ≡ bit (owner f)
+pub stays : (bit : Owner → ℕ) (o : Owner) (owner : ℕ → Owner) (fs : List ℕ) → ((f : ℕ) → 1 ≤ tally f fs → bit (owner f) ≡ bit o) → (f : ℕ) → bit (owner_after o owner fs f) ≡ bit (owner f)
 stays bit o owner fs same f = handed_cases (λ x. bit x ≡ bit (owner f)) o owner fs f (λ there. let e : bit (owner f) ≡ bit o = same f there in cc) (λ away. refl)

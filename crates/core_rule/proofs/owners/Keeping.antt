@@ -3,13 +3,13 @@ use Rattle.std.proofs.Common.{◌≡◌, ◌≢◌, ℕ, ◌<◌, ◌≤◌, ◌
 use Rattle.std.proofs.lemmas.Bool.Decides.{nat_tests}
 use Rattle.core_machine.specs.table.Fragments.{tally}
 use Rattle.core_rule.specs.Book.{fragment_at}
-use Rattle.core_rule.specs.Owners.{Owner, Keeps}
+use Rattle.core_rule.specs.Owners.{Owner, Kept}
 use Rattle.core_rule.proofs.owners.Handed.{none_or_some}
 use Rattle.core_rule.proofs.lists.Members.{place_of, tally_at, place_within, place_of-at}
 
 -- the fragments of the body are kept by the object of this number
 abbrev pub kept_by : ℕ → List ℕ → (ℕ → Owner) → ℕ → Owner
-kept_by n body owner f = if nat_lt 0 (tally f body) then Keeps n (place_of f body) else owner f
+kept_by n body owner f = if nat_lt 0 (tally f body) then Kept n (place_of f body) else owner f
 
 -- the object of this number has these fragments
 abbrev pub with_object : (ℕ → List ℕ) → ℕ → List ℕ → ℕ → List ℕ
@@ -24,32 +24,32 @@ object_old fragments n body i apart = grind (arith, nat_tests, apart)
 
 module _ (n : ℕ) (body : List ℕ) (owner : ℕ → Owner) where
   -- a fragment of the body is kept then, another its owner's
-  kept_in : (f : ℕ) → 1 ≤ tally f body → kept_by n body owner f ≡ Keeps n (place_of f body)
+  kept_in : (f : ℕ) → 1 ≤ tally f body → kept_by n body owner f ≡ Kept n (place_of f body)
   kept_in f there = grind (arith, nat_tests, there)
 
   kept_out : (f : ℕ) → tally f body ≡ 0 → kept_by n body owner f ≡ owner f
   kept_out f away = grind (arith, nat_tests, away)
 
-  pub kept_cases : (P : Owner → Type 0) (f : ℕ) → (1 ≤ tally f body → P (Keeps n (place_of f body))) → (tally f body ≡ 0 → P (owner f)) → P (kept_by n body owner f)
+  pub kept_cases : (P : Owner → Type 0) (f : ℕ) → (1 ≤ tally f body → P (Kept n (place_of f body))) → (tally f body ≡ 0 → P (owner f)) → P (kept_by n body owner f)
   kept_cases P f there away = elim (none_or_some (tally f body)) as (λ _. P (kept_by n body owner f)) [
     | inl none ↦ rw (kept_out f none) (away none)
     | inr some ↦ rw (kept_in f some) (there some)
   ]
 
   -- what others keep stays
-  pub kept_stays : ((f i k : ℕ) → 1 ≤ tally f body → owner f ≢ Keeps i k) → (f i k : ℕ) → owner f ≡ Keeps i k → kept_by n body owner f ≡ Keeps i k
-  kept_stays free f i k is = kept_cases (λ o. o ≡ Keeps i k) f (λ there. absurd (free f i k there is)) (λ away. is)
+  pub kept_stays : ((f i k : ℕ) → 1 ≤ tally f body → owner f ≢ Kept i k) → (f i k : ℕ) → owner f ≡ Kept i k → kept_by n body owner f ≡ Kept i k
+  kept_stays free f i k is = kept_cases (λ o. o ≡ Kept i k) f (λ there. absurd (free f i k there is)) (λ away. is)
 
-  pub kept_was : (f i k : ℕ) → i ≢ n → kept_by n body owner f ≡ Keeps i k → owner f ≡ Keeps i k
-  kept_was f i k apart = kept_cases (λ o. o ≡ Keeps i k → owner f ≡ Keeps i k) f (λ there is. absurd (apart (cc))) (λ away is. is)
+  pub kept_was : (f i k : ℕ) → i ≢ n → kept_by n body owner f ≡ Kept i k → owner f ≡ Kept i k
+  kept_was f i k apart = kept_cases (λ o. o ≡ Kept i k → owner f ≡ Kept i k) f (λ there is. absurd (apart (cc))) (λ away is. is)
 
   -- each fragment of the body is its part of the object
-  pub kept_part : ((f : ℕ) → tally f body ≤ 1) → (k : ℕ) → k < length body → kept_by n body owner (fragment_at body k) ≡ Keeps n k
-  kept_part once k below = kept_in (fragment_at body k) (tally_at body k below) ∙ ap (Keeps n) (place_of-at body k once below)
+  pub kept_part : ((f : ℕ) → tally f body ≤ 1) → (k : ℕ) → k < length body → kept_by n body owner (fragment_at body k) ≡ Kept n k
+  kept_part once k below = kept_in (fragment_at body k) (tally_at body k below) ∙ ap (Kept n) (place_of-at body k once below)
 
   -- an object's fragment is one of the body, or was kept before
-  pub kept_back : (f i k : ℕ) → kept_by n body owner f ≡ Keeps i k → ((i ≡ n) × (k < length body) × (f ≡ fragment_at body k)) ⊎ (owner f ≡ Keeps i k)
-  kept_back f i k = kept_cases (λ o. o ≡ Keeps i k → ((i ≡ n) × (k < length body) × (f ≡ fragment_at body k)) ⊎ (owner f ≡ Keeps i k)) f
+  pub kept_back : (f i k : ℕ) → kept_by n body owner f ≡ Kept i k → ((i ≡ n) × (k < length body) × (f ≡ fragment_at body k)) ⊎ (owner f ≡ Kept i k)
+  kept_back f i k = kept_cases (λ o. o ≡ Kept i k → ((i ≡ n) × (k < length body) × (f ≡ fragment_at body k)) ⊎ (owner f ≡ Kept i k)) f
       (λ there is. let at_place = place_within f body there in let place : place_of f body ≡ k = cc in
       inl (cc, subst (λ p. p < length body) place at_place.0, sym (subst (λ p. fragment_at body p ≡ f) place at_place.1)))
       (λ away is. inr is)

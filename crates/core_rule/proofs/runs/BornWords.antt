@@ -4,7 +4,7 @@ use Rattle.std.proofs.Common.{◌≡◌, ◌≢◌, ℕ, ◌+◌, ◌*◌, ◌/�
 use Rattle.std.proofs.lemmas.Bool.Decides.{eqb_tells}
 use Rattle.std.proofs.lemmas.Nat.Bits.{bit_at-lt}
 use Rattle.heap_model.specs.declared.heap.Heap.{Heap}
-use Rattle.heap_model.specs.account.PhaseCounts.{answered}
+use Rattle.heap_model.specs.account.PhaseCounts.{last_answer}
 use Rattle.heap_model.specs.PhasePlan.{black_births, sweep}
 use Rattle.core_machine.specs.declared.collector.stage.Stage.{Stage}
 use Rattle.core_machine.specs.declared.collector.stage.Stage.TheVariants as stages
@@ -13,17 +13,17 @@ use Rattle.core_machine.specs.declared.place.Making.TheVariants.{Gathering, Retu
 use Rattle.core_machine.specs.declared.place.Place.{Place}
 use Rattle.core_machine.specs.declared.place.Place.TheVariants as places
 use Rattle.core_machine.specs.declared.place.Polling.TheVariants.{Shading, Answering}
-use Rattle.core_machine.specs.declared.place.Reaching.TheVariants.{ShadingOld, ShadingNew, Swapping}
+use Rattle.core_machine.specs.declared.place.Access.TheVariants.{ShadingOld, ShadingNew, Swapping}
 use Rattle.core_machine.specs.declared.table.address.Address.{Address}
 use Rattle.core_machine.specs.declared.table.address.Address.TheVariants.{Phase, Answer, Control}
 use Rattle.core_machine.specs.collector.Collector.{turn_at}
-use Rattle.core_machine.specs.machine.Machine.{State, seat_at, moved, turned, Begins, Steps, Turns}
-use Rattle.core_machine.specs.Moves.{move_at, bears_black, is_last_birth, last_birth_move, birth_move, last_part}
-use Rattle.core_machine.specs.seat.Making.{last_group}
+use Rattle.core_machine.specs.machine.Machine.{State, seat_at, state_after_due, state_after_turn, Begins, Steps, Turns}
+use Rattle.core_machine.specs.Moves.{move_at, bears_black_of, is_last_birth, last_birth_move, birth_move, last_part}
+use Rattle.core_machine.specs.seat.Making.{last_group_of}
 use Rattle.core_machine.specs.seat.Seat.{Seat}
-use Rattle.core_machine.specs.table.Fragments.{mask}
+use Rattle.core_machine.specs.table.Fragments.{mask_of}
 use Rattle.core_machine.specs.table.Layout.{at, put}
-use Rattle.core_machine.specs.table.Operation.{birth_bits}
+use Rattle.core_machine.specs.table.Operation.{birth_bits_of}
 use Rattle.core_machine.proofs.table_lemmas.Addresses.{put-at}
 use Rattle.core_rule.specs.Book.{Book, Colour, White, Grey, Black}
 use Rattle.core_rule.specs.Colours.{IsBetween, HasColour, HasBirthColour, marked_bit, scanned_bit}
@@ -85,73 +85,73 @@ module _ (heap : Heap) (state : State) (book : Book) (rule : Rule heap state boo
       by Grey is = absurd (none (rule.heap_stands.cycle.coloured.born f (λ white. cc (is, white))))
       by Black is = absurd (none (rule.heap_stands.cycle.coloured.born f (λ white. cc (is, white))))
 
-  module _ (q : ℕ) (here : q < heap.seats) where
+  module _ (number : ℕ) (here : number < heap.seats) where
     abbrev seat : Seat
-    seat = seat_at state q
+    seat = seat_at state number
 
     abbrev g : ℕ
-    g = last_group seat.hand
+    g = last_group_of seat.hand
 
     abbrev bits : ℕ
-    bits = mask (last_part seat)
+    bits = mask_of (last_part seat)
 
     abbrev found : ℕ
     found = at heap words (Control g)
 
     abbrev born_word : ℕ
-    born_word = bit_or found (birth_bits (bears_black seat) bits)
+    born_word = bit_or found (birth_bits_of (bears_black_of seat) bits)
 
     abbrev words_born : List ℕ
     words_born = put heap words (Control g) born_word
 
     -- a birth gives its colour
-    bears : f / 16 ≡ g → bit_at born_word (16 + f % 16) ≡ 1 → (black : Bool) → bears_black seat ≡ black → HasColour heap words_born f (birth_colour black)
+    bears : f / 16 ≡ g → bit_at born_word (16 + f % 16) ≡ 1 → (black : Bool) → bears_black_of seat ≡ black → HasColour heap words_born f (birth_colour black)
     bears group born black is =
         let marks = rule.heap_stands.cycle.marks in
         let below : g < heap.groups = omega (arith, group, within) in
         let clear : bit_at found (16 + f % 16) ≢ 1 = λ set. unborn (subst (λ h. bit_at (at heap words (Control h)) (16 + f % 16) ≡ 1) (sym group) set) in
-        let mine : bit_at bits (f % 16) ≡ 1 = omega (arith, birth_born found (f % 16) (omega arith) bits (bears_black seat), born, clear, bit_at-lt found (16 + f % 16)) in
+        let mine : bit_at bits (f % 16) ≡ 1 = omega (arith, birth_born found (f % 16) (omega arith) bits (bears_black_of seat), born, clear, bit_at-lt found (16 + f % 16)) in
         let there : control_of heap words_born f ≡ born_word = written_there g born_word group in
         record {
           marked = ap (λ w. bit_at w (32 + f % 16)) there
               ∙ coloured_bit marked_bit refl refl _ _ _ black (subst (λ (b : Bool). bit_at born_word (32 + f % 16) ≡ max (bit_at found (32 + f % 16)) (cond {A = ℕ} b (bit_at bits (f % 16)) 0)) is
-              (birth_marked found bits (mask-lt (last_part seat)) (f % 16) (omega arith) (bears_black seat)))
+              (birth_marked found bits (mask-lt (last_part seat)) (f % 16) (omega arith) (bears_black_of seat)))
               (found_marked heap words book.colour book.colour g 0 rule.machine.table below marks f group ∙ ap marked_bit unmarked) mine;
           scanned = ap (λ w. bit_at w (48 + f % 16)) there
               ∙ coloured_bit scanned_bit refl refl _ _ _ black (subst (λ (b : Bool). bit_at born_word (48 + f % 16) ≡ max (bit_at found (48 + f % 16)) (cond {A = ℕ} b (bit_at bits (f % 16)) 0)) is
-              (birth_scanned found bits (mask-lt (last_part seat)) (f % 16) (omega arith) (bears_black seat)))
+              (birth_scanned found bits (mask-lt (last_part seat)) (f % 16) (omega arith) (bears_black_of seat)))
               (found_scanned heap words book.colour book.colour g 0 rule.machine.table below marks f group ∙ ap scanned_bit unmarked) mine;
         }
 
-    birth_colours : IsBorn heap words_born f → HasBirthColour heap words_born f (answered q book.history)
+    birth_colours : IsBorn heap words_born f → HasBirthColour heap words_born f (last_answer number book.history)
     birth_colours = control_bears g born_word (λ group born. record {
-      dark = λ between. bears group born true (window_black seat (subst (IsBetween black_births sweep) (rule.seats_stand q here).cycle.answers_told.told between));
-      light = λ apart. by apart group born (bears_black seat) refl;
+      dark = λ between. bears group born true (window_black seat (subst (IsBetween black_births sweep) (rule.seats_stand number here).cycle.answers_told.told between));
+      light = λ apart. by apart group born (bears_black_of seat) refl;
     })
       where
-        by : ¬ IsBetween black_births sweep (answered q book.history) → f / 16 ≡ g → bit_at born_word (16 + f % 16) ≡ 1 → (black : Bool) → bears_black seat ≡ black → HasColour heap words_born f White
-        by apart group born true is = absurd (apart (subst (IsBetween black_births sweep) (sym (rule.seats_stand q here).cycle.answers_told.told) (black_window seat is)))
+        by : ¬ IsBetween black_births sweep (last_answer number book.history) → f / 16 ≡ g → bit_at born_word (16 + f % 16) ≡ 1 → (black : Bool) → bears_black_of seat ≡ black → HasColour heap words_born f White
+        by apart group born true is = absurd (apart (subst (IsBetween black_births sweep) (sym (rule.seats_stand number here).cycle.answers_told.told) (black_window seat is)))
         by apart group born false is = bears group born false is
 
-    answer_bears_none : (word : ℕ) → ¬ IsBorn heap (put heap words (Answer q) word) f
-    answer_bears_none word = word_bears_none _ (at-put_apart heap words (Answer q) (Control (f / 16)) word (λ e. omega (arith, e, here, rule.machine.limits.seats_fit)))
+    answer_bears_none : (word : ℕ) → ¬ IsBorn heap (put heap words (Answer number) word) f
+    answer_bears_none word = word_bears_none _ (at-put_apart heap words (Answer number) (Control (f / 16)) word (λ e. omega (arith, e, here, rule.machine.limits.seats_fit)))
 
     -- so does each step of a seat that bears the fragment
-    step_colours : (place : Place) → IsBorn heap (moved heap state q (move_at heap q seat place)).words f
-        → HasBirthColour heap (moved heap state q (move_at heap q seat place)).words f (answered q book.history)
+    step_colours : (place : Place) → IsBorn heap (state_after_due heap state number (move_at heap number seat place)).words f
+        → HasBirthColour heap (state_after_due heap state number (move_at heap number seat place)).words f (last_answer number book.history)
     step_colours places.Idle born = absurd (unborn born)
     step_colours (places.Making Gathering) born = absurd (bit_bears_none _ _ (claim_born _ (f % 16) (omega arith)) born)
     step_colours (places.Making Returning) born = absurd (bit_bears_none _ _ (untaken_born _ (f % 16) (omega arith) _ (mask-lt _)) born)
     step_colours (places.Making Storing) born = absurd (word_bears_none _ (control_after_word heap words _ _ _ (f / 16) (omega (arith, within))) born)
     step_colours (places.Making Bearing) born = by (is_last_birth seat) born
       where
-        by : (last : Bool) → IsBorn heap (moved heap state q (Some (if last then last_birth_move q seat else birth_move seat))).words f
-            → HasBirthColour heap (moved heap state q (Some (if last then last_birth_move q seat else birth_move seat))).words f (answered q book.history)
+        by : (last : Bool) → IsBorn heap (state_after_due heap state number (Some (if last then last_birth_move number seat else birth_move seat))).words f
+            → HasBirthColour heap (state_after_due heap state number (Some (if last then last_birth_move number seat else birth_move seat))).words f (last_answer number book.history)
         by true born = birth_colours born
         by false born = birth_colours born
-    step_colours (places.Reaching ShadingOld) born = absurd (bit_bears_none _ _ (shade_born _ _ f) born)
-    step_colours (places.Reaching ShadingNew) born = absurd (bit_bears_none _ _ (shade_born _ _ f) born)
-    step_colours (places.Reaching Swapping) born = absurd (word_bears_none _ (control_after_word heap words _ _ _ (f / 16) (omega (arith, within))) born)
+    step_colours (places.Access ShadingOld) born = absurd (bit_bears_none _ _ (shade_born _ _ f) born)
+    step_colours (places.Access ShadingNew) born = absurd (bit_bears_none _ _ (shade_born _ _ f) born)
+    step_colours (places.Access Swapping) born = absurd (word_bears_none _ (control_after_word heap words _ _ _ (f / 16) (omega (arith, within))) born)
     step_colours (places.Polling Shading) born = absurd (bit_bears_none _ _ (shade_born _ _ f) born)
     step_colours (places.Polling Answering) born = absurd (answer_bears_none _ born)
     step_colours (places.Leaving Emptying) born = absurd (bit_bears_none _ _ (untaken_born _ (f % 16) (omega arith) _ (mask-lt _)) born)
@@ -159,12 +159,12 @@ module _ (heap : Heap) (state : State) (book : Book) (rule : Rule heap state boo
     step_colours _ born = absurd (load_bears_none _ born)
 
   -- a turn bears nothing
-  turn_bears_none : (stage : Stage) → ¬ IsBorn heap (turned heap state (turn_at heap state.collector stage)).words f
+  turn_bears_none : (stage : Stage) → ¬ IsBorn heap (state_after_turn heap state (turn_at heap state.collector stage)).words f
   turn_bears_none stages.Advancing born = word_bears_none _ (at-put_apart heap words Phase (Control (f / 16)) _ (λ e. omega (arith, e))) born
   turn_bears_none _ born = load_bears_none _ born
 
 pub each_birth_has_its_colour : EachBirthHasItsColour
-each_birth_has_its_colour heap state book (Begins q command) f rule can within unborn born = absurd (unborn born)
-each_birth_has_its_colour heap state book (Steps q) f rule can within unborn born =
-    (q, refl, step_colours heap state book rule f within unborn q (seat_of_step heap state book q rule can) (seat_at state q).place born)
+each_birth_has_its_colour heap state book (Begins number command) f rule can within unborn born = absurd (unborn born)
+each_birth_has_its_colour heap state book (Steps number) f rule can within unborn born =
+    (number, refl, step_colours heap state book rule f within unborn number (seat_of_step heap state book number rule can) (seat_at state number).place born)
 each_birth_has_its_colour heap state book Turns f rule can within unborn born = absurd (turn_bears_none heap state book rule f within unborn state.collector.stage born)

@@ -14,12 +14,12 @@ use Rattle.core_machine.specs.declared.place.Making.TheVariants.{Gathering, Retu
 use Rattle.core_machine.specs.declared.place.Place.{Place}
 use Rattle.core_machine.specs.declared.place.Place.TheVariants as places
 use Rattle.core_machine.specs.declared.place.Polling.TheVariants.{Asking, Answering}
-use Rattle.core_machine.specs.declared.place.Reaching.TheVariants.{Opening, Getting, Swapping}
+use Rattle.core_machine.specs.declared.place.Access.TheVariants.{LoadingMeta, Getting, Swapping}
 use Rattle.core_machine.specs.collector.Collector.{turn_at}
-use Rattle.core_machine.specs.machine.Machine.{State, seat_at, shown, Begins, Steps, Turns, entries}
+use Rattle.core_machine.specs.machine.Machine.{State, seat_at, entries_shown, Begins, Steps, Turns, entries}
 use Rattle.core_machine.specs.Moves.{move_at, is_last_birth, last_birth_move, birth_move, takes_some}
-use Rattle.core_machine.specs.seat.AnsweringMoves.{poll_adds}
-use Rattle.core_machine.specs.seat.ReachingMoves.{field_part, got_shows, said_some}
+use Rattle.core_machine.specs.seat.HandshakeMoves.{poll_adds}
+use Rattle.core_machine.specs.seat.AccessMoves.{field_part_of, got_shows, reply_entries_if}
 use Rattle.core_machine.specs.table.Layout.{at}
 use Rattle.core_machine.specs.declared.table.address.Address.TheVariants.{Word}
 use Rattle.core_machine.specs.seat.Seat.{Seat}
@@ -40,49 +40,49 @@ module _ (heap : Heap) (state : State) (colour : ℕ → Colour) where
 
   -- the reply to a poll that answers
   abbrev reply : ℕ → Seat → Entry
-  reply q seat = Said q seat.command (Phase seat.asked)
+  reply number seat = Said number seat.command (Phase seat.asked)
 
   -- the entries of a claim, of a poll's load, of a reply at the meta, and of a get are no answers
-  claim_marked : (q count : ℕ) → AreMarked (takes_some q count)
-  claim_marked q count = by (count == 0)
+  claim_marked : (number count : ℕ) → AreMarked (takes_some number count)
+  claim_marked number count = by (count == 0)
     where
-      by : (b : Bool) → AreMarked (if b then [] else Takes q count ∷ [])
+      by : (b : Bool) → AreMarked (if b then [] else Takes number count ∷ [])
       by true = none_marked
-      by false = one_marked (Takes q count) tt
+      by false = one_marked (Takes number count) tt
 
-  poll_marked : (q : ℕ) (seat : Seat) (found : ℕ) → AreMarked (poll_adds q seat found)
-  poll_marked q seat found = by (found == seat.answered)
+  poll_marked : (number : ℕ) (seat : Seat) (found : ℕ) → AreMarked (poll_adds number seat found)
+  poll_marked number seat found = by (found == seat.answered)
     where
-      by : (b : Bool) → AreMarked (if b then Said q seat.command (Phase found) ∷ [] else [])
-      by true = one_marked (Said q seat.command (Phase found)) tt
+      by : (b : Bool) → AreMarked (if b then Said number seat.command (Phase found) ∷ [] else [])
+      by true = one_marked (Said number seat.command (Phase found)) tt
       by false = none_marked
 
-  meta_marked : (q : ℕ) (seat : Seat) (reply : Option Reply) → AreMarked (said_some q seat reply)
-  meta_marked q seat None = none_marked
-  meta_marked q seat (Some reply) = one_marked (Said q seat.command reply) tt
+  meta_marked : (number : ℕ) (seat : Seat) (reply : Option Reply) → AreMarked (reply_entries_if number seat reply)
+  meta_marked number seat None = none_marked
+  meta_marked number seat (Some reply) = one_marked (Said number seat.command reply) tt
 
-  get_marked : (q : ℕ) (seat : Seat) (found : ℕ) (head : Option ℕ) → AreMarked (got_shows heap q seat state.words found head)
-  get_marked q seat found None = one_marked _ tt
-  get_marked q seat found (Some head) = one_marked _ tt
+  get_marked : (number : ℕ) (seat : Seat) (found : ℕ) (head : Option ℕ) → AreMarked (got_shows heap number seat state.words found head)
+  get_marked number seat found None = one_marked _ tt
+  get_marked number seat found (Some head) = one_marked _ tt
 
-  module _ (q : ℕ) (answers : (seat_at state q).place ≡ places.Polling Answering → (seat_at state q).asked % cycle_phases ≡ marking → (r : ℕ) → IsRootMarked colour (seat_at state q).registers r) where
+  module _ (number : ℕ) (answers : (seat_at state number).place ≡ places.Polling Answering → (seat_at state number).asked % cycle_phases ≡ marking → (r : ℕ) → IsRootMarked colour (seat_at state number).registers r) where
     -- what a step shows, if it shows an entry
-    shown_marked : (place : Place) → (seat_at state q).place ≡ place → AreMarked (shown heap state (move_at heap q (seat_at state q) place))
-    shown_marked (places.Making Gathering) placed = claim_marked q _
+    shown_marked : (place : Place) → (seat_at state number).place ≡ place → AreMarked (entries_shown heap state (move_at heap number (seat_at state number) place))
+    shown_marked (places.Making Gathering) placed = claim_marked number _
     shown_marked (places.Making Returning) placed = one_marked _ tt
     shown_marked (places.Making Refusing) placed = one_marked _ tt
-    shown_marked (places.Making Bearing) placed = by (is_last_birth (seat_at state q))
+    shown_marked (places.Making Bearing) placed = by (is_last_birth (seat_at state number))
       where
-        by : (last : Bool) → AreMarked (shown heap state (Some (if last then last_birth_move q (seat_at state q) else birth_move (seat_at state q))))
+        by : (last : Bool) → AreMarked (entries_shown heap state (Some (if last then last_birth_move number (seat_at state number) else birth_move (seat_at state number))))
         by true = one_marked _ tt
         by false = none_marked
-    shown_marked places.Telling placed = one_marked _ tt
-    shown_marked (places.Reaching Opening) placed = meta_marked q (seat_at state q) _
-    shown_marked (places.Reaching Getting) placed = get_marked q (seat_at state q) (at heap state.words (Word (seat_at state q).reached (field_part (seat_at state q)))) _
-    shown_marked (places.Reaching Swapping) placed = one_marked _ tt
-    shown_marked (places.Polling Asking) placed = poll_marked q (seat_at state q) _
+    shown_marked places.Local placed = one_marked _ tt
+    shown_marked (places.Access LoadingMeta) placed = meta_marked number (seat_at state number) _
+    shown_marked (places.Access Getting) placed = get_marked number (seat_at state number) (at heap state.words (Word (seat_at state number).reached (field_part_of (seat_at state number)))) _
+    shown_marked (places.Access Swapping) placed = one_marked _ tt
+    shown_marked (places.Polling Asking) placed = poll_marked number (seat_at state number) _
     shown_marked (places.Polling Answering) placed =
-        All-cons (HasMarkedRoots state colour) (Answers q (seat_at state q).asked) (reply q (seat_at state q) ∷ []) (answers placed) (one_marked (reply q (seat_at state q)) tt)
+        All-cons (HasMarkedRoots state colour) (Answers number (seat_at state number).asked) (reply number (seat_at state number) ∷ []) (answers placed) (one_marked (reply number (seat_at state number)) tt)
     shown_marked (places.Leaving Emptying) placed = one_marked _ tt
     shown_marked (places.Leaving Parting) placed = one_marked _ tt
     shown_marked _ placed = none_marked
@@ -93,10 +93,10 @@ module _ (heap : Heap) (state : State) (colour : ℕ → Colour) where
   turn_marked _ = none_marked
 
 pub each_answer_is_marked : EachAnswerIsMarked
-each_answer_is_marked heap state book (Begins q command) rule can = none_marked heap state book.colour
-each_answer_is_marked heap state book (Steps q) rule can =
-    let stands = rule.seats_stand q (seat_of_step heap state book q rule can) in
-    shown_marked heap state book.colour q
-    (λ placed. subst (λ place. (seat_at state q).asked % cycle_phases ≡ marking → WhilePolling (RootsStand book.colour (seat_at state q)) place) placed stands.cycle.flight.roots)
-    (seat_at state q).place refl
+each_answer_is_marked heap state book (Begins number command) rule can = none_marked heap state book.colour
+each_answer_is_marked heap state book (Steps number) rule can =
+    let stands = rule.seats_stand number (seat_of_step heap state book number rule can) in
+    shown_marked heap state book.colour number
+    (λ placed. subst (λ place. (seat_at state number).asked % cycle_phases ≡ marking → WhilePolling (RootsStand book.colour (seat_at state number)) place) placed stands.cycle.flight.roots)
+    (seat_at state number).place refl
 each_answer_is_marked heap state book Turns rule can = turn_marked heap state book.colour state.collector.stage

@@ -9,18 +9,18 @@ use Rattle.heap_model.specs.declared.graph.cell.Cell.{Cell}
 use Rattle.heap_model.specs.declared.heap.Heap.{Heap}
 use Rattle.heap_model.specs.declared.id.Id.{Id}
 use Rattle.heap_model.specs.declared.id.Id.TheVariants.{Board, Made}
-use Rattle.heap_model.specs.graph.Objects.{nobody, party}
+use Rattle.heap_model.specs.graph.Objects.{absent_graph_seat, graph_seat}
 use Rattle.heap_model.specs.graph.Reach.{IsMade}
-use Rattle.heap_model.specs.graph.State.{Party, opening, opening_party, unset}
+use Rattle.heap_model.specs.graph.Graph.{GraphSeat, opening, opening_graph_seat, unset}
 use Rattle.core_machine.specs.declared.table.address.Address.{Address}
 use Rattle.core_machine.specs.declared.table.address.Address.TheVariants.{Control, Word}
 use Rattle.core_machine.specs.table.Layout.{at, InTable}
 use Rattle.core_machine.specs.machine.Opening.{board, board_name, opening_word}
-use Rattle.core_rule.specs.Book.{White, fragment_at, id_at, number_of, head_of}
+use Rattle.core_rule.specs.Book.{White, fragment_at, id_at, object_number, object_head}
 use Rattle.core_rule.specs.Colours.{Marks}
 use Rattle.core_rule.specs.ControlWords.{Bits}
 use Rattle.core_rule.specs.Objects.{FitsName, AreMade, IsKept, NamesKept, KeptObject, Objects, cells_at}
-use Rattle.core_rule.specs.Owners.{Keeps, taken_bit, born_bit}
+use Rattle.core_rule.specs.Owners.{Kept, taken_bit, born_bit}
 use Rattle.core_rule.proofs.graph.GraphRegisters.{opening_at}
 use Rattle.core_rule.proofs.objects.Newborn.{newborn_is}
 use Rattle.core_rule.proofs.objects.ObjectsGrowth.{unset_cell}
@@ -34,10 +34,10 @@ abbrev pub opening_fragments : ℕ → List ℕ
 opening_fragments i = board
 
 -- no seat has made an object
-nothing_made : (heap : Heap) (s : ℕ) → (party (opening heap) s).objects ≡ []
+nothing_made : (heap : Heap) (s : ℕ) → (graph_seat (opening heap) s).objects ≡ []
 nothing_made heap s = elim (cases_lt s heap.seats) [
-  | inl below ↦ ap (λ (p : Party). p.objects) (opening_at heap s below)
-  | inr past ↦ ap (λ (p : Party). p.objects) (get_or_past (replicate heap.seats opening_party) s nobody (omega (arith, past, length-replicate heap.seats opening_party)))
+  | inl below ↦ ap (λ (p : GraphSeat). p.objects) (opening_at heap s below)
+  | inr past ↦ ap (λ (p : GraphSeat). p.objects) (get_or_past (replicate heap.seats opening_graph_seat) s absent_graph_seat (omega (arith, past, length-replicate heap.seats opening_graph_seat)))
 ]
 
 only_board : (heap : Heap) (id : Id) → IsMade (opening heap) id → Board ≡ id
@@ -49,8 +49,8 @@ pub opening_ids : (heap : Heap) → AreMade (opening heap) opening_made
 opening_ids heap = record {
   board = refl;
   in_graph = λ i below. let none : 0 ≡ i = omega arith in subst (λ x. IsMade (opening heap) (id_at opening_made x)) none refl;
-  numbered = λ id is. subst (λ x. (number_of opening_made x < length opening_made) × (id_at opening_made (number_of opening_made x) ≡ x)) (only_board heap id is) (omega arith, refl);
-  distinct = λ i below. let none : 0 ≡ i = omega arith in subst (λ x. number_of opening_made (id_at opening_made x) ≡ x) none refl;
+  numbered = λ id is. subst (λ x. (object_number opening_made x < length opening_made) × (id_at opening_made (object_number opening_made x) ≡ x)) (only_board heap id is) (omega arith, refl);
+  distinct = λ i below. let none : 0 ≡ i = omega arith in subst (λ x. object_number opening_made (id_at opening_made x) ≡ x) none refl;
   fit = λ i below. let none : 0 ≡ i = omega arith in subst (λ x. FitsName (id_at opening_made x)) none tt;
 }
 
@@ -89,15 +89,15 @@ module _ (heap : Heap) (words : List ℕ) (some : 1 ≤ heap.groups) (open_words
     outside = λ f past. refl;
   }
 
-  board_kept : KeptObject heap words opening_owner (head_of opening_made opening_fragments) 0 Board (replicate 32 unset) board
+  board_kept : KeptObject heap words opening_owner (object_head opening_made opening_fragments) 0 Board (replicate 32 unset) board
   board_kept = record {
     sized = (omega arith, omega arith);
     whole = refl;
-    owned = λ k below. let here : k < 11 = omega arith in rw (board_at k here) (opening_cases (λ o. o ≡ Keeps 0 k) k (λ less. refl) (λ past. absurd (omega (arith, here, past))));
+    owned = λ k below. let here : k < 11 = omega arith in rw (board_at k here) (opening_cases (λ o. o ≡ Kept 0 k) k (λ less. refl) (λ past. absurd (omega (arith, here, past))));
     stored = λ k part below fits.
         let here : k < 11 = omega arith in
         rw (board_at k here, open_words (Word k part) (omega (arith, here, some), fits))
-        (let newborn = newborn_is (head_of opening_made opening_fragments) board_name 32 board k part in
+        (let newborn = newborn_is (object_head opening_made opening_fragments) board_name 32 board k part in
         let first : nat_lt k 11 ≡ true = grind (arith, nat_tests, here) in rw first (sym newborn));
   }
 
@@ -105,11 +105,11 @@ module _ (heap : Heap) (words : List ℕ) (some : 1 ≤ heap.groups) (open_words
   pub opening_objects : Objects heap words (opening heap) opening_made opening_owner opening_fragments
   opening_objects = record {
     kept = λ i below is. let none : 0 ≡ i = omega arith in
-        subst (λ x. KeptObject heap words opening_owner (head_of opening_made opening_fragments) x (id_at opening_made x) (cells_at (opening heap) opening_made x) (opening_fragments x)) none board_kept;
+        subst (λ x. KeptObject heap words opening_owner (object_head opening_made opening_fragments) x (id_at opening_made x) (cells_at (opening heap) opening_made x) (opening_fragments x)) none board_kept;
     named = λ i j below is cell there. let none : i ≡ 0 = omega arith in
         let blank : cell ≡ unset = unset_cell 32 j cell (subst (λ x. slice_get (cells_at (opening heap) opening_made x) j ≡ Some cell) none there) in
         subst (λ (c : Cell). NamesKept opening_made opening_owner opening_fragments c.value × (c.stamp < 2 ^ 32)) (sym blank) (tt, omega arith);
-    back = λ f i k. opening_cases (λ o. o ≡ Keeps i k → (i < length opening_made) × IsKept opening_owner opening_fragments i × (k < length (opening_fragments i)) × (f ≡ fragment_at (opening_fragments i) k)) f
+    back = λ f i k. opening_cases (λ o. o ≡ Kept i k → (i < length opening_made) × IsKept opening_owner opening_fragments i × (k < length (opening_fragments i)) × (f ≡ fragment_at (opening_fragments i) k)) f
         (λ below is. let object : 0 ≡ i = cc in let part : f ≡ k = cc in
         subst (λ x. (x < length opening_made) × IsKept opening_owner opening_fragments x × (k < length (opening_fragments x)) × (f ≡ fragment_at (opening_fragments x) k)) object
         (omega arith, refl, omega (arith, part, below), part ∙ sym (board_at k (omega (arith, part, below)))))

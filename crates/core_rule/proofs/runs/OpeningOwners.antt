@@ -10,20 +10,20 @@ use Rattle.core_machine.specs.machine.Sums.{sum_upto}
 use Rattle.core_machine.proofs.table_lemmas.Free.{sum_zero}
 use Rattle.core_rule.specs.Book.{fragment_at}
 use Rattle.core_rule.specs.Counts.{AreUsed}
-use Rattle.core_rule.specs.Owners.{Owner, Free, Keeps, IsSeated, OwnersStand, taken_bit, born_bit}
+use Rattle.core_rule.specs.Owners.{Owner, Free, Kept, IsSeated, OwnersStand, taken_bit, born_bit}
 use Rattle.core_rule.proofs.lists.SumLemmas.{sum_parts, sum_ones}
 
 -- the first eleven fragments are the board's
 abbrev pub opening_owner : ℕ → Owner
-opening_owner f = if nat_lt f 11 then Keeps 0 f else Free
+opening_owner f = if nat_lt f 11 then Kept 0 f else Free
 
-boards : (f : ℕ) → f < 11 → opening_owner f ≡ Keeps 0 f
+boards : (f : ℕ) → f < 11 → opening_owner f ≡ Kept 0 f
 boards f below = grind (arith, nat_tests, below)
 
 pub nobodys : (f : ℕ) → 11 ≤ f → opening_owner f ≡ Free
 nobodys f past = grind (arith, nat_tests, past)
 
-pub opening_cases : (P : Owner → Type 0) (f : ℕ) → (f < 11 → P (Keeps 0 f)) → (11 ≤ f → P Free) → P (opening_owner f)
+pub opening_cases : (P : Owner → Type 0) (f : ℕ) → (f < 11 → P (Kept 0 f)) → (11 ≤ f → P Free) → P (opening_owner f)
 opening_cases P f kept free = elim (cases_lt f 11) [
   | inl below ↦ subst P (sym (boards f below)) (kept below)
   | inr past ↦ subst P (sym (nobodys f past)) (free past)

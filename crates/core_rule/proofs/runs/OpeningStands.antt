@@ -7,7 +7,7 @@ use Rattle.heap_model.specs.declared.id.Id.TheVariants as ids
 use Rattle.heap_model.specs.declared.id.Value.{Value}
 use Rattle.heap_model.specs.declared.id.Value.TheVariants as values
 use Rattle.heap_model.specs.Heap.{IsHeap}
-use Rattle.heap_model.specs.graph.State.{Party, opening}
+use Rattle.heap_model.specs.graph.Graph.{GraphSeat, opening}
 use Rattle.core_machine.specs.declared.table.address.Address.TheVariants.{Answer, Phase}
 use Rattle.core_machine.specs.declared.place.Place.TheVariants as places
 use Rattle.core_machine.specs.declared.seat.register.Register.{Register}
@@ -17,13 +17,13 @@ use Rattle.core_machine.specs.seat.Fits.{Fits}
 use Rattle.core_machine.specs.table.Layout.{at}
 use Rattle.core_machine.specs.machine.Machine.{State, seat_at}
 use Rattle.core_machine.specs.machine.Opening.{IsOpening, opening_seat, opening_word}
-use Rattle.core_machine.specs.seat.Seat.{Seat, nobody}
+use Rattle.core_machine.specs.seat.Seat.{Seat, absent_seat}
 use Rattle.core_machine.specs.machine.Value.{IsMachine}
 use Rattle.core_machine.proofs.machine_lemmas.OpeningMachine.{opening_machine}
 use Rattle.core_rule.specs.Book.{Book, White}
 use Rattle.core_rule.specs.Laws.{StandsFor}
 use Rattle.core_rule.specs.Owners.{holds_bit, bears_bit}
-use Rattle.core_rule.specs.Phases.{CollectorStands}
+use Rattle.core_rule.specs.Phases.{CollectorAgrees}
 use Rattle.core_rule.specs.Registers.{Registers}
 use Rattle.core_rule.specs.Registers as regs
 use Rattle.core_rule.specs.Rule.{Rule, SeatStands}
@@ -35,10 +35,10 @@ use Rattle.core_rule.proofs.runs.OpeningOwners.{opening_owner, opening_cases, op
 
 -- the book when a heap opens: nothing has happened, and there is the board alone
 abbrev pub opening_book : Book
-opening_book = record { history = []; made = opening_made; owner = opening_owner; fragments = opening_fragments; colour = λ f. White; begun = λ q. 0 }
+opening_book = record { history = []; made = opening_made; owner = opening_owner; fragments = opening_fragments; colour = λ f. White; begun = λ number. 0 }
 
 abbrev Now : Register → Value → Type 0
-Now held value = regs.Holds opening_made opening_owner opening_fragments held value
+Now held value = regs.HoldsValue opening_made opening_owner opening_fragments held value
 
 nil_registers : (n r : ℕ) → Now (get_or (replicate n registers.Nil) r registers.Nil) (get_or (replicate n values.Nil) r values.Nil)
 nil_registers zero r = refl
@@ -49,37 +49,37 @@ opening_held : (r : ℕ) → Now (get_or (registers.Object 0 ids.Board ∷ repli
 opening_held zero = (refl, (omega arith, refl), refl)
 opening_held (suc r) = nil_registers 15 r
 
-opening_registers : (heap : Heap) (q : ℕ) → q < heap.seats → Registers (opening heap) opening_made opening_owner opening_fragments q (opening_seat heap q).registers places.Idle 0
-opening_registers heap q below r fresh = subst (λ (p : Party). Now (get_or (opening_seat heap q).registers r registers.Nil) (get_or p.registers r values.Nil)) (sym (opening_at heap q below)) (opening_held r)
+opening_registers : (heap : Heap) (number : ℕ) → number < heap.seats → Registers (opening heap) opening_made opening_owner opening_fragments number (opening_seat heap number).registers places.Idle 0
+opening_registers heap number below r fresh = subst (λ (p : GraphSeat). Now (get_or (opening_seat heap number).registers r registers.Nil) (get_or p.registers r values.Nil)) (sym (opening_at heap number below)) (opening_held r)
 
 -- no seat has answered
-opening_answer : (heap : Heap) (q : ℕ) → q < heap.seats → opening_word heap (Answer q) ≡ 0
-opening_answer heap q below = rw (lt-ltb q heap.seats below) refl
+opening_answer : (heap : Heap) (number : ℕ) → number < heap.seats → opening_word heap (Answer number) ≡ 0
+opening_answer heap number below = rw (lt-ltb number heap.seats below) refl
 
 -- a seat stands
-opening_seat_stands : (heap : Heap) (words : List ℕ) (q : ℕ) → Fits heap (opening_seat heap q) → q < heap.seats → at heap words (Answer q) ≡ 0
-    → SeatStands heap words opening_book q (opening_seat heap q)
-opening_seat_stands heap words q fits below none_answered = record {
+opening_seat_stands : (heap : Heap) (words : List ℕ) (number : ℕ) → Fits heap (opening_seat heap number) → number < heap.seats → at heap words (Answer number) ≡ 0
+    → SeatStands heap words opening_book number (opening_seat heap number)
+opening_seat_stands heap words number fits below none_answered = record {
   fits = fits;
   own = record {
     holding = record {
-      held = λ f. opening_cases (λ o. 0 ≡ holds_bit q o) f (λ less. refl) (λ past. refl);
-      borne = λ f. opening_cases (λ o. 0 ≡ 0 + bears_bit q o) f (λ less. refl) (λ past. refl);
+      held = λ f. opening_cases (λ o. 0 ≡ holds_bit number o) f (λ less. refl) (λ past. refl);
+      borne = λ f. opening_cases (λ o. 0 ≡ 0 + bears_bit number o) f (λ less. refl) (λ past. refl);
     };
     stored = λ u none. absurd (omega (arith, none));
-    together = nothing_together heap (opening_seat heap q).cursor 0 [] [] refl refl;
+    together = nothing_together heap (opening_seat heap number).cursor 0 [] [] refl refl;
   };
-  names = record { registers = opening_registers heap q below; way = tt };
+  names = record { registers = opening_registers heap number below; way = tt };
   told = record {
     list = record { awaited = []; own = refl; awaits = refl };
     counts = record {
-      numbered = ap (λ (p : Party). length p.objects) (sym (opening_at heap q below));
-      stamped = ap (λ (p : Party). p.sets) (sym (opening_at heap q below));
-      leaves = ap (λ (p : Party). p.left) (opening_at heap q below);
+      numbered = ap (λ (p : GraphSeat). length p.objects) (sym (opening_at heap number below));
+      stamped = ap (λ (p : GraphSeat). p.sets) (sym (opening_at heap number below));
+      leaves = ap (λ (p : GraphSeat). p.left) (opening_at heap number below);
       unborn = refl;
     };
     began = record { earlier = omega arith; unanswered = λ busy. refl };
-    gathers = nothing_tried heap opening_owner q [] (opening_seat heap q).cursor;
+    gathers = nothing_tried heap opening_owner number [] (opening_seat heap number).cursor;
   };
   cycle = record {
     answers_told = record { told = refl; leaves = refl; word = none_answered; near = λ present. inl refl; loaded = omega arith };
@@ -89,8 +89,8 @@ opening_seat_stands heap words q fits below none_answered = record {
   };
 }
 
-opening_seat_at : (heap : Heap) (state : State) (q : ℕ) → IsOpening heap state → q < heap.seats → seat_at state q ≡ opening_seat heap q
-opening_seat_at heap state q opens below = ap (λ seats. get_or seats q nobody) opens.seats_open ∙ get_or-map-range_with_len (opening_seat heap) 0 heap.seats q q nobody below (omega arith)
+opening_seat_at : (heap : Heap) (state : State) (number : ℕ) → IsOpening heap state → number < heap.seats → seat_at state number ≡ opening_seat heap number
+opening_seat_at heap state number opens below = ap (λ seats. get_or seats number absent_seat) opens.seats_open ∙ get_or-map-range_with_len (opening_seat heap) 0 heap.seats number number absent_seat below (omega arith)
 
 -- the opening book stands for an opening state
 opening_rule : (heap : Heap) (state : State) → IsHeap heap → IsMachine heap state → IsOpening heap state → Rule heap state opening_book
@@ -116,11 +116,11 @@ opening_rule heap state fits machine opens = record {
       };
     };
   };
-  seats_stand = λ q below. subst (λ (s : Seat). SeatStands heap state.words opening_book q s) (sym (opening_seat_at heap state q opens below))
-      (opening_seat_stands heap state.words q (subst (Fits heap) (opening_seat_at heap state q opens below) (machine.fit q (rw machine.seated below))) below
-      (opens.words_open (Answer q) (omega (arith, below, fits.seats_fit)) ∙ opening_answer heap q below));
-  collector_stands = subst (λ (c : Collector). CollectorStands heap c []) (sym opens.nothing_done)
-      record { log = refl; phase_told = refl; looked = λ q less. absurd (omega (arith, less)) };
+  seats_stand = λ number below. subst (λ (s : Seat). SeatStands heap state.words opening_book number s) (sym (opening_seat_at heap state number opens below))
+      (opening_seat_stands heap state.words number (subst (Fits heap) (opening_seat_at heap state number opens below) (machine.fit number (rw machine.seated below))) below
+      (opens.words_open (Answer number) (omega (arith, below, fits.seats_fit)) ∙ opening_answer heap number below));
+  collector_stands = subst (λ (c : Collector). CollectorAgrees heap c []) (sym opens.nothing_done)
+      record { log = refl; phase_told = refl; looked = λ number less. absurd (omega (arith, less)) };
 }
 
 pub opening_stands : (heap : Heap) (state : State) → IsHeap heap → IsOpening heap state → StandsFor heap state [] []

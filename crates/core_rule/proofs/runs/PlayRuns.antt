@@ -12,14 +12,14 @@ use Rattle.heap_model.specs.declared.entry.Entry.TheVariants.{Advance}
 use Rattle.heap_model.specs.declared.heap.Heap.{Heap}
 use Rattle.heap_model.specs.account.Account.{IsLegal}
 use Rattle.heap_model.specs.account.Effects.{is_of}
-use Rattle.heap_model.specs.graph.State.{opening}
+use Rattle.heap_model.specs.graph.Graph.{opening}
 use Rattle.core_machine.specs.declared.place.Place.TheVariants as places
 use Rattle.core_machine.specs.declared.collector.stage.Stage.{Stage}
 use Rattle.core_machine.specs.declared.collector.stage.Stage.TheVariants as stages
 use Rattle.core_machine.specs.collector.Collector.{Collector, turn_at}
-use Rattle.core_machine.specs.machine.Machine.{State, seat_at, moved, Event, Begins, Steps, Turns, Can, after, entries, Run, history}
+use Rattle.core_machine.specs.machine.Machine.{State, seat_at, state_after_due, Event, Begins, Steps, Turns, Can, state_after, entries, Run, history}
 use Rattle.core_machine.specs.Moves.{Move, move_at, next_move}
-use Rattle.core_machine.specs.seat.Seat.{Seat, nobody}
+use Rattle.core_machine.specs.seat.Seat.{Seat, absent_seat}
 use Rattle.core_rule.specs.Book.{Book}
 use Rattle.core_rule.specs.Laws.{IsAlone, AllIdle, OneCallAtATime, WholeCallsPlay, HappensAlone}
 use Rattle.core_rule.specs.Rule.{Rule}
@@ -32,20 +32,20 @@ use Rattle.core_rule.proofs.runs.Runs.{MachineStays, OpeningStands, EachStepKeep
 pub record PlaysOn (heap : Heap) (state : State) (book : Book) : Type 0 where
   pub rule : Rule heap state book
   pub legal : IsLegal heap true book.history
-  pub own : (q : ℕ) → q < heap.seats → (seat_at state q).place ≢ places.Idle → list_all (is_of q) (drop (book.begun q) book.history) ≡ true
+  pub own : (number : ℕ) → number < heap.seats → (seat_at state number).place ≢ places.Idle → list_all (is_of number) (drop (book.begun number) book.history) ≡ true
 
-own_more : (q begun : ℕ) (before added : List Entry) → begun ≤ length before → list_all (is_of q) (drop begun before) ≡ true → list_all (is_of q) added ≡ true
-    → list_all (is_of q) (drop begun (before ++ added)) ≡ true
-own_more q begun before added earlier own more = rw (drop-append-le begun before added earlier, list_all-append (is_of q) (drop begun before) added, own, more) refl
+own_more : (number begun : ℕ) (before added : List Entry) → begun ≤ length before → list_all (is_of number) (drop begun before) ≡ true → list_all (is_of number) added ≡ true
+    → list_all (is_of number) (drop begun (before ++ added)) ≡ true
+own_more number begun before added earlier own more = rw (drop-append-le begun before added earlier, list_all-append (is_of number) (drop begun before) added, own, more) refl
 
-moved_other : (heap : Heap) (state : State) (q r : ℕ) (move : Option Move) → r ≢ q → seat_at (moved heap state q move) r ≡ seat_at state r
-moved_other heap state q r None apart = refl
-moved_other heap state q r (Some move) apart = get_or-set_other state.seats q r _ nobody apart
+moved_other : (heap : Heap) (state : State) (number r : ℕ) (move : Option Move) → r ≢ number → seat_at (state_after_due heap state number move) r ≡ seat_at state r
+moved_other heap state number r None apart = refl
+moved_other heap state number r (Some move) apart = get_or-set_other state.seats number r _ absent_seat apart
 
-busy : (heap : Heap) (q : ℕ) (seat : Seat) → IsSome (next_move heap q seat) → seat.place ≢ places.Idle
-busy heap q seat due idle = nothing_due (subst (λ place. IsSome (move_at heap q seat place)) idle due)
+busy : (heap : Heap) (number : ℕ) (seat : Seat) → IsSome (next_move heap number seat) → seat.place ≢ places.Idle
+busy heap number seat due idle = nothing_due (subst (λ place. IsSome (move_at heap number seat place)) idle due)
   where
-    nothing_due : IsSome (move_at heap q seat places.Idle) → ⊥
+    nothing_due : IsSome (move_at heap number seat places.Idle) → ⊥
     nothing_due none = cc
 
 -- some book stands for the state with this history, which plays on
@@ -55,58 +55,58 @@ pub record PlaysNext (heap : Heap) (state : State) (before added : List Entry) :
   pub plays : PlaysOn heap state now
 
 -- where the others have no call in flight and stay, what the seat that goes on has told is enough
-own_alone : (heap : Heap) (state new : State) (now : Book) (q : ℕ) → IsAlone state q → length state.seats ≡ heap.seats
-    → ((r : ℕ) → r ≢ q → seat_at new r ≡ seat_at state r) → list_all (is_of q) (drop (now.begun q) now.history) ≡ true
+own_alone : (heap : Heap) (state new : State) (now : Book) (number : ℕ) → IsAlone state number → length state.seats ≡ heap.seats
+    → ((r : ℕ) → r ≢ number → seat_at new r ≡ seat_at state r) → list_all (is_of number) (drop (now.begun number) now.history) ≡ true
     → (r : ℕ) → r < heap.seats → (seat_at new r).place ≢ places.Idle → list_all (is_of r) (drop (now.begun r) now.history) ≡ true
-own_alone heap state new now q alone all stay own r below active =
-    elim (eqb_tells r q) as (λ _. list_all (is_of r) (drop (now.begun r) now.history) ≡ true) [
+own_alone heap state new now number alone all stay own r below active =
+    elim (eqb_tells r number) as (λ _. list_all (is_of r) (drop (now.begun r) now.history) ≡ true) [
       | inl same ↦ subst (λ n. list_all (is_of n) (drop (now.begun n) now.history) ≡ true) (sym same.1) own
       | inr apart ↦ absurd (active (ap (λ s. s.place) (stay r apart.1) ∙ alone r (rw all below) apart.1))
     ]
 
-step_plays : MachineStays → EachStepKeeps → (heap : Heap) (state : State) (book : Book) (q : ℕ) → PlaysOn heap state book → IsAlone state q → Can heap state (Steps q)
-    → PlaysNext heap (after heap state (Steps q)) book.history (entries heap state (Steps q))
-step_plays stays steps heap state book q plays alone can =
-    let here : q < heap.seats = seat_of_step heap state book q plays.rule can in
-    let active : (seat_at state q).place ≢ places.Idle = busy heap q (seat_at state q) can in
-    let keeps = steps heap state book q plays.rule here (stays heap state (Steps q) plays.rule.machine can) in
-    let adds : AddsPlay heap book.history q (entries heap state (Steps q))
-    = adds_play heap state book q (seat_at state q).place plays.rule here refl (plays.own q here active) in
-    let earlier : book.begun q ≤ length book.history = (plays.rule.seats_stand q here).told.began.earlier in
-    let own_now : list_all (is_of q) (drop (keeps.now.begun q) keeps.now.history) ≡ true
-    = rw (keeps.calls, keeps.grown) (own_more q (book.begun q) book.history (entries heap state (Steps q)) earlier (plays.own q here active) adds.own) in
+step_plays : MachineStays → EachStepKeeps → (heap : Heap) (state : State) (book : Book) (number : ℕ) → PlaysOn heap state book → IsAlone state number → Can heap state (Steps number)
+    → PlaysNext heap (state_after heap state (Steps number)) book.history (entries heap state (Steps number))
+step_plays stays steps heap state book number plays alone can =
+    let here : number < heap.seats = seat_of_step heap state book number plays.rule can in
+    let active : (seat_at state number).place ≢ places.Idle = busy heap number (seat_at state number) can in
+    let keeps = steps heap state book number plays.rule here (stays heap state (Steps number) plays.rule.machine can) in
+    let adds : AddsPlay heap book.history number (entries heap state (Steps number))
+    = adds_play heap state book number (seat_at state number).place plays.rule here refl (plays.own number here active) in
+    let earlier : book.begun number ≤ length book.history = (plays.rule.seats_stand number here).told.began.earlier in
+    let own_now : list_all (is_of number) (drop (keeps.now.begun number) keeps.now.history) ≡ true
+    = rw (keeps.calls, keeps.grown) (own_more number (book.begun number) book.history (entries heap state (Steps number)) earlier (plays.own number here active) adds.own) in
     record {
       now = keeps.now;
       grown = keeps.grown;
       plays = record {
         rule = keeps.rule;
         legal = subst (IsLegal heap true) (sym keeps.grown)
-            (play_more heap book.history (entries heap state (Steps q)) adds.may plays.legal (subst (IsLegal heap false) keeps.grown keeps.rule.heap_stands.legal));
-        own = own_alone heap state (after heap state (Steps q)) keeps.now q alone plays.rule.machine.seated
-            (λ r apart. moved_other heap state q r (next_move heap q (seat_at state q)) apart) own_now;
+            (play_more heap book.history (entries heap state (Steps number)) adds.may plays.legal (subst (IsLegal heap false) keeps.grown keeps.rule.heap_stands.legal));
+        own = own_alone heap state (state_after heap state (Steps number)) keeps.now number alone plays.rule.machine.seated
+            (λ r apart. moved_other heap state number r (next_move heap number (seat_at state number)) apart) own_now;
       };
     }
 
-nothing_since : (q : ℕ) (history : List Entry) → list_all (is_of q) (drop (length history) history) ≡ true
-nothing_since q [] = refl
-nothing_since q (entry ∷ history) = nothing_since q history
+nothing_since : (number : ℕ) (history : List Entry) → list_all (is_of number) (drop (length history) history) ≡ true
+nothing_since number [] = refl
+nothing_since number (entry ∷ history) = nothing_since number history
 
-begin_plays : MachineStays → EachBeginKeeps → (heap : Heap) (state : State) (book : Book) (q : ℕ) (command : Command) → PlaysOn heap state book → IsAlone state q
-    → Can heap state (Begins q command) → PlaysNext heap (after heap state (Begins q command)) book.history []
-begin_plays stays begin heap state book q command plays alone can =
-    let keeps = begin heap state book q command plays.rule can (stays heap state (Begins q command) plays.rule.machine can) in
+begin_plays : MachineStays → EachBeginKeeps → (heap : Heap) (state : State) (book : Book) (number : ℕ) (command : Command) → PlaysOn heap state book → IsAlone state number
+    → Can heap state (Begins number command) → PlaysNext heap (state_after heap state (Begins number command)) book.history []
+begin_plays stays begin heap state book number command plays alone can =
+    let keeps = begin heap state book number command plays.rule can (stays heap state (Begins number command) plays.rule.machine can) in
     let same : keeps.now.history ≡ book.history = keeps.grown ∙ append-nil book.history in
-    let first : begins q (length book.history) book.begun q ≡ length book.history = rw (eq-eqb q q refl) refl in
-    let own_now : list_all (is_of q) (drop (keeps.now.begun q) keeps.now.history) ≡ true
-    = rw (keeps.calls, same, first) (nothing_since q book.history) in
+    let first : begins number (length book.history) book.begun number ≡ length book.history = rw (eq-eqb number number refl) refl in
+    let own_now : list_all (is_of number) (drop (keeps.now.begun number) keeps.now.history) ≡ true
+    = rw (keeps.calls, same, first) (nothing_since number book.history) in
     record {
       now = keeps.now;
       grown = keeps.grown;
       plays = record {
         rule = keeps.rule;
         legal = subst (IsLegal heap true) (sym same) plays.legal;
-        own = own_alone heap state (after heap state (Begins q command)) keeps.now q alone plays.rule.machine.seated
-            (λ r apart. get_or-set_other state.seats q r _ nobody apart) own_now;
+        own = own_alone heap state (state_after heap state (Begins number command)) keeps.now number alone plays.rule.machine.seated
+            (λ r apart. get_or-set_other state.seats number r _ absent_seat apart) own_now;
       };
     }
 
@@ -116,7 +116,7 @@ turn_may heap before collector stages.Advancing = (plain_keeps heap before (Adva
 turn_may heap before collector _ = tt
 
 turn_plays : MachineStays → EachTurnKeeps → (heap : Heap) (state : State) (book : Book) → PlaysOn heap state book → AllIdle state → Can heap state Turns
-    → PlaysNext heap (after heap state Turns) book.history (entries heap state Turns)
+    → PlaysNext heap (state_after heap state Turns) book.history (entries heap state Turns)
 turn_plays stays turn heap state book plays idle can =
     let keeps = turn heap state book plays.rule can (stays heap state Turns plays.rule.machine can) in
     record {
@@ -133,9 +133,9 @@ turn_plays stays turn heap state book plays idle can =
 
 module _ (stays : MachineStays) (steps : EachStepKeeps) (begin : EachBeginKeeps) (turn : EachTurnKeeps) where
   event_plays : (heap : Heap) (state : State) (book : Book) (event : Event) → PlaysOn heap state book → HappensAlone state event → Can heap state event
-      → PlaysNext heap (after heap state event) book.history (entries heap state event)
-  event_plays heap state book (Begins q command) plays alone can = begin_plays stays begin heap state book q command plays alone can
-  event_plays heap state book (Steps q) plays alone can = step_plays stays steps heap state book q plays alone can
+      → PlaysNext heap (state_after heap state event) book.history (entries heap state event)
+  event_plays heap state book (Begins number command) plays alone can = begin_plays stays begin heap state book number command plays alone can
+  event_plays heap state book (Steps number) plays alone can = step_plays stays steps heap state book number plays alone can
   event_plays heap state book Turns plays alone can = turn_plays stays turn heap state book plays alone can
 
   run_plays : (heap : Heap) (state : State) (book : Book) (events : List Event) → PlaysOn heap state book → Run heap state events → OneCallAtATime heap state events
@@ -143,9 +143,9 @@ module _ (stays : MachineStays) (steps : EachStepKeeps) (begin : EachBeginKeeps)
   run_plays heap state book [] plays run alone = subst (IsLegal heap true) (sym (append-nil book.history)) plays.legal
   run_plays heap state book (event ∷ events) plays run alone =
       let next = event_plays heap state book event plays alone.0 run.0 in
-      let rest = run_plays heap (after heap state event) next.now events next.plays run.1 alone.1 in
-      subst (IsLegal heap true) (ap (λ es. es ++ history heap (after heap state event) events) next.grown
-      ∙ append_assoc book.history (entries heap state event) (history heap (after heap state event) events)) rest
+      let rest = run_plays heap (state_after heap state event) next.now events next.plays run.1 alone.1 in
+      subst (IsLegal heap true) (ap (λ es. es ++ history heap (state_after heap state event) events) next.grown
+      ∙ append_assoc book.history (entries heap state event) (history heap (state_after heap state event) events)) rest
 
   -- so does the whole run, from the opening on
   pub whole_calls_play : OpeningStands → WholeCallsPlay
@@ -156,9 +156,9 @@ module _ (stays : MachineStays) (steps : EachStepKeeps) (begin : EachBeginKeeps)
       record {
         rule = first.rule;
         legal = subst (IsLegal heap true) (sym first.grown) record { objects = tt; space = tt };
-        own = λ q below active. rw first.grown (own_of_none q (first.book.begun q));
+        own = λ number below active. rw first.grown (own_of_none number (first.book.begun number));
       } run alone)
     where
-      own_of_none : (q begun : ℕ) → list_all (is_of q) (drop {A = Entry} begun []) ≡ true
-      own_of_none q zero = refl
-      own_of_none q (suc begun) = refl
+      own_of_none : (number begun : ℕ) → list_all (is_of number) (drop {A = Entry} begun []) ≡ true
+      own_of_none number zero = refl
+      own_of_none number (suc begun) = refl

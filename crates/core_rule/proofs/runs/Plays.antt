@@ -32,41 +32,41 @@ IsPlainReply _ = Unit {0}
 
 -- an entry by which nothing is refused
 pub data IsPlain : Entry → Type 0 where
-  taking : (q count : ℕ) → IsPlain (entries.Takes q count)
-  giving : (q count : ℕ) → IsPlain (entries.GivesBack q count)
-  answering : (q p : ℕ) → IsPlain (entries.Answers q p)
+  taking : (number count : ℕ) → IsPlain (entries.Takes number count)
+  giving : (number count : ℕ) → IsPlain (entries.GivesBack number count)
+  answering : (number p : ℕ) → IsPlain (entries.Answers number p)
   advancing : (p : ℕ) → IsPlain (entries.Advance p)
-  saying : (q : ℕ) (command : Command) (reply : Reply) → IsPlainReply reply → IsPlain (entries.Said q command reply)
+  saying : (number : ℕ) (command : Command) (reply : Reply) → IsPlainReply reply → IsPlain (entries.Said number command reply)
 
-shows_no_space : (heap : Heap) (before : List Entry) (q : ℕ) (command : Command) (reply : Reply) → IsPlainReply reply → ShowsSpace heap true before q command reply
-shows_no_space heap before q command (replies.Full need found) plain = absurd plain
-shows_no_space heap before q command _ plain = tt
+shows_no_space : (heap : Heap) (before : List Entry) (number : ℕ) (command : Command) (reply : Reply) → IsPlainReply reply → ShowsSpace heap true before number command reply
+shows_no_space heap before number command (replies.Full need found) plain = absurd plain
+shows_no_space heap before number command _ plain = tt
 
-shows_no_spine : (heap : Heap) (before : List Entry) (q : ℕ) (command : Command) (reply : Reply) → IsPlainReply reply → ShowsSpine heap true before q command reply
-shows_no_spine heap before q command (replies.SpineFull need used) plain = absurd plain
-shows_no_spine heap before q command _ plain = tt
+shows_no_spine : (heap : Heap) (before : List Entry) (number : ℕ) (command : Command) (reply : Reply) → IsPlainReply reply → ShowsSpine heap true before number command reply
+shows_no_spine heap before number command (replies.SpineFull need used) plain = absurd plain
+shows_no_spine heap before number command _ plain = tt
 
-shows_same : (heap : Heap) (before : List Entry) (q : ℕ) (command : Command) (reply : Reply) → IsPlainReply reply → ShowsPhases heap false before q command reply
-    → ShowsPhases heap true before q command reply
-shows_same heap before q commands.Collect (replies.Waits other answer p) plain shows = absurd plain
-shows_same heap before q _ _ plain shows = shows
+shows_same : (heap : Heap) (before : List Entry) (number : ℕ) (command : Command) (reply : Reply) → IsPlainReply reply → ShowsPhases heap false before number command reply
+    → ShowsPhases heap true before number command reply
+shows_same heap before number commands.Collect (replies.Waits other answer p) plain shows = absurd plain
+shows_same heap before number _ _ plain shows = shows
 
 -- the rules for it are those of a run
 pub plain_keeps : (heap : Heap) (before : List Entry) (entry : Entry) → IsPlain entry → KeepsSpace heap false before entry → KeepsSpace heap true before entry
-plain_keeps heap before _ (taking q count) keeps = keeps_takes heap true before q count keeps.takes.0 keeps.takes.1
-plain_keeps heap before _ (giving q count) keeps = keeps_gives heap true before q count keeps.takes.0 keeps.takes.1
-plain_keeps heap before _ (answering q p) keeps = keeps_answers heap true before q p keeps.answers
+plain_keeps heap before _ (taking number count) keeps = keeps_takes heap true before number count keeps.takes.0 keeps.takes.1
+plain_keeps heap before _ (giving number count) keeps = keeps_gives heap true before number count keeps.takes.0 keeps.takes.1
+plain_keeps heap before _ (answering number p) keeps = keeps_answers heap true before number p keeps.answers
 plain_keeps heap before _ (advancing p) keeps = keeps_begins heap true before p keeps.begins
-plain_keeps heap before _ (saying q command reply plain) keeps = record {
+plain_keeps heap before _ (saying number command reply plain) keeps = record {
   takes = tt;
   makes = keeps.makes;
-  refuses = shows_no_space heap before q command reply plain;
-  refuses_spine = shows_no_spine heap before q command reply plain;
+  refuses = shows_no_space heap before number command reply plain;
+  refuses_spine = shows_no_spine heap before number command reply plain;
   answers = tt;
   begins = tt;
   sweeps = tt;
   ends = tt;
-  shows = shows_same heap before q command reply plain keeps.shows;
+  shows = shows_same heap before number command reply plain keeps.shows;
 }
 
 -- each entry of a legal history keeps the rules after those before it
@@ -95,37 +95,37 @@ play_more heap before added may play run = record { objects = run.objects; space
         (subst (KeepsSpaceAfter heap false []) (sym (append_assoc before (entry ∷ []) rest)) run))
 
 -- where all entries are the seat's, the others did nothing, and nothing was freed
-others_nothing : (q : ℕ) (part : Effect → ℕ) (since : List Entry) → list_all (is_of q) since ≡ true → total_but q part since ≡ 0
-others_nothing q part [] own = refl
-others_nothing q part (entry ∷ since) own = rw (sum_by-cons (λ e. cond (is_of q e) 0 (part (effect_of e))) entry since) (by_test (is_of q entry) (list_all (is_of q) since) own (others_nothing q part since))
+others_nothing : (number : ℕ) (part : Effect → ℕ) (since : List Entry) → list_all (is_of number) since ≡ true → total_but number part since ≡ 0
+others_nothing number part [] own = refl
+others_nothing number part (entry ∷ since) own = rw (sum_by-cons (λ e. cond (is_of number e) 0 (part (effect_of e))) entry since) (by_test (is_of number entry) (list_all (is_of number) since) own (others_nothing number part since))
   where
-    by_test : (b rest : Bool) → (b && rest) ≡ true → (rest ≡ true → total_but q part since ≡ 0) → cond b 0 (part (effect_of entry)) + total_but q part since ≡ 0
+    by_test : (b rest : Bool) → (b && rest) ≡ true → (rest ≡ true → total_but number part since ≡ 0) → cond b 0 (part (effect_of entry)) + total_but number part since ≡ 0
     by_test true rest both more = omega (arith, more both)
     by_test false rest both more = cc
 
 -- a seat's own entry frees nothing
-own_frees : (q : ℕ) (entry : Entry) → is_of q entry ≡ true → (effect_of entry).freed ≡ 0
-own_frees q (entries.Frees count) own = cc
-own_frees q _ own = refl
+own_frees : (number : ℕ) (entry : Entry) → is_of number entry ≡ true → (effect_of entry).freed ≡ 0
+own_frees number (entries.Frees count) own = cc
+own_frees number _ own = refl
 
-none_freed : (q : ℕ) (since : List Entry) → list_all (is_of q) since ≡ true → total (λ e. e.freed) since ≡ 0
-none_freed q [] own = refl
-none_freed q (entry ∷ since) own = rw (sum_by-cons (λ e. (effect_of e).freed) entry since) (by_test (is_of q entry) (list_all (is_of q) since) own (own_frees q entry) (none_freed q since))
+none_freed : (number : ℕ) (since : List Entry) → list_all (is_of number) since ≡ true → total (λ e. e.freed) since ≡ 0
+none_freed number [] own = refl
+none_freed number (entry ∷ since) own = rw (sum_by-cons (λ e. (effect_of e).freed) entry since) (by_test (is_of number entry) (list_all (is_of number) since) own (own_frees number entry) (none_freed number since))
   where
     by_test : (b rest : Bool) → (b && rest) ≡ true → (b ≡ true → (effect_of entry).freed ≡ 0) → (rest ≡ true → total (λ e. e.freed) since ≡ 0) → (effect_of entry).freed + total (λ e. e.freed) since ≡ 0
     by_test true rest both first more = omega (arith, first refl, more both)
     by_test false rest both first more = cc
 
 -- after a gather over all groups that found too little, with no step of others since, what was found is what is there
-pub finds_in_play : (heap : Heap) (owner : ℕ → Owner) (history : List Entry) (q begun cursor given reserve : ℕ) → cursor < heap.groups
-    → AreUsed heap owner history → reserve + spent_of q history ≡ taken_of q history
-    → list_all (is_of q) (drop begun history) ≡ true
-    → GathersRight heap owner q (drop begun history) cursor heap.groups given
-    → FindsSpace heap true history q (reserve + given)
-finds_in_play heap owner history q begun cursor given reserve within used own alone gathers =
+pub finds_in_play : (heap : Heap) (owner : ℕ → Owner) (history : List Entry) (number begun cursor given reserve : ℕ) → cursor < heap.groups
+    → AreUsed heap owner history → reserve + spent_of number history ≡ taken_of number history
+    → list_all (is_of number) (drop begun history) ≡ true
+    → GathersRight heap owner number (drop begun history) cursor heap.groups given
+    → FindsSpace heap true history number (reserve + given)
+finds_in_play heap owner history number begun cursor given reserve within used own alone gathers =
     let all = taken_and_free (16 * heap.groups) owner in
     let passed = passed_all heap owner cursor within in
-    let freed = none_freed q (drop begun history) alone in
-    let gave = others_nothing q (λ e. e.given) (drop begun history) alone in
-    let took = others_nothing q (λ e. e.taken) (drop begun history) alone in
+    let freed = none_freed number (drop begun history) alone in
+    let gave = others_nothing number (λ e. e.given) (drop begun history) alone in
+    let took = others_nothing number (λ e. e.taken) (drop begun history) alone in
     omega (arith, all, passed, freed, gave, took, used, own, gathers.passed, gathers.returned)

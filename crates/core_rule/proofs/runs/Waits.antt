@@ -9,7 +9,7 @@ use Rattle.heap_model.specs.account.Phases.{IsBehind}
 use Rattle.core_machine.specs.declared.table.address.Address.TheVariants.{Answer}
 use Rattle.core_machine.specs.declared.collector.stage.Stage.{Stage}
 use Rattle.core_machine.specs.declared.collector.stage.Stage.TheVariants as stages
-use Rattle.core_machine.specs.collector.Collector.{Collector, has_answered, turn_at}
+use Rattle.core_machine.specs.collector.Collector.{Collector, has_answered_of, turn_at}
 use Rattle.core_machine.specs.seat.Fits.{FitsStage}
 use Rattle.core_machine.specs.table.Layout.{at}
 use Rattle.core_machine.specs.machine.Machine.{State, found_by, seat_at}
@@ -20,7 +20,7 @@ use Rattle.core_rule.specs.Phases.{answer_word}
 use Rattle.core_rule.specs.Rule.{Rule}
 
 -- a word that shows no answer is neither the phase nor that of a seat that has left
-unanswered : (p word : ℕ) → has_answered p word ≡ false → (word ≢ p) × (word ≢ LEFT)
+unanswered : (p word : ℕ) → has_answered_of p word ≡ false → (word ≢ p) × (word ≢ LEFT)
 unanswered p word none = elim (eqb_tells word p) [
   | inl same ↦ absurd (cc (none, same.0))
   | inr other ↦ elim (eqb_tells word LEFT) [
@@ -37,18 +37,18 @@ module _ (heap : Heap) (state : State) (book : Book) (rule : Rule heap state boo
   abbrev collector : Collector
   collector = state.collector
 
-  abbrev q : ℕ
-  q = collector.looked
+  abbrev number : ℕ
+  number = collector.looked
 
   abbrev word : ℕ
-  word = at heap state.words (Answer q)
+  word = at heap state.words (Answer number)
 
   -- the seat that was looked at is
-  looked_behind : collector.stage ≡ stages.Looking → has_answered collector.phase word ≡ false → IsOneBehind heap book.history q word collector.phase
+  looked_behind : collector.stage ≡ stages.Looking → has_answered_of collector.phase word ≡ false → IsOneBehind heap book.history number word collector.phase
   looked_behind looking none =
-      let below : q < heap.seats = subst (FitsStage heap.seats collector.phase q) looking rule.machine.collector_fit.at_stage in
-      let seat : Seat = seat_at state q in
-      let told = (rule.seats_stand q below).cycle.answers_told in
+      let below : number < heap.seats = subst (FitsStage heap.seats collector.phase number) looking rule.machine.collector_fit.at_stage in
+      let seat : Seat = seat_at state number in
+      let told = (rule.seats_stand number below).cycle.answers_told in
       let here = rule.collector_stands.phase_told in
       let neither = unanswered collector.phase word none in
       let present : seat.left ≡ false = stays seat.left (λ gone. neither.1 (told.word ∙ ap (λ left. answer_word left seat.answered) gone)) in
@@ -65,12 +65,12 @@ module _ (heap : Heap) (state : State) (book : Book) (rule : Rule heap state boo
   -- so the one that a turn waits for is
   waits_behind : (seat answer p : ℕ) (stage : Stage) → collector.stage ≡ stage
       → (turn_at heap collector stage).answer (found_by heap state (turn_at heap collector stage).step) ≡ Waits seat answer p → IsOneBehind heap book.history seat answer p
-  waits_behind seat answer p stages.Looking looking waits = by (has_answered collector.phase word) refl waits
+  waits_behind seat answer p stages.Looking looking waits = by (has_answered_of collector.phase word) refl waits
     where
-      by : (b : Bool) → has_answered collector.phase word ≡ b → (if b then Stepped else Waits q word collector.phase) ≡ Waits seat answer p → IsOneBehind heap book.history seat answer p
+      by : (b : Bool) → has_answered_of collector.phase word ≡ b → (if b then Stepped else Waits number word collector.phase) ≡ Waits seat answer p → IsOneBehind heap book.history seat answer p
       by true seen same = absurd (cc same)
       by false none same =
-          let which : seat ≡ q = cc same in
+          let which : seat ≡ number = cc same in
           let what : answer ≡ word = cc same in
           let when : p ≡ collector.phase = cc same in
           rw (which, what, when) (looked_behind looking none)

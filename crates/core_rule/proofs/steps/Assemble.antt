@@ -6,52 +6,52 @@ use Rattle.std.proofs.lemmas.List.Elements.{filter-append}
 use Rattle.heap_model.specs.declared.entry.Entry.{Entry}
 use Rattle.heap_model.specs.declared.heap.Heap.{Heap}
 use Rattle.heap_model.specs.account.Cycles.{graph_of}
-use Rattle.heap_model.specs.graph.Objects.{party}
-use Rattle.heap_model.specs.account.PhaseCounts.{phase, answered, has_left}
+use Rattle.heap_model.specs.graph.Objects.{graph_seat}
+use Rattle.heap_model.specs.account.PhaseCounts.{phase, last_answer, has_left}
 use Rattle.core_machine.specs.declared.place.Making.{Making}
 use Rattle.core_machine.specs.declared.place.Place.{Place}
 use Rattle.core_machine.specs.declared.place.Place.TheVariants as places
 use Rattle.core_machine.specs.collector.Collector.{Collector}
 use Rattle.core_machine.specs.seat.Fits.{Fits}
 use Rattle.core_machine.specs.Moves.{Move}
-use Rattle.core_machine.specs.machine.Machine.{State, seat_at, stepped, found_by}
-use Rattle.core_machine.specs.seat.Seat.{Seat, nobody}
+use Rattle.core_machine.specs.machine.Machine.{State, seat_at, state_after_move, found_by}
+use Rattle.core_machine.specs.seat.Seat.{Seat, absent_seat}
 use Rattle.core_machine.specs.machine.Value.{IsMachine}
 use Rattle.core_rule.specs.Book.{Book}
 use Rattle.core_rule.specs.Counts.{is_collectors}
 use Rattle.core_rule.specs.Laws.{StandsFor}
-use Rattle.core_rule.specs.Phases.{CollectorStands}
+use Rattle.core_rule.specs.Phases.{CollectorAgrees}
 use Rattle.core_rule.specs.Rule.{Rule, HeapStands, SeatStands}
 use Rattle.core_rule.proofs.entries.AtRest.{in_flight}
 use Rattle.core_rule.proofs.entries.PhaseEntries.{seats_phase, answers_grow, was_present}
 
 -- a seat's new data leave the other seats'
-each_seat : (P : ℕ → Seat → Type 0) (seats : List Seat) (q : ℕ) (seat : Seat) → q < length seats → P q seat
-    → (r : ℕ) → (r ≢ q → P r (slice_index_or seats r nobody)) → P r (slice_index_or (slice_set seats q seat) r nobody)
-each_seat P seats q seat here self r other = elim (eqb_tells r q) as (λ _. P r (slice_index_or (slice_set seats q seat) r nobody)) [
-  | inl same ↦ subst (λ n. P n (slice_index_or (slice_set seats q seat) n nobody)) (sym same.1) (subst (P q) (sym (get_or-set_same seats q seat nobody here)) self)
-  | inr apart ↦ subst (P r) (sym (get_or-set_other seats q r seat nobody apart.1)) (other apart.1)
+each_seat : (P : ℕ → Seat → Type 0) (seats : List Seat) (number : ℕ) (seat : Seat) → number < length seats → P number seat
+    → (r : ℕ) → (r ≢ number → P r (slice_index_or seats r absent_seat)) → P r (slice_index_or (slice_set seats number seat) r absent_seat)
+each_seat P seats number seat here self r other = elim (eqb_tells r number) as (λ _. P r (slice_index_or (slice_set seats number seat) r absent_seat)) [
+  | inl same ↦ subst (λ n. P n (slice_index_or (slice_set seats number seat) n absent_seat)) (sym same.1) (subst (P number) (sym (get_or-set_same seats number seat absent_seat here)) self)
+  | inr apart ↦ subst (P r) (sym (get_or-set_other seats number r seat absent_seat apart.1)) (other apart.1)
 ]
 
 -- where the history grows by entries of which none is the collector's, and the seats have answered as it says, the collector stands as before
 collector_stays : (heap : Heap) (collector : Collector) (before added now : List Entry) → now ≡ before ++ added → filter is_collectors added ≡ []
-    → ((q : ℕ) → q < heap.seats → has_left q now ≡ false → answered q now ≤ phase now)
-    → CollectorStands heap collector before → CollectorStands heap collector now
+    → ((number : ℕ) → number < heap.seats → has_left number now ≡ false → last_answer number now ≤ phase now)
+    → CollectorAgrees heap collector before → CollectorAgrees heap collector now
 collector_stays heap collector before added now grown none few stands =
     let same : phase now ≡ phase before = ap phase grown ∙ seats_phase before added none in
     record {
       log = rw (grown, filter-append is_collectors before added, none, append-nil (filter is_collectors before)) stands.log;
       phase_told = stands.phase_told ∙ sym same;
-      looked = λ q less below present.
-          let was = stands.looked q less below (was_present q before added (ap (has_left q) (sym grown) ∙ present)) in
-          let more : answered q before ≤ answered q now = subst (λ es. answered q before ≤ answered q es) (sym grown) (answers_grow q before added) in
-          omega (arith, few q below present, was, same, more);
+      looked = λ number less below present.
+          let was = stands.looked number less below (was_present number before added (ap (has_left number) (sym grown) ∙ present)) in
+          let more : last_answer number before ≤ last_answer number now = subst (λ es. last_answer number before ≤ last_answer number es) (sym grown) (answers_grow number before added) in
+          omega (arith, few number below present, was, same, more);
     }
 
 -- a seat that hasn't left has answered no later phase than has begun
-pub few_answers : (heap : Heap) (words : List ℕ) (book : Book) (q : ℕ) (seat : Seat) → SeatStands heap words book q seat → has_left q book.history ≡ false
-    → answered q book.history ≤ phase book.history
-few_answers heap words book q seat stands present =
+pub few_answers : (heap : Heap) (words : List ℕ) (book : Book) (number : ℕ) (seat : Seat) → SeatStands heap words book number seat → has_left number book.history ≡ false
+    → last_answer number book.history ≤ phase book.history
+few_answers heap words book number seat stands present =
     let told = stands.cycle.answers_told in
     elim (told.near (sym told.leaves ∙ present)) [
       | inl same ↦ omega (arith, told.told, same)
@@ -67,13 +67,13 @@ pub record Keeps (heap : Heap) (state : State) (book : Book) (begun : ℕ → �
 
 -- a seat's move keeps the rule
 abbrev pub MoveKeeps : Heap → State → Book → ℕ → Move → Type 0
-MoveKeeps heap state book q move = IsMachine heap (stepped heap state q move)
-    → Keeps heap (stepped heap state q move) book book.begun (move.shows state.words (found_by heap state move.step))
+MoveKeeps heap state book number move = IsMachine heap (state_after_move heap state number move)
+    → Keeps heap (state_after_move heap state number move) book book.begun (move.shows state.words (found_by heap state move.step))
 
 -- so does the move that is due to any seat at this place
 abbrev pub StepKeeps : Place → (Heap → ℕ → Seat → Move) → Type 0
-StepKeeps place move = (heap : Heap) (state : State) (book : Book) (q : ℕ) → Rule heap state book → q < heap.seats
-    → (seat_at state q).place ≡ place → MoveKeeps heap state book q (move heap q (seat_at state q))
+StepKeeps place move = (heap : Heap) (state : State) (book : Book) (number : ℕ) → Rule heap state book → number < heap.seats
+    → (seat_at state number).place ≡ place → MoveKeeps heap state book number (move heap number (seat_at state number))
 
 -- so some book stands for it
 pub stands_for : (heap : Heap) (state : State) (book : Book) (begun : ℕ → ℕ) (added : List Entry) → Keeps heap state book begun added
@@ -81,32 +81,32 @@ pub stands_for : (heap : Heap) (state : State) (book : Book) (begun : ℕ → �
 stands_for heap state book begun added keeps = record { book = keeps.now; grown = keeps.grown; rule = keeps.rule }
 
 -- a seat that makes an object hasn't left
-pub present_at : (heap : Heap) (state : State) (book : Book) (q : ℕ) (making : Making) → Rule heap state book → q < heap.seats
-    → (seat_at state q).place ≡ places.Making making → (party (graph_of heap book.history) q).left ≡ false
-present_at heap state book q making rule here placed =
-    let stands = rule.seats_stand q here in
-    stands.told.counts.leaves ∙ in_flight heap (seat_at state q) stands.fits (λ idle. busy (sym placed ∙ idle))
+pub present_at : (heap : Heap) (state : State) (book : Book) (number : ℕ) (making : Making) → Rule heap state book → number < heap.seats
+    → (seat_at state number).place ≡ places.Making making → (graph_seat (graph_of heap book.history) number).left ≡ false
+present_at heap state book number making rule here placed =
+    let stands = rule.seats_stand number here in
+    stands.told.counts.leaves ∙ in_flight heap (seat_at state number) stands.fits (λ idle. busy (sym placed ∙ idle))
   where
     busy : places.Making making ≡ places.Idle → ⊥
     busy e = cc
 
 -- the seat's own data fit together after its step
-pub fit_after : (heap : Heap) (state : State) (book : Book) (q : ℕ) {words : List ℕ} {seat : Seat} → Rule heap state book → q < heap.seats
-    → IsMachine heap (record state { words = words; seats = slice_set state.seats q seat }) → Fits heap seat
-fit_after heap state book q {words} {seat} rule here machine =
-    let below : q < length state.seats = rw rule.machine.seated here in
-    subst (Fits heap) (get_or-set_same state.seats q seat nobody below) (machine.fit q (rw (length-set state.seats q seat) below))
+pub fit_after : (heap : Heap) (state : State) (book : Book) (number : ℕ) {words : List ℕ} {seat : Seat} → Rule heap state book → number < heap.seats
+    → IsMachine heap (record state { words = words; seats = slice_set state.seats number seat }) → Fits heap seat
+fit_after heap state book number {words} {seat} rule here machine =
+    let below : number < length state.seats = rw rule.machine.seated here in
+    subst (Fits heap) (get_or-set_same state.seats number seat absent_seat below) (machine.fit number (rw (length-set state.seats number seat) below))
 
 -- the rule after a seat's step
-pub seat_steps : (heap : Heap) (state : State) (book : Book) (q : ℕ) (words : List ℕ) (seat : Seat) (now : Book) (added : List Entry)
-    → Rule heap state book → q < heap.seats → IsMachine heap (record state { words = words; seats = slice_set state.seats q seat })
+pub seat_steps : (heap : Heap) (state : State) (book : Book) (number : ℕ) (words : List ℕ) (seat : Seat) (now : Book) (added : List Entry)
+    → Rule heap state book → number < heap.seats → IsMachine heap (record state { words = words; seats = slice_set state.seats number seat })
     → now.history ≡ book.history ++ added → filter is_collectors added ≡ []
-    → HeapStands heap words now → SeatStands heap words now q seat
-    → ((r : ℕ) → r < heap.seats → r ≢ q → SeatStands heap state.words book r (seat_at state r) → SeatStands heap words now r (seat_at state r))
-    → Keeps heap (record state { words = words; seats = slice_set state.seats q seat }) book now.begun added
-seat_steps heap state book q words seat now added rule here machine grown none heap_after self others =
-    let stand : (r : ℕ) → r < heap.seats → SeatStands heap words now r (slice_index_or (slice_set state.seats q seat) r nobody)
-    = λ r below. each_seat (λ n s. SeatStands heap words now n s) state.seats q seat (subst (λ n. q < n) (sym rule.machine.seated) here) self r
+    → HeapStands heap words now → SeatStands heap words now number seat
+    → ((r : ℕ) → r < heap.seats → r ≢ number → SeatStands heap state.words book r (seat_at state r) → SeatStands heap words now r (seat_at state r))
+    → Keeps heap (record state { words = words; seats = slice_set state.seats number seat }) book now.begun added
+seat_steps heap state book number words seat now added rule here machine grown none heap_after self others =
+    let stand : (r : ℕ) → r < heap.seats → SeatStands heap words now r (slice_index_or (slice_set state.seats number seat) r absent_seat)
+    = λ r below. each_seat (λ n s. SeatStands heap words now n s) state.seats number seat (subst (λ n. number < n) (sym rule.machine.seated) here) self r
     (λ apart. others r below apart (rule.seats_stand r below)) in
     record {
       now = now;
@@ -117,6 +117,6 @@ seat_steps heap state book q words seat now added rule here machine grown none h
         heap_stands = heap_after;
         seats_stand = stand;
         collector_stands = collector_stays heap state.collector book.history added now.history grown none
-            (λ r below present. few_answers heap words now r (slice_index_or (slice_set state.seats q seat) r nobody) (stand r below) present) rule.collector_stands;
+            (λ r below present. few_answers heap words now r (slice_index_or (slice_set state.seats number seat) r absent_seat) (stand r below) present) rule.collector_stands;
       };
     }

@@ -12,8 +12,8 @@ use Rattle.heap_model.specs.account.Cycles.{graph_of}
 use Rattle.heap_model.specs.account.Effects.{effect_of, no_effect}
 use Rattle.heap_model.specs.graph.Growth.{after_reply}
 use Rattle.heap_model.specs.graph.Legal.{Accepts}
-use Rattle.heap_model.specs.account.PhaseCounts.{phase, answered, has_left, is_leave_of}
-use Rattle.heap_model.specs.graph.State.{State as Graph}
+use Rattle.heap_model.specs.account.PhaseCounts.{phase, last_answer, has_left, is_leave_of}
+use Rattle.heap_model.specs.graph.Graph.{Graph}
 use Rattle.core_machine.specs.declared.table.address.Address.{Address}
 use Rattle.core_machine.specs.declared.place.Place.{Place}
 use Rattle.core_machine.specs.declared.place.Place.TheVariants as places
@@ -22,8 +22,8 @@ use Rattle.core_machine.specs.seat.Commands.{target_of}
 use Rattle.core_machine.specs.seat.Fits.{IsAtRest, IsSilent}
 use Rattle.core_machine.specs.table.Layout.{at, put}
 use Rattle.core_machine.specs.machine.Machine.{State, seat_at}
-use Rattle.core_machine.specs.seat.Reaching.{has_barrier}
-use Rattle.core_machine.specs.seat.Seat.{Seat, with_entries, over}
+use Rattle.core_machine.specs.seat.Access.{has_barrier_of}
+use Rattle.core_machine.specs.seat.Seat.{Seat, with_entries, after_call}
 use Rattle.core_machine.specs.machine.Value.{IsMachine}
 use Rattle.core_machine.proofs.table_lemmas.Addresses.{put-at}
 use Rattle.core_machine.proofs.seat_lemmas.Aside.{over_way}
@@ -53,61 +53,61 @@ went seat registers reached links loaded place added =
 
 -- the state after a load, which writes back what it found
 abbrev pub loaded_state : Heap → State → ℕ → Address → Seat → State
-loaded_state heap state q a seat = record state { words = put heap state.words a (at heap state.words a); seats = slice_set state.seats q seat }
+loaded_state heap state number a seat = record state { words = put heap state.words a (at heap state.words a); seats = slice_set state.seats number seat }
 
 -- a call that has its way alone is over where its way is
-pub over_went : (heap : Heap) (state : State) (book : Book) (q : ℕ) (a : Address) (registers : List Register) (added shown : List Entry)
-    → IsAtRest (seat_at state q) → IsSilent (seat_at state q)
-    → (IsMachine heap (loaded_state heap state q a (went (seat_at state q) registers 0 0 0 places.Idle added))
-    → Keeps heap (loaded_state heap state q a (went (seat_at state q) registers 0 0 0 places.Idle added)) book book.begun shown)
-    → IsMachine heap (loaded_state heap state q a (with_entries (over (record (seat_at state q) { registers = registers })) added))
-    → Keeps heap (loaded_state heap state q a (with_entries (over (record (seat_at state q) { registers = registers })) added)) book book.begun shown
-over_went heap state book q a registers added shown rest silent keeps =
-    let seat : Seat = seat_at state q in
-    let same : with_entries (over (record seat { registers = registers })) added ≡ went seat registers 0 0 0 places.Idle added
+pub over_went : (heap : Heap) (state : State) (book : Book) (number : ℕ) (a : Address) (registers : List Register) (added shown : List Entry)
+    → IsAtRest (seat_at state number) → IsSilent (seat_at state number)
+    → (IsMachine heap (loaded_state heap state number a (went (seat_at state number) registers 0 0 0 places.Idle added))
+    → Keeps heap (loaded_state heap state number a (went (seat_at state number) registers 0 0 0 places.Idle added)) book book.begun shown)
+    → IsMachine heap (loaded_state heap state number a (with_entries (after_call (record (seat_at state number) { registers = registers })) added))
+    → Keeps heap (loaded_state heap state number a (with_entries (after_call (record (seat_at state number) { registers = registers })) added)) book book.begun shown
+over_went heap state book number a registers added shown rest silent keeps =
+    let seat : Seat = seat_at state number in
+    let same : with_entries (after_call (record seat { registers = registers })) added ≡ went seat registers 0 0 0 places.Idle added
     = ap (λ (s : Seat). record s { registers = registers; mine = seat.mine ++ added }) (over_way seat rest silent) in
-    subst (λ (s : Seat). IsMachine heap (loaded_state heap state q a s) → Keeps heap (loaded_state heap state q a s) book book.begun shown) (sym same) keeps
+    subst (λ (s : Seat). IsMachine heap (loaded_state heap state number a s) → Keeps heap (loaded_state heap state number a s) book book.begun shown) (sym same) keeps
 
-module _ (heap : Heap) (state : State) (book : Book) (q : ℕ) (rule : Rule heap state book) (here : q < heap.seats) (a : Address)
+module _ (heap : Heap) (state : State) (book : Book) (number : ℕ) (rule : Rule heap state book) (here : number < heap.seats) (a : Address)
     (registers : List Register) (reached links loaded : ℕ) (place : Place) (added : List Entry)
-    (machine : IsMachine heap (loaded_state heap state q a (went (seat_at state q) registers reached links loaded place added))) where
+    (machine : IsMachine heap (loaded_state heap state number a (went (seat_at state number) registers reached links loaded place added))) where
   abbrev new : Seat
-  new = went (seat_at state q) registers reached links loaded place added
+  new = went (seat_at state number) registers reached links loaded place added
 
   -- the words are written back
-  same_machine : IsMachine heap (record state { words = state.words; seats = slice_set state.seats q new })
-  same_machine = subst (λ words. IsMachine heap (record state { words = words; seats = slice_set state.seats q new })) (put-at heap state.words a) machine
+  same_machine : IsMachine heap (record state { words = state.words; seats = slice_set state.seats number new })
+  same_machine = subst (λ words. IsMachine heap (record state { words = words; seats = slice_set state.seats number new })) (put-at heap state.words a) machine
 
-  from_same : (begun : ℕ → ℕ) (shown : List Entry) → Keeps heap (record state { words = state.words; seats = slice_set state.seats q new }) book begun shown
-      → Keeps heap (loaded_state heap state q a new) book begun shown
-  from_same begun shown keeps = subst (λ words. Keeps heap (record state { words = words; seats = slice_set state.seats q new }) book begun shown) (sym (put-at heap state.words a)) keeps
+  from_same : (begun : ℕ → ℕ) (shown : List Entry) → Keeps heap (record state { words = state.words; seats = slice_set state.seats number new }) book begun shown
+      → Keeps heap (loaded_state heap state number a new) book begun shown
+  from_same begun shown keeps = subst (λ words. Keeps heap (record state { words = words; seats = slice_set state.seats number new }) book begun shown) (sym (put-at heap state.words a)) keeps
 
   -- the seat has its part in the cycle where it shades nothing
-  pub went_cycle : IsUnwatchedAt (has_barrier (seat_at state q)) place
-      → SeatInCycle heap state.words (phase book.history) (answered q book.history) (has_left q book.history) book.owner book.colour q new
+  pub went_cycle : IsUnwatchedAt (has_barrier_of (seat_at state number)) place
+      → SeatInCycle heap state.words (phase book.history) (last_answer number book.history) (has_left number book.history) book.owner book.colour number new
   went_cycle unwatched =
-      let cycle = (rule.seats_stand q here).cycle in
-      cycle_unwatched heap state.words state.words book.owner book.owner book.colour book.colour (phase book.history) (answered q book.history) (has_left q book.history)
-      q (seat_at state q) new record { answered = refl; left = refl; asked = refl } unwatched refl cycle.births cycle
+      let cycle = (rule.seats_stand number here).cycle in
+      cycle_unwatched heap state.words state.words book.owner book.owner book.colour book.colour (phase book.history) (last_answer number book.history) (has_left number book.history)
+      number (seat_at state number) new record { answered = refl; left = refl; asked = refl } unwatched refl cycle.births cycle
 
   -- nothing is shown
-  pub load_goes : Registers (graph_of heap book.history) book.made book.owner book.fragments q registers place (target_of (seat_at state q).command)
-      → OwnList (graph_of heap book.history) book.history book.made book.owner book.fragments q new
+  pub load_goes : Registers (graph_of heap book.history) book.made book.owner book.fragments number registers place (target_of (seat_at state number).command)
+      → OwnList (graph_of heap book.history) book.history book.made book.owner book.fragments number new
       → WayStands (cells_at (graph_of heap book.history) book.made) book.made book.owner book.fragments new place
-      → Began book.history q (book.begun q) place
-      → SeatInCycle heap state.words (phase book.history) (answered q book.history) (has_left q book.history) book.owner book.colour q new
-      → Keeps heap (loaded_state heap state q a new) book book.begun []
+      → Began book.history number (book.begun number) place
+      → SeatInCycle heap state.words (phase book.history) (last_answer number book.history) (has_left number book.history) book.owner book.colour number new
+      → Keeps heap (loaded_state heap state number a new) book book.begun []
   load_goes held list way began cycle =
-      let stands = rule.seats_stand q here in
+      let stands = rule.seats_stand number here in
       from_same book.begun []
-      (seat_steps heap state book q state.words new book [] rule here same_machine (sym (append-nil book.history)) refl rule.heap_stands
+      (seat_steps heap state book number state.words new book [] rule here same_machine (sym (append-nil book.history)) refl rule.heap_stands
       record {
-        fits = fit_after heap state book q rule here same_machine;
+        fits = fit_after heap state book number rule here same_machine;
         own = record { holding = stands.own.holding; stored = stands.own.stored; together = stands.own.together };
         names = record { registers = held; way = way };
         told = record {
           list = list;
-          counts = counts_same (graph_of heap book.history) book.history q (seat_at state q) new refl refl refl refl stands.told.counts;
+          counts = counts_same (graph_of heap book.history) book.history number (seat_at state number) new refl refl refl refl stands.told.counts;
           began = began;
           gathers = stands.told.gathers;
         };
@@ -115,35 +115,35 @@ module _ (heap : Heap) (state : State) (book : Book) (q : ℕ) (rule : Rule heap
       }
       (λ r below apart other. other))
 
-  module _ (command : Command) (reply : Reply) (nothing : effect_of (Said q command reply) ≡ no_effect)
-      (after : Graph) (grows : after_reply (graph_of heap book.history) q command reply ≡ after) (only : OnlyRegisters (graph_of heap book.history) after q) where
+  module _ (command : Command) (reply : Reply) (nothing : effect_of (Said number command reply) ≡ no_effect)
+      (after : Graph) (grows : after_reply (graph_of heap book.history) number command reply ≡ after) (only : OnlyRegisters (graph_of heap book.history) after number) where
     -- a reply is shown
-    pub load_tells : Accepts (graph_of heap book.history) (Said q command reply) → KeepsSpace heap false book.history (Said q command reply)
-        → Registers after book.made book.owner book.fragments q registers place (target_of (seat_at state q).command)
-        → OwnList after (book.history ++ Said q command reply ∷ []) book.made book.owner book.fragments q new
+    pub load_tells : Accepts (graph_of heap book.history) (Said number command reply) → KeepsSpace heap false book.history (Said number command reply)
+        → Registers after book.made book.owner book.fragments number registers place (target_of (seat_at state number).command)
+        → OwnList after (book.history ++ Said number command reply ∷ []) book.made book.owner book.fragments number new
         → WayStands (cells_at after book.made) book.made book.owner book.fragments new place
-        → IsAnswered place → is_leave_of q (Said q command reply) ≡ false
-        → SeatInCycle heap state.words (phase book.history) (answered q book.history) (has_left q book.history) book.owner book.colour q new
-        → Keeps heap (loaded_state heap state q a new) book book.begun (Said q command reply ∷ [])
+        → IsAnswered place → is_leave_of number (Said number command reply) ≡ false
+        → SeatInCycle heap state.words (phase book.history) (last_answer number book.history) (has_left number book.history) book.owner book.colour number new
+        → Keeps heap (loaded_state heap state number a new) book book.begun (Said number command reply ∷ [])
     load_tells accepts keeps held list way answers stays cycle =
-        let entry : Entry = Said q command reply in
+        let entry : Entry = Said number command reply in
         let g : Graph = graph_of heap book.history in
-        let stands = rule.seats_stand q here in
+        let stands = rule.seats_stand number here in
         from_same book.begun (entry ∷ [])
-        (told_keeps heap state book q state.words new command reply rule here same_machine
+        (told_keeps heap state book number state.words new command reply rule here same_machine
         (legal_more heap false book.history entry rule.heap_stands.legal accepts keeps)
         record { controls = λ group below. refl; unkept = λ f part free within. refl }
-        (graph_replies g (after_reply g q command reply) q (rw grows only.changes) heap state.words book rule.heap_stands.ids rule.heap_stands.objects)
+        (graph_replies g (after_reply g number command reply) number (rw grows only.changes) heap state.words book rule.heap_stands.ids rule.heap_stands.objects)
         record { holding = stands.own.holding; stored = stands.own.stored; together = stands.own.together }
         (rw grows record { registers = held; way = way })
         (rw grows record {
           list = list;
-          counts = counts_own g after book.history q (seat_at state q) new stands.told.counts entry (eq-eqb q q refl)
+          counts = counts_own g after book.history number (seat_at state number) new stands.told.counts entry (eq-eqb number number refl)
               (stands.told.counts.numbered ∙ sym only.changes.objects) (stands.told.counts.stamped ∙ sym only.changes.sets) (only.left ∙ stands.told.counts.leaves)
               (omega (arith, no_part entry (λ e. e.given) nothing refl, no_part entry (λ e. e.born) nothing refl, no_part entry (λ e. e.taken) nothing refl));
-          began = began_told book.history entry q (book.begun q) (seat_at state q).place place answers stands.told.began;
-          gathers = gathers_stay heap book.owner q book.history (book.begun q) entry (seat_at state q).cursor (seat_at state q).tried (seat_at state q).given stands.told.began.earlier stands.told.gathers;
+          began = began_told book.history entry number (book.begun number) (seat_at state number).place place answers stands.told.began;
+          gathers = gathers_stay heap book.owner number book.history (book.begun number) entry (seat_at state number).cursor (seat_at state number).tried (seat_at state number).given stands.told.began.earlier stands.told.gathers;
         })
         rule.heap_stands.cycle
-        (cycle_own heap state.words book.owner book.colour book.history entry (no_part entry (λ e. e.phases) nothing refl) q new cycle (no_part entry (λ e. e.answers) nothing refl) stays)
+        (cycle_own heap state.words book.owner book.colour book.history entry (no_part entry (λ e. e.phases) nothing refl) number new cycle (no_part entry (λ e. e.answers) nothing refl) stays)
         (λ r below apart. leaves_same heap state.words book.owner book.colour (phase book.history) r))

@@ -8,9 +8,9 @@ use Rattle.heap_model.specs.Command.{IsCommand}
 use Rattle.heap_model.specs.account.Cycles.{graph_of}
 use Rattle.heap_model.specs.account.Effects.{is_of}
 use Rattle.heap_model.specs.graph.Growth.{after_reply}
-use Rattle.heap_model.specs.graph.Objects.{party}
-use Rattle.heap_model.specs.account.PhaseCounts.{phase, answered, has_left, is_leave_of}
-use Rattle.heap_model.specs.graph.State.{State as Graph}
+use Rattle.heap_model.specs.graph.Objects.{graph_seat}
+use Rattle.heap_model.specs.account.PhaseCounts.{phase, last_answer, has_left, is_leave_of}
+use Rattle.heap_model.specs.graph.Graph.{Graph}
 use Rattle.core_machine.specs.declared.table.address.Address.{Address}
 use Rattle.core_machine.specs.declared.table.address.Address.TheVariants.{Answer}
 use Rattle.core_machine.specs.declared.place.Place.TheVariants as places
@@ -50,27 +50,27 @@ pub record SeatTells (old now : Seat) (entry : Entry) : Type 0 where
   pub left : now.left ≡ old.left
 
 -- a load at which such a reply stands keeps the rule
-pub local_reply_keeps : (heap : Heap) (state : State) (book : Book) (q : ℕ) (a : Address) (now : Seat) (reply : Reply) → Rule heap state book → q < heap.seats
-    → IsMachine heap (record state { words = put heap state.words a (at heap state.words a); seats = slice_set state.seats q now })
-    → IsAtRest (seat_at state q) → (seat_at state q).mine ≡ filter (is_of q) book.history → (party (graph_of heap book.history) q).left ≡ false → IsCommand (seat_at state q).command
-    → IsLocalReply heap book.history (graph_of heap book.history) q book.made book.owner book.fragments (seat_at state q).command reply now.registers
-    → is_leave_of q (entries.Said q (seat_at state q).command reply) ≡ false
-    → SeatTells (seat_at state q) now (entries.Said q (seat_at state q).command reply)
-    → Keeps heap (record state { words = put heap state.words a (at heap state.words a); seats = slice_set state.seats q now }) book book.begun (entries.Said q (seat_at state q).command reply ∷ [])
-local_reply_keeps heap state book q a now reply rule here machine rest told present ranges local stays tells =
-    let seat : Seat = seat_at state q in
+pub local_reply_keeps : (heap : Heap) (state : State) (book : Book) (number : ℕ) (a : Address) (now : Seat) (reply : Reply) → Rule heap state book → number < heap.seats
+    → IsMachine heap (record state { words = put heap state.words a (at heap state.words a); seats = slice_set state.seats number now })
+    → IsAtRest (seat_at state number) → (seat_at state number).mine ≡ filter (is_of number) book.history → (graph_seat (graph_of heap book.history) number).left ≡ false → IsCommand (seat_at state number).command
+    → IsLocalReply heap book.history (graph_of heap book.history) number book.made book.owner book.fragments (seat_at state number).command reply now.registers
+    → is_leave_of number (entries.Said number (seat_at state number).command reply) ≡ false
+    → SeatTells (seat_at state number) now (entries.Said number (seat_at state number).command reply)
+    → Keeps heap (record state { words = put heap state.words a (at heap state.words a); seats = slice_set state.seats number now }) book book.begun (entries.Said number (seat_at state number).command reply ∷ [])
+local_reply_keeps heap state book number a now reply rule here machine rest told present ranges local stays tells =
+    let seat : Seat = seat_at state number in
     let g : Graph = graph_of heap book.history in
-    let stands = rule.seats_stand q here in
+    let stands = rule.seats_stand number here in
     let counts = stands.told.counts in
     let words : List ℕ = put heap state.words a (at heap state.words a) in
     let same : words ≡ state.words = put-at heap state.words a in
-    reply_keeps heap state book q (put heap state.words a (at heap state.words a)) now seat.command reply rule here machine
+    reply_keeps heap state book number (put heap state.words a (at heap state.words a)) now seat.command reply rule here machine
     local.plain.none rest told
-    (legal_more heap false book.history (entries.Said q seat.command reply) rule.heap_stands.legal (present, ranges, local.says)
-    (keeps_said heap false book.history q seat.command reply local.plain.none local.plain.space local.plain.spine local.plain.phases (spent_own heap state book q rule here rest)
-    (omega (arith, local.plain.most, few_own heap state book q rule here rest))))
+    (legal_more heap false book.history (entries.Said number seat.command reply) rule.heap_stands.legal (present, ranges, local.says)
+    (keeps_said heap false book.history number seat.command reply local.plain.none local.plain.space local.plain.spine local.plain.phases (spent_own heap state book number rule here rest)
+    (omega (arith, local.plain.most, few_own heap state book number rule here rest))))
     (load_leaves heap book state.words a)
-    (rw (put-at heap state.words a) (graph_replies g (after_reply g q seat.command reply) q local.only.changes heap state.words book rule.heap_stands.ids rule.heap_stands.objects))
+    (rw (put-at heap state.words a) (graph_replies g (after_reply g number seat.command reply) number local.only.changes heap state.words book rule.heap_stands.ids rule.heap_stands.objects))
     record {
       idle = tells.idle;
       reserve = tells.reserve;
@@ -81,10 +81,10 @@ local_reply_keeps heap state book q a now reply rule here machine rest told pres
       registers = local.registers;
     }
     (subst (λ ws. HeapInCycle heap ws (phase book.history) book.owner book.colour book.fragments) (sym same) rule.heap_stands.cycle)
-    (cycle_own heap words book.owner book.colour book.history (entries.Said q seat.command reply) refl q now
-    (cycle_apart heap state.words words book.owner book.owner book.colour book.colour (phase book.history) (answered q book.history) (has_left q book.history) q seat now
-    record { answered = tells.answered; left = tells.left; asked = tells.asked } (subst IsApart (sym tells.idle) tt) (ap (λ ws. at heap ws (Answer q)) same)
-    (subst (BornColours book.owner book.colour q) (sym tells.answered) stands.cycle.births) stands.cycle)
+    (cycle_own heap words book.owner book.colour book.history (entries.Said number seat.command reply) refl number now
+    (cycle_apart heap state.words words book.owner book.owner book.colour book.colour (phase book.history) (last_answer number book.history) (has_left number book.history) number seat now
+    record { answered = tells.answered; left = tells.left; asked = tells.asked } (subst IsApart (sym tells.idle) tt) (ap (λ ws. at heap ws (Answer number)) same)
+    (subst (BornColours book.owner book.colour number) (sym tells.answered) stands.cycle.births) stands.cycle)
     refl stays)
     (λ r below apart. subst (λ ws. LeavesCycle heap state.words ws book.owner book.owner book.colour book.colour (phase book.history) r) (sym same)
     (leaves_same heap state.words book.owner book.colour (phase book.history) r))

@@ -11,10 +11,10 @@ use Rattle.heap_model.specs.account.Cycles.{graph_of}
 use Rattle.heap_model.specs.account.Effects.{is_of}
 use Rattle.heap_model.specs.graph.Growth.{after_reply}
 use Rattle.heap_model.specs.Needs.{made_by}
-use Rattle.heap_model.specs.graph.Objects.{party, register}
-use Rattle.heap_model.specs.account.PhaseCounts.{phase, answered, has_left}
+use Rattle.heap_model.specs.graph.Objects.{graph_seat, register_value}
+use Rattle.heap_model.specs.account.PhaseCounts.{phase, last_answer, has_left}
 use Rattle.heap_model.specs.account.Space.{taken_of, spent_of}
-use Rattle.heap_model.specs.graph.State.{State as Graph, opening}
+use Rattle.heap_model.specs.graph.Graph.{Graph, opening}
 use Rattle.heap_model.proofs.Histories.{graph_after-more}
 use Rattle.core_machine.specs.declared.place.Place.TheVariants as places
 use Rattle.core_machine.specs.seat.Fits.{Fits, IsAtRest}
@@ -44,16 +44,16 @@ use Rattle.core_rule.proofs.frames.SeatFrames.{SameParty, with_entry, seat_stays
 use Rattle.core_rule.proofs.hand.StoredFrames.{SameUnkept, stored_stays}
 
 -- the graph has the same objects of the same lengths, with the cells that their words have, and the other seats' data
-pub record GraphReplies (heap : Heap) (words : List ℕ) (book : Book) (g now : Graph) (q : ℕ) : Type 0 where
+pub record GraphReplies (heap : Heap) (words : List ℕ) (book : Book) (g now : Graph) (number : ℕ) : Type 0 where
   pub ids : AreMade now book.made
   pub objects : Objects heap words now book.made book.owner book.fragments
   pub lengths : (i : ℕ) → length (cells_at now book.made i) ≡ length (cells_at g book.made i)
-  pub others : (r : ℕ) → r ≢ q → SameParty g now r
+  pub others : (r : ℕ) → r ≢ number → SameParty g now r
 
 -- so it is where the registers of a seat change alone
-pub graph_replies : (g now : Graph) (q : ℕ) → SeatChanges g now q → (heap : Heap) (words : List ℕ) (book : Book) → AreMade g book.made → Objects heap words g book.made book.owner book.fragments
-    → GraphReplies heap words book g now q
-graph_replies g now q changes heap words book ids objects = record {
+pub graph_replies : (g now : Graph) (number : ℕ) → SeatChanges g now number → (heap : Heap) (words : List ℕ) (book : Book) → AreMade g book.made → Objects heap words g book.made book.owner book.fragments
+    → GraphReplies heap words book g now number
+graph_replies g now number changes heap words book ids objects = record {
   ids = ids_stay g now book.made changes.nodes ids;
   objects = objects_stay g now book.made changes.nodes book.owner book.fragments heap words objects;
   lengths = λ i. ap (λ (cells : List Cell). length cells) (cells_stay g now book.made changes.nodes i);
@@ -61,28 +61,28 @@ graph_replies g now q changes heap words book ids objects = record {
 }
 
 -- the seat stands idle, has told the reply, and what it has is the graph's
-pub record SeatReplies (book : Book) (g : Graph) (q : ℕ) (old now : Seat) (entry : Entry) : Type 0 where
+pub record SeatReplies (book : Book) (g : Graph) (number : ℕ) (old now : Seat) (entry : Entry) : Type 0 where
   pub idle : now.place ≡ places.Idle
   pub reserve : now.reserve ≡ old.reserve
   pub mine : now.mine ≡ old.mine ++ entry ∷ []
-  pub made : now.made ≡ length (party g q).objects
-  pub sets : now.sets ≡ (party g q).sets
-  pub left : (party g q).left ≡ now.left
-  pub registers : (i : ℕ) → regs.Holds book.made book.owner book.fragments (register_in now.registers i) (register g q i)
+  pub made : now.made ≡ length (graph_seat g number).objects
+  pub sets : now.sets ≡ (graph_seat g number).sets
+  pub left : (graph_seat g number).left ≡ now.left
+  pub registers : (i : ℕ) → regs.HoldsValue book.made book.owner book.fragments (register_in now.registers i) (register_value g number i)
 
-module _ (heap : Heap) (state : State) (book : Book) (q : ℕ) (words : List ℕ) (now : Seat) (command : Command) (reply : Reply)
-    (rule : Rule heap state book) (here : q < heap.seats) (machine : IsMachine heap (record state { words = words; seats = slice_set state.seats q now })) where
+module _ (heap : Heap) (state : State) (book : Book) (number : ℕ) (words : List ℕ) (now : Seat) (command : Command) (reply : Reply)
+    (rule : Rule heap state book) (here : number < heap.seats) (machine : IsMachine heap (record state { words = words; seats = slice_set state.seats number now })) where
   abbrev seat : Seat
-  seat = seat_at state q
+  seat = seat_at state number
 
   abbrev entry : Entry
-  entry = entries.Said q command reply
+  entry = entries.Said number command reply
 
   abbrev before : Graph
   before = graph_of heap book.history
 
   abbrev after : Graph
-  after = after_reply before q command reply
+  after = after_reply before number command reply
 
   abbrev later : Book
   later = with_entry book entry
@@ -91,69 +91,69 @@ module _ (heap : Heap) (state : State) (book : Book) (q : ℕ) (words : List ℕ
   graph = graph_after-more (opening heap) book.history entry
 
   -- a reply is told, and what the seat has, names and is told of stands
-  pub told_keeps : IsLegal heap false later.history → SameUnkept heap book.owner state.words words → GraphReplies heap words book before after q
-      → OwnStands heap words book.owner q now → NamesStand after book.made book.owner book.fragments q now
-      → ToldStands heap after later.history book.made book.owner book.fragments (book.begun q) q now
+  pub told_keeps : IsLegal heap false later.history → SameUnkept heap book.owner state.words words → GraphReplies heap words book before after number
+      → OwnStands heap words book.owner number now → NamesStand after book.made book.owner book.fragments number now
+      → ToldStands heap after later.history book.made book.owner book.fragments (book.begun number) number now
       → HeapInCycle heap words (phase book.history) book.owner book.colour book.fragments
-      → SeatInCycle heap words (phase later.history) (answered q later.history) (has_left q later.history) book.owner book.colour q now
-      → ((r : ℕ) → r < heap.seats → r ≢ q → LeavesCycle heap state.words words book.owner book.owner book.colour book.colour (phase book.history) r)
-      → Keeps heap (record state { words = words; seats = slice_set state.seats q now }) book book.begun (entry ∷ [])
+      → SeatInCycle heap words (phase later.history) (last_answer number later.history) (has_left number later.history) book.owner book.colour number now
+      → ((r : ℕ) → r < heap.seats → r ≢ number → LeavesCycle heap state.words words book.owner book.owner book.colour book.colour (phase book.history) r)
+      → Keeps heap (record state { words = words; seats = slice_set state.seats number now }) book book.begun (entry ∷ [])
   told_keeps legal same grows own names told heap_cycle cycle leaves =
-      seat_steps heap state book q words now later (entry ∷ []) rule here machine refl refl
+      seat_steps heap state book number words now later (entry ∷ []) rule here machine refl refl
       record {
         control_words = bits_same heap state.words words book.owner same.controls rule.heap_stands.control_words;
         owners = rule.heap_stands.owners;
         ids = rw graph grows.ids;
         objects = rw graph grows.objects;
-        used = said_used book.history q command reply heap book.owner rule.heap_stands.used;
+        used = said_used book.history number command reply heap book.owner rule.heap_stands.used;
         cycle = heap_cycle_more heap words book.owner book.colour book.history entry refl book.fragments heap_cycle;
         legal = legal;
       }
-      record { fits = fit_after heap state book q rule here machine; own = own; names = rw graph names; told = rw graph told; cycle = cycle }
-      (λ r below apart other. seat_stays heap state.words words book entry r (seat_at state r) (of_other q r apart)
+      record { fits = fit_after heap state book number rule here machine; own = own; names = rw graph names; told = rw graph told; cycle = cycle }
+      (λ r below apart other. seat_stays heap state.words words book entry r (seat_at state r) (of_other number r apart)
       (rw graph (grows.others r apart))
       (rw graph grows.lengths)
       (stored_stays heap book.owner state.words words r (seat_at state r) same other.own.holding (stored_within heap (seat_at state r) (seat_at state r).place other.fits.at_place) other.own.stored)
       (cycle_other heap words book.owner book.colour book.history entry refl r (seat_at state r)
-      (cycle_stays heap state.words words book.owner book.owner book.colour book.colour (phase book.history) (answered r book.history) (has_left r book.history) r (seat_at state r)
-      (leaves r below apart) (watched_born heap state book rule r below) other.cycle) (of_other q r apart))
+      (cycle_stays heap state.words words book.owner book.owner book.colour book.colour (phase book.history) (last_answer r book.history) (has_left r book.history) r (seat_at state r)
+      (leaves r below apart) (watched_born heap state book rule r below) other.cycle) (of_other number r apart))
       other)
 
   -- the seat stands idle then
-  pub reply_keeps : made_by command reply ≡ 0 → IsAtRest seat → seat.mine ≡ filter (is_of q) book.history → IsLegal heap false later.history
-      → SameUnkept heap book.owner state.words words → GraphReplies heap words book before after q → SeatReplies book after q seat now entry
+  pub reply_keeps : made_by command reply ≡ 0 → IsAtRest seat → seat.mine ≡ filter (is_of number) book.history → IsLegal heap false later.history
+      → SameUnkept heap book.owner state.words words → GraphReplies heap words book before after number → SeatReplies book after number seat now entry
       → HeapInCycle heap words (phase book.history) book.owner book.colour book.fragments
-      → SeatInCycle heap words (phase later.history) (answered q later.history) (has_left q later.history) book.owner book.colour q now
-      → ((r : ℕ) → r < heap.seats → r ≢ q → LeavesCycle heap state.words words book.owner book.owner book.colour book.colour (phase book.history) r)
-      → Keeps heap (record state { words = words; seats = slice_set state.seats q now }) book book.begun (entry ∷ [])
+      → SeatInCycle heap words (phase later.history) (last_answer number later.history) (has_left number later.history) book.owner book.colour number now
+      → ((r : ℕ) → r < heap.seats → r ≢ number → LeavesCycle heap state.words words book.owner book.owner book.colour book.colour (phase book.history) r)
+      → Keeps heap (record state { words = words; seats = slice_set state.seats number now }) book book.begun (entry ∷ [])
   reply_keeps none rest told legal same grows replies heap_cycle cycle leaves =
-      let stands = rule.seats_stand q here in
-      let fits : Fits heap now = fit_after heap state book q rule here machine in
+      let stands = rule.seats_stand number here in
+      let fits : Fits heap now = fit_after heap state book number rule here machine in
       let idle : IsAtRest now = rw replies.idle at fits.at_place in
-      let own : length seat.reserve + spent_of q book.history ≡ taken_of q book.history
-      = bare_hand seat.reserve seat.hand seat.body (spent_of q book.history) (taken_of q book.history) rest.empty_hand rest.no_body stands.told.counts.unborn in
+      let own : length seat.reserve + spent_of number book.history ≡ taken_of number book.history
+      = bare_hand seat.reserve seat.hand seat.body (spent_of number book.history) (taken_of number book.history) rest.empty_hand rest.no_body stands.told.counts.unborn in
       told_keeps legal same grows
       record {
-        holding = holding_as book.owner q seat.reserve seat.hand seat.body now.reserve now.hand now.body replies.reserve
+        holding = holding_as book.owner number seat.reserve seat.hand seat.body now.reserve now.hand now.body replies.reserve
             (idle.empty_hand ∙ sym rest.empty_hand) (idle.no_body ∙ sym rest.no_body) stands.own.holding;
-        stored = none_stored heap words q now idle.none_stored;
+        stored = none_stored heap words number now idle.none_stored;
         together = nothing_together heap now.cursor now.tried now.hand now.body idle.empty_hand idle.no_body;
       }
       record { registers = λ i awake. replies.registers i; way = rw replies.idle tt }
       record {
         list = record {
           awaited = [];
-          own = append-nil now.mine ∙ replies.mine ∙ own_grows q book.history seat.mine entry (said_own book.history q command reply) told;
+          own = append-nil now.mine ∙ replies.mine ∙ own_grows number book.history seat.mine entry (said_own book.history number command reply) told;
           awaits = rw replies.idle refl;
         };
         counts = record {
           numbered = replies.made;
           stamped = replies.sets;
           leaves = replies.left;
-          unborn = bare_unborn seat.reserve now.reserve now.hand now.body (spent_of q later.history) (taken_of q later.history) replies.reserve idle.empty_hand idle.no_body
-              (omega (arith, own, said_taken book.history q command reply none, said_spent book.history q command reply none));
+          unborn = bare_unborn seat.reserve now.reserve now.hand now.body (spent_of number later.history) (taken_of number later.history) replies.reserve idle.empty_hand idle.no_body
+              (omega (arith, own, said_taken book.history number command reply none, said_spent book.history number command reply none));
         };
-        began = rw replies.idle (began_idle book.history entry q (book.begun q) seat.place stands.told.began);
-        gathers = gathers_none heap book.owner q (drop (book.begun q) later.history) now.cursor now.tried now.given idle.none_tried idle.none_given;
+        began = rw replies.idle (began_idle book.history entry number (book.begun number) seat.place stands.told.began);
+        gathers = gathers_none heap book.owner number (drop (book.begun number) later.history) now.cursor now.tried now.given idle.none_tried idle.none_given;
       }
       heap_cycle cycle leaves

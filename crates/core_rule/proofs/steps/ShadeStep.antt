@@ -4,13 +4,13 @@ use Rattle.std.proofs.Common.{◌≡◌, ◌≢◌, ℕ, ◌*◌, ◌/◌, ◌%�
 use Rattle.std.proofs.lemmas.List.{append-nil}
 use Rattle.heap_model.specs.declared.heap.Heap.{Heap}
 use Rattle.heap_model.specs.account.Cycles.{graph_of}
-use Rattle.heap_model.specs.account.PhaseCounts.{phase, answered, has_left}
+use Rattle.heap_model.specs.account.PhaseCounts.{phase, last_answer, has_left}
 use Rattle.core_machine.specs.declared.table.address.Address.TheVariants.{Answer, Control, Phase}
 use Rattle.core_machine.specs.declared.place.Place.{Place}
 use Rattle.core_machine.specs.seat.Commands.{target_of}
 use Rattle.core_machine.specs.table.Layout.{at, put}
 use Rattle.core_machine.specs.machine.Machine.{State, seat_at}
-use Rattle.core_machine.specs.table.Operation.{shade_bit}
+use Rattle.core_machine.specs.table.Operation.{shade_bit_of}
 use Rattle.core_machine.specs.seat.Seat.{Seat}
 use Rattle.core_machine.specs.machine.Value.{IsMachine}
 use Rattle.core_rule.specs.Book.{Book, fragment_at}
@@ -18,7 +18,7 @@ use Rattle.core_rule.specs.Counts.{OwnList}
 use Rattle.core_rule.specs.Cycle.{SeatInCycle}
 use Rattle.core_rule.specs.Gathers.{IsAnswered}
 use Rattle.core_rule.specs.Objects.{IsKept, cells_at}
-use Rattle.core_rule.specs.Owners.{Bears, Keeps as KeepsPart}
+use Rattle.core_rule.specs.Owners.{Borne, Kept as KeepsPart}
 use Rattle.core_rule.specs.Registers.{Registers}
 use Rattle.core_rule.specs.Rule.{Rule}
 use Rattle.core_rule.specs.Ways.{WayStands}
@@ -38,17 +38,17 @@ use Rattle.core_rule.proofs.hand.StoredFrames.{stored_control}
 abbrev pub shading : Seat → ℕ → Place → Seat
 shading seat shaded place = record seat { shaded = shaded; place = place; mine = seat.mine ++ [] }
 
-module _ (heap : Heap) (state : State) (book : Book) (q : ℕ) (rule : Rule heap state book) (here : q < heap.seats)
-    (f number : ℕ) (kept : IsKept book.owner book.fragments number) (first : f ≡ fragment_at (book.fragments number) 0) where
+module _ (heap : Heap) (state : State) (book : Book) (number : ℕ) (rule : Rule heap state book) (here : number < heap.seats)
+    (f index : ℕ) (kept : IsKept book.owner book.fragments index) (first : f ≡ fragment_at (book.fragments index) 0) where
   -- the fragment is the object's
-  owned : book.owner f ≡ KeepsPart number 0
+  owned : book.owner f ≡ KeepsPart index 0
   owned = ap book.owner first ∙ kept
 
   pub shade_within : f < 16 * heap.groups
-  shade_within = kept_within heap state.words book.owner f number 0 rule.heap_stands.control_words owned
+  shade_within = kept_within heap state.words book.owner f index 0 rule.heap_stands.control_words owned
 
   abbrev pub words_shaded : List ℕ
-  words_shaded = put heap state.words (Control (f / 16)) (bit_or (at heap state.words (Control (f / 16))) (shade_bit f))
+  words_shaded = put heap state.words (Control (f / 16)) (bit_or (at heap state.words (Control (f / 16))) (shade_bit_of f))
 
   group_below : f / 16 < heap.groups
   group_below = omega (arith, shade_within)
@@ -58,8 +58,8 @@ module _ (heap : Heap) (state : State) (book : Book) (q : ℕ) (rule : Rule heap
   answer_shaded r less = at-put_apart heap state.words (Control (f / 16)) (Answer r) _ (λ e. omega (arith, e, less, rule.machine.limits.seats_fit))
 
   -- what a seat bears has the colour that it had
-  pub borne_unshaded : (r x : ℕ) → book.owner x ≡ Bears r → with_mark book.colour f x ≡ book.colour x
-  borne_unshaded r x borne = mark_away book.colour f x (λ same. bears_keeps_none r number 0 (sym borne ∙ ap book.owner same ∙ owned))
+  pub borne_unshaded : (r x : ℕ) → book.owner x ≡ Borne r → with_mark book.colour f x ≡ book.colour x
+  borne_unshaded r x borne = mark_away book.colour f x (λ same. bears_keeps_none r index 0 (sym borne ∙ ap book.owner same ∙ owned))
 
   -- what is needed of the others stays
   others_left : (r : ℕ) → r < heap.seats → LeavesCycle heap state.words words_shaded book.owner book.owner book.colour (with_mark book.colour f) (phase book.history) r
@@ -71,19 +71,19 @@ module _ (heap : Heap) (state : State) (book : Book) (q : ℕ) (rule : Rule heap
   }
 
   pub shade_keeps : (shaded : ℕ) (place : Place) → phase book.history % 7 ≢ 0
-      → IsMachine heap (record state { words = words_shaded; seats = slice_set state.seats q (shading (seat_at state q) shaded place) })
-      → Registers (graph_of heap book.history) book.made book.owner book.fragments q (seat_at state q).registers place (target_of (seat_at state q).command)
-      → OwnList (graph_of heap book.history) book.history book.made book.owner book.fragments q (shading (seat_at state q) shaded place)
-      → WayStands (cells_at (graph_of heap book.history) book.made) book.made book.owner book.fragments (shading (seat_at state q) shaded place) place
-      → ¬ IsAnswered (seat_at state q).place
-      → SeatInCycle heap words_shaded (phase book.history) (answered q book.history) (has_left q book.history) book.owner (with_mark book.colour f) q (shading (seat_at state q) shaded place)
-      → Keeps heap (record state { words = words_shaded; seats = slice_set state.seats q (shading (seat_at state q) shaded place) }) book book.begun []
+      → IsMachine heap (record state { words = words_shaded; seats = slice_set state.seats number (shading (seat_at state number) shaded place) })
+      → Registers (graph_of heap book.history) book.made book.owner book.fragments number (seat_at state number).registers place (target_of (seat_at state number).command)
+      → OwnList (graph_of heap book.history) book.history book.made book.owner book.fragments number (shading (seat_at state number) shaded place)
+      → WayStands (cells_at (graph_of heap book.history) book.made) book.made book.owner book.fragments (shading (seat_at state number) shaded place) place
+      → ¬ IsAnswered (seat_at state number).place
+      → SeatInCycle heap words_shaded (phase book.history) (last_answer number book.history) (has_left number book.history) book.owner (with_mark book.colour f) number (shading (seat_at state number) shaded place)
+      → Keeps heap (record state { words = words_shaded; seats = slice_set state.seats number (shading (seat_at state number) shaded place) }) book book.begun []
   shade_keeps shaded place runs machine held list way busy cycle =
-      let seat : Seat = seat_at state q in
+      let seat : Seat = seat_at state number in
       let new : Seat = shading seat shaded place in
-      let stands = rule.seats_stand q here in
+      let stands = rule.seats_stand number here in
       let old = rule.heap_stands in
-      seat_steps heap state book q words_shaded new (record book { colour = with_mark book.colour f }) [] rule here machine (sym (append-nil book.history)) refl
+      seat_steps heap state book number words_shaded new (record book { colour = with_mark book.colour f }) [] rule here machine (sym (append-nil book.history)) refl
       record {
         control_words = bits_shade heap state.words book.owner book.colour f rule.machine.table shade_within old.control_words;
         owners = old.owners;
@@ -94,18 +94,18 @@ module _ (heap : Heap) (state : State) (book : Book) (q : ℕ) (rule : Rule heap
           word = at-put_apart heap state.words (Control (f / 16)) Phase _ (λ e. omega (arith, e)) ∙ old.cycle.word;
           so_far = old.cycle.so_far;
           marks = marks_shade heap state.words book.owner book.colour f rule.machine.table shade_within old.cycle.marks;
-          coloured = coloured_shade heap state.words book.owner book.colour f rule.machine.table shade_within book.fragments (phase book.history) number owned first runs old.cycle.coloured;
+          coloured = coloured_shade heap state.words book.owner book.colour f rule.machine.table shade_within book.fragments (phase book.history) index owned first runs old.cycle.coloured;
         };
         legal = old.legal;
       }
       record {
-        fits = fit_after heap state book q rule here machine;
-        own = record { holding = stands.own.holding; stored = stored_control heap state.words q seat (f / 16) _ group_below stands.own.stored; together = stands.own.together };
+        fits = fit_after heap state book number rule here machine;
+        own = record { holding = stands.own.holding; stored = stored_control heap state.words number seat (f / 16) _ group_below stands.own.stored; together = stands.own.together };
         names = record { registers = held; way = way };
         told = record {
           list = list;
-          counts = counts_same (graph_of heap book.history) book.history q seat new refl refl refl refl stands.told.counts;
-          began = began_on book.history q (book.begun q) seat.place place busy stands.told.began;
+          counts = counts_same (graph_of heap book.history) book.history number seat new refl refl refl refl stands.told.counts;
+          began = began_on book.history number (book.begun number) seat.place place busy stands.told.began;
           gathers = stands.told.gathers;
         };
         cycle = cycle;
@@ -115,6 +115,6 @@ module _ (heap : Heap) (state : State) (book : Book) (q : ℕ) (rule : Rule heap
         own = record { holding = other.own.holding; stored = stored_control heap state.words r (seat_at state r) (f / 16) _ group_below other.own.stored; together = other.own.together };
         names = other.names;
         told = other.told;
-        cycle = cycle_stays heap state.words words_shaded book.owner book.owner book.colour (with_mark book.colour f) (phase book.history) (answered r book.history) (has_left r book.history)
+        cycle = cycle_stays heap state.words words_shaded book.owner book.owner book.colour (with_mark book.colour f) (phase book.history) (last_answer r book.history) (has_left r book.history)
             r (seat_at state r) (others_left r less) (watched_born heap state book rule r less) other.cycle;
       })

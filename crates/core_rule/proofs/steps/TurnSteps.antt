@@ -7,17 +7,17 @@ use Rattle.core_machine.specs.declared.table.address.Address.{Address}
 use Rattle.core_machine.specs.declared.collector.stage.Stage.{Stage}
 use Rattle.core_machine.specs.collector.Collector.{Collector, Turn, turn_at}
 use Rattle.core_machine.specs.table.Layout.{at, put}
-use Rattle.core_machine.specs.machine.Machine.{State, seat_at, turned}
+use Rattle.core_machine.specs.machine.Machine.{State, seat_at, state_after_turn}
 use Rattle.core_machine.specs.machine.Value.{IsMachine}
 use Rattle.core_machine.proofs.table_lemmas.Addresses.{put-at}
 use Rattle.core_rule.specs.Book.{Book}
-use Rattle.core_rule.specs.Phases.{CollectorStands}
+use Rattle.core_rule.specs.Phases.{CollectorAgrees}
 use Rattle.core_rule.specs.Rule.{Rule, HeapStands, SeatStands}
 use Rattle.core_rule.proofs.steps.Assemble.{Keeps}
 
 -- a turn of the collector keeps the rule
 abbrev pub TurnKeeps : Heap → State → Book → Turn → Type 0
-TurnKeeps heap state book turn = IsMachine heap (turned heap state turn) → Keeps heap (turned heap state turn) book book.begun turn.adds
+TurnKeeps heap state book turn = IsMachine heap (state_after_turn heap state turn) → Keeps heap (state_after_turn heap state turn) book book.begun turn.adds
 
 -- so does the turn that is due at this stage
 abbrev pub StageKeeps : Stage → Type 0
@@ -32,7 +32,7 @@ pub turn_steps : (heap : Heap) (state : State) (book : Book) (words : List ℕ) 
     → Rule heap state book → IsMachine heap (after_turn state words collector) → now.history ≡ book.history ++ added
     → HeapStands heap words now
     → ((r : ℕ) → r < heap.seats → SeatStands heap state.words book r (seat_at state r) → SeatStands heap words now r (seat_at state r))
-    → CollectorStands heap collector now.history
+    → CollectorAgrees heap collector now.history
     → Keeps heap (after_turn state words collector) book now.begun added
 turn_steps heap state book words collector now added rule machine grown heap_after seats collector_after = record {
   now = now;
@@ -53,9 +53,9 @@ quiet collector = record collector { log = collector.log ++ [] }
 -- the rule after a load of the collector that leaves the book
 pub load_turns : (heap : Heap) (state : State) (book : Book) (a : Address) (collector : Collector) → Rule heap state book
     → IsMachine heap (after_turn state (put heap state.words a (at heap state.words a)) (quiet collector))
-    → CollectorStands heap collector book.history
+    → CollectorAgrees heap collector book.history
     → Keeps heap (after_turn state (put heap state.words a (at heap state.words a)) (quiet collector)) book book.begun []
 load_turns heap state book a collector rule machine stands =
     subst (λ words. IsMachine heap (after_turn state words (quiet collector)) → Keeps heap (after_turn state words (quiet collector)) book book.begun []) (sym (put-at heap state.words a))
     (λ same. turn_steps heap state book state.words (quiet collector) book [] rule same (sym (append-nil book.history)) rule.heap_stands (λ r below seat_stands. seat_stands)
-    (subst (λ log. CollectorStands heap (record collector { log = log }) book.history) (sym (append-nil collector.log)) stands)) machine
+    (subst (λ log. CollectorAgrees heap (record collector { log = log }) book.history) (sym (append-nil collector.log)) stands)) machine

@@ -6,10 +6,10 @@ use Rattle.heap_model.specs.declared.id.Value.{Value}
 use Rattle.heap_model.specs.declared.id.Value.TheVariants as values
 use Rattle.heap_model.specs.account.Cycles.{graph_of}
 use Rattle.heap_model.specs.graph.Legal.{IsPresent}
-use Rattle.heap_model.specs.graph.Objects.{register}
+use Rattle.heap_model.specs.graph.Objects.{register_value}
 use Rattle.heap_model.specs.account.PhaseCounts.{phase}
 use Rattle.core_machine.specs.declared.place.Place.TheVariants as places
-use Rattle.core_machine.specs.declared.place.Reaching.{Reaching}
+use Rattle.core_machine.specs.declared.place.Access.{Access}
 use Rattle.core_machine.specs.declared.seat.register.Register.{Register}
 use Rattle.core_machine.specs.declared.seat.register.Register.TheVariants as registers
 use Rattle.core_machine.specs.seat.Commands.{target_of, object_of}
@@ -19,40 +19,40 @@ use Rattle.core_machine.specs.seat.Seat.{Seat}
 use Rattle.core_rule.specs.Book.{Book, id_at}
 use Rattle.core_rule.specs.Owners.{Owner}
 use Rattle.core_rule.specs.Phases.{IsNear}
-use Rattle.core_rule.specs.Registers.{Holds, IsAwaited}
+use Rattle.core_rule.specs.Registers.{HoldsValue, IsAwaited}
 use Rattle.core_rule.specs.Rule.{Rule}
 use Rattle.core_rule.specs.Ways.{OnWay}
 use Rattle.core_rule.proofs.entries.AtRest.{in_flight}
 
 -- the register holds the object of the graph's register
 held_object : (made : List Id) (owner : ℕ → Owner) (fragments : ℕ → List ℕ) (held : Register) (value : Value) (head : ℕ) (id : Id)
-    → held ≡ registers.Object head id → Holds made owner fragments held value → value ≡ values.Object id
+    → held ≡ registers.Object head id → HoldsValue made owner fragments held value → value ≡ values.Object id
 held_object made owner fragments held value head id is holds =
-    let object : Holds made owner fragments (registers.Object head id) value = subst (λ r. Holds made owner fragments r value) is holds in
+    let object : HoldsValue made owner fragments (registers.Object head id) value = subst (λ r. HoldsValue made owner fragments r value) is holds in
     object.0
 
-module _ (heap : Heap) (state : State) (book : Book) (q : ℕ) (rule : Rule heap state book) (here : q < heap.seats)
-    (reaching : Reaching) (place : (seat_at state q).place ≡ places.Reaching reaching) where
+module _ (heap : Heap) (state : State) (book : Book) (number : ℕ) (rule : Rule heap state book) (here : number < heap.seats)
+    (reaching : Access) (place : (seat_at state number).place ≡ places.Access reaching) where
   -- the seat hasn't left
-  stays : (seat_at state q).left ≡ false
-  stays = in_flight heap (seat_at state q) (rule.seats_stand q here).fits (λ idle. absurd (cc (place, idle)))
+  stays : (seat_at state number).left ≡ false
+  stays = in_flight heap (seat_at state number) (rule.seats_stand number here).fits (λ idle. absurd (cc (place, idle)))
 
-  pub is_present : IsPresent (graph_of heap book.history) q
-  is_present = (rule.seats_stand q here).told.counts.leaves ∙ stays
+  pub is_present : IsPresent (graph_of heap book.history) number
+  is_present = (rule.seats_stand number here).told.counts.leaves ∙ stays
 
   -- its last answer is to the phase, or to the one before it
-  pub is_near : IsNear (phase book.history) (seat_at state q).answered
-  is_near = (rule.seats_stand q here).cycle.answers_told.near stays
+  pub is_near : IsNear (phase book.history) (seat_at state number).answered
+  is_near = (rule.seats_stand number here).cycle.answers_told.near stays
 
   -- it has nothing at hand
-  pub at_rest : IsAtRest (seat_at state q)
-  at_rest = rw place at (rule.seats_stand q here).fits.at_place
+  pub at_rest : IsAtRest (seat_at state number)
+  at_rest = rw place at (rule.seats_stand number here).fits.at_place
 
   -- its way's object is that of the graph's register
-  pub way_object : ((d r : ℕ) → ¬ IsAwaited (seat_at state q).place d r) → (number : ℕ) → OnWay book.made book.owner book.fragments (seat_at state q) number
-      → register (graph_of heap book.history) q (object_of (seat_at state q).command) ≡ values.Object (id_at book.made number)
-  way_object free number way =
-      let seat : Seat = seat_at state q in
+  pub way_object : ((d r : ℕ) → ¬ IsAwaited (seat_at state number).place d r) → (index : ℕ) → OnWay book.made book.owner book.fragments (seat_at state number) index
+      → register_value (graph_of heap book.history) number (object_of (seat_at state number).command) ≡ values.Object (id_at book.made index)
+  way_object free index way =
+      let seat : Seat = seat_at state number in
       let r : ℕ = object_of seat.command in
       held_object book.made book.owner book.fragments (slice_index_or seat.registers r registers.Nil) _ _ _ way.holds
-      ((rule.seats_stand q here).names.registers r (free (target_of seat.command) r))
+      ((rule.seats_stand number here).names.registers r (free (target_of seat.command) r))

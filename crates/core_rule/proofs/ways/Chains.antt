@@ -4,12 +4,12 @@ use Rattle.std.proofs.Common.{◌≡◌, ◌≢◌, ℕ, ◌+◌, ◌<◌, List,
 use Rattle.heap_model.specs.declared.heap.Heap.{Heap}
 use Rattle.heap_model.specs.declared.id.Id.{Id}
 use Rattle.heap_model.specs.Heap.{IsHeap}
-use Rattle.heap_model.specs.graph.State.{State}
+use Rattle.heap_model.specs.graph.Graph.{Graph}
 use Rattle.core_machine.specs.declared.table.address.Address.TheVariants.{Word}
 use Rattle.core_machine.specs.table.Layout.{at}
-use Rattle.core_machine.specs.table.Loaded.{lead_of}
+use Rattle.core_machine.specs.table.Decode.{pointer_in}
 use Rattle.core_rule.specs.Book.{fragment_at}
-use Rattle.core_rule.specs.Colours.{Leads}
+use Rattle.core_rule.specs.Colours.{WordPointsTo}
 use Rattle.core_rule.specs.ControlWords.{Bits}
 use Rattle.core_rule.specs.Objects.{AreMade, Objects, IsKept}
 use Rattle.core_rule.specs.Owners.{Owner, OwnersStand}
@@ -22,14 +22,14 @@ some_lead None n is some = absurd (some (sym is))
 some_lead (Some m) n is some = ap Some is
 
 -- since a link of 0 leads nowhere, but no fragment behind the first is 0
-pub chain_leads : (heap : Heap) (words : List ℕ) (g : State) (made : List Id) (owner : ℕ → Owner) (fragments : ℕ → List ℕ)
+pub chain_leads : (heap : Heap) (words : List ℕ) (g : Graph) (made : List Id) (owner : ℕ → Owner) (fragments : ℕ → List ℕ)
     → IsHeap heap → Bits heap words owner → AreMade g made → OwnersStand heap.seats owner → Objects heap words g made owner fragments
     → (i k : ℕ) → i < length made → IsKept owner fragments i → k + 1 < length (fragments i)
-    → Leads heap words (fragment_at (fragments i) k) 0 (fragment_at (fragments i) (k + 1))
+    → WordPointsTo heap words (fragment_at (fragments i) k) 0 (fragment_at (fragments i) (k + 1))
 chain_leads heap words g made owner fragments limits bits ids owners objects i k below kept more = record {
   within = kept_within heap words owner (fragment_at (fragments i) k) i k bits ((objects.kept i below kept).owned k (omega (arith, more)));
   below = omega arith;
-  to = some_lead (lead_of 0 (at heap words (Word (fragment_at (fragments i) k) 0))) (fragment_at (fragments i) (k + 1))
+  to = some_lead (pointer_in 0 (at heap words (Word (fragment_at (fragments i) k) 0))) (fragment_at (fragments i) (k + 1))
       (link_found heap words g made owner fragments limits bits ids objects i below kept k more)
       (chain_not_zero heap.seats owner owners heap words g made fragments objects i (k + 1) below kept more (omega arith));
 }

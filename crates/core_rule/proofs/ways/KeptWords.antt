@@ -11,16 +11,16 @@ use Rattle.heap_model.specs.declared.id.Id.{Id}
 use Rattle.heap_model.specs.declared.id.Value.{Value}
 use Rattle.heap_model.specs.declared.id.Value.TheVariants as values
 use Rattle.heap_model.specs.Heap.{IsHeap}
-use Rattle.heap_model.specs.graph.State.{State}
+use Rattle.heap_model.specs.graph.Graph.{Graph}
 use Rattle.core_machine.specs.declared.table.address.Address.TheVariants.{Word}
 use Rattle.core_machine.specs.table.Layout.{at}
-use Rattle.core_machine.specs.table.Loaded.{link_in, length_in, id_in}
+use Rattle.core_machine.specs.table.Decode.{link_of, length_of, id_of}
 use Rattle.core_machine.specs.table.Newborn.{record_meta, link_after}
-use Rattle.core_machine.specs.seat.Reaching.{row_of, part_of}
-use Rattle.core_rule.specs.Book.{fragment_at, id_at, head_of}
+use Rattle.core_machine.specs.seat.Access.{row_of, part_of}
+use Rattle.core_rule.specs.Book.{fragment_at, id_at, object_head}
 use Rattle.core_rule.specs.ControlWords.{Bits}
 use Rattle.core_rule.specs.Objects.{AreMade, Objects, KeptObject, NamesKept, IsKept, cells_at, value_word, object_word}
-use Rattle.core_rule.specs.Owners.{Owner, Keeps}
+use Rattle.core_rule.specs.Owners.{Owner, Kept}
 use Rattle.core_rule.proofs.ways.Rows.{field_back, part_within, cell_there, row_within}
 use Rattle.core_rule.proofs.ways.Told.{HasRoom, length_in-meta, link_in-meta, link_in-link, id_in-name}
 
@@ -44,62 +44,62 @@ module _ (head : Id → ℕ) (name : Name) (cells : List Cell) (fragments : List
   cell_word_of i cell there = rw (cell_there i, field_back i, there) refl
 
 -- a fragment that has an owner is the heap's
-pub kept_within : (heap : Heap) (words : List ℕ) (owner : ℕ → Owner) (f i k : ℕ) → Bits heap words owner → owner f ≡ Keeps i k → f < 16 * heap.groups
+pub kept_within : (heap : Heap) (words : List ℕ) (owner : ℕ → Owner) (f i k : ℕ) → Bits heap words owner → owner f ≡ Kept i k → f < 16 * heap.groups
 kept_within heap words owner f i k bits is = elim (cases_lt f (16 * heap.groups)) [
   | inl below ↦ below
   | inr past ↦ let none = bits.outside f past in absurd (cc)
 ]
 
-module _ (heap : Heap) (words : List ℕ) (g : State) (made : List Id) (owner : ℕ → Owner) (fragments : ℕ → List ℕ)
+module _ (heap : Heap) (words : List ℕ) (g : Graph) (made : List Id) (owner : ℕ → Owner) (fragments : ℕ → List ℕ)
     (limits : IsHeap heap) (bits : Bits heap words owner) where
   -- a value that names a kept object has room
-  pub has_room : (value : Value) → NamesKept made owner fragments value → HasRoom (head_of made fragments) value
+  pub has_room : (value : Value) → NamesKept made owner fragments value → HasRoom (object_head made fragments) value
   has_room values.Nil names = tt
   has_room (values.Number n) names = names
   has_room (values.Object id) names = omega (arith, limits.groups_fit, kept_within heap words owner _ _ _ bits names.1)
 
-  module _ (ids : AreMade g made) (objects : Objects heap words g made owner fragments) (number : ℕ) (below : number < length made) (kept : IsKept owner fragments number) where
-    the_object : KeptObject heap words owner (head_of made fragments) number (id_at made number) (cells_at g made number) (fragments number)
-    the_object = objects.kept number below kept
+  module _ (ids : AreMade g made) (objects : Objects heap words g made owner fragments) (index : ℕ) (below : index < length made) (kept : IsKept owner fragments index) where
+    the_object : KeptObject heap words owner (object_head made fragments) index (id_at made index) (cells_at g made index) (fragments index)
+    the_object = objects.kept index below kept
 
-    small : (k : ℕ) → k < length (fragments number) → fragment_at (fragments number) k < 2 ^ 30
+    small : (k : ℕ) → k < length (fragments index) → fragment_at (fragments index) k < 2 ^ 30
     small k within = omega (arith, limits.groups_fit, kept_within heap words owner _ _ _ bits (the_object.owned k within))
 
-    second : fragment_at (fragments number) 1 < 2 ^ 32
-    second = elim (cases_lt 1 (length (fragments number))) [
+    second : fragment_at (fragments index) 1 < 2 ^ 32
+    second = elim (cases_lt 1 (length (fragments index))) [
       | inl more ↦ omega (arith, small 1 more)
-      | inr one ↦ let none : fragment_at (fragments number) 1 ≡ 0 = get_or_past (fragments number) 1 0 one in omega (arith, none)
+      | inr one ↦ let none : fragment_at (fragments index) 1 ≡ 0 = get_or_past (fragments index) 1 0 one in omega (arith, none)
     ]
 
-    some_fragment : 0 < length (fragments number)
+    some_fragment : 0 < length (fragments index)
     some_fragment = omega (arith, the_object.whole)
 
-    meta_found : at heap words (Word (fragment_at (fragments number) 0) 0) ≡ record_meta (length (cells_at g made number)) (fragments number)
+    meta_found : at heap words (Word (fragment_at (fragments index) 0) 0) ≡ record_meta (length (cells_at g made index)) (fragments index)
     meta_found = the_object.stored 0 0 some_fragment (omega arith) ∙ meta_word_of _ _ _ _
 
     -- its length stands in its meta
-    pub length_found : length_in (at heap words (Word (fragment_at (fragments number) 0) 0)) ≡ length (cells_at g made number)
-    length_found = ap length_in meta_found ∙ length_in-meta _ (fragments number) (omega (arith, the_object.sized.1)) second
+    pub length_found : length_of (at heap words (Word (fragment_at (fragments index) 0) 0)) ≡ length (cells_at g made index)
+    length_found = ap length_of meta_found ∙ length_in-meta _ (fragments index) (omega (arith, the_object.sized.1)) second
 
     -- the way leads from each fragment to the next
-    pub link_found : (k : ℕ) → k + 1 < length (fragments number)
-        → link_in (at heap words (Word (fragment_at (fragments number) k) 0)) ≡ fragment_at (fragments number) (k + 1)
-    link_found zero more = ap link_in meta_found ∙ link_in-meta _ (fragments number) (omega (arith, the_object.sized.1)) second
+    pub link_found : (k : ℕ) → k + 1 < length (fragments index)
+        → link_of (at heap words (Word (fragment_at (fragments index) k) 0)) ≡ fragment_at (fragments index) (k + 1)
+    link_found zero more = ap link_of meta_found ∙ link_in-meta _ (fragments index) (omega (arith, the_object.sized.1)) second
     link_found (suc k) more =
-        ap link_in (the_object.stored (suc k) 0 (omega (arith, more)) (omega arith) ∙ link_word_of _ _ _ _ k)
-        ∙ link_in-link (fragments number) (suc k) more (small (suc k + 1) more)
+        ap link_of (the_object.stored (suc k) 0 (omega (arith, more)) (omega arith) ∙ link_word_of _ _ _ _ k)
+        ∙ link_in-link (fragments index) (suc k) more (small (suc k + 1) more)
 
     -- its id stands in its name
-    pub name_found : id_in (at heap words (Word (fragment_at (fragments number) 0) 1)) ≡ id_at made number
-    name_found = ap id_in (the_object.stored 0 1 some_fragment (omega arith) ∙ name_word_of _ _ _ _) ∙ id_in-name (id_at made number) (ids.fit number below)
+    pub name_found : id_of (at heap words (Word (fragment_at (fragments index) 0) 1)) ≡ id_at made index
+    name_found = ap id_of (the_object.stored 0 1 some_fragment (omega arith) ∙ name_word_of _ _ _ _) ∙ id_in-name (id_at made index) (ids.fit index below)
 
     -- it has the row of each of its fields
-    pub row_there : (i : ℕ) → i < length (cells_at g made number) → row_of i < length (fragments number)
-    row_there i within = omega (arith, the_object.whole, row_within i (length (cells_at g made number)) within)
+    pub row_there : (i : ℕ) → i < length (cells_at g made index) → row_of i < length (fragments index)
+    row_there i within = omega (arith, the_object.whole, row_within i (length (cells_at g made index)) within)
 
     -- and in it the field's cell
-    pub field_found : (i : ℕ) (cell : Cell) → slice_get (cells_at g made number) i ≡ Some cell
-        → at heap words (Word (fragment_at (fragments number) (row_of i)) (part_of i)) ≡ value_word (head_of made fragments) cell.value cell.stamp
+    pub field_found : (i : ℕ) (cell : Cell) → slice_get (cells_at g made index) i ≡ Some cell
+        → at heap words (Word (fragment_at (fragments index) (row_of i)) (part_of i)) ≡ value_word (object_head made fragments) cell.value cell.stamp
     field_found i cell there =
         the_object.stored (row_of i) (part_of i) (row_there i (slice_get_within _ i cell there)) (part_within i)
         ∙ cell_word_of _ _ _ _ i cell there

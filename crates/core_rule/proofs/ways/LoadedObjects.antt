@@ -8,57 +8,57 @@ use Rattle.heap_model.specs.declared.id.Id.{Id}
 use Rattle.heap_model.specs.declared.id.Value.{Value}
 use Rattle.heap_model.specs.declared.id.Value.TheVariants as values
 use Rattle.heap_model.specs.Heap.{IsHeap}
-use Rattle.heap_model.specs.graph.State.{State as Graph, unset}
+use Rattle.heap_model.specs.graph.Graph.{Graph, unset}
 use Rattle.core_machine.specs.declared.table.address.Address.TheVariants.{Word}
 use Rattle.core_machine.specs.declared.seat.register.Register.{Register}
 use Rattle.core_machine.specs.declared.seat.register.Register.TheVariants as registers
 use Rattle.core_machine.specs.seat.Commands.{field_of}
 use Rattle.core_machine.specs.table.Layout.{at}
-use Rattle.core_machine.specs.table.Loaded.{head_in}
-use Rattle.core_machine.specs.seat.Reaching.{row_of, part_of}
-use Rattle.core_machine.specs.seat.ReachingMoves.{field_part}
-use Rattle.core_machine.specs.seat.Registers.{head_of as head_of_register, heads}
+use Rattle.core_machine.specs.table.Decode.{head_of}
+use Rattle.core_machine.specs.seat.Access.{row_of, part_of}
+use Rattle.core_machine.specs.seat.AccessMoves.{field_part_of}
+use Rattle.core_machine.specs.seat.Registers.{register_head as head_of_register, heads_of}
 use Rattle.core_machine.specs.seat.Seat.{Seat}
-use Rattle.core_rule.specs.Book.{fragment_at, number_of, head_of}
+use Rattle.core_rule.specs.Book.{fragment_at, object_number, object_head}
 use Rattle.core_rule.specs.ControlWords.{Bits}
 use Rattle.core_rule.specs.Objects.{AreMade, Objects, NamesKept, IsKept, value_word, cells_at}
 use Rattle.core_rule.specs.Owners.{Owner}
-use Rattle.core_rule.specs.Registers.{Holds}
+use Rattle.core_rule.specs.Registers.{HoldsValue}
 use Rattle.core_rule.specs.Ways.{Finds}
 use Rattle.core_rule.proofs.ways.KeptWords.{has_room, field_found}
 use Rattle.core_rule.proofs.ways.Told.{named_head, head_in-value}
 
 -- the first fragment of a kept object
 pub record KeptHead (made : List Id) (owner : ℕ → Owner) (fragments : ℕ → List ℕ) (f : ℕ) : Type 0 where
-  pub number : ℕ
-  pub below : number < length made
-  pub kept : IsKept owner fragments number
-  pub is : f ≡ fragment_at (fragments number) 0
+  pub index : ℕ
+  pub below : index < length made
+  pub kept : IsKept owner fragments index
+  pub is : f ≡ fragment_at (fragments index) 0
 
 module _ (made : List Id) (owner : ℕ → Owner) (fragments : ℕ → List ℕ) where
   -- what a value refers to
-  named_kept : (value : Value) → NamesKept made owner fragments value → (f : ℕ) → named_head (head_of made fragments) value ≡ Some f → KeptHead made owner fragments f
-  named_kept (values.Object id) names f is = record { number = number_of made id; below = names.0; kept = names.1; is = cc }
+  named_kept : (value : Value) → NamesKept made owner fragments value → (f : ℕ) → named_head (object_head made fragments) value ≡ Some f → KeptHead made owner fragments f
+  named_kept (values.Object id) names f is = record { index = object_number made id; below = names.0; kept = names.1; is = cc }
   named_kept values.Nil names f is = cc
   named_kept (values.Number n) names f is = cc
 
   -- what a register that holds a value refers to
-  pub held_head : (held : Register) (value : Value) → Holds made owner fragments held value → head_of_register held ≡ named_head (head_of made fragments) value
-  held_head registers.Nil value holds = ap (named_head (head_of made fragments)) (sym holds)
-  held_head (registers.Number n) value holds = ap (named_head (head_of made fragments)) (sym holds.0)
-  held_head (registers.Object head id) value holds = ap Some holds.2 ∙ ap (named_head (head_of made fragments)) (sym holds.0)
+  pub held_head : (held : Register) (value : Value) → HoldsValue made owner fragments held value → head_of_register held ≡ named_head (object_head made fragments) value
+  held_head registers.Nil value holds = ap (named_head (object_head made fragments)) (sym holds)
+  held_head (registers.Number n) value holds = ap (named_head (object_head made fragments)) (sym holds.0)
+  held_head (registers.Object head id) value holds = ap Some holds.2 ∙ ap (named_head (object_head made fragments)) (sym holds.0)
 
-  pub held_kept : (held : Register) (value : Value) → Holds made owner fragments held value → (f : ℕ) → head_of_register held ≡ Some f → KeptHead made owner fragments f
+  pub held_kept : (held : Register) (value : Value) → HoldsValue made owner fragments held value → (f : ℕ) → head_of_register held ≡ Some f → KeptHead made owner fragments f
   held_kept registers.Nil value holds f is = cc
   held_kept (registers.Number n) value holds f is = cc
-  held_kept (registers.Object head id) value holds f is = record { number = number_of made id; below = holds.1.0; kept = holds.1.1; is = same is ∙ holds.2 }
+  held_kept (registers.Object head id) value holds f is = record { index = object_number made id; below = holds.1.0; kept = holds.1.1; is = same is ∙ holds.2 }
     where
       same : Some head ≡ Some f → f ≡ head
       same both = cc
 
   -- each head of some registers is one's
-  pub heads_kept : (held : List Register) (value : ℕ → Value) → ((r : ℕ) → Holds made owner fragments (get_or held r registers.Nil) (value r))
-      → (j : ℕ) → j < length (heads held) → KeptHead made owner fragments (slice_index_or (heads held) j 0)
+  pub heads_kept : (held : List Register) (value : ℕ → Value) → ((r : ℕ) → HoldsValue made owner fragments (get_or held r registers.Nil) (value r))
+      → (j : ℕ) → j < length (heads_of held) → KeptHead made owner fragments (slice_index_or (heads_of held) j 0)
   heads_kept [] value holds j less = absurd (omega (arith, less))
   heads_kept (registers.Nil ∷ held) value holds j less = heads_kept held (λ r. value (suc r)) (λ r. holds (suc r)) j less
   heads_kept (registers.Number n ∷ held) value holds j less = heads_kept held (λ r. value (suc r)) (λ r. holds (suc r)) j less
@@ -69,16 +69,16 @@ module _ (heap : Heap) (words : List ℕ) (g : Graph) (made : List Id) (owner : 
     (limits : IsHeap heap) (bits : Bits heap words owner) (ids : AreMade g made) (objects : Objects heap words g made owner fragments) where
   -- what the field of a set refers to
   pub loaded_kept : (seat : Seat) → seat.links ≡ 0 → Finds (cells_at g made) made owner fragments seat
-      → (f : ℕ) → head_in (at heap words (Word seat.reached (field_part seat))) ≡ Some f → KeptHead made owner fragments f
+      → (f : ℕ) → head_of (at heap words (Word seat.reached (field_part_of seat))) ≡ Some f → KeptHead made owner fragments f
   loaded_kept seat arrived finds f is =
       let field : ℕ = field_of seat.command in
-      let cell : Cell = get_or (cells_at g made finds.number) field unset in
-      let there : slice_get (cells_at g made finds.number) field ≡ Some cell = slice_get-get_or (cells_at g made finds.number) field unset finds.within in
-      let named = objects.named finds.number field finds.way.below finds.way.kept cell there in
+      let cell : Cell = get_or (cells_at g made finds.index) field unset in
+      let there : slice_get (cells_at g made finds.index) field ≡ Some cell = slice_get-get_or (cells_at g made finds.index) field unset finds.within in
+      let named = objects.named finds.index field finds.way.below finds.way.kept cell there in
       let whole : row_of field - seat.links ≡ row_of field = omega (arith, arrived) in
-      let word : at heap words (Word seat.reached (field_part seat)) ≡ value_word (head_of made fragments) cell.value cell.stamp
-      = ap (λ x. at heap words (Word x (part_of field))) (finds.way.here ∙ ap (fragment_at (fragments finds.number)) whole)
-      ∙ field_found heap words g made owner fragments limits bits ids objects finds.number finds.way.below finds.way.kept field cell there in
+      let word : at heap words (Word seat.reached (field_part_of seat)) ≡ value_word (object_head made fragments) cell.value cell.stamp
+      = ap (λ x. at heap words (Word x (part_of field))) (finds.way.here ∙ ap (fragment_at (fragments finds.index)) whole)
+      ∙ field_found heap words g made owner fragments limits bits ids objects finds.index finds.way.below finds.way.kept field cell there in
       named_kept made owner fragments cell.value named.0 f
-      (sym (head_in-value (head_of made fragments) cell.value cell.stamp (has_room heap words g made owner fragments limits bits cell.value named.0) named.1)
-      ∙ ap head_in (sym word) ∙ is)
+      (sym (head_in-value (object_head made fragments) cell.value cell.stamp (has_room heap words g made owner fragments limits bits cell.value named.0) named.1)
+      ∙ ap head_of (sym word) ∙ is)

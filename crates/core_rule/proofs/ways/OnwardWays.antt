@@ -7,40 +7,40 @@ use Rattle.heap_model.specs.declared.entry.Entry.{Entry}
 use Rattle.heap_model.specs.declared.heap.Heap.{Heap}
 use Rattle.heap_model.specs.declared.id.Id.{Id}
 use Rattle.heap_model.specs.Heap.{IsHeap}
-use Rattle.heap_model.specs.graph.State.{State}
+use Rattle.heap_model.specs.graph.Graph.{Graph}
 use Rattle.core_machine.specs.declared.table.address.Address.TheVariants.{Word}
 use Rattle.core_machine.specs.declared.place.Place.TheVariants as places
-use Rattle.core_machine.specs.declared.place.Reaching.{Reaching}
-use Rattle.core_machine.specs.declared.place.Reaching.TheVariants.{Walking, Getting, Swapping, LoadingOld}
+use Rattle.core_machine.specs.declared.place.Access.{Access}
+use Rattle.core_machine.specs.declared.place.Access.TheVariants.{Walking, Getting, Swapping, LoadingOld}
 use Rattle.core_machine.specs.seat.Commands.{field_of}
 use Rattle.core_machine.specs.table.Layout.{at}
-use Rattle.core_machine.specs.table.Loaded.{head_in, link_in}
-use Rattle.core_machine.specs.seat.Reaching.{row_of, has_barrier, way_place, stepped_on, onward, reaching}
+use Rattle.core_machine.specs.table.Decode.{head_of, link_of}
+use Rattle.core_machine.specs.seat.Access.{row_of, has_barrier_of, way_place_of, after_link, after_walk, at_access}
 use Rattle.core_machine.specs.seat.Seat.{Seat}
 use Rattle.core_machine.proofs.seat_lemmas.FieldPlaces.{field_cases}
 use Rattle.core_rule.specs.Book.{fragment_at}
 use Rattle.core_rule.specs.ControlWords.{Bits}
 use Rattle.core_rule.specs.Objects.{AreMade, Objects, cells_at}
 use Rattle.core_rule.specs.Owners.{Owner}
-use Rattle.core_rule.specs.Ways.{Finds, LoadedKept, OldKept, ReachingStands}
+use Rattle.core_rule.specs.Ways.{Finds, LoadedKept, OldKept, AccessStands}
 use Rattle.core_rule.proofs.ways.KeptWords.{link_found, row_there}
 use Rattle.core_rule.proofs.cycle.Unwatched.{IsUnwatched}
 
 -- so the way leads to one of four places
-pub way_cases : (P : Reaching → Type 0) (seat : Seat) → P Walking → P Getting → (has_barrier seat ≡ true → P LoadingOld) → (has_barrier seat ≡ false → P Swapping)
-    → P (way_place seat)
-way_cases P seat walks gets loads swaps = elim (eqb_tells seat.links 0) as (λ _. P (way_place seat)) [
+pub way_cases : (P : Access → Type 0) (seat : Seat) → P Walking → P Getting → (has_barrier_of seat ≡ true → P LoadingOld) → (has_barrier_of seat ≡ false → P Swapping)
+    → P (way_place_of seat)
+way_cases P seat walks gets loads swaps = elim (eqb_tells seat.links 0) as (λ _. P (way_place_of seat)) [
   | inl e ↦ rw e.0 (field_cases P seat seat.command gets loads swaps)
   | inr e ↦ rw e.0 walks
 ]
 
 -- none of which is watched
-pub way_unwatched : (seat : Seat) → IsUnwatched (has_barrier seat) (way_place seat)
-way_unwatched seat = way_cases (IsUnwatched (has_barrier seat)) seat tt tt (λ on. tt) (λ off. off)
+pub way_unwatched : (seat : Seat) → IsUnwatched (has_barrier_of seat) (way_place_of seat)
+way_unwatched seat = way_cases (IsUnwatched (has_barrier_of seat)) seat tt tt (λ on. tt) (λ off. off)
 
 -- what holds of a seat that stands at its field's fragment, and of one that follows a link, holds of the seat that goes on
-pub onward_cases : (P : Seat → Type 0) (seat : Seat) (found : ℕ) → (seat.links ≡ 0 → P (reaching seat (way_place seat)))
-    → (0 < seat.links → P (reaching (stepped_on seat found) (way_place (stepped_on seat found)))) → P (onward seat found)
+pub onward_cases : (P : Seat → Type 0) (seat : Seat) (found : ℕ) → (seat.links ≡ 0 → P (at_access seat (way_place_of seat)))
+    → (0 < seat.links → P (at_access (after_link seat found) (way_place_of (after_link seat found)))) → P (after_walk seat found)
 onward_cases P seat found arrived more =
     cond_both (eqb seat.links 0) _ _ P
     (λ e. arrived (eqb-true seat.links 0 e))
@@ -48,53 +48,53 @@ onward_cases P seat found arrived more =
 
 module _ (made : List Id) (owner : ℕ → Owner) (fragments : ℕ → List ℕ) (seat : Seat) where
   -- where nothing is loaded that refers to an object, there is no old value
-  pub none_old : head_in seat.loaded ≡ None → OldKept made owner fragments seat
+  pub none_old : head_of seat.loaded ≡ None → OldKept made owner fragments seat
   none_old none some = absurd (no_object (subst (λ o. IsSome o) none some))
     where
       no_object : IsSome {T = ℕ} None → ⊥
       no_object some = cc
 
   -- what is loaded is so wherever the call stands
-  pub loaded_at : (place : Reaching) (mine : List Entry) → LoadedKept made owner fragments seat
-      → LoadedKept made owner fragments (record seat { place = places.Reaching place; mine = mine })
-  loaded_at place mine loaded = record { number = loaded.number; below = loaded.below; kept = loaded.kept; loads = loaded.loads }
+  pub loaded_at : (place : Access) (mine : List Entry) → LoadedKept made owner fragments seat
+      → LoadedKept made owner fragments (record seat { place = places.Access place; mine = mine })
+  loaded_at place mine loaded = record { index = loaded.index; below = loaded.below; kept = loaded.kept; loads = loaded.loads }
 
 module _ (cells : ℕ → List Cell) (made : List Id) (owner : ℕ → Owner) (fragments : ℕ → List ℕ) where
   -- a field that is found is found at the place that comes next
-  pub way_stands : (seat reached : Seat) → seat.loaded ≡ 0 → Finds cells made owner fragments seat → ReachingStands cells made owner fragments seat (way_place reached)
+  pub way_stands : (seat reached : Seat) → seat.loaded ≡ 0 → Finds cells made owner fragments seat → AccessStands cells made owner fragments seat (way_place_of reached)
   way_stands seat reached unloaded finds =
-      way_cases (λ place. ReachingStands cells made owner fragments seat place) reached finds finds (λ on. finds) (λ off. (finds, none_old made owner fragments seat (ap head_in unloaded)))
+      way_cases (λ place. AccessStands cells made owner fragments seat place) reached finds finds (λ on. finds) (λ off. (finds, none_old made owner fragments seat (ap head_of unloaded)))
 
   -- it is found wherever the call stands
-  pub finds_at : (seat : Seat) (loaded : ℕ) (place : Reaching) (mine : List Entry) → Finds cells made owner fragments seat
-      → Finds cells made owner fragments (record seat { loaded = loaded; place = places.Reaching place; mine = mine })
+  pub finds_at : (seat : Seat) (loaded : ℕ) (place : Access) (mine : List Entry) → Finds cells made owner fragments seat
+      → Finds cells made owner fragments (record seat { loaded = loaded; place = places.Access place; mine = mine })
   finds_at seat loaded place mine finds = record {
-    number = finds.number;
+    index = finds.index;
     way = record { below = finds.way.below; kept = finds.way.kept; holds = finds.way.holds; ahead = finds.way.ahead; here = finds.way.here };
     within = finds.within;
   }
 
-module _ (heap : Heap) (words : List ℕ) (g : State) (made : List Id) (owner : ℕ → Owner) (fragments : ℕ → List ℕ)
+module _ (heap : Heap) (words : List ℕ) (g : Graph) (made : List Id) (owner : ℕ → Owner) (fragments : ℕ → List ℕ)
     (limits : IsHeap heap) (bits : Bits heap words owner) (ids : AreMade g made) (objects : Objects heap words g made owner fragments) where
   -- and after one link more
-  pub finds_on : (seat : Seat) (loaded : ℕ) (place : Reaching) (mine : List Entry) → 0 < seat.links → Finds (cells_at g made) made owner fragments seat
+  pub finds_on : (seat : Seat) (loaded : ℕ) (place : Access) (mine : List Entry) → 0 < seat.links → Finds (cells_at g made) made owner fragments seat
       → Finds (cells_at g made) made owner fragments
-      (record seat { reached = link_in (at heap words (Word seat.reached 0)); links = seat.links - 1; loaded = loaded; place = places.Reaching place; mine = mine })
+      (record seat { reached = link_of (at heap words (Word seat.reached 0)); links = seat.links - 1; loaded = loaded; place = places.Access place; mine = mine })
   finds_on seat loaded place mine more finds =
-      let number : ℕ = finds.number in
+      let index : ℕ = finds.index in
       let row : ℕ = row_of (field_of seat.command) in
-      let there = row_there heap words g made owner fragments limits bits ids objects number finds.way.below finds.way.kept (field_of seat.command) finds.within in
+      let there = row_there heap words g made owner fragments limits bits ids objects index finds.way.below finds.way.kept (field_of seat.command) finds.within in
       let next : row - (seat.links - 1) ≡ row - seat.links + 1 = omega (arith, more, finds.way.ahead) in
       record {
-        number = number;
+        index = index;
         way = record {
           below = finds.way.below;
           kept = finds.way.kept;
           holds = finds.way.holds;
           ahead = omega (arith, finds.way.ahead);
-          here = ap (λ f. link_in (at heap words (Word f 0))) finds.way.here
-              ∙ link_found heap words g made owner fragments limits bits ids objects number finds.way.below finds.way.kept (row - seat.links) (omega (arith, more, there, finds.way.ahead))
-              ∙ ap (fragment_at (fragments number)) (sym next);
+          here = ap (λ f. link_of (at heap words (Word f 0))) finds.way.here
+              ∙ link_found heap words g made owner fragments limits bits ids objects index finds.way.below finds.way.kept (row - seat.links) (omega (arith, more, there, finds.way.ahead))
+              ∙ ap (fragment_at (fragments index)) (sym next);
         };
         within = finds.within;
       }

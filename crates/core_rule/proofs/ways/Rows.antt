@@ -3,7 +3,7 @@ use Rattle.std.proofs.Common.{◌≡◌, ℕ, ◌+◌, ◌-◌, ◌*◌, ◌<◌
 use Rattle.std.proofs.lemmas.Bool.{lt-ltb}
 use Rattle.std.proofs.lemmas.Bool.Decides.{eqb_tells}
 use Rattle.heap_model.specs.Needs.{record_fragments}
-use Rattle.core_machine.specs.seat.Reaching.{row_of, part_of}
+use Rattle.core_machine.specs.seat.Access.{row_of, part_of}
 use Rattle.core_rule.specs.Objects.{is_cell}
 
 -- the field of a row and a part

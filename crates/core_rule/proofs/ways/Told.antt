@@ -12,13 +12,13 @@ use Rattle.heap_model.specs.declared.id.Value.{Value}
 use Rattle.heap_model.specs.declared.id.Value.TheVariants as values
 use Rattle.core_machine.specs.declared.seat.register.Register.{Register}
 use Rattle.core_machine.specs.declared.seat.register.Register.TheVariants as registers
-use Rattle.core_machine.specs.table.Loaded.{head_in, link_in, length_in, id_in, id_of_owner, stamp_in, plain_in, first_lead, referred, plain_register}
+use Rattle.core_machine.specs.table.Decode.{head_of, link_of, length_of, id_of, id_of_owner, stamp_of, plain_of, first_pointer, reference_of, plain_register}
 use Rattle.core_machine.specs.table.Newborn.{record_meta, link_after}
 use Rattle.core_machine.proofs.table_lemmas.CellWords.{cell_of-cell_word}
 use Rattle.core_rule.specs.Objects.{FitsName, name_of, value_word}
 
 -- the length in a record's meta
-pub length_in-meta : (fields : ℕ) (fragments : List ℕ) → fields < 2 ^ 13 → get_or fragments 1 0 < 2 ^ 32 → length_in (record_meta fields fragments) ≡ fields
+pub length_in-meta : (fields : ℕ) (fragments : List ℕ) → fields < 2 ^ 13 → get_or fragments 1 0 < 2 ^ 32 → length_of (record_meta fields fragments) ≡ fields
 length_in-meta fields fragments few small =
     ap (λ (c : Cell). c.value % 2 ^ 13) (cell_of-cell_word kinds.Fixed fields (get_or fragments 1 0) (omega (arith, few)) small) ∙ omega (arith, few)
 
@@ -30,19 +30,19 @@ lead_or_none n = elim (eqb_tells n 0) as (λ _. unwrap_or (cond {A = Option ℕ}
 ]
 
 -- it leads to the second fragment
-pub link_in-meta : (fields : ℕ) (fragments : List ℕ) → fields < 2 ^ 13 → get_or fragments 1 0 < 2 ^ 32 → link_in (record_meta fields fragments) ≡ get_or fragments 1 0
+pub link_in-meta : (fields : ℕ) (fragments : List ℕ) → fields < 2 ^ 13 → get_or fragments 1 0 < 2 ^ 32 → link_of (record_meta fields fragments) ≡ get_or fragments 1 0
 link_in-meta fields fragments few small =
-    ap (λ (c : Cell). unwrap_or (first_lead c.kind c) 0) (cell_of-cell_word kinds.Fixed fields (get_or fragments 1 0) (omega (arith, few)) small)
+    ap (λ (c : Cell). unwrap_or (first_pointer c.kind c) 0) (cell_of-cell_word kinds.Fixed fields (get_or fragments 1 0) (omega (arith, few)) small)
     ∙ rw (lt-ltb fields (2 ^ 29) (omega (arith, few))) (lead_or_none (get_or fragments 1 0))
 
 -- and a link to the fragment after its own
-pub link_in-link : (fragments : List ℕ) (k : ℕ) → k + 1 < length fragments → get_or fragments (k + 1) 0 < 2 ^ 30 → link_in (link_after fragments k) ≡ get_or fragments (k + 1) 0
+pub link_in-link : (fragments : List ℕ) (k : ℕ) → k + 1 < length fragments → get_or fragments (k + 1) 0 < 2 ^ 30 → link_of (link_after fragments k) ≡ get_or fragments (k + 1) 0
 link_in-link fragments k more small =
     rw (lt-ltb (k + 1) (length fragments) more)
-    (ap (λ (c : Cell). unwrap_or (first_lead c.kind c) 0) (cell_of-cell_word kinds.Reference (get_or fragments (k + 1) 0) 0 small (omega arith)))
+    (ap (λ (c : Cell). unwrap_or (first_pointer c.kind c) 0) (cell_of-cell_word kinds.Reference (get_or fragments (k + 1) 0) 0 small (omega arith)))
 
 -- the id in a name
-pub id_in-name : (id : Id) → FitsName id → id_in (name_word (name_of id)) ≡ id
+pub id_in-name : (id : Id) → FitsName id → id_of (name_word (name_of id)) ≡ id
 id_in-name Board fits = ap (λ (c : Cell). id_of_owner (c.value % 2 ^ 8) c.stamp) (cell_of-cell_word kinds.Fixed 0 0 (omega arith) (omega arith))
 id_in-name (Made s count) fits =
     let back : (s + 1) % 2 ^ 8 ≡ s + 1 = omega (arith, fits.0) in
@@ -63,25 +63,25 @@ named_head head (values.Object id) = Some (head id)
 named_head head _ = None
 
 -- a register that holds the value, if it names no object
-abbrev pub plain_of : Value → Register
-plain_of (values.Number n) = registers.Number n
-plain_of _ = registers.Nil
+abbrev pub register_plain : Value → Register
+register_plain (values.Number n) = registers.Number n
+register_plain _ = registers.Nil
 
 module _ (head : Id → ℕ) where
   -- the stamp of a field
-  pub stamp_in-value : (value : Value) (stamp : ℕ) → HasRoom head value → stamp < 2 ^ 32 → stamp_in (value_word head value stamp) ≡ stamp
+  pub stamp_in-value : (value : Value) (stamp : ℕ) → HasRoom head value → stamp < 2 ^ 32 → stamp_of (value_word head value stamp) ≡ stamp
   stamp_in-value values.Nil stamp room small = ap (λ (c : Cell). c.stamp) (cell_of-cell_word kinds.Nil 0 stamp (omega arith) small)
   stamp_in-value (values.Number n) stamp room small = ap (λ (c : Cell). c.stamp) (cell_of-cell_word kinds.Number n stamp room small)
   stamp_in-value (values.Object id) stamp room small = ap (λ (c : Cell). c.stamp) (cell_of-cell_word kinds.Reference (head id) stamp room small)
 
   -- the object that it refers to
-  pub head_in-value : (value : Value) (stamp : ℕ) → HasRoom head value → stamp < 2 ^ 32 → head_in (value_word head value stamp) ≡ named_head head value
-  head_in-value values.Nil stamp room small = ap (λ (c : Cell). referred c.kind c.value) (cell_of-cell_word kinds.Nil 0 stamp (omega arith) small)
-  head_in-value (values.Number n) stamp room small = ap (λ (c : Cell). referred c.kind c.value) (cell_of-cell_word kinds.Number n stamp room small)
-  head_in-value (values.Object id) stamp room small = ap (λ (c : Cell). referred c.kind c.value) (cell_of-cell_word kinds.Reference (head id) stamp room small)
+  pub head_in-value : (value : Value) (stamp : ℕ) → HasRoom head value → stamp < 2 ^ 32 → head_of (value_word head value stamp) ≡ named_head head value
+  head_in-value values.Nil stamp room small = ap (λ (c : Cell). reference_of c.kind c.value) (cell_of-cell_word kinds.Nil 0 stamp (omega arith) small)
+  head_in-value (values.Number n) stamp room small = ap (λ (c : Cell). reference_of c.kind c.value) (cell_of-cell_word kinds.Number n stamp room small)
+  head_in-value (values.Object id) stamp room small = ap (λ (c : Cell). reference_of c.kind c.value) (cell_of-cell_word kinds.Reference (head id) stamp room small)
 
   -- and its value, where it refers to none
-  pub plain_in-value : (value : Value) (stamp : ℕ) → HasRoom head value → stamp < 2 ^ 32 → plain_in (value_word head value stamp) ≡ plain_of value
+  pub plain_in-value : (value : Value) (stamp : ℕ) → HasRoom head value → stamp < 2 ^ 32 → plain_of (value_word head value stamp) ≡ register_plain value
   plain_in-value values.Nil stamp room small = ap (λ (c : Cell). plain_register c.kind c.value) (cell_of-cell_word kinds.Nil 0 stamp (omega arith) small)
   plain_in-value (values.Number n) stamp room small = ap (λ (c : Cell). plain_register c.kind c.value) (cell_of-cell_word kinds.Number n stamp room small)
   plain_in-value (values.Object id) stamp room small = ap (λ (c : Cell). plain_register c.kind c.value) (cell_of-cell_word kinds.Reference (head id) stamp room small)

@@ -4,7 +4,7 @@ use Rattle.heap_model.specs.declared.graph.cell.Cell.{Cell}
 use Rattle.heap_model.specs.declared.id.Id.{Id}
 use Rattle.core_machine.specs.declared.place.Place.{Place}
 use Rattle.core_machine.specs.declared.place.Place.TheVariants as places
-use Rattle.core_machine.specs.declared.place.Reaching.TheVariants.{Opening, Walking, Getting, LoadingOld, ShadingOld, ShadingNew, Swapping}
+use Rattle.core_machine.specs.declared.place.Access.TheVariants.{LoadingMeta, Walking, Getting, LoadingOld, ShadingOld, ShadingNew, Swapping}
 use Rattle.core_machine.specs.seat.Seat.{Seat}
 use Rattle.core_rule.specs.Book.{id_at}
 use Rattle.core_rule.specs.Objects.{IsKept}
@@ -21,9 +21,9 @@ pub record ObjectStays (cells now_cells : ℕ → List Cell) (made now_made : Li
 
 module _ (cells now_cells : ℕ → List Cell) (made now_made : List Id) (owner now_owner : ℕ → Owner) (fragments now_fragments : ℕ → List ℕ)
     (stay : (i : ℕ) → i < length made → IsKept owner fragments i → ObjectStays cells now_cells made now_made owner now_owner fragments now_fragments i) where
-  way_stays : (seat : Seat) (number : ℕ) → OnWay made owner fragments seat number → OnWay now_made now_owner now_fragments seat number
-  way_stays seat number way =
-      let one = stay number way.below way.kept in
+  way_stays : (seat : Seat) (index : ℕ) → OnWay made owner fragments seat index → OnWay now_made now_owner now_fragments seat index
+  way_stays seat index way =
+      let one = stay index way.below way.kept in
       record {
         below = one.below;
         kept = one.kept;
@@ -34,23 +34,23 @@ module _ (cells now_cells : ℕ → List Cell) (made now_made : List Id) (owner 
 
   finds_stays : (seat : Seat) → Finds cells made owner fragments seat → Finds now_cells now_made now_owner now_fragments seat
   finds_stays seat finds = record {
-    number = finds.number;
-    way = way_stays seat finds.number finds.way;
-    within = rw (stay finds.number finds.way.below finds.way.kept).cells_stay finds.within;
+    index = finds.index;
+    way = way_stays seat finds.index finds.way;
+    within = rw (stay finds.index finds.way.below finds.way.kept).cells_stay finds.within;
   }
 
   loaded_stays : (seat : Seat) → LoadedKept made owner fragments seat → LoadedKept now_made now_owner now_fragments seat
   loaded_stays seat loaded =
-      let one = stay loaded.number loaded.below loaded.kept in
-      record { number = loaded.number; below = one.below; kept = one.kept; loads = rw one.fragments_stay loaded.loads }
+      let one = stay loaded.index loaded.below loaded.kept in
+      record { index = loaded.index; below = one.below; kept = one.kept; loads = rw one.fragments_stay loaded.loads }
 
   -- a seat's way stays at its place
   pub ways_stay : (seat : Seat) (place : Place) → WayStands cells made owner fragments seat place → WayStands now_cells now_made now_owner now_fragments seat place
-  ways_stay seat (places.Reaching Opening) way = record { number = way.number; way = way_stays seat way.number way.way }
-  ways_stay seat (places.Reaching Walking) way = finds_stays seat way
-  ways_stay seat (places.Reaching Getting) way = finds_stays seat way
-  ways_stay seat (places.Reaching LoadingOld) way = finds_stays seat way
-  ways_stay seat (places.Reaching ShadingOld) way = (finds_stays seat way.0, loaded_stays seat way.1)
-  ways_stay seat (places.Reaching ShadingNew) way = (finds_stays seat way.0, λ some. loaded_stays seat (way.1 some))
-  ways_stay seat (places.Reaching Swapping) way = (finds_stays seat way.0, λ some. loaded_stays seat (way.1 some))
+  ways_stay seat (places.Access LoadingMeta) way = record { index = way.index; way = way_stays seat way.index way.way }
+  ways_stay seat (places.Access Walking) way = finds_stays seat way
+  ways_stay seat (places.Access Getting) way = finds_stays seat way
+  ways_stay seat (places.Access LoadingOld) way = finds_stays seat way
+  ways_stay seat (places.Access ShadingOld) way = (finds_stays seat way.0, loaded_stays seat way.1)
+  ways_stay seat (places.Access ShadingNew) way = (finds_stays seat way.0, λ some. loaded_stays seat (way.1 some))
+  ways_stay seat (places.Access Swapping) way = (finds_stays seat way.0, λ some. loaded_stays seat (way.1 some))
   ways_stay seat _ way = way

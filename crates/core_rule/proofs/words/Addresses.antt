@@ -33,7 +33,7 @@ module _ (heap : Heap) (words : List ℕ) (n : ℕ) where
 
   -- another fragment's word
   pub fragment_other : (f j g i : ℕ) → j < 4 → i < 4 → g ≢ f → at heap (put heap words (Word f j) n) (Word g i) ≡ at heap words (Word g i)
-  fragment_other f j g i p q apart = at-put_apart heap words (Word f j) (Word g i) n (λ e. apart (omega (arith, e, p, q)))
+  fragment_other f j g i p number apart = at-put_apart heap words (Word f j) (Word g i) n (λ e. apart (omega (arith, e, p, number)))
 
   -- another part of the same
   pub part_other : (f j g i : ℕ) → i ≢ j → g ≡ f → at heap (put heap words (Word f j) n) (Word g i) ≡ at heap words (Word g i)

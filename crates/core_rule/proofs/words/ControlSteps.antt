@@ -4,11 +4,11 @@ use Rattle.std.proofs.Common.{◌≡◌, ◌≢◌, ℕ, ◌+◌, ◌-◌, ◌*�
 use Rattle.std.proofs.lemmas.Nat.Bits.{bit_at-lt}
 use Rattle.heap_model.specs.declared.heap.Heap.{Heap}
 use Rattle.core_machine.specs.declared.table.address.Address.TheVariants.{Control}
-use Rattle.core_machine.specs.table.Fragments.{part_in, mask, clear_in, tally}
+use Rattle.core_machine.specs.table.Fragments.{part_in, mask_of, clear_in, tally}
 use Rattle.core_machine.specs.table.Layout.{at, put, table_length}
-use Rattle.core_machine.specs.table.Operation.{all_taken, untaken, birth_bits}
+use Rattle.core_machine.specs.table.Operation.{all_taken, word_without_taken, birth_bits_of}
 use Rattle.core_rule.specs.ControlWords.{Bits}
-use Rattle.core_rule.specs.Owners.{Owner, Free, Holds, Bears, taken_bit, born_bit, handed}
+use Rattle.core_rule.specs.Owners.{Owner, Free, Taken, Borne, taken_bit, born_bit, owner_after}
 use Rattle.core_rule.proofs.words.ClearLemmas.{clear_here, clear_away, clear_once, clear_group}
 use Rattle.core_rule.proofs.words.ControlLemmas.{bits_after, found_taken, found_born}
 use Rattle.core_rule.proofs.owners.Handed.{handed_out, gains, loses, stays}
@@ -36,89 +36,89 @@ module _ (heap : Heap) (words : List ℕ) (owner : ℕ → Owner) (g : ℕ) (who
       let here : f / 16 ≡ g = clear_group g found f there in
       is_free (owner f) (omega (arith, there, clear_here g found f here, found_taken heap words owner g whole below bits f here))
 
-  module _ (q : ℕ) where
-    claimed_taken : (f : ℕ) → f / 16 ≡ g → bit_at (bit_or found all_taken) (f % 16) ≡ taken_bit (handed (Holds q) owner (clear_in g found) f)
+  module _ (number : ℕ) where
+    claimed_taken : (f : ℕ) → f / 16 ≡ g → bit_at (bit_or found all_taken) (f % 16) ≡ taken_bit (owner_after (Taken number) owner (clear_in g found) f)
     claimed_taken f here =
-        let more : taken_bit (handed (Holds q) owner (clear_in g found) f) ≡ taken_bit (owner f) + tally f (clear_in g found)
-        = gains taken_bit (Holds q) owner (clear_in g found) (λ x. clear_once g found x) refl (λ x there. ap taken_bit (clear_is_free x there)) f in
+        let more : taken_bit (owner_after (Taken number) owner (clear_in g found) f) ≡ taken_bit (owner f) + tally f (clear_in g found)
+        = gains taken_bit (Taken number) owner (clear_in g found) (λ x. clear_once g found x) refl (λ x there. ap taken_bit (clear_is_free x there)) f in
         let one : bit_at (bit_or found all_taken) (f % 16) ≡ 1 = claim_taken found (f % 16) (omega arith) in
         let clear : tally f (clear_in g found) ≡ 1 - bit_at found (f % 16) = clear_here g found f here in
         let bit : bit_at found (f % 16) ≡ taken_bit (owner f) = found_taken heap words owner g whole below bits f here in
         let small : bit_at found (f % 16) < 2 = bit_at-lt found (f % 16) in
-        all_set (bit_at (bit_or found all_taken) (f % 16)) (taken_bit (handed (Holds q) owner (clear_in g found) f)) (taken_bit (owner f)) (tally f (clear_in g found)) (bit_at found (f % 16)) more one clear bit small
+        all_set (bit_at (bit_or found all_taken) (f % 16)) (taken_bit (owner_after (Taken number) owner (clear_in g found) f)) (taken_bit (owner f)) (tally f (clear_in g found)) (bit_at found (f % 16)) more one clear bit small
 
-    claimed_born : (f : ℕ) → f / 16 ≡ g → bit_at (bit_or found all_taken) (16 + f % 16) ≡ born_bit (handed (Holds q) owner (clear_in g found) f)
+    claimed_born : (f : ℕ) → f / 16 ≡ g → bit_at (bit_or found all_taken) (16 + f % 16) ≡ born_bit (owner_after (Taken number) owner (clear_in g found) f)
     claimed_born f here =
         claim_born found (f % 16) (omega arith) ∙ found_born heap words owner g whole below bits f here
-        ∙ sym (stays born_bit (Holds q) owner (clear_in g found) (λ x there. ap born_bit (clear_is_free x there)) f)
+        ∙ sym (stays born_bit (Taken number) owner (clear_in g found) (λ x there. ap born_bit (clear_is_free x there)) f)
 
-    claimed_away : (f : ℕ) → f / 16 ≢ g → handed (Holds q) owner (clear_in g found) f ≡ owner f
-    claimed_away f apart = handed_out (Holds q) owner (clear_in g found) f (clear_away g found f apart)
+    claimed_away : (f : ℕ) → f / 16 ≢ g → owner_after (Taken number) owner (clear_in g found) f ≡ owner f
+    claimed_away f apart = handed_out (Taken number) owner (clear_in g found) f (clear_away g found f apart)
 
     -- what is taken of the group: what is clear, and all else
-    pub claim_bits : Bits heap (put heap words (Control g) (bit_or found all_taken)) (handed (Holds q) owner (clear_in g found))
-    claim_bits = bits_after heap words owner (handed (Holds q) owner (clear_in g found)) g (bit_or found all_taken) whole below bits claimed_taken claimed_born
+    pub claim_bits : Bits heap (put heap words (Control g) (bit_or found all_taken)) (owner_after (Taken number) owner (clear_in g found))
+    claim_bits = bits_after heap words owner (owner_after (Taken number) owner (clear_in g found)) g (bit_or found all_taken) whole below bits claimed_taken claimed_born
         (λ f apart. ap taken_bit (claimed_away f apart))
         (λ f apart. ap born_bit (claimed_away f apart))
         (λ f above. claimed_away f (λ here. omega (arith, here, below, above)) ∙ bits.outside f above)
 
 module _ (heap : Heap) (words : List ℕ) (owner : ℕ → Owner) (g : ℕ) (whole : length words ≡ table_length heap) (below : g < heap.groups) (bits : Bits heap words owner)
-    (fs : List ℕ) (q : ℕ) (once : (f : ℕ) → tally f fs ≤ 1) (held : (f : ℕ) → 1 ≤ tally f fs → owner f ≡ Holds q) where
+    (fs : List ℕ) (number : ℕ) (once : (f : ℕ) → tally f fs ≤ 1) (held : (f : ℕ) → 1 ≤ tally f fs → owner f ≡ Taken number) where
   abbrev word_found : ℕ
   word_found = at heap words (Control g)
 
   once_in : (f : ℕ) → tally f (part_in g fs) ≤ 1
   once_in f = omega (arith, once f, parts_tally g f fs)
 
-  held_in : (f : ℕ) → 1 ≤ tally f (part_in g fs) → owner f ≡ Holds q
+  held_in : (f : ℕ) → 1 ≤ tally f (part_in g fs) → owner f ≡ Taken number
   held_in f there = held f (omega (arith, there, parts_tally g f fs))
 
   -- the mask has the bits of the part
-  masked : (f : ℕ) → f / 16 ≡ g → bit_at (mask (part_in g fs)) (f % 16) ≡ tally f (part_in g fs)
+  masked : (f : ℕ) → f / 16 ≡ g → bit_at (mask_of (part_in g fs)) (f % 16) ≡ tally f (part_in g fs)
   masked f here =
       let place : 16 * g + f % 16 ≡ f = omega (arith, here) in
-      let bit : bit_at (mask (part_in g fs)) (f % 16) ≡ tally f fs
-      = subst (λ x. bit_at (mask (part_in g fs)) (f % 16) ≡ tally x fs) place (mask_bit g (f % 16) fs (omega arith) (subst (λ x. tally x fs ≤ 1) (sym place) (once f))) in
+      let bit : bit_at (mask_of (part_in g fs)) (f % 16) ≡ tally f fs
+      = subst (λ x. bit_at (mask_of (part_in g fs)) (f % 16) ≡ tally x fs) place (mask_bit g (f % 16) fs (omega arith) (subst (λ x. tally x fs ≤ 1) (sym place) (once f))) in
       bit ∙ sym (part_in-here g f fs here)
 
-  returned_taken : (f : ℕ) → f / 16 ≡ g → bit_at (untaken (mask (part_in g fs)) word_found) (f % 16) ≡ taken_bit (handed Free owner (part_in g fs) f)
-  returned_taken f here = less_set (bit_at (untaken (mask (part_in g fs)) word_found) (f % 16)) (bit_at word_found (f % 16)) (bit_at (mask (part_in g fs)) (f % 16))
-      (taken_bit (owner f)) (taken_bit (handed Free owner (part_in g fs) f)) (tally f (part_in g fs))
-      (untaken_taken word_found (f % 16) (omega arith) (mask (part_in g fs)) (mask-lt (part_in g fs)))
+  returned_taken : (f : ℕ) → f / 16 ≡ g → bit_at (word_without_taken (mask_of (part_in g fs)) word_found) (f % 16) ≡ taken_bit (owner_after Free owner (part_in g fs) f)
+  returned_taken f here = less_set (bit_at (word_without_taken (mask_of (part_in g fs)) word_found) (f % 16)) (bit_at word_found (f % 16)) (bit_at (mask_of (part_in g fs)) (f % 16))
+      (taken_bit (owner f)) (taken_bit (owner_after Free owner (part_in g fs) f)) (tally f (part_in g fs))
+      (untaken_taken word_found (f % 16) (omega arith) (mask_of (part_in g fs)) (mask-lt (part_in g fs)))
       (masked f here)
       (found_taken heap words owner g whole below bits f here)
       (loses taken_bit Free owner (part_in g fs) once_in refl (λ x there. ap taken_bit (held_in x there)) f)
 
-  returned_born : (f : ℕ) → f / 16 ≡ g → bit_at (untaken (mask (part_in g fs)) word_found) (16 + f % 16) ≡ born_bit (handed Free owner (part_in g fs) f)
-  returned_born f here = untaken_born word_found (f % 16) (omega arith) (mask (part_in g fs)) (mask-lt (part_in g fs)) ∙ found_born heap words owner g whole below bits f here
+  returned_born : (f : ℕ) → f / 16 ≡ g → bit_at (word_without_taken (mask_of (part_in g fs)) word_found) (16 + f % 16) ≡ born_bit (owner_after Free owner (part_in g fs) f)
+  returned_born f here = untaken_born word_found (f % 16) (omega arith) (mask_of (part_in g fs)) (mask-lt (part_in g fs)) ∙ found_born heap words owner g whole below bits f here
       ∙ sym (stays born_bit Free owner (part_in g fs) (λ x there. ap born_bit (held_in x there)) f)
 
-  returned_away : (f : ℕ) → f / 16 ≢ g → handed Free owner (part_in g fs) f ≡ owner f
+  returned_away : (f : ℕ) → f / 16 ≢ g → owner_after Free owner (part_in g fs) f ≡ owner f
   returned_away f apart = handed_out Free owner (part_in g fs) f (part_in-away g f fs apart)
 
   -- those of the list that are of the group are taken no longer
-  pub give_back_bits : Bits heap (put heap words (Control g) (untaken (mask (part_in g fs)) word_found)) (handed Free owner (part_in g fs))
-  give_back_bits = bits_after heap words owner (handed Free owner (part_in g fs)) g (untaken (mask (part_in g fs)) word_found) whole below bits returned_taken returned_born
+  pub give_back_bits : Bits heap (put heap words (Control g) (word_without_taken (mask_of (part_in g fs)) word_found)) (owner_after Free owner (part_in g fs))
+  give_back_bits = bits_after heap words owner (owner_after Free owner (part_in g fs)) g (word_without_taken (mask_of (part_in g fs)) word_found) whole below bits returned_taken returned_born
       (λ f apart. ap taken_bit (returned_away f apart))
       (λ f apart. ap born_bit (returned_away f apart))
       (λ f above. returned_away f (λ here. omega (arith, here, below, above)) ∙ bits.outside f above)
 
   -- they are born, whoever has them then
   pub birth_word_bits : (black : Bool) (now : ℕ → Owner) → ((f : ℕ) → taken_bit (now f) ≡ taken_bit (owner f)) → ((f : ℕ) → born_bit (now f) ≡ born_bit (owner f) + tally f (part_in g fs))
-      → ((f : ℕ) → 16 * heap.groups ≤ f → now f ≡ Free) → Bits heap (put heap words (Control g) (bit_or word_found (birth_bits black (mask (part_in g fs))))) now
+      → ((f : ℕ) → 16 * heap.groups ≤ f → now f ≡ Free) → Bits heap (put heap words (Control g) (bit_or word_found (birth_bits_of black (mask_of (part_in g fs))))) now
   birth_word_bits black now taken born outside =
-      bits_after heap words owner now g (bit_or word_found (birth_bits black (mask (part_in g fs)))) whole below bits
-      (λ f here. birth_taken word_found (f % 16) (omega arith) (mask (part_in g fs)) black ∙ found_taken heap words owner g whole below bits f here ∙ sym (taken f))
-      (λ f here. more_set (bit_at (bit_or word_found (birth_bits black (mask (part_in g fs)))) (16 + f % 16)) (bit_at word_found (16 + f % 16)) (bit_at (mask (part_in g fs)) (f % 16))
+      bits_after heap words owner now g (bit_or word_found (birth_bits_of black (mask_of (part_in g fs)))) whole below bits
+      (λ f here. birth_taken word_found (f % 16) (omega arith) (mask_of (part_in g fs)) black ∙ found_taken heap words owner g whole below bits f here ∙ sym (taken f))
+      (λ f here. more_set (bit_at (bit_or word_found (birth_bits_of black (mask_of (part_in g fs)))) (16 + f % 16)) (bit_at word_found (16 + f % 16)) (bit_at (mask_of (part_in g fs)) (f % 16))
       (born_bit (owner f)) (born_bit (now f)) (tally f (part_in g fs))
-      (birth_born word_found (f % 16) (omega arith) (mask (part_in g fs)) black) (masked f here) (found_born heap words owner g whole below bits f here) (born f) (born_once (now f)))
+      (birth_born word_found (f % 16) (omega arith) (mask_of (part_in g fs)) black) (masked f here) (found_born heap words owner g whole below bits f here) (born f) (born_once (now f)))
       (λ f apart. taken f)
       (λ f apart. omega (arith, born f, part_in-away g f fs apart))
       outside
 
   -- so are those that the seat bears then
-  pub birth_bits_after : (black : Bool) → Bits heap (put heap words (Control g) (bit_or word_found (birth_bits black (mask (part_in g fs))))) (handed (Bears q) owner (part_in g fs))
-  birth_bits_after black = birth_word_bits black (handed (Bears q) owner (part_in g fs))
-      (stays taken_bit (Bears q) owner (part_in g fs) (λ x there. ap taken_bit (held_in x there)))
-      (gains born_bit (Bears q) owner (part_in g fs) once_in refl (λ x there. ap born_bit (held_in x there)))
-      (λ f above. handed_out (Bears q) owner (part_in g fs) f (not_there (tally f (part_in g fs)) (λ there. one_owner q (owner f) (bits.outside f above) (held_in f there))) ∙ bits.outside f above)
+  pub birth_bits_after : (black : Bool) → Bits heap (put heap words (Control g) (bit_or word_found (birth_bits_of black (mask_of (part_in g fs))))) (owner_after (Borne number) owner (part_in g fs))
+  birth_bits_after black = birth_word_bits black (owner_after (Borne number) owner (part_in g fs))
+      (stays taken_bit (Borne number) owner (part_in g fs) (λ x there. ap taken_bit (held_in x there)))
+      (gains born_bit (Borne number) owner (part_in g fs) once_in refl (λ x there. ap born_bit (held_in x there)))
+      (λ f above. handed_out (Borne number) owner (part_in g fs) f (not_there (tally f (part_in g fs)) (λ there. one_owner number (owner f) (bits.outside f above) (held_in f there))) ∙ bits.outside f above)

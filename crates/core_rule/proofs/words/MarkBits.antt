@@ -2,7 +2,7 @@
 use Rattle.std.specs.Int.{bit_at, w64}
 use Rattle.std.proofs.Common.{◌≡◌, ℕ, ◌+◌, ◌-◌, ◌*◌, ◌^◌, ◌<◌, ◌≤◌, max, Bool, true, false, cond, bit_or, refl, arith}
 use Rattle.std.proofs.lemmas.Nat.Bits.{bit_at_or, bit_at_and, bit_at_not, bit_at_ones_above, bit_at-lt, bit_at_above, bit_at_cat_low, bit_at_cat_high}
-use Rattle.core_machine.specs.table.Operation.{all_taken, untaken, birth_bits}
+use Rattle.core_machine.specs.table.Operation.{all_taken, word_without_taken, birth_bits_of}
 
 module _ (word : ℕ) where
   -- a claim changes no bit past the taken ones
@@ -11,7 +11,7 @@ module _ (word : ℕ) where
 
   module _ (bits : ℕ) (small : bits < 2 ^ 16) where
     -- nor does a give back
-    pub untaken_past : (j : ℕ) → 16 ≤ j → j < 64 → bit_at (untaken bits word) j ≡ bit_at word j
+    pub untaken_past : (j : ℕ) → 16 ≤ j → j < 64 → bit_at (word_without_taken bits word) j ≡ bit_at word j
     untaken_past j past within =
         let wide : bits < 2 ^ 64 = omega (arith, small) in
         rw (bit_at_and word (2 ^ 64 - 1 - bits) j, bit_at_not w64 bits j wide within, bit_at_above bits 16 j small past) (omega (arith, bit_at-lt word j))
@@ -33,27 +33,27 @@ module _ (word : ℕ) where
       none_past i past = bit_at_above bits 16 i small past
 
       -- the bits of a black birth, quarter by quarter
-      third : (black : Bool) → bit_at (birth_bits black bits) (32 + j) ≡ cond {A = ℕ} black (bit_at bits j) 0
+      third : (black : Bool) → bit_at (birth_bits_of black bits) (32 + j) ≡ cond {A = ℕ} black (bit_at bits j) 0
       third false =
           let at_place : 32 + j ≡ 16 + (16 + j) = omega arith in
           rw (at_place, shifted bits (16 + j)) (none_past (16 + j) (omega arith))
       third true =
           let at_place : 32 + j ≡ 16 + (16 + j) = omega arith in
-          let e : birth_bits true bits ≡ ((bits * 2 ^ 16 + bits) * 2 ^ 16 + bits) * 2 ^ 16 = omega arith in
+          let e : birth_bits_of true bits ≡ ((bits * 2 ^ 16 + bits) * 2 ^ 16 + bits) * 2 ^ 16 = omega arith in
           rw (at_place, e, shifted ((bits * 2 ^ 16 + bits) * 2 ^ 16 + bits) (16 + j), high (bits * 2 ^ 16 + bits) j) (low bits)
 
-      fourth : (black : Bool) → bit_at (birth_bits black bits) (48 + j) ≡ cond {A = ℕ} black (bit_at bits j) 0
+      fourth : (black : Bool) → bit_at (birth_bits_of black bits) (48 + j) ≡ cond {A = ℕ} black (bit_at bits j) 0
       fourth false =
           let at_place : 48 + j ≡ 16 + (32 + j) = omega arith in
           rw (at_place, shifted bits (32 + j)) (none_past (32 + j) (omega arith))
       fourth true =
           let at_place : 48 + j ≡ 16 + (16 + (16 + j)) = omega arith in
-          let e : birth_bits true bits ≡ ((bits * 2 ^ 16 + bits) * 2 ^ 16 + bits) * 2 ^ 16 = omega arith in
+          let e : birth_bits_of true bits ≡ ((bits * 2 ^ 16 + bits) * 2 ^ 16 + bits) * 2 ^ 16 = omega arith in
           rw (at_place, e, shifted ((bits * 2 ^ 16 + bits) * 2 ^ 16 + bits) (16 + (16 + j)), high (bits * 2 ^ 16 + bits) (16 + j), high bits j) refl
 
       -- a black birth sets the marked and the scanned bits of the mask, a white one none
-      pub birth_marked : (black : Bool) → bit_at (bit_or word (birth_bits black bits)) (32 + j) ≡ max (bit_at word (32 + j)) (cond {A = ℕ} black (bit_at bits j) 0)
-      birth_marked black = rw (bit_at_or word (birth_bits black bits) (32 + j), third black) refl
+      pub birth_marked : (black : Bool) → bit_at (bit_or word (birth_bits_of black bits)) (32 + j) ≡ max (bit_at word (32 + j)) (cond {A = ℕ} black (bit_at bits j) 0)
+      birth_marked black = rw (bit_at_or word (birth_bits_of black bits) (32 + j), third black) refl
 
-      pub birth_scanned : (black : Bool) → bit_at (bit_or word (birth_bits black bits)) (48 + j) ≡ max (bit_at word (48 + j)) (cond {A = ℕ} black (bit_at bits j) 0)
-      birth_scanned black = rw (bit_at_or word (birth_bits black bits) (48 + j), fourth black) refl
+      pub birth_scanned : (black : Bool) → bit_at (bit_or word (birth_bits_of black bits)) (48 + j) ≡ max (bit_at word (48 + j)) (cond {A = ℕ} black (bit_at bits j) 0)
+      birth_scanned black = rw (bit_at_or word (birth_bits_of black bits) (48 + j), fourth black) refl

@@ -11,19 +11,19 @@ use Rattle.heap_model.specs.declared.entry.Entry.TheVariants as entries
 use Rattle.heap_model.specs.declared.account.effect.Effect.{Effect}
 use Rattle.heap_model.specs.declared.account.seat.SeatAccount.{SeatAccount}
 use Rattle.heap_model.specs.declared.account.cycle.Cycle.{Cycle}
-use Rattle.heap_model.specs.graph.State.{opening}
+use Rattle.heap_model.specs.graph.Graph.{opening}
 use Rattle.heap_model.specs.graph.Growth.{counts_after}
 use Rattle.heap_model.specs.graph.Objects.{made_counts}
 use Rattle.heap_model.specs.graph.Reach.{IsReach}
-use Rattle.heap_model.specs.graph.Sizes.{frags_of, words_of}
-use Rattle.heap_model.specs.account.Space.{total, granted}
+use Rattle.heap_model.specs.graph.Sizes.{fragments_of_all, spine_words_of_all}
+use Rattle.heap_model.specs.account.Space.{total, words_granted}
 use Rattle.heap_model.specs.account.Effects.{effect_of, is_of}
 use Rattle.heap_model.specs.account.Windows.{begins_phase, begins_cycle, after_last, is_reply_to, up_to_cycle}
 use Rattle.heap_model.specs.account.Cycles.{graph_of, brings, all_bring}
 use Rattle.heap_model.specs.account.Sweep.{HasSwung}
 use Rattle.heap_model.specs.account.Account.{KeepsSpace}
 use Rattle.heap_model.specs.account.Books.{Books, Tells, TellsCycle}
-use Rattle.heap_model.specs.account.SeatBooks.{seat_at, TellsSeat}
+use Rattle.heap_model.specs.account.SeatBooks.{account_at, TellsSeat}
 use Rattle.heap_model.specs.account.Noting.{IsCounted, IsNoted}
 use Rattle.heap_model.specs.account.Preparing.{IsPrepared, IsBegun, brought_by}
 use Rattle.heap_model.proofs.Histories.{graph_after-more, total-more}
@@ -66,7 +66,7 @@ swung-more history entry old mid new e prepared told id =
     nothing h = omega (arith, h.1)
 
 -- sums of equal numbers
-sum-range-same : (f g : ℕ → ℕ) (a n : ℕ) → ((s : ℕ) → a ≤ s → s < a + n → f s ≡ g s) → sum_by f (range_with_len a n) ≡ sum_by g (range_with_len a n)
+sum-range-same : (f g : ℕ → ℕ) (a n : ℕ) → ((number : ℕ) → a ≤ number → number < a + n → f number ≡ g number) → sum_by f (range_with_len a n) ≡ sum_by g (range_with_len a n)
 sum-range-same f g a zero same = refl
 sum-range-same f g a (suc n) same =
     omega (
@@ -74,12 +74,12 @@ sum-range-same f g a (suc n) same =
       sum_by-cons f a (range_with_len (a + 1) n),
       sum_by-cons g a (range_with_len (a + 1) n),
       same a (omega arith) (omega arith),
-      sum-range-same f g (a + 1) n (λ s above below. same s (omega (arith, above)) (omega (arith, below))),
+      sum-range-same f g (a + 1) n (λ number above below. same number (omega (arith, above)) (omega (arith, below))),
     )
 
 -- what a seat brings is so by what is kept
-brings_is : (heap : Heap) (all : Effect) (seats : List SeatAccount) (s : ℕ) (history : List Entry) → TellsSeat heap all seats s (seat_at seats s) history → brings s history ≡ brought_by (seat_at seats s)
-brings_is heap all seats s history told =
+brings_is : (heap : Heap) (all : Effect) (seats : List SeatAccount) (number : ℕ) (history : List Entry) → TellsSeat heap all seats number (account_at seats number) history → brings number history ≡ brought_by (account_at seats number)
+brings_is heap all seats number history told =
     omega (
       arith,
       told.own.taken,
@@ -88,7 +88,7 @@ brings_is heap all seats s history told =
       told.own_then.born,
       told.solvent,
       told.richer,
-      sum-parts (is_reply_to s) (λ e. cond (is_of s e) (effect_of e).taken 0) history,
+      sum-parts (is_reply_to number) (λ e. cond (is_of number e) (effect_of e).taken 0) history,
     )
 
 -- a cycle that begins is told
@@ -99,29 +99,29 @@ begun-tells play old new history p c one cycle begun =
     let graph : graph_of old.heap (up_to_cycle (history ++ entries.Advance p ∷ [])) ≡ graph_of old.heap history = ap (graph_of old.heap) here ∙ graph_after-more (opening old.heap) history (entries.Advance p) in
     record {
       reached = subst (λ g. IsReach g cycle.reached.items) (sym graph) begun.reached;
-      frags = begun.frags ∙ ap (λ g. frags_of g cycle.reached.items) (sym graph);
-      words = begun.words ∙ ap (λ g. words_of g cycle.reached.items) (sym graph);
-      brought = begun.brought ∙ sum-range-same _ _ 0 old.heap.seats (λ s above below. each s (omega (arith, below))) ∙ ap (all_bring old.heap) (sym here);
+      frags = begun.frags ∙ ap (λ g. fragments_of_all g cycle.reached.items) (sym graph);
+      words = begun.words ∙ ap (λ g. spine_words_of_all g cycle.reached.items) (sym graph);
+      brought = begun.brought ∙ sum-range-same _ _ 0 old.heap.seats (λ number above below. each number (omega (arith, below))) ∙ ap (all_bring old.heap) (sym here);
       taken = begun.taken ∙ c.tells.all.taken ∙ sym (total-more (λ e. e.taken) history (entries.Advance p) ∙ add-zero _) ∙ ap (total (λ e. e.taken)) (sym here);
       granted = begun.granted ∙ c.tells.all.words ∙ sym (total-more (λ e. e.words) history (entries.Advance p) ∙ add-zero _) ∙ ap (total (λ e. e.words)) (sym here);
     }
   where
-    each : (s : ℕ) → s < old.heap.seats → brought_by (seat_at old.seats s) ≡ brings s (history ++ entries.Advance p ∷ [])
-    each s lt =
-        let noted = c.counted.seats s lt in
-        ap (λ (x : Effect). x.taken - ((seat_at old.seats s).own_then.given + (seat_at old.seats s).own_then.born)) (sym noted.own)
-        ∙ ap (λ (x : Effect). (seat_at new.seats s).own.taken - (x.given + x.born)) (sym noted.own_then)
-        ∙ sym (brings_is old.heap new.all new.seats s (history ++ entries.Advance p ∷ []) (tells_seat play old new history (entries.Advance p) c s lt))
+    each : (number : ℕ) → number < old.heap.seats → brought_by (account_at old.seats number) ≡ brings number (history ++ entries.Advance p ∷ [])
+    each number lt =
+        let noted = c.counted.seats number lt in
+        ap (λ (x : Effect). x.taken - ((account_at old.seats number).own_then.given + (account_at old.seats number).own_then.born)) (sym noted.own)
+        ∙ ap (λ (x : Effect). (account_at new.seats number).own.taken - (x.given + x.born)) (sym noted.own_then)
+        ∙ sym (brings_is old.heap new.all new.seats number (history ++ entries.Advance p ∷ []) (tells_seat play old new history (entries.Advance p) c number lt))
 
 -- what is told of a cycle stays so until the next begins
 cycle-stays : (heap : Heap) (cycle : Cycle) (history later : List Entry) → up_to_cycle later ≡ up_to_cycle history → TellsCycle heap cycle history → TellsCycle heap cycle later
 cycle-stays heap cycle history later same told = record {
   reached = subst (λ h. IsReach (graph_of heap h) cycle.reached.items) (sym same) told.reached;
-  frags = told.frags ∙ ap (λ h. frags_of (graph_of heap h) cycle.reached.items) (sym same);
-  words = told.words ∙ ap (λ h. words_of (graph_of heap h) cycle.reached.items) (sym same);
+  frags = told.frags ∙ ap (λ h. fragments_of_all (graph_of heap h) cycle.reached.items) (sym same);
+  words = told.words ∙ ap (λ h. spine_words_of_all (graph_of heap h) cycle.reached.items) (sym same);
   brought = told.brought ∙ ap (all_bring heap) (sym same);
   taken = told.taken ∙ ap (total (λ e. e.taken)) (sym same);
-  granted = told.granted ∙ ap granted (sym same);
+  granted = told.granted ∙ ap words_granted (sym same);
 }
 
 -- an entry that begins a cycle is an advance

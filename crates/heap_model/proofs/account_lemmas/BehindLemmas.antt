@@ -7,7 +7,7 @@ use Rattle.heap_model.specs.declared.command.Command.TheVariants as commands
 use Rattle.heap_model.specs.declared.entry.Entry.{Entry}
 use Rattle.heap_model.specs.declared.entry.Entry.TheVariants as entries
 use Rattle.heap_model.specs.account.Effects.{effect_of, is_of}
-use Rattle.heap_model.specs.account.PhaseCounts.{phase, answered, has_left, is_leave_of}
+use Rattle.heap_model.specs.account.PhaseCounts.{phase, last_answer, has_left, is_leave_of}
 use Rattle.heap_model.specs.account.Account.{KeepsSpace}
 use Rattle.heap_model.specs.account.SeatBooks.{IsFrom}
 
@@ -23,33 +23,33 @@ cond_none true = refl
 cond_none false = refl
 
 -- each entry does one of these
-pub seat_step : (heap : Heap) (play : Bool) (history : List Entry) (entry : Entry) (s : ℕ) → KeepsSpace heap play history entry → s < heap.seats
-    → (left left_then : Option ℕ) (answers answers_then now then : ℕ) → is_some left ≡ has_left s history → answers ≡ answered s history → now ≡ phase history
-    → left_then ≡ cond (is_leave_of s entry) (Some (unwrap_or left now)) left → answers_then ≡ answers + cond (is_of s entry) (effect_of entry).answers 0 → then ≡ now + (effect_of entry).phases
+pub seat_step : (heap : Heap) (play : Bool) (history : List Entry) (entry : Entry) (number : ℕ) → KeepsSpace heap play history entry → number < heap.seats
+    → (left left_then : Option ℕ) (answers answers_then now then : ℕ) → is_some left ≡ has_left number history → answers ≡ last_answer number history → now ≡ phase history
+    → left_then ≡ cond (is_leave_of number entry) (Some (unwrap_or left now)) left → answers_then ≡ answers + cond (is_of number entry) (effect_of entry).answers 0 → then ≡ now + (effect_of entry).phases
     → SeatStep left answers now left_then answers_then then
-seat_step heap play history (entries.Said q commands.Leave reply) s keeps lt left left_then answers answers_then now then has gave here l a p =
-    elim (cases_Bool (is_of s (entries.Said q commands.Leave reply))) [
+seat_step heap play history (entries.Said q commands.Leave reply) number keeps lt left left_then answers answers_then now then has gave here l a p =
+    elim (cases_Bool (is_of number (entries.Said q commands.Leave reply))) [
       | inl own ↦ leaves (l ∙ cond-true _ _ _ own) (omega (arith, p))
       | inr other ↦ rests (l ∙ cond-false _ _ _ other) (omega (arith, a ∙ ap (λ n. answers + n) (cond-false {A = ℕ} _ 0 0 other))) (omega (arith, p))
     ]
-seat_step heap play history (entries.Answers q given) s keeps lt left left_then answers answers_then now then has gave here l a p =
-    elim (cases_Bool (is_of s (entries.Answers q given))) [
-      | inl own ↦ (let same : q ≡ s = eqb-true q s own in
-          let next : answered q history ≡ answers = ap (λ x. answered x history) same ∙ sym gave in
+seat_step heap play history (entries.Answers q given) number keeps lt left left_then answers answers_then now then has gave here l a p =
+    elim (cases_Bool (is_of number (entries.Answers q given))) [
+      | inl own ↦ (let same : q ≡ number = eqb-true q number own in
+          let next : last_answer q history ≡ answers = ap (λ x. last_answer x history) same ∙ sym gave in
           answers_now l (a ∙ ap (λ n. answers + n) (cond-true {A = ℕ} _ 1 0 own)) (omega (arith, keeps.answers.0, keeps.answers.1, next, here)) (omega (arith, p)))
       | inr other ↦ rests l (omega (arith, a ∙ ap (λ n. answers + n) (cond-false {A = ℕ} _ 1 0 other))) (omega (arith, p))
     ]
-seat_step heap play history (entries.Advance q) s keeps lt left left_then answers answers_then now then has gave here l a p =
-    begins l (omega (arith, a)) p (λ there. gave ∙ keeps.begins.2 s lt (sym has ∙ there) ∙ sym here)
-seat_step heap play history (entries.Ends cycle kept) s keeps lt left left_then answers answers_then now then has gave here l a p =
-    begins l (omega (arith, a)) p (λ there. gave ∙ keeps.ends.0.1 s lt (sym has ∙ there) ∙ sym here)
-seat_step heap play history (entries.Said q command reply) s keeps lt left left_then answers answers_then now then has gave here l a p =
-    rests l (omega (arith, a, cond_none (is_of s (entries.Said q command reply)))) (omega (arith, p))
-seat_step heap play history (entries.Takes q count) s keeps lt left left_then answers answers_then now then has gave here l a p =
-    rests l (omega (arith, a, cond_none (is_of s (entries.Takes q count)))) (omega (arith, p))
-seat_step heap play history (entries.GivesBack q count) s keeps lt left left_then answers answers_then now then has gave here l a p =
-    rests l (omega (arith, a, cond_none (is_of s (entries.GivesBack q count)))) (omega (arith, p))
-seat_step heap play history entry s keeps lt left left_then answers answers_then now then has gave here l a p = rests l (omega (arith, a)) (omega (arith, p))
+seat_step heap play history (entries.Advance q) number keeps lt left left_then answers answers_then now then has gave here l a p =
+    begins l (omega (arith, a)) p (λ there. gave ∙ keeps.begins.2 number lt (sym has ∙ there) ∙ sym here)
+seat_step heap play history (entries.Ends cycle kept) number keeps lt left left_then answers answers_then now then has gave here l a p =
+    begins l (omega (arith, a)) p (λ there. gave ∙ keeps.ends.0.1 number lt (sym has ∙ there) ∙ sym here)
+seat_step heap play history (entries.Said q command reply) number keeps lt left left_then answers answers_then now then has gave here l a p =
+    rests l (omega (arith, a, cond_none (is_of number (entries.Said q command reply)))) (omega (arith, p))
+seat_step heap play history (entries.Takes q count) number keeps lt left left_then answers answers_then now then has gave here l a p =
+    rests l (omega (arith, a, cond_none (is_of number (entries.Takes q count)))) (omega (arith, p))
+seat_step heap play history (entries.GivesBack q count) number keeps lt left left_then answers answers_then now then has gave here l a p =
+    rests l (omega (arith, a, cond_none (is_of number (entries.GivesBack q count)))) (omega (arith, p))
+seat_step heap play history entry number keeps lt left left_then answers answers_then now then has gave here l a p = rests l (omega (arith, a)) (omega (arith, p))
 
 -- behind by one, in numbers
 abbrev pub IsOneBehind : Option ℕ → ℕ → ℕ → ℕ → Type 0

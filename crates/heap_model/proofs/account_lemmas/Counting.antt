@@ -14,11 +14,11 @@ use Rattle.heap_model.specs.account.Effects.{effect_of, is_of}
 use Rattle.heap_model.specs.account.Sums.{plus, IsMeasured}
 use Rattle.heap_model.specs.account.Windows.{is_reply_to}
 use Rattle.heap_model.specs.account.Phases.{IsBehind, WasBehind}
-use Rattle.heap_model.specs.account.PhaseCounts.{phase, answered, has_left, is_leave_of, JustEnded}
+use Rattle.heap_model.specs.account.PhaseCounts.{phase, last_answer, has_left, is_leave_of, JustEnded}
 use Rattle.heap_model.specs.account.Sweep.{HasSwung}
 use Rattle.heap_model.specs.account.Account.{KeepsSpace}
 use Rattle.heap_model.specs.account.Books.{Books, Tells, TellsCycle}
-use Rattle.heap_model.specs.account.SeatBooks.{seat_at, first_behind, last_phase, IsFrom, TellsSeat}
+use Rattle.heap_model.specs.account.SeatBooks.{account_at, first_behind, last_phase, IsFrom, TellsSeat}
 use Rattle.heap_model.specs.account.Noting.{IsNotedSeat, IsCounted, is_behind_now, seat_of}
 use Rattle.heap_model.proofs.account_lemmas.Windows.{any-more, sum-parts, all_since}
 use Rattle.heap_model.proofs.account_lemmas.Noting.{of_other}
@@ -34,34 +34,34 @@ pub record Counts (play : Bool) (old new : Books) (history : List Entry) (entry 
   pub counted : IsCounted old entry new
 
 -- behind by one, in the history and in numbers
-to_numbers : (s answer : ℕ) (history : List Entry) (left : Option ℕ) (answers now : ℕ) → is_some left ≡ has_left s history → answers ≡ answered s history → now ≡ phase history
-    → IsBehind s answer (answer + 1) history → IsOneBehind left answers now answer
-to_numbers s answer history left answers now has gave here b = (has ∙ b.present, gave ∙ b.answered, here ∙ b.here)
+to_numbers : (number answer : ℕ) (history : List Entry) (left : Option ℕ) (answers now : ℕ) → is_some left ≡ has_left number history → answers ≡ last_answer number history → now ≡ phase history
+    → IsBehind number answer (answer + 1) history → IsOneBehind left answers now answer
+to_numbers number answer history left answers now has gave here b = (has ∙ b.present, gave ∙ b.answered, here ∙ b.here)
 
-from_numbers : (s answer : ℕ) (history : List Entry) (left : Option ℕ) (answers now : ℕ) → is_some left ≡ has_left s history → answers ≡ answered s history → now ≡ phase history
-    → IsOneBehind left answers now answer → IsBehind s answer (answer + 1) history
-from_numbers s answer history left answers now has gave here b = record { present = sym has ∙ b.0; answered = sym gave ∙ b.1; here = sym here ∙ b.2 }
+from_numbers : (number answer : ℕ) (history : List Entry) (left : Option ℕ) (answers now : ℕ) → is_some left ≡ has_left number history → answers ≡ last_answer number history → now ≡ phase history
+    → IsOneBehind left answers now answer → IsBehind number answer (answer + 1) history
+from_numbers number answer history left answers now has gave here b = record { present = sym has ∙ b.0; answered = sym gave ∙ b.1; here = sym here ∙ b.2 }
 
 -- what stays of a seat, whatever the entry
-pub record SeatStays (play : Bool) (old new : Books) (history : List Entry) (entry : Entry) (s : ℕ) : Type 0 where
-  pub own : IsMeasured (seat_at new.seats s).own (λ part. total_of s part (history ++ entry ∷ []))
-  pub left : is_some (seat_at new.seats s).left ≡ has_left s (history ++ entry ∷ [])
-  pub step : SeatStep (seat_at old.seats s).left (seat_at old.seats s).own.answers old.all.phases (seat_at new.seats s).left (seat_at new.seats s).own.answers new.all.phases
+pub record SeatStays (play : Bool) (old new : Books) (history : List Entry) (entry : Entry) (number : ℕ) : Type 0 where
+  pub own : IsMeasured (account_at new.seats number).own (λ part. total_of number part (history ++ entry ∷ []))
+  pub left : is_some (account_at new.seats number).left ≡ has_left number (history ++ entry ∷ [])
+  pub step : SeatStep (account_at old.seats number).left (account_at old.seats number).own.answers old.all.phases (account_at new.seats number).left (account_at new.seats number).own.answers new.all.phases
 
 phases_grow : (old new : Books) (entry : Entry) → IsCounted old entry new → new.all.phases ≡ old.all.phases + (effect_of entry).phases
 phases_grow old new entry n = ap (λ (x : Effect). x.phases) n.all
 
-pub seat_stays : (play : Bool) (old new : Books) (history : List Entry) (entry : Entry) → Counts play old new history entry → (s : ℕ) → s < old.heap.seats → SeatStays play old new history entry s
-seat_stays play old new history entry c s lt =
-    let told = c.tells.seats s lt in
-    let noted = c.counted.seats s lt in
+pub seat_stays : (play : Bool) (old new : Books) (history : List Entry) (entry : Entry) → Counts play old new history entry → (number : ℕ) → number < old.heap.seats → SeatStays play old new history entry number
+seat_stays play old new history entry c number lt =
+    let told = c.tells.seats number lt in
+    let noted = c.counted.seats number lt in
     let all = c.tells.all in
     record {
-      own = own-more s (seat_at old.seats s).own (seat_at new.seats s).own history entry noted.own told.own;
-      left = left_by (is_leave_of s entry) (has_left s history) (seat_at old.seats s).left (seat_at new.seats s).left old.all.phases noted.left told.left ∙ sym (any-more (is_leave_of s) history entry);
-      step = seat_step old.heap play history entry s c.keeps lt (seat_at old.seats s).left (seat_at new.seats s).left (seat_at old.seats s).own.answers (seat_at new.seats s).own.answers
+      own = own-more number (account_at old.seats number).own (account_at new.seats number).own history entry noted.own told.own;
+      left = left_by (is_leave_of number entry) (has_left number history) (account_at old.seats number).left (account_at new.seats number).left old.all.phases noted.left told.left ∙ sym (any-more (is_leave_of number) history entry);
+      step = seat_step old.heap play history entry number c.keeps lt (account_at old.seats number).left (account_at new.seats number).left (account_at old.seats number).own.answers (account_at new.seats number).own.answers
           old.all.phases new.all.phases told.left told.own.answers all.phases noted.left
-          (ap (λ (x : Effect). x.answers) noted.own ∙ answers_by (is_of s entry) (seat_at old.seats s).own) (phases_grow old new entry c.counted);
+          (ap (λ (x : Effect). x.answers) noted.own ∙ answers_by (is_of number entry) (account_at old.seats number).own) (phases_grow old new entry c.counted);
     }
   where
     answers_by : (b : Bool) (sums : Effect) → (cond b (plus sums (effect_of entry)) sums).answers ≡ sums.answers + cond b (effect_of entry).answers 0
@@ -76,19 +76,19 @@ kept_up left left_then answers answers_then now then (leaves l p) up there = abs
 kept_up left left_then answers answers_then now then (rests l a p) up there = omega (arith, a, p, up (ap is_some (sym l) ∙ there))
 
 -- a reply is of its seat, and begins no phase
-reply_seat : (s : ℕ) (entry : Entry) → is_reply_to s entry ≡ true → seat_of entry ≡ Some s
-reply_seat s (entries.Said q command reply) fits = ap Some (eqb-true q s fits)
-reply_seat s entry fits = cc fits
+reply_seat : (number : ℕ) (entry : Entry) → is_reply_to number entry ≡ true → seat_of entry ≡ Some number
+reply_seat number (entries.Said other command reply) fits = ap Some (eqb-true other number fits)
+reply_seat number entry fits = cc fits
 
-reply_phases : (s : ℕ) (entry : Entry) → is_reply_to s entry ≡ true → (effect_of entry).phases ≡ 0
-reply_phases s (entries.Said q command reply) fits = refl
-reply_phases s entry fits = cc fits
+reply_phases : (number : ℕ) (entry : Entry) → is_reply_to number entry ≡ true → (effect_of entry).phases ≡ 0
+reply_phases number (entries.Said other command reply) fits = refl
+reply_phases number entry fits = cc fits
 
 -- in which phases another was seen behind
-behind-more : (play : Bool) (old new : Books) (history : List Entry) (entry : Entry) → Counts play old new history entry → (s : ℕ) → s < old.heap.seats → (other answer : ℕ) → other < old.heap.seats → other ≢ s
-    → (WasBehind s other answer (answer + 1) (history ++ entry ∷ []) → IsFrom (first_behind (seat_at new.seats s) other) (last_phase (seat_at new.seats other) new.all.phases) (answer + 1))
-    × (IsFrom (first_behind (seat_at new.seats s) other) (last_phase (seat_at new.seats other) new.all.phases) (answer + 1) → WasBehind s other answer (answer + 1) (history ++ entry ∷ []))
-behind-more play old new history entry c s lt other answer below ne = elim (cases_Bool (is_reply_to s entry)) [ inl fits ↦ replied fits | inr fails ↦ went_on fails ]
+behind-more : (play : Bool) (old new : Books) (history : List Entry) (entry : Entry) → Counts play old new history entry → (number : ℕ) → number < old.heap.seats → (other answer : ℕ) → other < old.heap.seats → other ≢ number
+    → (WasBehind number other answer (answer + 1) (history ++ entry ∷ []) → IsFrom (first_behind (account_at new.seats number) other) (last_phase (account_at new.seats other) new.all.phases) (answer + 1))
+    × (IsFrom (first_behind (account_at new.seats number) other) (last_phase (account_at new.seats other) new.all.phases) (answer + 1) → WasBehind number other answer (answer + 1) (history ++ entry ∷ []))
+behind-more play old new history entry c number lt other answer below ne = elim (cases_Bool (is_reply_to number entry)) [ inl fits ↦ replied fits | inr fails ↦ went_on fails ]
   where
     here : SeatStays play old new history entry other
     here = seat_stays play old new history entry c other below
@@ -97,55 +97,55 @@ behind-more play old new history entry c s lt other answer below ne = elim (case
     now = (all-more old.all new.all history entry c.counted.all c.tells.all).phases
 
     Goal : Type 0
-    Goal = (WasBehind s other answer (answer + 1) (history ++ entry ∷ []) → IsFrom (first_behind (seat_at new.seats s) other) (last_phase (seat_at new.seats other) new.all.phases) (answer + 1))
-        × (IsFrom (first_behind (seat_at new.seats s) other) (last_phase (seat_at new.seats other) new.all.phases) (answer + 1) → WasBehind s other answer (answer + 1) (history ++ entry ∷ []))
+    Goal = (WasBehind number other answer (answer + 1) (history ++ entry ∷ []) → IsFrom (first_behind (account_at new.seats number) other) (last_phase (account_at new.seats other) new.all.phases) (answer + 1))
+        × (IsFrom (first_behind (account_at new.seats number) other) (last_phase (account_at new.seats other) new.all.phases) (answer + 1) → WasBehind number other answer (answer + 1) (history ++ entry ∷ []))
 
-    replied : is_reply_to s entry ≡ true → Goal
+    replied : is_reply_to number entry ≡ true → Goal
     replied fits =
         let them = c.tells.seats other below in
-        let noted = c.counted.seats s lt in
+        let noted = c.counted.seats number lt in
         let theirs = c.counted.seats other below in
-        let quiet = of_other other entry (λ e. ne (sym (cc (sym (reply_seat s entry fits) ∙ e)))) in
-        let left : (seat_at new.seats other).left ≡ (seat_at old.seats other).left = theirs.left ∙ cond-false (is_leave_of other entry) _ _ quiet.leave in
-        let own : (seat_at new.seats other).own ≡ (seat_at old.seats other).own = theirs.own ∙ cond-false (is_of other entry) _ _ quiet.of in
-        let same : new.all.phases ≡ old.all.phases = omega (arith, phases_grow old new entry c.counted, reply_phases s entry fits) in
-        let all_then : (seat_at new.seats s).all_then.phases ≡ old.all.phases =
-        ap (λ (x : Effect). x.phases) (noted.all_then ∙ cond-true (is_reply_to s entry) _ _ fits ∙ sym c.counted.all) ∙ same in
-        let behind_then : slice_index_or (seat_at new.seats s).behind_then other false ≡ is_behind_now old.all old.seats other = noted.behind_then other below ∙ cond-true (is_reply_to s entry) _ _ fits in
-        let first : first_behind (seat_at new.seats s) other ≡ old.all.phases + cond (is_behind_now old.all old.seats other) 0 1 =
-        ap (λ n. n + cond (slice_index_or (seat_at new.seats s).behind_then other false) 0 1) all_then ∙ ap (λ b. old.all.phases + cond b 0 1) behind_then in
-        let last : last_phase (seat_at new.seats other) new.all.phases ≡ unwrap_or (seat_at old.seats other).left old.all.phases =
-        ap (λ o. unwrap_or o new.all.phases) left ∙ ap (unwrap_or (seat_at old.seats other).left) same in
-        let at = behind_at (seat_at old.seats other).left (seat_at old.seats other).own.answers old.all.phases answer them.kept_up them.gone in
-        let all = was_behind-reply s other answer (answer + 1) history entry fits in
-        let gave : (seat_at new.seats other).own.answers ≡ (seat_at old.seats other).own.answers = ap (λ (x : Effect). x.answers) own in (
+        let quiet = of_other other entry (λ e. ne (sym (cc (sym (reply_seat number entry fits) ∙ e)))) in
+        let left : (account_at new.seats other).left ≡ (account_at old.seats other).left = theirs.left ∙ cond-false (is_leave_of other entry) _ _ quiet.leave in
+        let own : (account_at new.seats other).own ≡ (account_at old.seats other).own = theirs.own ∙ cond-false (is_of other entry) _ _ quiet.of in
+        let same : new.all.phases ≡ old.all.phases = omega (arith, phases_grow old new entry c.counted, reply_phases number entry fits) in
+        let all_then : (account_at new.seats number).all_then.phases ≡ old.all.phases =
+        ap (λ (x : Effect). x.phases) (noted.all_then ∙ cond-true (is_reply_to number entry) _ _ fits ∙ sym c.counted.all) ∙ same in
+        let behind_then : slice_index_or (account_at new.seats number).behind_then other false ≡ is_behind_now old.all old.seats other = noted.behind_then other below ∙ cond-true (is_reply_to number entry) _ _ fits in
+        let first : first_behind (account_at new.seats number) other ≡ old.all.phases + cond (is_behind_now old.all old.seats other) 0 1 =
+        ap (λ n. n + cond (slice_index_or (account_at new.seats number).behind_then other false) 0 1) all_then ∙ ap (λ b. old.all.phases + cond b 0 1) behind_then in
+        let last : last_phase (account_at new.seats other) new.all.phases ≡ unwrap_or (account_at old.seats other).left old.all.phases =
+        ap (λ o. unwrap_or o new.all.phases) left ∙ ap (unwrap_or (account_at old.seats other).left) same in
+        let at = behind_at (account_at old.seats other).left (account_at old.seats other).own.answers old.all.phases answer them.kept_up them.gone in
+        let all = was_behind-reply number other answer (answer + 1) history entry fits in
+        let gave : (account_at new.seats other).own.answers ≡ (account_at old.seats other).own.answers = ap (λ (x : Effect). x.answers) own in (
           λ w. let n = to_numbers other answer (history ++ entry ∷ []) _ _ _ here.left here.own.answers now (all.0 w) in
-              subst (λ f. IsFrom f (last_phase (seat_at new.seats other) new.all.phases) (answer + 1)) (sym first)
+              subst (λ f. IsFrom f (last_phase (account_at new.seats other) new.all.phases) (answer + 1)) (sym first)
               (subst (λ l. IsFrom (old.all.phases + cond (is_behind_now old.all old.seats other) 0 1) l (answer + 1)) (sym last)
               (at.0 (ap is_some (sym left) ∙ n.0, sym gave ∙ n.1, sym same ∙ n.2))),
           λ f. let n = at.1 (subst (λ l. IsFrom (old.all.phases + cond (is_behind_now old.all old.seats other) 0 1) l (answer + 1)) last
-              (subst (λ x. IsFrom x (last_phase (seat_at new.seats other) new.all.phases) (answer + 1)) first f)) in
+              (subst (λ x. IsFrom x (last_phase (account_at new.seats other) new.all.phases) (answer + 1)) first f)) in
               all.1 (from_numbers other answer (history ++ entry ∷ []) _ _ _ here.left here.own.answers now (ap is_some left ∙ n.0, gave ∙ n.1, same ∙ n.2)),
         )
 
-    went_on : is_reply_to s entry ≡ false → Goal
+    went_on : is_reply_to number entry ≡ false → Goal
     went_on fails =
-        let told = c.tells.seats s lt in
+        let told = c.tells.seats number lt in
         let seen = told.behind other answer below ne in
         let them = c.tells.seats other below in
-        let noted = c.counted.seats s lt in
-        let all_then : (seat_at new.seats s).all_then ≡ (seat_at old.seats s).all_then = noted.all_then ∙ cond-false (is_reply_to s entry) _ _ fails in
-        let behind_then : slice_index_or (seat_at new.seats s).behind_then other false ≡ slice_index_or (seat_at old.seats s).behind_then other false = noted.behind_then other below ∙ cond-false (is_reply_to s entry) _ _ fails in
-        let first : first_behind (seat_at new.seats s) other ≡ first_behind (seat_at old.seats s) other =
-        ap (λ (x : Effect). x.phases + cond (slice_index_or (seat_at new.seats s).behind_then other false) 0 1) all_then ∙ ap (λ b. (seat_at old.seats s).all_then.phases + cond b 0 1) behind_then in
-        let early : first_behind (seat_at old.seats s) other ≤ old.all.phases + 1 = first_early (slice_index_or (seat_at old.seats s).behind_then other false) (seat_at old.seats s).all_then.phases old.all.phases told.earlier in
-        let by = behind_by {Was = WasBehind s other answer (answer + 1) history} (seat_at old.seats other).left (seat_at new.seats other).left (seat_at old.seats other).own.answers (seat_at new.seats other).own.answers
-        old.all.phases new.all.phases (first_behind (seat_at old.seats s) other) answer here.step early seen
-        (λ b. is_behind_was s other answer (answer + 1) history (from_numbers other answer history _ _ _ them.left them.own.answers c.tells.all.phases b)) in
-        let more = was_behind-more s other answer (answer + 1) history entry fails in (
-          λ w. subst (λ f. IsFrom f (last_phase (seat_at new.seats other) new.all.phases) (answer + 1)) (sym first)
+        let noted = c.counted.seats number lt in
+        let all_then : (account_at new.seats number).all_then ≡ (account_at old.seats number).all_then = noted.all_then ∙ cond-false (is_reply_to number entry) _ _ fails in
+        let behind_then : slice_index_or (account_at new.seats number).behind_then other false ≡ slice_index_or (account_at old.seats number).behind_then other false = noted.behind_then other below ∙ cond-false (is_reply_to number entry) _ _ fails in
+        let first : first_behind (account_at new.seats number) other ≡ first_behind (account_at old.seats number) other =
+        ap (λ (x : Effect). x.phases + cond (slice_index_or (account_at new.seats number).behind_then other false) 0 1) all_then ∙ ap (λ b. (account_at old.seats number).all_then.phases + cond b 0 1) behind_then in
+        let early : first_behind (account_at old.seats number) other ≤ old.all.phases + 1 = first_early (slice_index_or (account_at old.seats number).behind_then other false) (account_at old.seats number).all_then.phases old.all.phases told.earlier in
+        let by = behind_by {Was = WasBehind number other answer (answer + 1) history} (account_at old.seats other).left (account_at new.seats other).left (account_at old.seats other).own.answers (account_at new.seats other).own.answers
+        old.all.phases new.all.phases (first_behind (account_at old.seats number) other) answer here.step early seen
+        (λ b. is_behind_was number other answer (answer + 1) history (from_numbers other answer history _ _ _ them.left them.own.answers c.tells.all.phases b)) in
+        let more = was_behind-more number other answer (answer + 1) history entry fails in (
+          λ w. subst (λ f. IsFrom f (last_phase (account_at new.seats other) new.all.phases) (answer + 1)) (sym first)
               (by.0 (elim (more.0 w) [ inl was ↦ inl was | inr is ↦ inr (to_numbers other answer (history ++ entry ∷ []) _ _ _ here.left here.own.answers now is) ])),
-          λ f. more.1 (elim (by.1 (subst (λ f. IsFrom f (last_phase (seat_at new.seats other) new.all.phases) (answer + 1)) first f))
+          λ f. more.1 (elim (by.1 (subst (λ f. IsFrom f (last_phase (account_at new.seats other) new.all.phases) (answer + 1)) first f))
               [ inl was ↦ inl was | inr is ↦ inr (from_numbers other answer (history ++ entry ∷ []) _ _ _ here.left here.own.answers now is) ]),
         )
       where
@@ -154,48 +154,48 @@ behind-more play old new history entry c s lt other answer below ne = elim (case
         first_early false then now le = omega (arith, le)
 
 -- what is kept of a seat is so with the entry
-pub tells_seat : (play : Bool) (old new : Books) (history : List Entry) (entry : Entry) → Counts play old new history entry → (s : ℕ) → s < old.heap.seats
-    → TellsSeat old.heap new.all new.seats s (seat_at new.seats s) (history ++ entry ∷ [])
-tells_seat play old new history entry c s lt =
-    let told = c.tells.seats s lt in
-    let noted = c.counted.seats s lt in
-    let stays = seat_stays play old new history entry c s lt in
+pub tells_seat : (play : Bool) (old new : Books) (history : List Entry) (entry : Entry) → Counts play old new history entry → (number : ℕ) → number < old.heap.seats
+    → TellsSeat old.heap new.all new.seats number (account_at new.seats number) (history ++ entry ∷ [])
+tells_seat play old new history entry c number lt =
+    let told = c.tells.seats number lt in
+    let noted = c.counted.seats number lt in
+    let stays = seat_stays play old new history entry c number lt in
     let all = all-more old.all new.all history entry c.counted.all c.tells.all in
-    let own_then = then-more s (λ part h. total_of s part h) (seat_at old.seats s).own_then (seat_at new.seats s).own (seat_at new.seats s).own_then history entry noted.own_then stays.own told.own_then in
-    let all_then = then-more s (λ part h. total part h) (seat_at old.seats s).all_then (plus old.all (effect_of entry)) (seat_at new.seats s).all_then history entry noted.all_then
+    let own_then = then-more number (λ part h. total_of number part h) (account_at old.seats number).own_then (account_at new.seats number).own (account_at new.seats number).own_then history entry noted.own_then stays.own told.own_then in
+    let all_then = then-more number (λ part h. total part h) (account_at old.seats number).all_then (plus old.all (effect_of entry)) (account_at new.seats number).all_then history entry noted.all_then
     (subst (λ x. IsMeasured x (λ part. total part (history ++ entry ∷ []))) c.counted.all all) told.all_then in
     record {
       own = stays.own;
       own_then = own_then;
       all_then = all_then;
-      since = since_is new.all s (seat_at new.seats s) (history ++ entry ∷ []) all stays.own own_then all_then;
+      since = since_is new.all number (account_at new.seats number) (history ++ entry ∷ []) all stays.own own_then all_then;
       left = stays.left;
-      solvent = solvent (is_reply_to s entry) refl noted stays told;
-      richer = omega (arith, own_then.taken, stays.own.taken, sum-parts (is_reply_to s) (λ e. cond (is_of s e) (effect_of e).taken 0) (history ++ entry ∷ []));
-      earlier = omega (arith, all_then.phases, all.phases, all_since s (λ e. e.phases) (history ++ entry ∷ []));
+      solvent = solvent (is_reply_to number entry) refl noted stays told;
+      richer = omega (arith, own_then.taken, stays.own.taken, sum-parts (is_reply_to number) (λ e. cond (is_of number e) (effect_of e).taken 0) (history ++ entry ∷ []));
+      earlier = omega (arith, all_then.phases, all.phases, all_since number (λ e. e.phases) (history ++ entry ∷ []));
       kept_up = kept_up _ _ _ _ _ _ stays.step told.kept_up;
-      gone = gone_by (is_leave_of s entry) (seat_at old.seats s).left (seat_at new.seats s).left old.all.phases new.all.phases noted.left (omega (arith, phases_grow old new entry c.counted)) told.gone;
-      began = began-more old.heap s history entry (turn old.heap play history entry c.keeps) (seat_at old.seats s).all_then.phases (seat_at new.seats s).all_then.phases old.all.phases new.all.phases
+      gone = gone_by (is_leave_of number entry) (account_at old.seats number).left (account_at new.seats number).left old.all.phases new.all.phases noted.left (omega (arith, phases_grow old new entry c.counted)) told.gone;
+      began = began-more old.heap number history entry (turn old.heap play history entry c.keeps) (account_at old.seats number).all_then.phases (account_at new.seats number).all_then.phases old.all.phases new.all.phases
           c.tells.all.phases (phases_grow old new entry c.counted) (then_phases noted) told.earlier told.began;
-      behind = behind-more play old new history entry c s lt;
+      behind = behind-more play old new history entry c number lt;
     }
   where
-    solvent : (b : Bool) → is_reply_to s entry ≡ b → IsNotedSeat old.heap old.all old.seats s entry (seat_at old.seats s) (seat_at new.seats s) → SeatStays play old new history entry s
-        → TellsSeat old.heap old.all old.seats s (seat_at old.seats s) history → (seat_at new.seats s).own_then.given + (seat_at new.seats s).own_then.born ≤ (seat_at new.seats s).own_then.taken
+    solvent : (b : Bool) → is_reply_to number entry ≡ b → IsNotedSeat old.heap old.all old.seats number entry (account_at old.seats number) (account_at new.seats number) → SeatStays play old new history entry number
+        → TellsSeat old.heap old.all old.seats number (account_at old.seats number) history → (account_at new.seats number).own_then.given + (account_at new.seats number).own_then.born ≤ (account_at new.seats number).own_then.taken
     solvent true fits noted stays told =
-        let same : (seat_at new.seats s).own_then ≡ (seat_at new.seats s).own = noted.own_then ∙ cond-true (is_reply_to s entry) _ _ fits in
-        omega (arith, ap (λ (x : Effect). x.given) same, ap (λ (x : Effect). x.born) same, ap (λ (x : Effect). x.taken) same, stays.own.given, stays.own.born, stays.own.taken, spends s history entry fits c.keeps.makes)
+        let same : (account_at new.seats number).own_then ≡ (account_at new.seats number).own = noted.own_then ∙ cond-true (is_reply_to number entry) _ _ fits in
+        omega (arith, ap (λ (x : Effect). x.given) same, ap (λ (x : Effect). x.born) same, ap (λ (x : Effect). x.taken) same, stays.own.given, stays.own.born, stays.own.taken, spends number history entry fits c.keeps.makes)
     solvent false fails noted stays told =
-        let same : (seat_at new.seats s).own_then ≡ (seat_at old.seats s).own_then = noted.own_then ∙ cond-false (is_reply_to s entry) _ _ fails in
+        let same : (account_at new.seats number).own_then ≡ (account_at old.seats number).own_then = noted.own_then ∙ cond-false (is_reply_to number entry) _ _ fails in
         omega (arith, ap (λ (x : Effect). x.given) same, ap (λ (x : Effect). x.born) same, ap (λ (x : Effect). x.taken) same, told.solvent)
 
     phases_by : (b : Bool) (x y : Effect) → (cond b x y).phases ≡ cond b x.phases y.phases
     phases_by true x y = refl
     phases_by false x y = refl
 
-    then_phases : IsNotedSeat old.heap old.all old.seats s entry (seat_at old.seats s) (seat_at new.seats s) → (seat_at new.seats s).all_then.phases ≡ cond (is_reply_to s entry) new.all.phases (seat_at old.seats s).all_then.phases
-    then_phases noted = ap (λ (x : Effect). x.phases) noted.all_then ∙ phases_by (is_reply_to s entry) (plus old.all (effect_of entry)) (seat_at old.seats s).all_then
-        ∙ ap (λ n. cond (is_reply_to s entry) n (seat_at old.seats s).all_then.phases) (sym (phases_grow old new entry c.counted))
+    then_phases : IsNotedSeat old.heap old.all old.seats number entry (account_at old.seats number) (account_at new.seats number) → (account_at new.seats number).all_then.phases ≡ cond (is_reply_to number entry) new.all.phases (account_at old.seats number).all_then.phases
+    then_phases noted = ap (λ (x : Effect). x.phases) noted.all_then ∙ phases_by (is_reply_to number entry) (plus old.all (effect_of entry)) (account_at old.seats number).all_then
+        ∙ ap (λ n. cond (is_reply_to number entry) n (account_at old.seats number).all_then.phases) (sym (phases_grow old new entry c.counted))
 
 -- the account tells all, where what swung, the cycle and the objects are so too
 pub tells_more : (play : Bool) (old new : Books) (history : List Entry) (entry : Entry) → Counts play old new history entry
@@ -204,8 +204,8 @@ pub tells_more : (play : Bool) (old new : Books) (history : List Entry) (entry :
 tells_more play old new history entry c swung cycle made = record {
   entries = c.counted.entries ∙ ap (λ n. n + 1) c.tells.entries ∙ sym (length-append history (entry ∷ []));
   all = all-more old.all new.all history entry c.counted.all c.tells.all;
-  seats = λ s lt. subst (λ h. TellsSeat h new.all new.seats s (seat_at new.seats s) (history ++ entry ∷ [])) (sym c.counted.heap)
-      (tells_seat play old new history entry c s (subst (λ (h : Heap). s < h.seats) c.counted.heap lt));
+  seats = λ number lt. subst (λ h. TellsSeat h new.all new.seats number (account_at new.seats number) (history ++ entry ∷ [])) (sym c.counted.heap)
+      (tells_seat play old new history entry c number (subst (λ (h : Heap). number < h.seats) c.counted.heap lt));
   ended = λ cycle. ended-more old.heap history entry (turn old.heap play history entry c.keeps) old.all.phases new.all.phases c.tells.all.phases (phases_grow old new entry c.counted) cycle (c.tells.ended cycle);
   just_ended = λ cycle. subst (λ o. (JustEnded cycle (history ++ entry ∷ []) → o ≡ Some cycle) × (o ≡ Some cycle → JustEnded cycle (history ++ entry ∷ []))) (sym c.counted.ended) (just_ended-more history entry cycle);
   swung = swung;

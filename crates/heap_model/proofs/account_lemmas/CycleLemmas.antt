@@ -4,10 +4,10 @@ use Rattle.std.proofs.lemmas.List.Sums.{sum_by-cons}
 use Rattle.std.specs.List.{range_with_len}
 use Rattle.heap_model.specs.declared.id.Id.{Id}
 use Rattle.heap_model.specs.declared.entry.Entry.{Entry}
-use Rattle.heap_model.specs.graph.State.{State}
+use Rattle.heap_model.specs.graph.Graph.{Graph}
 use Rattle.heap_model.specs.graph.Reach.{IsReach, IsReachAmong}
-use Rattle.heap_model.specs.graph.Sizes.{frags_of}
-use Rattle.heap_model.specs.account.Space.{total, granted}
+use Rattle.heap_model.specs.graph.Sizes.{fragments_of_all}
+use Rattle.heap_model.specs.account.Space.{total, words_granted}
 use Rattle.heap_model.specs.account.Effects.{effect_of}
 use Rattle.heap_model.specs.account.Windows.{begins_cycle, up_to_cycle, since_cycle}
 use Rattle.heap_model.specs.account.Cycles.{graph_of, IsReachOfBoth, IsWithinBounds, LeavesWithinBounds, KeepsReached}
@@ -29,17 +29,17 @@ pub sum-range-more : (f : ℕ → ℕ) (n : ℕ) → sum_by f (range_with_len 0 
 sum-range-more f n = ap (λ k. sum_by f (range_with_len 0 k)) (add-one n) ∙ sum-range-suc f 0 n ∙ ap (λ k. sum_by f (range_with_len 0 n) + f k) (zero-add n)
 
 -- there is one list of the reached ids
-same_reach : (g : State) (xs ys : List Id) → IsReach g xs → IsReach g ys → xs ≡ ys
+same_reach : (g : Graph) (xs ys : List Id) → IsReach g xs → IsReach g ys → xs ≡ ys
 same_reach g xs ys x y = same_ids xs ys x.ordered y.ordered (λ id h. (y.reached id).1 ((x.reached id).0 h)) (λ id h. (x.reached id).1 ((y.reached id).0 h))
 
 -- and one of those that are reached in both graphs
-both_is : (g h : State) (reached both : List Id) → IsReach g reached → IsReachAmong h reached both → IsReachOfBoth g h both
+both_is : (g h : Graph) (reached both : List Id) → IsReach g reached → IsReachAmong h reached both → IsReachOfBoth g h both
 both_is g h reached both r a = record {
   ordered = a.ordered r.ordered;
   reached = λ id. (λ c. ((r.reached id).0 ((a.reached id).0 c).0, ((a.reached id).0 c).1), λ c. (a.reached id).1 ((r.reached id).1 c.0, c.1));
 }
 
-same_both : (g h : State) (xs ys : List Id) → IsReachOfBoth g h xs → IsReachOfBoth g h ys → xs ≡ ys
+same_both : (g h : Graph) (xs ys : List Id) → IsReachOfBoth g h xs → IsReachOfBoth g h ys → xs ≡ ys
 same_both g h xs ys x y = same_ids xs ys x.ordered y.ordered (λ id c. (y.reached id).1 ((x.reached id).0 c)) (λ id c. (x.reached id).1 ((y.reached id).0 c))
 
 -- so little is in use and kept as by what the account keeps
@@ -50,13 +50,13 @@ within_by books history kept t some = (to, from)
     told : TellsCycle books.heap books.cycle history
     told = t.cycle some
 
-    g : State
+    g : Graph
     g = graph_of books.heap (up_to_cycle history)
 
     taken : total (λ e. e.taken) (since_cycle history) ≡ books.all.taken - books.cycle.taken_then
     taken = omega (arith, sum-parts begins_cycle (λ e. (effect_of e).taken) history, told.taken, t.all.taken)
 
-    words : granted (since_cycle history) ≡ books.all.words - books.cycle.words_then
+    words : words_granted (since_cycle history) ≡ books.all.words - books.cycle.words_then
     words = omega (arith, sum-parts begins_cycle (λ e. (effect_of e).words) history, told.granted, t.all.words)
 
     to : IsWithinBy books kept → LeavesWithinBounds books.heap history kept
@@ -79,13 +79,13 @@ within_by books history kept t some = (to, from)
 -- what is reached now among what was reached when the cycle began is what is reached at both
 pub reached_by : (books : Books) (history : List Entry) (kept : ℕ) (both : List Id) → Tells books history → 1 ≤ books.all.phases
     → IsReachAmong (graph_of books.heap history) books.cycle.reached.items both
-    → (frags_of (graph_of books.heap history) both ≤ kept → KeepsReached books.heap history kept)
-    × (KeepsReached books.heap history kept → frags_of (graph_of books.heap history) both ≤ kept)
+    → (fragments_of_all (graph_of books.heap history) both ≤ kept → KeepsReached books.heap history kept)
+    × (KeepsReached books.heap history kept → fragments_of_all (graph_of books.heap history) both ≤ kept)
 reached_by books history kept both t some among =
     let g = graph_of books.heap (up_to_cycle history) in
     let h = graph_of books.heap history in
     let told : TellsCycle books.heap books.cycle history = t.cycle some in
     let ours : IsReachOfBoth g h both = both_is g h books.cycle.reached.items both told.reached among in (
-      λ few both' of_both. subst (λ b. frags_of h b ≤ kept) (same_both g h both both' ours of_both) few,
+      λ few both' of_both. subst (λ b. fragments_of_all h b ≤ kept) (same_both g h both both' ours of_both) few,
       λ keeps. keeps both ours,
     )

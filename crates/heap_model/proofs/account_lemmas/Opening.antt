@@ -8,12 +8,12 @@ use Rattle.heap_model.specs.declared.account.seat.SeatAccount.{SeatAccount}
 use Rattle.heap_model.specs.declared.account.cycle.Cycle.{Cycle}
 use Rattle.heap_model.specs.Heap.{IsHeap}
 use Rattle.heap_model.specs.graph.Objects.{made_counts}
-use Rattle.heap_model.specs.graph.State.{opening}
+use Rattle.heap_model.specs.graph.Graph.{opening}
 use Rattle.heap_model.specs.account.Effects.{no_effect}
 use Rattle.heap_model.specs.account.Phases.{WasBehind}
 use Rattle.heap_model.specs.account.PhaseCounts.{phase}
 use Rattle.heap_model.specs.account.Books.{Tells}
-use Rattle.heap_model.specs.account.SeatBooks.{seat_at, no_seat, IsFrom, first_behind, last_phase, TellsSeat}
+use Rattle.heap_model.specs.account.SeatBooks.{account_at, no_seat, IsFrom, first_behind, last_phase, TellsSeat}
 
 -- a seat that did nothing yet
 abbrev pub opening_seat : SeatAccount
@@ -22,15 +22,15 @@ opening_seat = record { own = no_effect; own_then = no_effect; all_then = no_eff
 no_element : {A : Type 0} (x : A) → Contains [] x → ⊥
 no_element x h = omega (arith, h.1)
 
-never_behind : (s other answer : ℕ) → WasBehind s other answer (answer + 1) [] → ⊥
-never_behind s other answer w = absurd (later w.0 w.1 w.2 w.3.here)
+never_behind : (number other answer : ℕ) → WasBehind number other answer (answer + 1) [] → ⊥
+never_behind number other answer w = absurd (later w.0 w.1 w.2 w.3.here)
   where
     later : (xs ys : List Entry) → [] ≡ xs ++ ys → phase xs ≡ answer + 1 → ⊥
     later [] ys e here = omega (arith, here)
     later (x ∷ xs) ys e here = cc e
 
-opening_tells : (heap : Heap) (seats : List SeatAccount) (s : ℕ) → heap.seats ≤ 16 → ((q : ℕ) → q < 16 → seat_at seats q ≡ opening_seat) → s < heap.seats → TellsSeat heap no_effect seats s opening_seat []
-opening_tells heap seats s few all lt = record {
+opening_tells : (heap : Heap) (seats : List SeatAccount) (number : ℕ) → heap.seats ≤ 16 → ((q : ℕ) → q < 16 → account_at seats q ≡ opening_seat) → number < heap.seats → TellsSeat heap no_effect seats number opening_seat []
+opening_tells heap seats number few all lt = record {
   own = record { taken = refl; given = refl; born = refl; freed = refl; words = refl; returned = refl; phases = refl; answers = refl };
   own_then = record { taken = refl; given = refl; born = refl; freed = refl; words = refl; returned = refl; phases = refl; answers = refl };
   all_then = record { taken = refl; given = refl; born = refl; freed = refl; words = refl; returned = refl; phases = refl; answers = refl };
@@ -42,10 +42,10 @@ opening_tells heap seats s few all lt = record {
   kept_up = λ there. omega arith;
   gone = omega arith;
   began = λ p. (λ h. absurd (no_element (entries.Advance p) h), λ h. absurd (omega (arith, h.0, h.1)));
-  behind = λ other answer below ne. (λ w. absurd (never_behind s other answer w), λ f. absurd (not_yet other answer (omega (arith, below, few)) f));
+  behind = λ other answer below ne. (λ w. absurd (never_behind number other answer w), λ f. absurd (not_yet other answer (omega (arith, below, few)) f));
 }
   where
-    not_yet : (other answer : ℕ) → other < 16 → IsFrom (first_behind opening_seat other) (last_phase (seat_at seats other) 0) (answer + 1) → ⊥
+    not_yet : (other answer : ℕ) → other < 16 → IsFrom (first_behind opening_seat other) (last_phase (account_at seats other) 0) (answer + 1) → ⊥
     not_yet other answer below f =
         let g = subst (λ (x : SeatAccount). answer + 1 ≤ last_phase x 0) (all other below) f.1 in
         omega (arith, g)
@@ -56,8 +56,8 @@ pub tells_nothing : (heap : Heap) (cycle : Cycle) (made : List ℕ) → IsHeap h
 tells_nothing heap cycle made fits none = record {
   entries = refl;
   all = record { taken = refl; given = refl; born = refl; freed = refl; words = refl; returned = refl; phases = refl; answers = refl };
-  seats = λ s lt. let each : (q : ℕ) → q < 16 → seat_at (replicate 16 opening_seat) q ≡ opening_seat = λ q below. get_or-replicate 16 q opening_seat no_seat below in
-      subst (λ x. TellsSeat heap no_effect (replicate 16 opening_seat) s x []) (sym (each s (omega (arith, lt, fits.seats_fit)))) (opening_tells heap (replicate 16 opening_seat) s fits.seats_fit each lt);
+  seats = λ number lt. let each : (other : ℕ) → other < 16 → account_at (replicate 16 opening_seat) other ≡ opening_seat = λ other below. get_or-replicate 16 other opening_seat no_seat below in
+      subst (λ x. TellsSeat heap no_effect (replicate 16 opening_seat) number x []) (sym (each number (omega (arith, lt, fits.seats_fit)))) (opening_tells heap (replicate 16 opening_seat) number fits.seats_fit each lt);
   ended = λ c. (λ h. absurd (no_element (entries.Ends c h.0) h.1), λ h. absurd (omega (arith, h)));
   just_ended = λ c. (λ h. absurd (empty h.0 (entries.Ends c h.1) h.2), λ h. cc h);
   swung = λ id. (λ h. absurd (no_element (entries.Swings id) h), λ h. absurd (no_element id h));

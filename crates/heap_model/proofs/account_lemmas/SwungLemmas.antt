@@ -14,9 +14,9 @@ use Rattle.heap_model.specs.declared.id.Id.TheVariants.{Board, Made}
 -- ids that their order does not tell apart are the same
 exact_ids : CmpEqualImpliesEq order.cmp-value.it
 exact_ids Board Board equal = refl
-exact_ids Board (Made s n) equal = cc equal
-exact_ids (Made s n) Board equal = cc equal
-exact_ids (Made s n) (Made t m) equal = ap (λ x. Made x.0 x.1) ((exact_pairs _ _ exact_unsigned exact_unsigned) (s, n) (t, m) equal)
+exact_ids Board (Made number n) equal = cc equal
+exact_ids (Made number n) Board equal = cc equal
+exact_ids (Made number n) (Made t m) equal = ap (λ x. Made x.0 x.1) ((exact_pairs _ _ exact_unsigned exact_unsigned) (number, n) (t, m) equal)
 
 -- the set has what is among its members
 pub has_member : (s : BTreeSet Id) (id : Id) → IsTrue (contains order.cmp-value.it s id) ↔ Contains s.keys id

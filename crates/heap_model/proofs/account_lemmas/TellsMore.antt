@@ -38,27 +38,27 @@ pub all-more : (old new : Effect) (history : List Entry) (entry : Entry) → new
 all-more old new history entry e m = measured_by true old new (effect_of entry) _ _ e (λ part. total-more part history entry) m
 
 -- what the seat did
-pub own-more : (s : ℕ) (old new : Effect) (history : List Entry) (entry : Entry) → new ≡ cond (is_of s entry) (plus old (effect_of entry)) old → IsMeasured old (λ part. total_of s part history) → IsMeasured new (λ part. total_of s part (history ++ entry ∷ []))
-own-more s old new history entry e m = measured_by (is_of s entry) old new (effect_of entry) _ _ e (λ part. total_of-more s part history entry) m
+pub own-more : (number : ℕ) (old new : Effect) (history : List Entry) (entry : Entry) → new ≡ cond (is_of number entry) (plus old (effect_of entry)) old → IsMeasured old (λ part. total_of number part history) → IsMeasured new (λ part. total_of number part (history ++ entry ∷ []))
+own-more number old new history entry e m = measured_by (is_of number entry) old new (effect_of entry) _ _ e (λ part. total_of-more number part history entry) m
 
 -- what was done up to the seat's last reply
-pub then-more : (s : ℕ) (sums : (Effect → ℕ) → List Entry → ℕ) (old now new : Effect) (history : List Entry) (entry : Entry) → new ≡ cond (is_reply_to s entry) now old
-    → IsMeasured now (λ part. sums part (history ++ entry ∷ [])) → IsMeasured old (λ part. sums part (up_to_reply s history)) → IsMeasured new (λ part. sums part (up_to_reply s (history ++ entry ∷ [])))
-then-more s sums old now new history entry e m o =
-    elim (cases_Bool (is_reply_to s entry)) [
-      | inl fits ↦ subst (λ h. IsMeasured new (λ part. sums part h)) (sym (up_to_last-yes (is_reply_to s) history entry fits))
+pub then-more : (number : ℕ) (sums : (Effect → ℕ) → List Entry → ℕ) (old now new : Effect) (history : List Entry) (entry : Entry) → new ≡ cond (is_reply_to number entry) now old
+    → IsMeasured now (λ part. sums part (history ++ entry ∷ [])) → IsMeasured old (λ part. sums part (up_to_reply number history)) → IsMeasured new (λ part. sums part (up_to_reply number (history ++ entry ∷ [])))
+then-more number sums old now new history entry e m o =
+    elim (cases_Bool (is_reply_to number entry)) [
+      | inl fits ↦ subst (λ h. IsMeasured new (λ part. sums part h)) (sym (up_to_last-yes (is_reply_to number) history entry fits))
           (subst (λ x. IsMeasured x (λ part. sums part (history ++ entry ∷ []))) (sym (e ∙ cond-true _ now old fits)) m)
-      | inr fails ↦ subst (λ h. IsMeasured new (λ part. sums part h)) (sym (up_to_last-no (is_reply_to s) history entry fails))
-          (subst (λ x. IsMeasured x (λ part. sums part (up_to_reply s history))) (sym (e ∙ cond-false _ now old fails)) o)
+      | inr fails ↦ subst (λ h. IsMeasured new (λ part. sums part h)) (sym (up_to_last-no (is_reply_to number) history entry fails))
+          (subst (λ x. IsMeasured x (λ part. sums part (up_to_reply number history))) (sym (e ∙ cond-false _ now old fails)) o)
     ]
 
 -- what was done since
-pub since_is : (all : Effect) (s : ℕ) (seat : SeatAccount) (history : List Entry) → IsMeasured all (λ part. total part history) → IsMeasured seat.own (λ part. total_of s part history)
-    → IsMeasured seat.own_then (λ part. total_of s part (up_to_reply s history)) → IsMeasured seat.all_then (λ part. total part (up_to_reply s history)) → TellsSince all s seat history
-since_is all s seat history a o ot at = record {
-  freed = omega (arith, all_since s (λ e. e.freed) history, a.freed, at.freed);
-  returned = omega (arith, all_since s (λ e. e.returned) history, a.returned, at.returned);
-  given = omega (arith, others_since s (λ e. e.given) history, a.given, o.given, ot.given, at.given);
-  taken = omega (arith, others_since s (λ e. e.taken) history, a.taken, o.taken, ot.taken, at.taken);
-  words = omega (arith, others_since s (λ e. e.words) history, a.words, o.words, ot.words, at.words);
+pub since_is : (all : Effect) (number : ℕ) (seat : SeatAccount) (history : List Entry) → IsMeasured all (λ part. total part history) → IsMeasured seat.own (λ part. total_of number part history)
+    → IsMeasured seat.own_then (λ part. total_of number part (up_to_reply number history)) → IsMeasured seat.all_then (λ part. total part (up_to_reply number history)) → TellsSince all number seat history
+since_is all number seat history a o ot at = record {
+  freed = omega (arith, all_since number (λ e. e.freed) history, a.freed, at.freed);
+  returned = omega (arith, all_since number (λ e. e.returned) history, a.returned, at.returned);
+  given = omega (arith, others_since number (λ e. e.given) history, a.given, o.given, ot.given, at.given);
+  taken = omega (arith, others_since number (λ e. e.taken) history, a.taken, o.taken, ot.taken, at.taken);
+  words = omega (arith, others_since number (λ e. e.words) history, a.words, o.words, ot.words, at.words);
 }

@@ -22,30 +22,30 @@ pub sum-parts : (test : Entry → Bool) (f : Entry → ℕ) (history : List Entr
 sum-parts test f history = ap (sum_by f) (sym (parts test history)) ∙ sum_by-append f (up_to_last test history) (after_last test history)
 
 -- all is the seat's and the others'
-pub total-split : (s : ℕ) (part : Effect → ℕ) (history : List Entry) → total part history ≡ total_of s part history + total_but s part history
-total-split s part [] = refl
-total-split s part (entry ∷ history) =
+pub total-split : (number : ℕ) (part : Effect → ℕ) (history : List Entry) → total part history ≡ total_of number part history + total_but number part history
+total-split number part [] = refl
+total-split number part (entry ∷ history) =
     let all = sum_by-cons (λ e. part (effect_of e)) entry history in
-    let own = sum_by-cons (λ e. cond (is_of s e) (part (effect_of e)) 0) entry history in
-    let others = sum_by-cons (λ e. cond (is_of s e) 0 (part (effect_of e))) entry history in
-    let one : part (effect_of entry) ≡ cond (is_of s entry) (part (effect_of entry)) 0 + cond (is_of s entry) 0 (part (effect_of entry)) = one_split (is_of s entry) (part (effect_of entry)) in
-    omega (arith, all, own, others, one, total-split s part history)
+    let own = sum_by-cons (λ e. cond (is_of number e) (part (effect_of e)) 0) entry history in
+    let others = sum_by-cons (λ e. cond (is_of number e) 0 (part (effect_of e))) entry history in
+    let one : part (effect_of entry) ≡ cond (is_of number entry) (part (effect_of entry)) 0 + cond (is_of number entry) 0 (part (effect_of entry)) = one_split (is_of number entry) (part (effect_of entry)) in
+    omega (arith, all, own, others, one, total-split number part history)
   where
     one_split : (b : Bool) (n : ℕ) → n ≡ cond b n 0 + cond b 0 n
     one_split true n = omega arith
     one_split false n = omega arith
 
 -- what others did since a seat's last reply, by sums over what led there and over all
-pub others_since : (s : ℕ) (part : Effect → ℕ) (history : List Entry)
-    → total_but s part (since_reply s history) + total_of s part history + total part (up_to_reply s history) ≡ total part history + total_of s part (up_to_reply s history)
-others_since s part history =
-    let all = sum-parts (is_reply_to s) (λ e. part (effect_of e)) history in
-    let own = sum-parts (is_reply_to s) (λ e. cond (is_of s e) (part (effect_of e)) 0) history in
-    omega (arith, all, own, total-split s part (since_reply s history))
+pub others_since : (number : ℕ) (part : Effect → ℕ) (history : List Entry)
+    → total_but number part (since_reply number history) + total_of number part history + total part (up_to_reply number history) ≡ total part history + total_of number part (up_to_reply number history)
+others_since number part history =
+    let all = sum-parts (is_reply_to number) (λ e. part (effect_of e)) history in
+    let own = sum-parts (is_reply_to number) (λ e. cond (is_of number e) (part (effect_of e)) 0) history in
+    omega (arith, all, own, total-split number part (since_reply number history))
 
 -- what all did since
-pub all_since : (s : ℕ) (part : Effect → ℕ) (history : List Entry) → total part (since_reply s history) + total part (up_to_reply s history) ≡ total part history
-all_since s part history = let all = sum-parts (is_reply_to s) (λ e. part (effect_of e)) history in omega (arith, all)
+pub all_since : (number : ℕ) (part : Effect → ℕ) (history : List Entry) → total part (since_reply number history) + total part (up_to_reply number history) ≡ total part history
+all_since number part history = let all = sum-parts (is_reply_to number) (λ e. part (effect_of e)) history in omega (arith, all)
 
 or-false : (b : Bool) → (b || false) ≡ b
 or-false true = refl

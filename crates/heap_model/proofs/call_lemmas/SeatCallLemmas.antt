@@ -42,32 +42,32 @@ enough_few unborn need counts gathers = elim (last_cases counts) [
       omega (arith, ap length is, length-append earlier (last ∷ []), claims_few earlier before, gathers.needed earlier last is)
 ]
 
-claims_short : (s unborn need : ℕ) (reply : Reply) (before : List Entry) → ClaimsBefore s unborn need reply before → length before ≤ 2 * need
-claims_short s unborn need (replies.Made id) before (counts, gathers, is) =
-    omega (arith, ap length is, length-map counts (Takes s), enough_few unborn need counts gathers)
-claims_short s unborn need (replies.Full shown found) before (counts, _, gathers, is) =
-    omega (arith, ap length is, length-append (takes_of s counts) (gives_of s counts), length-map counts (Takes s), length-map counts (GivesBack s), claims_few counts gathers.of_groups, gathers.all_found, gathers.too_few)
-claims_short s unborn need reply before none = absurd none
+claims_short : (number unborn need : ℕ) (reply : Reply) (before : List Entry) → ClaimsBefore number unborn need reply before → length before ≤ 2 * need
+claims_short number unborn need (replies.Made id) before (counts, gathers, is) =
+    omega (arith, ap length is, length-map counts (Takes number), enough_few unborn need counts gathers)
+claims_short number unborn need (replies.Full shown found) before (counts, _, gathers, is) =
+    omega (arith, ap length is, length-append (takes_of number counts) (gives_of number counts), length-map counts (Takes number), length-map counts (GivesBack number), claims_few counts gathers.of_groups, gathers.all_found, gathers.too_few)
+claims_short number unborn need reply before none = absurd none
 
-array_short : (s unborn need : ℕ) (reply : Reply) (before : List Entry) → ArrayBefore s unborn need reply before → length before ≤ 2 * need
-array_short s unborn need (replies.SpineFull shown used) before none = omega (arith, ap length none)
-array_short s unborn need reply before comes = claims_short s unborn need reply before comes
+array_short : (number unborn need : ℕ) (reply : Reply) (before : List Entry) → ArrayBefore number unborn need reply before → length before ≤ 2 * need
+array_short number unborn need (replies.SpineFull shown used) before none = omega (arith, ap length none)
+array_short number unborn need reply before comes = claims_short number unborn need reply before comes
 
-answers_short : (s last : ℕ) (reply : Reply) (before : List Entry) → AnswersBefore s last reply before → length before ≤ 1
-answers_short s last (replies.Phase p) before comes = elim comes [ inl told ↦ omega (arith, ap length told.1) | inr answered ↦ omega (arith, ap length answered.1) ]
-answers_short s last reply before none = absurd none
+answers_short : (number last : ℕ) (reply : Reply) (before : List Entry) → AnswersBefore number last reply before → length before ≤ 1
+answers_short number last (replies.Phase p) before comes = elim comes [ inl told ↦ omega (arith, ap length told.1) | inr answered ↦ omega (arith, ap length answered.1) ]
+answers_short number last reply before none = absurd none
 
 gives_short : (none : Bool) (entry : Entry) → length (cond none [] (entry ∷ [])) ≤ 1
 gives_short true entry = omega arith
 gives_short false entry = omega arith
 
 pub each_call_is_short : EachCallIsShort
-each_call_is_short s unborn last (commands.New d fields) reply before comes = omega (arith, claims_short s unborn (record_fragments fields) reply before comes)
-each_call_is_short s unborn last (commands.Array d cells) reply before comes = omega (arith, array_short s unborn (array_fragments cells) reply before comes)
-each_call_is_short s unborn last commands.Poll reply before comes = omega (arith, answers_short s last reply before comes)
-each_call_is_short s unborn last commands.Leave reply before comes = omega (arith, ap length comes, gives_short (eqb unborn 0) (GivesBack s unborn))
-each_call_is_short s unborn last commands.Collect reply before comes = absurd comes
-each_call_is_short s unborn last command reply before comes = omega (arith, ap length comes)
+each_call_is_short number unborn last (commands.New d fields) reply before comes = omega (arith, claims_short number unborn (record_fragments fields) reply before comes)
+each_call_is_short number unborn last (commands.Array d cells) reply before comes = omega (arith, array_short number unborn (array_fragments cells) reply before comes)
+each_call_is_short number unborn last commands.Poll reply before comes = omega (arith, answers_short number last reply before comes)
+each_call_is_short number unborn last commands.Leave reply before comes = omega (arith, ap length comes, gives_short (eqb unborn 0) (GivesBack number unborn))
+each_call_is_short number unborn last commands.Collect reply before comes = absurd comes
+each_call_is_short number unborn last command reply before comes = omega (arith, ap length comes)
 
 pub each_call_leaves_room : EachCallLeavesRoom
 each_call_leaves_room old new command reply adds =

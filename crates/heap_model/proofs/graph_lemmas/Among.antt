@@ -5,54 +5,54 @@ use Rattle.std.proofs.lemmas.List.Elements.{All-filter, filter_passes, Contains-
 use Rattle.std.proofs.lemmas.List.Kept.{AllPairs-filter}
 use Rattle.heap_model.specs.declared.id.Id.{Id}
 use Rattle.heap_model.specs.declared.id.Id.TheVariants.{Board, Made}
-use Rattle.heap_model.specs.graph.State.{State}
+use Rattle.heap_model.specs.graph.Graph.{Graph}
 use Rattle.heap_model.specs.graph.Search.{Search, IsSearch}
-use Rattle.heap_model.specs.graph.Marking.{mark, is_marked}
+use Rattle.heap_model.specs.graph.Marking.{mark_of, is_marked}
 use Rattle.heap_model.specs.graph.Reach.{IsBefore, IsReachAmong}
 use Rattle.heap_model.proofs.graph_lemmas.SearchLemmas.{IsMarked-reached}
 
 -- an element of a list is its head, or stands in its tail
-contains_cases : {A : Type 0} (x : A) (xs : List A) (q : A) → Contains (x ∷ xs) q → (x ≡ q) ⊎ Contains xs q
-contains_cases x xs q (zero, lt, e) = inl e
-contains_cases x xs q (suc k, lt, e) = inr (k, omega (arith, lt), e)
+contains_cases : {A : Type 0} (x : A) (xs : List A) (other : A) → Contains (x ∷ xs) other → (x ≡ other) ⊎ Contains xs other
+contains_cases x xs other (zero, lt, e) = inl e
+contains_cases x xs other (suc k, lt, e) = inr (k, omega (arith, lt), e)
 
 contains_head : {A : Type 0} (x : A) (xs : List A) → Contains (x ∷ xs) x
 contains_head x xs = (0, omega arith, refl)
 
-contains_tail : {A : Type 0} (x : A) (xs : List A) (q : A) → Contains xs q → Contains (x ∷ xs) q
-contains_tail x xs q h = Contains-append_right (x ∷ []) xs q h
+contains_tail : {A : Type 0} (x : A) (xs : List A) (other : A) → Contains xs other → Contains (x ∷ xs) other
+contains_tail x xs other h = Contains-append_right (x ∷ []) xs other h
 
 pairs_tail : {A : Type 0} (R : A → A → Type 0) (x : A) (xs : List A) → AllPairs R (x ∷ xs) → AllPairs R xs
 pairs_tail R x xs h i j d lt within = h (suc i) (suc j) d (omega (arith, lt)) (omega (arith, within))
 
-pairs_head : {A : Type 0} (R : A → A → Type 0) (x : A) (xs : List A) (q : A) → AllPairs R (x ∷ xs) → Contains xs q → R x q
-pairs_head R x xs q h c = subst (R x) c.2 (h 0 (suc c.0) q (omega arith) (omega (arith, c.1)))
+pairs_head : {A : Type 0} (R : A → A → Type 0) (x : A) (xs : List A) (other : A) → AllPairs R (x ∷ xs) → Contains xs other → R x other
+pairs_head R x xs other h c = subst (R x) c.2 (h 0 (suc c.0) other (omega arith) (omega (arith, c.1)))
 
 -- no id is before itself, nor before one that is before it
 not_around : (a b : Id) → IsBefore a b → IsBefore b a → ⊥
 not_around Board Board x y = x
 not_around Board (Made t m) x y = y
-not_around (Made s n) Board x y = x
-not_around (Made s n) (Made t m) (inl x) (inl y) = omega (arith, x, y)
-not_around (Made s n) (Made t m) (inl x) (inr y) = omega (arith, x, y.0)
-not_around (Made s n) (Made t m) (inr x) (inl y) = omega (arith, x.0, y)
-not_around (Made s n) (Made t m) (inr x) (inr y) = omega (arith, x.1, y.1)
+not_around (Made number n) Board x y = x
+not_around (Made number n) (Made t m) (inl x) (inl y) = omega (arith, x, y)
+not_around (Made number n) (Made t m) (inl x) (inr y) = omega (arith, x, y.0)
+not_around (Made number n) (Made t m) (inr x) (inl y) = omega (arith, x.0, y)
+not_around (Made number n) (Made t m) (inr x) (inr y) = omega (arith, x.1, y.1)
 
 -- lists in order with the same ids are equal
 pub same_ids : (xs ys : List Id) → AllPairs IsBefore xs → AllPairs IsBefore ys → ((id : Id) → Contains xs id → Contains ys id) → ((id : Id) → Contains ys id → Contains xs id) → xs ≡ ys
-same_ids [] [] p q there back = refl
-same_ids [] (y ∷ ys) p q there back = absurd (let h = back y (contains_head y ys) in omega (arith, h.1))
-same_ids (x ∷ xs) [] p q there back = absurd (let h = there x (contains_head x xs) in omega (arith, h.1))
-same_ids (x ∷ xs) (y ∷ ys) p q there back =
+same_ids [] [] p other there back = refl
+same_ids [] (y ∷ ys) p other there back = absurd (let h = back y (contains_head y ys) in omega (arith, h.1))
+same_ids (x ∷ xs) [] p other there back = absurd (let h = there x (contains_head x xs) in omega (arith, h.1))
+same_ids (x ∷ xs) (y ∷ ys) p other there back =
     let head : x ≡ y = heads (contains_cases y ys x (there x (contains_head x xs))) (contains_cases x xs y (back y (contains_head y ys))) in
-    let tail : xs ≡ ys = same_ids xs ys (pairs_tail IsBefore x xs p) (pairs_tail IsBefore y ys q)
+    let tail : xs ≡ ys = same_ids xs ys (pairs_tail IsBefore x xs p) (pairs_tail IsBefore y ys other)
     (λ id h. onward id h (contains_cases y ys id (there id (contains_tail x xs id h))) head) (λ id h. backward id h (contains_cases x xs id (back id (contains_tail y ys id h))) head) in
     cc (head, tail)
   where
     heads : (y ≡ x) ⊎ Contains ys x → (x ≡ y) ⊎ Contains xs y → x ≡ y
     heads (inl e) o = sym e
     heads (inr c) (inl e) = e
-    heads (inr c) (inr d) = absurd (not_around x y (pairs_head IsBefore x xs y p d) (pairs_head IsBefore y ys x q c))
+    heads (inr c) (inr d) = absurd (not_around x y (pairs_head IsBefore x xs y p d) (pairs_head IsBefore y ys x other c))
 
     onward : (id : Id) → Contains xs id → (y ≡ id) ⊎ Contains ys id → x ≡ y → Contains ys id
     onward id h (inr c) e = c
@@ -60,7 +60,7 @@ same_ids (x ∷ xs) (y ∷ ys) p q there back =
 
     backward : (id : Id) → Contains ys id → (x ≡ id) ⊎ Contains xs id → x ≡ y → Contains xs id
     backward id h (inr c) e = c
-    backward id h (inl same) e = absurd (let before = subst (λ z. IsBefore y z) (sym (sym e ∙ same)) (pairs_head IsBefore y ys id q h) in not_around y y before before)
+    backward id h (inl same) e = absurd (let before = subst (λ z. IsBefore y z) (sym (sym e ∙ same)) (pairs_head IsBefore y ys id other h) in not_around y y before before)
 
 -- a filter keeps what passes
 kept_passes : {A : Type 0} (p : A → Bool) (xs : List A) (x : A) → Contains (filter p xs) x → Contains xs x × (p x ≡ true)
@@ -86,11 +86,11 @@ is_set None h = cc h
 is_set (Some b) h = ap Some h
 
 -- at the end of a search the marked ones of the ids are the reached ones
-pub among_marked : (g : State) (walk : Search) (ids : List Id) → IsSearch g walk → walk.waiting ≡ [] → IsReachAmong g ids (filter (is_marked walk.marks) ids)
+pub among_marked : (g : Graph) (walk : Search) (ids : List Id) → IsSearch g walk → walk.waiting ≡ [] → IsReachAmong g ids (filter (is_marked walk.marks) ids)
 among_marked g walk ids search none = record {
   ordered = AllPairs-filter IsBefore (is_marked walk.marks) ids;
   reached = λ id. (
-    λ c. let kept = kept_passes (is_marked walk.marks) ids id c in (kept.0, search.reached id (is_set (mark walk.marks id) kept.1)),
+    λ c. let kept = kept_passes (is_marked walk.marks) ids id c in (kept.0, search.reached id (is_set (mark_of walk.marks id) kept.1)),
     λ c. passes_kept (is_marked walk.marks) ids id c.0 (ap (λ o. unwrap_or o false) (IsMarked-reached g walk search none id c.1)),
   );
 }

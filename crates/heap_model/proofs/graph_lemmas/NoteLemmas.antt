@@ -5,7 +5,7 @@ use Rattle.heap_model.specs.declared.id.Id.{Id}
 use Rattle.heap_model.specs.declared.id.Value.{Value}
 use Rattle.heap_model.specs.declared.id.Value.TheVariants.{Object}
 use Rattle.heap_model.specs.declared.graph.cell.Cell.{Cell}
-use Rattle.heap_model.specs.graph.State.{State, Node, Party}
+use Rattle.heap_model.specs.graph.Graph.{Graph, Node, GraphSeat}
 use Rattle.heap_model.specs.graph.Reach.{IsRoot, IsRegistered, PointsTo}
 use Rattle.heap_model.specs.graph.Search.{Search, GoesOn, FoundFromSeat}
 use Rattle.heap_model.specs.graph.Marking.{IsFound}
@@ -18,7 +18,7 @@ Any-get_or P xs i d within holds = let there = Contains-get_or xs i d within in 
 pub All-taken : {A : Type 0} (P : A → Type 0) (xs ys : List A) (i : ℕ) → xs ≡ ys → length xs ≤ i → All P (take i xs) → All P ys
 All-taken P xs ys i same past all = subst (All P) (take_all i xs past ∙ same) all
 
-pub GoesOn-register : (seat : Party) (values : List Value) (i : ℕ) (d : Value) {a b c : Search} → values ≡ seat.registers → i < length values → GoesOn (IsRegistered seat) a b → GoesOn (λ id. get_or values i d ≡ Object id) b c → GoesOn (IsRegistered seat) a c
+pub GoesOn-register : (seat : GraphSeat) (values : List Value) (i : ℕ) (d : Value) {a b c : Search} → values ≡ seat.registers → i < length values → GoesOn (IsRegistered seat) a b → GoesOn (λ id. get_or values i d ≡ Object id) b c → GoesOn (IsRegistered seat) a c
 GoesOn-register seat values i d same within before on =
     GoesOn-trans before (GoesOn-weaker (λ id is. subst (λ xs. Contains xs (Object id)) same (subst (Contains values) is (Contains-get_or values i d within))) on)
 
@@ -35,11 +35,11 @@ found_cell cells i d {b} {c} within on before here =
     All-more (λ cell. IsFound c.marks cell.value) cells i d within
     (All-weaker (λ cell. IsFound b.marks cell.value) (λ cell. IsFound c.marks cell.value) (λ cell. IsFound-stays on cell.value) (take i cells) before) here
 
-pub GoesOn-seat : (g : State) (i : ℕ) (seat : Party) {a b c : Search} → i < length g.seats → seat ≡ get_or g.seats i seat → GoesOn (IsRoot g) a b → GoesOn (IsRegistered seat) b c → GoesOn (IsRoot g) a c
+pub GoesOn-seat : (g : Graph) (i : ℕ) (seat : GraphSeat) {a b c : Search} → i < length g.seats → seat ≡ get_or g.seats i seat → GoesOn (IsRoot g) a b → GoesOn (IsRegistered seat) b c → GoesOn (IsRoot g) a c
 GoesOn-seat g i seat within is before on =
     GoesOn-trans before (GoesOn-weaker (λ id held. Any-get_or (λ x. IsRegistered x id) g.seats i seat within (subst (λ x. IsRegistered x id) is held)) on)
 
-pub found_seat : {P : Id → Type 0} (seats : List Party) (i : ℕ) (seat : Party) {b c : Search} → i < length seats → seat ≡ get_or seats i seat → GoesOn P b c → All (FoundFromSeat b.marks) (take i seats) → FoundFromSeat c.marks seat → All (FoundFromSeat c.marks) (take (i + 1) seats)
+pub found_seat : {P : Id → Type 0} (seats : List GraphSeat) (i : ℕ) (seat : GraphSeat) {b c : Search} → i < length seats → seat ≡ get_or seats i seat → GoesOn P b c → All (FoundFromSeat b.marks) (take i seats) → FoundFromSeat c.marks seat → All (FoundFromSeat c.marks) (take (i + 1) seats)
 found_seat seats i seat {b} {c} within is on before here =
     All-more (FoundFromSeat c.marks) seats i seat within
     (All-weaker (FoundFromSeat b.marks) (FoundFromSeat c.marks) (FoundFromSeat-stays on) (take i seats) before) (subst (FoundFromSeat c.marks) is here)

@@ -6,51 +6,51 @@ use Rattle.std.proofs.lemmas.List.Quantifiers.{all_pairs_push}
 use Rattle.std.proofs.lemmas.Option.{slice_get_past}
 use Rattle.heap_model.specs.declared.id.Id.{Id}
 use Rattle.heap_model.specs.declared.id.Id.TheVariants.{Board, Made}
-use Rattle.heap_model.specs.graph.Objects.{party}
-use Rattle.heap_model.specs.graph.State.{State}
+use Rattle.heap_model.specs.graph.Objects.{graph_seat}
+use Rattle.heap_model.specs.graph.Graph.{Graph}
 use Rattle.heap_model.specs.graph.Reach.{IsBefore}
-use Rattle.heap_model.specs.graph.Marking.{Marking, IsMarked, HasMarks, IsListed}
+use Rattle.heap_model.specs.graph.Marking.{Marking, HasMark, HasMarks, IsListed}
 use Rattle.heap_model.proofs.graph_lemmas.MarkLemmas.{marks_there}
 
 -- the next place after this one, in its seat
 abbrev pub next_place : Id → Id
 next_place Board = Made 0 0
-next_place (Made s count) = Made s (count + 1)
+next_place (Made number count) = Made number (count + 1)
 
 IsBefore-next : (id place : Id) → IsBefore id place → IsBefore id (next_place place)
 IsBefore-next Board Board before = absurd before
-IsBefore-next (Made s count) Board before = absurd before
+IsBefore-next (Made number count) Board before = absurd before
 IsBefore-next Board (Made t later) before = tt
-IsBefore-next (Made s count) (Made t later) before = elim before [
+IsBefore-next (Made number count) (Made t later) before = elim before [
   | inl seat ↦ inl seat
   | inr same ↦ inr (same.0, omega (arith, same.1))
 ]
 
 IsBefore-here : (place : Id) → IsBefore place (next_place place)
 IsBefore-here Board = tt
-IsBefore-here (Made s count) = inr (refl, omega arith)
+IsBefore-here (Made number count) = inr (refl, omega arith)
 
 -- before the next place is what is before this one, and this one
 IsBefore-cases : (id place : Id) → IsBefore id (next_place place) → IsBefore id place ⊎ (place ≡ id)
 IsBefore-cases Board Board before = inr refl
-IsBefore-cases (Made s count) Board before = elim before [ inl seat ↦ absurd (omega (arith, seat)) | inr same ↦ absurd (omega (arith, same.1)) ]
+IsBefore-cases (Made number count) Board before = elim before [ inl seat ↦ absurd (omega (arith, seat)) | inr same ↦ absurd (omega (arith, same.1)) ]
 IsBefore-cases Board (Made t later) before = inl tt
-IsBefore-cases (Made s count) (Made t later) before = elim before [
+IsBefore-cases (Made number count) (Made t later) before = elim before [
   | inl seat ↦ inl (inl seat)
   | inr same ↦ elim (cases_lt count later) [
     | inl below ↦ inl (inr (same.0, below))
     | inr above ↦ (let equal : later ≡ count = omega (arith, same.1, above) in
-        inr (ap (λ x. Made x later) (sym same.0) ∙ ap (λ x. Made s x) equal))
+        inr (ap (λ x. Made x later) (sym same.0) ∙ ap (λ x. Made number x) equal))
   ]
 ]
 
 -- a marked object is listed after those before it
-pub IsListed-push : (m : Marking) (place : Id) (ids : List Id) → IsListed m place ids → IsMarked m place → IsListed m (next_place place) (ids ++ place ∷ [])
+pub IsListed-push : (m : Marking) (place : Id) (ids : List Id) → IsListed m place ids → HasMark m place → IsListed m (next_place place) (ids ++ place ∷ [])
 IsListed-push m place ids listed here = record {
   ordered = all_pairs_push IsBefore ids place listed.ordered (λ k d within. (listed.marked (get_or ids k d) (Contains-get_or ids k d within)).1);
   marked = λ id held. elim (Contains-push_cases ids place id held) [
     | inl old ↦ ((listed.marked id old).0, IsBefore-next id place (listed.marked id old).1)
-    | inr new ↦ subst (λ x. IsMarked m x × IsBefore x (next_place place)) new (here, IsBefore-here place)
+    | inr new ↦ subst (λ x. HasMark m x × IsBefore x (next_place place)) new (here, IsBefore-here place)
   ];
   whole = λ id marked before. elim (IsBefore-cases id place before) [
     | inl old ↦ Contains-append_left ids (place ∷ []) id (listed.whole id marked old)
@@ -59,13 +59,13 @@ IsListed-push m place ids listed here = record {
 }
 
 -- an object that isn't marked is passed over
-pub IsListed-skip : (m : Marking) (place : Id) (ids : List Id) → IsListed m place ids → (IsMarked m place → ⊥) → IsListed m (next_place place) ids
+pub IsListed-skip : (m : Marking) (place : Id) (ids : List Id) → IsListed m place ids → (HasMark m place → ⊥) → IsListed m (next_place place) ids
 IsListed-skip m place ids listed unmarked = record {
   ordered = listed.ordered;
   marked = λ id held. ((listed.marked id held).0, IsBefore-next id place (listed.marked id held).1);
   whole = λ id marked before. elim (IsBefore-cases id place before) [
     | inl old ↦ listed.whole id marked old
-    | inr new ↦ absurd (unmarked (subst (IsMarked m) (sym new) marked))
+    | inr new ↦ absurd (unmarked (subst (HasMark m) (sym new) marked))
   ];
 }
 
@@ -73,32 +73,32 @@ false-true : false ≡ true → ⊥
 false-true h = cc
 
 -- after the last object of a seat come those of the next
-pub IsListed-seat : (g : State) (m : Marking) (s : ℕ) (ids : List Id) → HasMarks g m → IsListed m (Made s (length (party g s).objects)) ids → IsListed m (Made (s + 1) 0) ids
-IsListed-seat g m s ids objects listed = record {
+pub IsListed-seat : (g : Graph) (m : Marking) (number : ℕ) (ids : List Id) → HasMarks g m → IsListed m (Made number (length (graph_seat g number).objects)) ids → IsListed m (Made (number + 1) 0) ids
+IsListed-seat g m number ids objects listed = record {
   ordered = listed.ordered;
   marked = λ id held. ((listed.marked id held).0, later id (listed.marked id held).1);
   whole = λ id marked before. listed.whole id marked (earlier id marked before);
 }
   where
     end : ℕ
-    end = length (party g s).objects
+    end = length (graph_seat g number).objects
 
-    later : (id : Id) → IsBefore id (Made s end) → IsBefore id (Made (s + 1) 0)
+    later : (id : Id) → IsBefore id (Made number end) → IsBefore id (Made (number + 1) 0)
     later Board before = tt
     later (Made t count) before = elim before [ inl seat ↦ inl (omega (arith, seat)) | inr same ↦ inl (omega (arith, same.0)) ]
 
-    not_above : (t count : ℕ) → IsBefore (Made t count) (Made (s + 1) 0) → s ≤ t → t ≡ s
+    not_above : (t count : ℕ) → IsBefore (Made t count) (Made (number + 1) 0) → number ≤ t → t ≡ number
     not_above t count before above = elim before [ inl seat ↦ omega (arith, seat, above) | inr same ↦ absurd (omega (arith, same.1)) ]
 
-    within : (t count : ℕ) → t ≡ s → IsMarked m (Made t count) → count < end
+    within : (t count : ℕ) → t ≡ number → HasMark m (Made t count) → count < end
     within t count here marked = elim (cases_lt count end) [
       | inl inside ↦ inside
-      | inr past ↦ absurd (false-true (ap is_some (sym (slice_get_past (party g s).objects count past)) ∙ subst (λ x. is_some (slice_get (party g x).objects count) ≡ true) here (sym (marks_there g m objects (Made t count)) ∙ ap is_some marked)))
+      | inr past ↦ absurd (false-true (ap is_some (sym (slice_get_past (graph_seat g number).objects count past)) ∙ subst (λ x. is_some (slice_get (graph_seat g x).objects count) ≡ true) here (sym (marks_there g m objects (Made t count)) ∙ ap is_some marked)))
     ]
 
-    earlier : (id : Id) → IsMarked m id → IsBefore id (Made (s + 1) 0) → IsBefore id (Made s end)
+    earlier : (id : Id) → HasMark m id → IsBefore id (Made (number + 1) 0) → IsBefore id (Made number end)
     earlier Board marked before = tt
-    earlier (Made t count) marked before = elim (cases_lt t s) [
+    earlier (Made t count) marked before = elim (cases_lt t number) [
       | inl below ↦ inl below
-      | inr above ↦ (let here : t ≡ s = not_above t count before above in inr (here, within t count here marked))
+      | inr above ↦ (let here : t ≡ number = not_above t count before above in inr (here, within t count here marked))
     ]

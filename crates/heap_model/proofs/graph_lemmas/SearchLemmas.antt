@@ -8,11 +8,11 @@ use Rattle.heap_model.specs.declared.id.Id.{Id}
 use Rattle.heap_model.specs.declared.id.Id.TheVariants.{Board, Made}
 use Rattle.heap_model.specs.declared.id.Value.{Value}
 use Rattle.heap_model.specs.declared.id.Value.TheVariants.{Nil, Number, Object}
-use Rattle.heap_model.specs.graph.Objects.{node, nobody, made_counts}
-use Rattle.heap_model.specs.graph.State.{State, Node, Party}
+use Rattle.heap_model.specs.graph.Objects.{node, absent_graph_seat, made_counts}
+use Rattle.heap_model.specs.graph.Graph.{Graph, Node, GraphSeat}
 use Rattle.heap_model.specs.graph.Reach.{IsRoot, IsRegistered, PointsTo, Points, Reaches, from_register, from_cell, IsBefore, IsReach}
 use Rattle.heap_model.specs.graph.Search.{Search, GoesOn, FoundFromSeat, FoundFromObject, IsSearch}
-use Rattle.heap_model.specs.graph.Marking.{Marking, mark, with_mark, IsMarked, IsFound, HasMarks, IsListed, no_marks}
+use Rattle.heap_model.specs.graph.Marking.{Marking, mark_of, with_mark, HasMark, IsFound, HasMarks, IsListed, no_marks}
 use Rattle.heap_model.proofs.graph_lemmas.MarkLemmas.{with_mark-here, with_mark-other, unmarked-with_mark, mark_counts-with_mark, mark_counts-no_marks, marks_by_counts, marks_there, IsMarked-no_marks}
 
 pub GoesOn-trans : {P : Id → Type 0} {a b c : Search} → GoesOn P a b → GoesOn P b c → GoesOn P a c
@@ -45,11 +45,11 @@ GoesOn-weaker weaker on = record {
 abbrev pub noted : Search → Id → Search
 noted walk id = record { marks = with_mark walk.marks id; waiting = walk.waiting ++ id ∷ [] }
 
-pub GoesOn-noted : (walk : Search) (id : Id) → mark walk.marks id ≡ Some false → GoesOn (λ x. id ≡ x) walk (noted walk id)
+pub GoesOn-noted : (walk : Search) (id : Id) → mark_of walk.marks id ≡ Some false → GoesOn (λ x. id ≡ x) walk (noted walk id)
 GoesOn-noted walk id fresh = record {
   marked_stay = λ x marked. elim (with_mark-other walk.marks id x fresh) [
     | inl stays ↦ stays ∙ marked
-    | inr here ↦ subst (λ y. IsMarked (with_mark walk.marks id) y) here (with_mark-here walk.marks id fresh)
+    | inr here ↦ subst (λ y. HasMark (with_mark walk.marks id) y) here (with_mark-here walk.marks id fresh)
   ];
   marks_stay = mark_counts-with_mark walk.marks id;
   waiting_stay = λ x waits. Contains-append_left walk.waiting (id ∷ []) x waits;
@@ -59,17 +59,17 @@ GoesOn-noted walk id fresh = record {
   ];
   waiting_more = λ x waits. elim (Contains-push_cases walk.waiting id x waits) [
     | inl old ↦ inl old
-    | inr here ↦ inr (subst (λ y. IsMarked (with_mark walk.marks id) y) here (with_mark-here walk.marks id fresh))
+    | inr here ↦ inr (subst (λ y. HasMark (with_mark walk.marks id) y) here (with_mark-here walk.marks id fresh))
   ];
   work_stays = omega (arith, length-append walk.waiting (id ∷ []), unmarked-with_mark walk.marks id fresh);
 }
 
 -- what a value refers to was marked, and waits
-pub GoesOn-note : {old new : Search} {value : Value} (id : Id) → value ≡ Object id → mark old.marks id ≡ Some false → new ≡ noted old id → GoesOn (λ x. value ≡ Object x) old new
+pub GoesOn-note : {old new : Search} {value : Value} (id : Id) → value ≡ Object id → mark_of old.marks id ≡ Some false → new ≡ noted old id → GoesOn (λ x. value ≡ Object x) old new
 GoesOn-note {old} {new} {value} id is fresh noting =
     subst (GoesOn (λ x. value ≡ Object x) old) (sym noting) (GoesOn-weaker (λ x here. is ∙ ap Object here) (GoesOn-noted old id fresh))
 
-pub IsFound-note : (m : Marking) {new : Marking} {value : Value} (id : Id) → value ≡ Object id → mark m id ≡ Some false → new ≡ with_mark m id → IsFound new value
+pub IsFound-note : (m : Marking) {new : Marking} {value : Value} (id : Id) → value ≡ Object id → mark_of m id ≡ Some false → new ≡ with_mark m id → IsFound new value
 IsFound-note m {new} {value} id is fresh noting =
     subst (λ x. IsFound x value) (sym noting) (subst (IsFound (with_mark m id)) (sym is) (λ there. with_mark-here m id fresh))
 
@@ -79,7 +79,7 @@ IsFound-stays on Nil found = tt
 IsFound-stays on (Number n) found = tt
 IsFound-stays {P} {a} {b} on (Object id) found = λ there. on.marked_stay id (found (sym (marks_by_counts a.marks b.marks on.marks_stay id) ∙ there))
 
-pub FoundFromSeat-stays : {P : Id → Type 0} {a b : Search} → GoesOn P a b → (seat : Party) → FoundFromSeat a.marks seat → FoundFromSeat b.marks seat
+pub FoundFromSeat-stays : {P : Id → Type 0} {a b : Search} → GoesOn P a b → (seat : GraphSeat) → FoundFromSeat a.marks seat → FoundFromSeat b.marks seat
 FoundFromSeat-stays {P} {a} {b} on seat found = All-weaker (IsFound a.marks) (IsFound b.marks) (IsFound-stays on) seat.registers found
 
 pub FoundFromObject-stays : {P : Id → Type 0} {a b : Search} → GoesOn P a b → (object : Node) → FoundFromObject a.marks object → FoundFromObject b.marks object
@@ -87,11 +87,11 @@ FoundFromObject-stays {P} {a} {b} on object found =
     All-weaker (λ cell. IsFound a.marks cell.value) (λ cell. IsFound b.marks cell.value) (λ cell. IsFound-stays on cell.value) object.cells found
 
 -- an object whose mark is there was made
-made_of_marked : (g : State) (m : Marking) (id : Id) → HasMarks g m → IsMarked m id → IsSome (node g id)
+made_of_marked : (g : Graph) (m : Marking) (id : Id) → HasMarks g m → HasMark m id → IsSome (node g id)
 made_of_marked g m id objects marked = sym (marks_there g m objects id) ∙ ap is_some marked
 
 -- a search that went on from the seats alone
-pub IsSearch-start : (g : State) (walk : Search) → GoesOn (IsRoot g) (record { marks = no_marks (made_counts g); waiting = [] }) walk → All (FoundFromSeat walk.marks) g.seats → IsSearch g walk
+pub IsSearch-start : (g : Graph) (walk : Search) → GoesOn (IsRoot g) (record { marks = no_marks (made_counts g); waiting = [] }) walk → All (FoundFromSeat walk.marks) g.seats → IsSearch g walk
 IsSearch-start g walk on found =
     let objects : HasMarks g walk.marks = on.marks_stay ∙ mark_counts-no_marks (made_counts g) in
     record {
@@ -109,7 +109,7 @@ IsSearch-start g walk on found =
     }
 
 -- a search from which an object was taken whose cells were then looked at
-pub IsSearch-step : (g : State) (walk : Search) (id : Id) (new : Search) → IsSearch g (record walk { waiting = walk.waiting ++ id ∷ [] }) → GoesOn (Points g id) walk new → IfSome (node g id) (FoundFromObject new.marks) → IsSearch g new
+pub IsSearch-step : (g : Graph) (walk : Search) (id : Id) (new : Search) → IsSearch g (record walk { waiting = walk.waiting ++ id ∷ [] }) → GoesOn (Points g id) walk new → IfSome (node g id) (FoundFromObject new.marks) → IsSearch g new
 IsSearch-step g walk id new is on found =
     let objects : HasMarks g new.marks = on.marks_stay ∙ is.objects in
     record {
@@ -139,11 +139,11 @@ IsSearch-step g walk id new is on found =
 Any-All : {A : Type 0} (P Q : A → Type 0) (xs : List A) → Any P xs → All Q xs → (x : A) × P x × Q x
 Any-All P Q xs any all = (any.1, any.4, subst Q any.3 (all any.0 any.1 any.2))
 
-found_object : (m : Marking) (value : Value) (id : Id) → value ≡ Object id → IsFound m value → IsSome (mark m id) → IsMarked m id
+found_object : (m : Marking) (value : Value) (id : Id) → value ≡ Object id → IsFound m value → IsSome (mark_of m id) → HasMark m id
 found_object m value id is found = subst (IsFound m) is found
 
 -- at the end of a search each reached object is marked
-pub IsMarked-reached : (g : State) (walk : Search) → IsSearch g walk → walk.waiting ≡ [] → (id : Id) → Reaches g id → IsMarked walk.marks id
+pub IsMarked-reached : (g : Graph) (walk : Search) → IsSearch g walk → walk.waiting ≡ [] → (id : Id) → Reaches g id → HasMark walk.marks id
 IsMarked-reached g walk is none _ (from_register id made root) =
     let seat = Any-All (λ seat. IsRegistered seat id) (FoundFromSeat walk.marks) g.seats root is.from_seats in
     let held = seat.1 in
@@ -155,22 +155,22 @@ IsMarked-reached g walk is none _ (from_cell id made holder reached points) =
       | inr all ↦ pointed_at (node g holder) points all
     ]
   where
-    pointed_at : (object : Option Node) → IsSomeAnd object (λ o. PointsTo o id) → IfSome object (FoundFromObject walk.marks) → IsMarked walk.marks id
+    pointed_at : (object : Option Node) → IsSomeAnd object (λ o. PointsTo o id) → IfSome object (FoundFromObject walk.marks) → HasMark walk.marks id
     pointed_at None some all = absurd some
     pointed_at (Some object) some all =
         let cell = Any-All (λ cell. cell.value ≡ Object id) (λ cell. IsFound walk.marks cell.value) object.cells some all in
         found_object walk.marks cell.0.value id cell.1 cell.2 (marks_there g walk.marks is.objects id ∙ made)
 
 -- a made object is before all those of a seat past the last
-before_end : (g : State) (id : Id) → IsSome (node g id) → IsBefore id (Made (length g.seats) 0)
+before_end : (g : Graph) (id : Id) → IsSome (node g id) → IsBefore id (Made (length g.seats) 0)
 before_end g Board made = tt
-before_end g (Made s count) made = elim (cases_lt s (length g.seats)) [
+before_end g (Made number count) made = elim (cases_lt number (length g.seats)) [
   | inl within ↦ inl within
-  | inr past ↦ absurd (subst (λ seat. IsSome (slice_get seat.objects count) → ⊥) (sym (get_or_past g.seats s nobody past)) (λ h. cc) made)
+  | inr past ↦ absurd (subst (λ seat. IsSome (slice_get seat.objects count) → ⊥) (sym (get_or_past g.seats number absent_graph_seat past)) (λ h. cc) made)
 ]
 
 -- the marked objects in their order are the reached ones
-pub IsReach-listed : (g : State) (walk : Search) (ids : List Id) → IsSearch g walk → walk.waiting ≡ [] → IsListed walk.marks (Made (length g.seats) 0) ids → IsReach g ids
+pub IsReach-listed : (g : Graph) (walk : Search) (ids : List Id) → IsSearch g walk → walk.waiting ≡ [] → IsListed walk.marks (Made (length g.seats) 0) ids → IsReach g ids
 IsReach-listed g walk ids is none listed = record {
   ordered = listed.ordered;
   reached = λ id. (

@@ -7,7 +7,7 @@ use Rattle.heap_model.specs.declared.command.Command.TheVariants as commands
 use Rattle.heap_model.specs.declared.entry.Entry.{Entry}
 use Rattle.heap_model.specs.declared.entry.Entry.TheVariants as entries
 use Rattle.heap_model.specs.graph.Legal.{IsObjectLegal}
-use Rattle.heap_model.specs.account.Space.{gained, lost, taken_of, spent_of}
+use Rattle.heap_model.specs.account.Space.{fragments_gained, fragments_lost, taken_of, spent_of}
 use Rattle.heap_model.specs.Needs.{made_by}
 use Rattle.heap_model.specs.account.Phases.{AnswersPhase, BeginsPhase, ShowsRightly}
 use Rattle.heap_model.specs.account.Cycles.{EndsCycle}
@@ -18,8 +18,8 @@ pub use Rattle.heap_model.specs.account.Refusals.{given_up, FindsSpace, ShowsSpa
 
 -- a seat takes what is there, and gives back what it has
 abbrev pub TakesAndGives : Heap → List Entry → Entry → Type 0
-TakesAndGives heap before (entries.Takes s count) = (1 ≤ count) × (gained before + count ≤ group_fragments * heap.groups + lost before)
-TakesAndGives heap before (entries.GivesBack s count) = (1 ≤ count) × (spent_of s before + count ≤ taken_of s before)
+TakesAndGives heap before (entries.Takes number count) = (1 ≤ count) × (fragments_gained before + count ≤ group_fragments * heap.groups + fragments_lost before)
+TakesAndGives heap before (entries.GivesBack number count) = (1 ≤ count) × (spent_of number before + count ≤ taken_of number before)
 TakesAndGives heap before _ = Unit {0}
 
 -- the most fragments that a seat keeps after this command
@@ -29,9 +29,9 @@ most_kept _ = most_reserve
 
 -- an object is made of what its maker has, and little is kept after a reply
 abbrev pub MakesOfOwn : List Entry → Entry → Type 0
-MakesOfOwn before (entries.Said s command reply) =
-    (spent_of s before + made_by command reply ≤ taken_of s before)
-    × (taken_of s before ≤ spent_of s before + made_by command reply + most_kept command)
+MakesOfOwn before (entries.Said number command reply) =
+    (spent_of number before + made_by command reply ≤ taken_of number before)
+    × (taken_of number before ≤ spent_of number before + made_by command reply + most_kept command)
 MakesOfOwn before _ = Unit {0}
 
 -- the entry keeps the rules after those before it, in a play or in a run

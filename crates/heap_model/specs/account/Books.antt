@@ -10,14 +10,14 @@ use Rattle.heap_model.specs.declared.account.cycle.Cycle.{Cycle}
 use Rattle.heap_model.specs.Heap.{IsHeap}
 use Rattle.heap_model.specs.graph.Objects.{made_counts}
 use Rattle.heap_model.specs.graph.Reach.{IsReach}
-use Rattle.heap_model.specs.graph.Sizes.{frags_of, words_of}
-use Rattle.heap_model.specs.account.Space.{granted, total}
+use Rattle.heap_model.specs.graph.Sizes.{fragments_of_all, spine_words_of_all}
+use Rattle.heap_model.specs.account.Space.{words_granted, total}
 use Rattle.heap_model.specs.account.Sums.{IsFew, IsMeasured}
 use Rattle.heap_model.specs.account.Windows.{up_to_cycle}
 use Rattle.heap_model.specs.account.PhaseCounts.{HasEnded, JustEnded}
 use Rattle.heap_model.specs.account.Cycles.{graph_of, all_bring}
 use Rattle.heap_model.specs.account.Sweep.{HasSwung}
-use Rattle.heap_model.specs.account.SeatBooks.{seat_at, TellsSeat}
+use Rattle.heap_model.specs.account.SeatBooks.{account_at, TellsSeat}
 
 -- what an account keeps
 pub record Books : Type 0 where
@@ -31,8 +31,8 @@ pub record Books : Type 0 where
   pub made : List ℕ
 
 -- the seat has left or answered the phase
-abbrev pub HasAnswered : Books → ℕ → Type 0
-HasAnswered books s = is_some (seat_at books.seats s).left ≡ false → (seat_at books.seats s).own.answers ≡ books.all.phases
+abbrev pub IsUpToDate : Books → ℕ → Type 0
+IsUpToDate books number = is_some (account_at books.seats number).left ≡ false → (account_at books.seats number).own.answers ≡ books.all.phases
 
 -- the sums fit
 pub record CycleFits (cycle : Cycle) : Type 0 where
@@ -45,23 +45,23 @@ pub record AreBooks (heap : Heap) (entries : ℕ) (all : Effect) (seats : List S
   pub heap_fits : IsHeap heap
   pub entries_fit : entries ≤ 2 ^ 32
   pub all_fits : IsFew entries all
-  pub seats_fit : (s : ℕ) → IsFew entries (seat_at seats s).own
+  pub seats_fit : (number : ℕ) → IsFew entries (account_at seats number).own
   pub cycle_fits : CycleFits cycle
 
 -- what is kept of the last cycle is so in the history
 pub record TellsCycle (heap : Heap) (cycle : Cycle) (history : List Entry) : Type 0 where
   pub reached : IsReach (graph_of heap (up_to_cycle history)) cycle.reached.items
-  pub frags : cycle.frags ≡ frags_of (graph_of heap (up_to_cycle history)) cycle.reached.items
-  pub words : cycle.words ≡ words_of (graph_of heap (up_to_cycle history)) cycle.reached.items
+  pub frags : cycle.frags ≡ fragments_of_all (graph_of heap (up_to_cycle history)) cycle.reached.items
+  pub words : cycle.words ≡ spine_words_of_all (graph_of heap (up_to_cycle history)) cycle.reached.items
   pub brought : cycle.brought ≡ all_bring heap (up_to_cycle history)
   pub taken : cycle.taken_then ≡ total (λ e. e.taken) (up_to_cycle history)
-  pub granted : cycle.words_then ≡ granted (up_to_cycle history)
+  pub granted : cycle.words_then ≡ words_granted (up_to_cycle history)
 
 -- the account tells the history
 pub record Tells (books : Books) (history : List Entry) : Type 0 where
   pub entries : books.entries ≡ length history
   pub all : IsMeasured books.all (λ part. total part history)
-  pub seats : (s : ℕ) → s < books.heap.seats → TellsSeat books.heap books.all books.seats s (seat_at books.seats s) history
+  pub seats : (number : ℕ) → number < books.heap.seats → TellsSeat books.heap books.all books.seats number (account_at books.seats number) history
   pub ended : (cycle : ℕ) → HasEnded cycle history ↔ (cycle < books.all.phases / cycle_phases)
   pub just_ended : (cycle : ℕ) → JustEnded cycle history ↔ (books.ended ≡ Some cycle)
   pub swung : (id : Id) → HasSwung id history ↔ Contains books.swung id

@@ -11,10 +11,10 @@ no_effect = record { taken = 0; given = 0; born = 0; freed = 0; words = 0; retur
 
 -- what an entry does
 abbrev pub effect_of : Entry → Effect
-effect_of (entries.Said s command reply) = record no_effect { born = made_by command reply; words = words_by command reply }
-effect_of (entries.Takes s count) = record no_effect { taken = count }
-effect_of (entries.GivesBack s count) = record no_effect { given = count }
-effect_of (entries.Answers s phase) = record no_effect { answers = 1 }
+effect_of (entries.Said number command reply) = record no_effect { born = made_by command reply; words = words_by command reply }
+effect_of (entries.Takes number count) = record no_effect { taken = count }
+effect_of (entries.GivesBack number count) = record no_effect { given = count }
+effect_of (entries.Answers number phase) = record no_effect { answers = 1 }
 effect_of (entries.Advance phase) = record no_effect { phases = 1 }
 effect_of (entries.Frees count) = record no_effect { freed = count }
 effect_of (entries.Returns count) = record no_effect { returned = count }
@@ -23,8 +23,8 @@ effect_of _ = no_effect
 
 -- the entry is this seat's
 abbrev pub is_of : ℕ → Entry → Bool
-is_of s (entries.Said q command reply) = q == s
-is_of s (entries.Takes q count) = q == s
-is_of s (entries.GivesBack q count) = q == s
-is_of s (entries.Answers q phase) = q == s
-is_of s _ = false
+is_of number (entries.Said other command reply) = other == number
+is_of number (entries.Takes other count) = other == number
+is_of number (entries.GivesBack other count) = other == number
+is_of number (entries.Answers other phase) = other == number
+is_of number _ = false

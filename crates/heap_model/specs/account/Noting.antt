@@ -10,32 +10,32 @@ use Rattle.heap_model.specs.account.Sums.{plus}
 use Rattle.heap_model.specs.account.Windows.{is_reply_to, begins_phase}
 use Rattle.heap_model.specs.account.PhaseCounts.{is_leave_of}
 use Rattle.heap_model.specs.account.Books.{Books}
-use Rattle.heap_model.specs.account.SeatBooks.{seat_at, last_phase}
+use Rattle.heap_model.specs.account.SeatBooks.{account_at, last_phase}
 
 -- the seat of the entry, where it has one
 abbrev pub seat_of : Entry → Option ℕ
-seat_of (entries.Said s command reply) = Some s
-seat_of (entries.Takes s count) = Some s
-seat_of (entries.GivesBack s count) = Some s
-seat_of (entries.Answers s phase) = Some s
+seat_of (entries.Said number command reply) = Some number
+seat_of (entries.Takes number count) = Some number
+seat_of (entries.GivesBack number count) = Some number
+seat_of (entries.Answers number phase) = Some number
 seat_of _ = None
 
 -- the seat of the entry, where it has one, is one of these
 abbrev pub IsSeatBelow : ℕ → Entry → Type 0
-IsSeatBelow seats entry = IfSome (seat_of entry) (λ s. s < seats)
+IsSeatBelow seats entry = IfSome (seat_of entry) (λ number. number < seats)
 
 -- the seat has not left, and has yet to answer the phase
 abbrev pub is_behind_now : Effect → List SeatAccount → ℕ → Bool
-is_behind_now all seats s = if is_some (seat_at seats s).left then false else nat_lt (seat_at seats s).own.answers all.phases
+is_behind_now all seats number = if is_some (account_at seats number).left then false else nat_lt (account_at seats number).own.answers all.phases
 
 -- what is kept of a seat
-pub record IsNotedSeat (heap : Heap) (all : Effect) (seats : List SeatAccount) (s : ℕ) (entry : Entry) (old new : SeatAccount) : Type 0 where
-  pub own : new.own ≡ (if is_of s entry then plus old.own (effect_of entry) else old.own)
-  pub own_then : new.own_then ≡ (if is_reply_to s entry then new.own else old.own_then)
-  pub all_then : new.all_then ≡ (if is_reply_to s entry then plus all (effect_of entry) else old.all_then)
+pub record IsNotedSeat (heap : Heap) (all : Effect) (seats : List SeatAccount) (number : ℕ) (entry : Entry) (old new : SeatAccount) : Type 0 where
+  pub own : new.own ≡ (if is_of number entry then plus old.own (effect_of entry) else old.own)
+  pub own_then : new.own_then ≡ (if is_reply_to number entry then new.own else old.own_then)
+  pub all_then : new.all_then ≡ (if is_reply_to number entry then plus all (effect_of entry) else old.all_then)
   pub behind_then : (other : ℕ) → other < heap.seats
-      → slice_index_or new.behind_then other false ≡ (if is_reply_to s entry then is_behind_now all seats other else slice_index_or old.behind_then other false)
-  pub left : new.left ≡ (if is_leave_of s entry then Some (last_phase old all.phases) else old.left)
+      → slice_index_or new.behind_then other false ≡ (if is_reply_to number entry then is_behind_now all seats other else slice_index_or old.behind_then other false)
+  pub left : new.left ≡ (if is_leave_of number entry then Some (last_phase old all.phases) else old.left)
 
 -- the cycle that the entry ends
 abbrev pub ended_by : Entry → Option ℕ
@@ -47,7 +47,7 @@ pub record IsCounted (old : Books) (entry : Entry) (new : Books) : Type 0 where
   pub heap : new.heap ≡ old.heap
   pub entries : new.entries ≡ old.entries + 1
   pub all : new.all ≡ plus old.all (effect_of entry)
-  pub seats : (s : ℕ) → s < old.heap.seats → IsNotedSeat old.heap old.all old.seats s entry (seat_at old.seats s) (seat_at new.seats s)
+  pub seats : (number : ℕ) → number < old.heap.seats → IsNotedSeat old.heap old.all old.seats number entry (account_at old.seats number) (account_at new.seats number)
   pub ended : new.ended ≡ ended_by entry
 
 -- what is kept of all

@@ -14,20 +14,21 @@ abbrev pub phase : List Entry → ℕ
 phase history = total (λ e. e.phases) history
 
 -- the seat's last answer: how many it gave, since it answers every phase once
-abbrev pub answered : ℕ → List Entry → ℕ
-answered s history = total_of s (λ e. e.answers) history
+abbrev pub last_answer : ℕ → List Entry → ℕ
+last_answer number history = total_of number (λ e. e.answers) history
 
 -- the entry is the seat's leave
 abbrev pub is_leave_of : ℕ → Entry → Bool
-is_leave_of s (entries.Said q commands.Leave reply) = q == s
-is_leave_of s _ = false
+is_leave_of number (entries.Said other commands.Leave reply) = other == number
+is_leave_of number _ = false
 
+-- the seat has left
 abbrev pub has_left : ℕ → List Entry → Bool
-has_left s history = list_any (is_leave_of s) history
+has_left number history = list_any (is_leave_of number) history
 
 -- the seats that have not left have answered the phase
 abbrev pub AllAnswered : Heap → List Entry → Type 0
-AllAnswered heap history = (s : ℕ) → s < heap.seats → has_left s history ≡ false → answered s history ≡ phase history
+AllAnswered heap history = (number : ℕ) → number < heap.seats → has_left number history ≡ false → last_answer number history ≡ phase history
 
 -- the cycle has ended
 abbrev pub HasEnded : ℕ → List Entry → Type 0
@@ -39,4 +40,4 @@ JustEnded cycle history = (earlier : List Entry) × (kept : ℕ) × (history ≡
 
 -- the cycle has begun since the seat's last reply
 abbrev pub BeganSince : ℕ → ℕ → List Entry → Type 0
-BeganSince s cycle history = Contains (since_reply s history) (entries.Advance (cycle_phases * cycle + barriers))
+BeganSince number cycle history = Contains (since_reply number history) (entries.Advance (cycle_phases * cycle + barriers))

@@ -12,11 +12,11 @@ use Rattle.heap_model.specs.declared.entry.Entry.{Entry}
 use Rattle.heap_model.specs.declared.entry.Entry.TheVariants as entries
 use Rattle.heap_model.specs.account.Windows.{up_to_reply, since_reply}
 use Rattle.heap_model.specs.account.PhaseCounts.{has_left, AllAnswered, HasEnded, JustEnded, BeganSince}
-pub use Rattle.heap_model.specs.account.PhaseCounts.{phase, answered}
+pub use Rattle.heap_model.specs.account.PhaseCounts.{phase, last_answer}
 
 -- a seat answers the phase, which is the next one for it
 abbrev pub AnswersPhase : List Entry → Entry → Type 0
-AnswersPhase before (entries.Answers s p) = (p ≡ phase before) × (p ≡ answered s before + 1)
+AnswersPhase before (entries.Answers number p) = (p ≡ phase before) × (p ≡ last_answer number before + 1)
 AnswersPhase before _ = Unit {0}
 
 -- the next phase begins once all have answered; a multiple of seven is begun by the end of a cycle alone
@@ -25,29 +25,29 @@ BeginsPhase heap before (entries.Advance p) = (p ≡ phase before + 1) × (p % c
 BeginsPhase heap before _ = Unit {0}
 
 -- the seat is there, and this is its last answer, while this is the phase
-pub record IsBehind (s answer p : ℕ) (history : List Entry) : Type 0 where
-  pub present : has_left s history ≡ false
-  pub answered : answered s history ≡ answer
+pub record IsBehind (number answer p : ℕ) (history : List Entry) : Type 0 where
+  pub present : has_left number history ≡ false
+  pub answered : last_answer number history ≡ answer
   pub here : phase history ≡ p
 
 -- so it was for the other seat at some place since the last reply of `s`, the place right after that reply among them
 abbrev pub WasBehind : ℕ → ℕ → ℕ → ℕ → List Entry → Type 0
-WasBehind s other answer p history =
-    (later rest : List Entry) × (since_reply s history ≡ later ++ rest) × IsBehind other answer p (up_to_reply s history ++ later)
+WasBehind number other answer p history =
+    (later rest : List Entry) × (since_reply number history ≡ later ++ rest) × IsBehind other answer p (up_to_reply number history ++ later)
 
 -- in a play a seat is behind when this is shown; in a run it was, by one phase, since the last reply of `s`
 abbrev pub SawBehind : Bool → List Entry → ℕ → ℕ → ℕ → ℕ → Type 0
-SawBehind true before s other answer p = IsBehind other answer p before
-SawBehind false before s other answer p = (p ≡ answer + 1) × WasBehind s other answer p before
+SawBehind true before number other answer p = IsBehind other answer p before
+SawBehind false before number other answer p = (p ≡ answer + 1) × WasBehind number other answer p before
 
 -- a poll shows the phase, which the seat has answered; a collect shows a cycle that began since the seat's last reply and has
 -- ended, or another seat that is behind
 abbrev pub ShowsPhases : Heap → Bool → List Entry → ℕ → Command → Reply → Type 0
-ShowsPhases heap play before s commands.Poll (replies.Phase p) = (p ≡ phase before) × (p ≡ answered s before)
-ShowsPhases heap play before s commands.Collect (replies.Cycle cycle) = HasEnded cycle before × BeganSince s cycle before
-ShowsPhases heap play before s commands.Collect (replies.Waits other answer p) =
-    (other < heap.seats) × (other ≢ s) × (answer < p) × SawBehind play before s other answer p
-ShowsPhases heap play before s _ _ = Unit {0}
+ShowsPhases heap play before number commands.Poll (replies.Phase p) = (p ≡ phase before) × (p ≡ last_answer number before)
+ShowsPhases heap play before number commands.Collect (replies.Cycle cycle) = HasEnded cycle before × BeganSince number cycle before
+ShowsPhases heap play before number commands.Collect (replies.Waits other answer p) =
+    (other < heap.seats) × (other ≢ number) × (answer < p) × SawBehind play before number other answer p
+ShowsPhases heap play before number _ _ = Unit {0}
 
 -- a turn shows the cycle that has just ended, or a seat that is behind
 abbrev pub TurnShows : Heap → List Entry → TurnReply → Type 0
@@ -57,6 +57,6 @@ TurnShows heap before (turns.Waits other answer p) = (other < heap.seats) × (an
 
 -- what is shown of phases is right
 abbrev pub ShowsRightly : Heap → Bool → List Entry → Entry → Type 0
-ShowsRightly heap play before (entries.Said s command reply) = ShowsPhases heap play before s command reply
+ShowsRightly heap play before (entries.Said number command reply) = ShowsPhases heap play before number command reply
 ShowsRightly heap play before (entries.Turned command reply) = TurnShows heap before reply
 ShowsRightly heap play before _ = Unit {0}

@@ -8,24 +8,24 @@ use Rattle.heap_model.specs.declared.entry.Entry.{Entry}
 use Rattle.heap_model.specs.declared.entry.Entry.TheVariants as entries
 use Rattle.heap_model.specs.declared.account.seat.SeatAccount.{SeatAccount}
 use Rattle.heap_model.specs.declared.account.cycle.Cycle.{Cycle}
-use Rattle.heap_model.specs.graph.State.{State}
+use Rattle.heap_model.specs.graph.Graph.{Graph}
 use Rattle.heap_model.specs.graph.Reach.{IsReach}
 use Rattle.heap_model.specs.graph.Growth.{makes, counts_after}
-use Rattle.heap_model.specs.graph.Sizes.{frags_of, words_of}
+use Rattle.heap_model.specs.graph.Sizes.{fragments_of_all, spine_words_of_all}
 use Rattle.heap_model.specs.account.Windows.{begins_cycle}
 use Rattle.heap_model.specs.account.Books.{Books, CycleFits}
-use Rattle.heap_model.specs.account.SeatBooks.{seat_at}
+use Rattle.heap_model.specs.account.SeatBooks.{account_at}
 
 -- what a seat brings into a cycle, by what is kept of it
 abbrev pub brought_by : SeatAccount → ℕ
 brought_by seat = seat.own.taken - (seat.own_then.given + seat.own_then.born)
 
 -- what is kept of a cycle that begins here
-pub record IsBegun (books : Books) (g : State) (cycle : Cycle) : Type 0 where
+pub record IsBegun (books : Books) (g : Graph) (cycle : Cycle) : Type 0 where
   pub reached : IsReach g cycle.reached.items
-  pub frags : cycle.frags ≡ frags_of g cycle.reached.items
-  pub words : cycle.words ≡ words_of g cycle.reached.items
-  pub brought : cycle.brought ≡ sum_by (λ s. brought_by (seat_at books.seats s)) (range_with_len 0 books.heap.seats)
+  pub frags : cycle.frags ≡ fragments_of_all g cycle.reached.items
+  pub words : cycle.words ≡ spine_words_of_all g cycle.reached.items
+  pub brought : cycle.brought ≡ sum_by (λ number. brought_by (account_at books.seats number)) (range_with_len 0 books.heap.seats)
   pub taken : cycle.taken_then ≡ books.all.taken
   pub granted : cycle.words_then ≡ books.all.words
   pub fits : CycleFits cycle
@@ -38,7 +38,7 @@ IsWithinBy books kept =
     × (kept ≤ books.cycle.frags + books.cycle.brought + (books.all.taken - books.cycle.taken_then))
 
 -- what the entry needs memory for is kept: an array that swings, a cycle that begins, and a mark for an object that is made
-pub record IsPrepared (old : Books) (g : State) (entry : Entry) (new : Books) : Type 0 where
+pub record IsPrepared (old : Books) (g : Graph) (entry : Entry) (new : Books) : Type 0 where
   pub rest : new ≡ record old { cycle = new.cycle; swung = new.swung; made = new.made }
   pub swung : (id : Id) → Contains new.swung id ↔ Contains old.swung id ⊎ (entry ≡ entries.Swings id)
   pub begun : begins_cycle entry ≡ true → IsBegun old g new.cycle
@@ -47,7 +47,7 @@ pub record IsPrepared (old : Books) (g : State) (entry : Entry) (new : Books) : 
 
 -- memory is wanted for an entry that makes an object, begins a cycle, or swings an array
 abbrev pub WantsMemory : Entry → Type 0
-WantsMemory (entries.Said s command reply) = makes (entries.Said s command reply) ≡ true
+WantsMemory (entries.Said number command reply) = makes (entries.Said number command reply) ≡ true
 WantsMemory (entries.Advance p) = p % cycle_phases ≡ barriers
 WantsMemory (entries.Swings id) = Unit {0}
 WantsMemory _ = ⊥

@@ -18,13 +18,14 @@ abbrev pub no_seat : SeatAccount
 no_seat = record { own = no_effect; own_then = no_effect; all_then = no_effect; behind_then = []; left = None }
 
 -- what is kept of a seat
-abbrev pub seat_at : List SeatAccount → ℕ → SeatAccount
-seat_at seats s = slice_index_or seats s no_seat
+abbrev pub account_at : List SeatAccount → ℕ → SeatAccount
+account_at seats number = slice_index_or seats number no_seat
 
 -- the first phase in which the other was seen behind since a seat's last reply, and its last phase
 abbrev pub first_behind : SeatAccount → ℕ → ℕ
 first_behind seat other = seat.all_then.phases + (if slice_index_or seat.behind_then other false then 0 else 1)
 
+-- the phase in which the seat left; the phase now where it has not
 abbrev pub last_phase : SeatAccount → ℕ → ℕ
 last_phase seat now = unwrap_or seat.left now
 
@@ -33,25 +34,25 @@ abbrev pub IsFrom : ℕ → ℕ → ℕ → Type 0
 IsFrom first last p = (first ≤ p) × (p ≤ last)
 
 -- what all and what others did since the seat's last reply is the difference of what is kept
-pub record TellsSince (all : Effect) (s : ℕ) (seat : SeatAccount) (history : List Entry) : Type 0 where
-  pub freed : total (λ e. e.freed) (since_reply s history) + seat.all_then.freed ≡ all.freed
-  pub returned : total (λ e. e.returned) (since_reply s history) + seat.all_then.returned ≡ all.returned
-  pub given : total_but s (λ e. e.given) (since_reply s history) + seat.own.given + seat.all_then.given ≡ all.given + seat.own_then.given
-  pub taken : total_but s (λ e. e.taken) (since_reply s history) + seat.own.taken + seat.all_then.taken ≡ all.taken + seat.own_then.taken
-  pub words : total_but s (λ e. e.words) (since_reply s history) + seat.own.words + seat.all_then.words ≡ all.words + seat.own_then.words
+pub record TellsSince (all : Effect) (number : ℕ) (seat : SeatAccount) (history : List Entry) : Type 0 where
+  pub freed : total (λ e. e.freed) (since_reply number history) + seat.all_then.freed ≡ all.freed
+  pub returned : total (λ e. e.returned) (since_reply number history) + seat.all_then.returned ≡ all.returned
+  pub given : total_but number (λ e. e.given) (since_reply number history) + seat.own.given + seat.all_then.given ≡ all.given + seat.own_then.given
+  pub taken : total_but number (λ e. e.taken) (since_reply number history) + seat.own.taken + seat.all_then.taken ≡ all.taken + seat.own_then.taken
+  pub words : total_but number (λ e. e.words) (since_reply number history) + seat.own.words + seat.all_then.words ≡ all.words + seat.own_then.words
 
 -- what is kept of the seat is so in the history
-pub record TellsSeat (heap : Heap) (all : Effect) (seats : List SeatAccount) (s : ℕ) (seat : SeatAccount) (history : List Entry) : Type 0 where
-  pub own : IsMeasured seat.own (λ part. total_of s part history)
-  pub own_then : IsMeasured seat.own_then (λ part. total_of s part (up_to_reply s history))
-  pub all_then : IsMeasured seat.all_then (λ part. total part (up_to_reply s history))
-  pub since : TellsSince all s seat history
-  pub left : is_some seat.left ≡ has_left s history
+pub record TellsSeat (heap : Heap) (all : Effect) (seats : List SeatAccount) (number : ℕ) (seat : SeatAccount) (history : List Entry) : Type 0 where
+  pub own : IsMeasured seat.own (λ part. total_of number part history)
+  pub own_then : IsMeasured seat.own_then (λ part. total_of number part (up_to_reply number history))
+  pub all_then : IsMeasured seat.all_then (λ part. total part (up_to_reply number history))
+  pub since : TellsSince all number seat history
+  pub left : is_some seat.left ≡ has_left number history
   pub solvent : seat.own_then.given + seat.own_then.born ≤ seat.own_then.taken
   pub richer : seat.own_then.taken ≤ seat.own.taken
   pub earlier : seat.all_then.phases ≤ all.phases
   pub kept_up : is_some seat.left ≡ false → all.phases ≤ seat.own.answers + 1
   pub gone : last_phase seat all.phases ≤ all.phases
-  pub began : (p : ℕ) → Contains (since_reply s history) (entries.Advance p) ↔ (seat.all_then.phases < p) × (p ≤ all.phases) × (p % cycle_phases ≢ rest)
-  pub behind : (other answer : ℕ) → other < heap.seats → other ≢ s
-      → WasBehind s other answer (answer + 1) history ↔ IsFrom (first_behind seat other) (last_phase (seat_at seats other) all.phases) (answer + 1)
+  pub began : (p : ℕ) → Contains (since_reply number history) (entries.Advance p) ↔ (seat.all_then.phases < p) × (p ≤ all.phases) × (p % cycle_phases ≢ rest)
+  pub behind : (other answer : ℕ) → other < heap.seats → other ≢ number
+      → WasBehind number other answer (answer + 1) history ↔ IsFrom (first_behind seat other) (last_phase (account_at seats other) all.phases) (answer + 1)

@@ -12,44 +12,44 @@ total part history = sum_by (λ e. part (effect_of e)) history
 
 -- a part of what one seat's entries did
 abbrev pub total_of : ℕ → (Effect → ℕ) → List Entry → ℕ
-total_of s part history = sum_by (λ e. if is_of s e then part (effect_of e) else 0) history
+total_of number part history = sum_by (λ e. if is_of number e then part (effect_of e) else 0) history
 
 -- a part of what the others' entries did, the collector's among them
 abbrev pub total_but : ℕ → (Effect → ℕ) → List Entry → ℕ
-total_but s part history = sum_by (λ e. if is_of s e then 0 else part (effect_of e)) history
+total_but number part history = sum_by (λ e. if is_of number e then 0 else part (effect_of e)) history
 
 -- the board's fragments, and what was taken
-abbrev pub gained : List Entry → ℕ
-gained history = board_fragments + total (λ e. e.taken) history
+abbrev pub fragments_gained : List Entry → ℕ
+fragments_gained history = board_fragments + total (λ e. e.taken) history
 
 -- what was given back or freed
-abbrev pub lost : List Entry → ℕ
-lost history = total (λ e. e.given) history + total (λ e. e.freed) history
+abbrev pub fragments_lost : List Entry → ℕ
+fragments_lost history = total (λ e. e.given) history + total (λ e. e.freed) history
 
 -- the fragments in use
-abbrev pub used : List Entry → ℕ
-used history = gained history - lost history
+abbrev pub fragments_used : List Entry → ℕ
+fragments_used history = fragments_gained history - fragments_lost history
 
 -- the spine words of the arrays that were made
-abbrev pub granted : List Entry → ℕ
-granted history = total (λ e. e.words) history
+abbrev pub words_granted : List Entry → ℕ
+words_granted history = total (λ e. e.words) history
 
 -- the spine words that were returned
-abbrev pub returned : List Entry → ℕ
-returned history = total (λ e. e.returned) history
+abbrev pub words_returned : List Entry → ℕ
+words_returned history = total (λ e. e.returned) history
 
 -- the spine words in use
-abbrev pub spine : List Entry → ℕ
-spine history = granted history - returned history
+abbrev pub words_used : List Entry → ℕ
+words_used history = words_granted history - words_returned history
 
 -- what the seat took
 abbrev pub taken_of : ℕ → List Entry → ℕ
-taken_of s history = total_of s (λ e. e.taken) history
+taken_of number history = total_of number (λ e. e.taken) history
 
 -- what the seat gave back or made into objects
 abbrev pub spent_of : ℕ → List Entry → ℕ
-spent_of s history = total_of s (λ e. e.given) history + total_of s (λ e. e.born) history
+spent_of number history = total_of number (λ e. e.given) history + total_of number (λ e. e.born) history
 
 -- what the seat took and has neither given back nor made into objects
-abbrev pub unborn : ℕ → List Entry → ℕ
-unborn s history = taken_of s history - spent_of s history
+abbrev pub fragments_unborn : ℕ → List Entry → ℕ
+fragments_unborn number history = taken_of number history - spent_of number history

@@ -7,14 +7,14 @@ use Rattle.heap_model.specs.declared.id.Id.{Id}
 use Rattle.heap_model.specs.declared.entry.Entry.{Entry}
 use Rattle.heap_model.specs.declared.entry.Entry.TheVariants as entries
 use Rattle.heap_model.specs.graph.Objects.{node}
-use Rattle.heap_model.specs.graph.State.{State}
-use Rattle.heap_model.specs.account.Space.{gained, lost, granted, returned}
+use Rattle.heap_model.specs.graph.Graph.{Graph}
+use Rattle.heap_model.specs.account.Space.{fragments_gained, fragments_lost, words_granted, words_returned}
 use Rattle.heap_model.specs.account.Windows.{begins_phase, after_last}
 use Rattle.heap_model.specs.account.PhaseCounts.{phase}
 use Rattle.heap_model.specs.account.Cycles.{graph_of}
 
 -- the object is an array
-abbrev pub IsArray : State → Id → Type 0
+abbrev pub IsArray : Graph → Id → Type 0
 IsArray g id = IsSomeAnd (node g id) (λ object. object.array ≡ true)
 
 -- the array has swung in this phase
@@ -24,7 +24,7 @@ HasSwung id history = Contains (after_last begins_phase history) (entries.Swings
 -- fragments and spine words are given up in the phase of the sweep, as many as there are; an array swings in the phase before,
 -- and once
 abbrev pub Sweeps : Heap → List Entry → Entry → Type 0
-Sweeps heap before (entries.Frees count) = (phase before % cycle_phases ≡ sweep) × (1 ≤ count) × (lost before + count ≤ gained before)
-Sweeps heap before (entries.Returns count) = (phase before % cycle_phases ≡ sweep) × (1 ≤ count) × (returned before + count ≤ granted before)
+Sweeps heap before (entries.Frees count) = (phase before % cycle_phases ≡ sweep) × (1 ≤ count) × (fragments_lost before + count ≤ fragments_gained before)
+Sweeps heap before (entries.Returns count) = (phase before % cycle_phases ≡ sweep) × (1 ≤ count) × (words_returned before + count ≤ words_granted before)
 Sweeps heap before (entries.Swings id) = (phase before % cycle_phases ≡ copying) × IsArray (graph_of heap before) id × ¬ HasSwung id before
 Sweeps heap before _ = Unit {0}

@@ -17,8 +17,8 @@ after_last test (entry ∷ history) = if list_any test (entry ∷ history) then 
 
 -- the entry is a reply to this seat
 abbrev pub is_reply_to : ℕ → Entry → Bool
-is_reply_to s (entries.Said q command reply) = q == s
-is_reply_to s _ = false
+is_reply_to number (entries.Said other command reply) = other == number
+is_reply_to number _ = false
 
 -- the entry begins a phase
 abbrev pub begins_phase : Entry → Bool
@@ -33,11 +33,11 @@ begins_cycle _ = false
 
 -- the history up to the seat's last reply, which is empty where it had none
 abbrev pub up_to_reply : ℕ → List Entry → List Entry
-up_to_reply s history = up_to_last (is_reply_to s) history
+up_to_reply number history = up_to_last (is_reply_to number) history
 
 -- what came since the seat's last reply, or since the opening
 abbrev pub since_reply : ℕ → List Entry → List Entry
-since_reply s history = after_last (is_reply_to s) history
+since_reply number history = after_last (is_reply_to number) history
 
 -- the history up to the begin of the last cycle
 abbrev pub up_to_cycle : List Entry → List Entry

@@ -9,31 +9,31 @@ use Rattle.heap_model.specs.declared.entry.Entry.{Entry}
 use Rattle.heap_model.specs.declared.entry.Entry.TheVariants.{Said, Takes, GivesBack, Answers}
 use Rattle.heap_model.specs.Command.{IsCommand, IsWithin}
 use Rattle.heap_model.specs.Needs.{need_of, record_fragments, array_fragments}
-use Rattle.heap_model.specs.account.PhaseCounts.{answered}
+use Rattle.heap_model.specs.account.PhaseCounts.{last_answer}
 use Rattle.heap_model.specs.account.Space.{taken_of, spent_of}
-use Rattle.heap_model.specs.calls.SeatState.{SeatState, own_party}
+use Rattle.heap_model.specs.calls.SeatState.{SeatState, own_graph_seat}
 
 -- a name is left for an object that the command makes, or a stamp for a set that it does
 abbrev pub HasNumber : SeatState → Command → Type 0
-HasNumber seat (commands.New d fields) = length (own_party seat).objects + 1 < name_limit
-HasNumber seat (commands.Array d cells) = length (own_party seat).objects + 1 < name_limit
-HasNumber seat (commands.Set r i v) = (own_party seat).sets + 1 < stamp_limit
+HasNumber seat (commands.New d fields) = length (own_graph_seat seat).objects + 1 < name_limit
+HasNumber seat (commands.Array d cells) = length (own_graph_seat seat).objects + 1 < name_limit
+HasNumber seat (commands.Set r i v) = (own_graph_seat seat).sets + 1 < stamp_limit
 HasNumber seat _ = Unit {0}
 
 -- the seat may be given the command
 pub record IsReady (seat : SeatState) (command : Command) : Type 0 where
-  pub present : (own_party seat).left ≡ false
+  pub present : (own_graph_seat seat).left ≡ false
   pub in_range : IsCommand command
   pub room : 2 * need_of command + 4 ≤ seat.spare
   pub numbered : HasNumber seat command
 
 -- the seat takes so many fragments of one group after another
 abbrev pub takes_of : ℕ → List ℕ → List Entry
-takes_of s counts = map (Takes s) counts
+takes_of number counts = map (Takes number) counts
 
 -- the seat gives so many fragments back to one group after another
 abbrev pub gives_of : ℕ → List ℕ → List Entry
-gives_of s counts = map (GivesBack s) counts
+gives_of number counts = map (GivesBack number) counts
 
 -- some or all fragments of a group
 abbrev pub IsGroupCount : ℕ → Type 0
@@ -54,38 +54,38 @@ pub record GathersTooLittle (unborn need found : ℕ) (counts : List ℕ) : Type
 
 -- what is lacking is claimed before an object is made; before a refusal each claim is given back as well, in the same order
 abbrev pub ClaimsBefore : ℕ → ℕ → ℕ → Reply → List Entry → Type 0
-ClaimsBefore s unborn need (replies.Made id) before = (counts : List ℕ) × GathersEnough unborn need counts × (before ≡ takes_of s counts)
-ClaimsBefore s unborn need (replies.Full shown found) before =
-    (counts : List ℕ) × (shown ≡ need) × GathersTooLittle unborn need found counts × (before ≡ takes_of s counts ++ gives_of s counts)
-ClaimsBefore s unborn need _ before = ⊥
+ClaimsBefore number unborn need (replies.Made id) before = (counts : List ℕ) × GathersEnough unborn need counts × (before ≡ takes_of number counts)
+ClaimsBefore number unborn need (replies.Full shown found) before =
+    (counts : List ℕ) × (shown ≡ need) × GathersTooLittle unborn need found counts × (before ≡ takes_of number counts ++ gives_of number counts)
+ClaimsBefore number unborn need _ before = ⊥
 
 -- an array is refused for want of spine words before anything is claimed
 abbrev pub ArrayBefore : ℕ → ℕ → ℕ → Reply → List Entry → Type 0
-ArrayBefore s unborn need (replies.SpineFull shown used) before = before ≡ []
-ArrayBefore s unborn need reply before = ClaimsBefore s unborn need reply before
+ArrayBefore number unborn need (replies.SpineFull shown used) before = before ≡ []
+ArrayBefore number unborn need reply before = ClaimsBefore number unborn need reply before
 
 -- the phase that a seat answered last is told; the next one is answered first
 abbrev pub AnswersBefore : ℕ → ℕ → Reply → List Entry → Type 0
-AnswersBefore s last (replies.Phase p) before = ((p ≡ last) × (before ≡ [])) ⊎ ((p ≡ last + 1) × (before ≡ Answers s p ∷ []))
-AnswersBefore s last _ before = ⊥
+AnswersBefore number last (replies.Phase p) before = ((p ≡ last) × (before ≡ [])) ⊎ ((p ≡ last + 1) × (before ≡ Answers number p ∷ []))
+AnswersBefore number last _ before = ⊥
 
 -- what a seat gives back that leaves with so many fragments of its own
 abbrev pub last_gives : ℕ → ℕ → List Entry
-last_gives s unborn = if unborn == 0 then [] else GivesBack s unborn ∷ []
+last_gives number unborn = if unborn == 0 then [] else GivesBack number unborn ∷ []
 
 -- what a seat tells that leaves with so many fragments of its own: it gives them back, if there are any, and is done
 abbrev pub leave_entries : ℕ → ℕ → List Entry
-leave_entries s unborn = last_gives s unborn ++ Said s commands.Leave replies.Done ∷ []
+leave_entries number unborn = last_gives number unborn ++ Said number commands.Leave replies.Done ∷ []
 
 -- the entries that come right before the seat's reply to the command, where it had so many fragments of its own and has answered this phase last;
 -- a collect is no single call
 abbrev pub ComesBefore : ℕ → ℕ → ℕ → Command → Reply → List Entry → Type 0
-ComesBefore s unborn last (commands.New d fields) reply before = ClaimsBefore s unborn (record_fragments fields) reply before
-ComesBefore s unborn last (commands.Array d cells) reply before = ArrayBefore s unborn (array_fragments cells) reply before
-ComesBefore s unborn last commands.Poll reply before = AnswersBefore s last reply before
-ComesBefore s unborn last commands.Leave reply before = before ≡ last_gives s unborn
-ComesBefore s unborn last commands.Collect reply before = ⊥
-ComesBefore s unborn last _ reply before = before ≡ []
+ComesBefore number unborn last (commands.New d fields) reply before = ClaimsBefore number unborn (record_fragments fields) reply before
+ComesBefore number unborn last (commands.Array d cells) reply before = ArrayBefore number unborn (array_fragments cells) reply before
+ComesBefore number unborn last commands.Poll reply before = AnswersBefore number last reply before
+ComesBefore number unborn last commands.Leave reply before = before ≡ last_gives number unborn
+ComesBefore number unborn last commands.Collect reply before = ⊥
+ComesBefore number unborn last _ reply before = before ≡ []
 
 -- the seat got its entries for the command, the reply last, and lost no more room than they take
 pub record Adds (old new : SeatState) (command : Command) (reply : Reply) : Type 0 where
@@ -94,6 +94,6 @@ pub record Adds (old new : SeatState) (command : Command) (reply : Reply) : Type
   pub unborn : ℕ
   pub had : spent_of old.number old.mine + unborn ≡ taken_of old.number old.mine
   pub before : List Entry
-  pub comes : ComesBefore old.number unborn (answered old.number old.mine) command reply before
+  pub comes : ComesBefore old.number unborn (last_answer old.number old.mine) command reply before
   pub entries : new.mine ≡ old.mine ++ (before ++ Said old.number command reply ∷ [])
   pub spare : old.spare + length old.mine ≤ new.spare + length new.mine

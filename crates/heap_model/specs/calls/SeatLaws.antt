@@ -12,15 +12,15 @@ use Rattle.heap_model.specs.graph.Growth.{after_reply}
 use Rattle.heap_model.specs.Heap.{IsHeap}
 use Rattle.heap_model.specs.Needs.{need_of}
 use Rattle.heap_model.specs.calls.SeatCalls.{ComesBefore, Adds}
-use Rattle.heap_model.specs.calls.SeatState.{SeatState, own_graph, own_party, held}
+use Rattle.heap_model.specs.calls.SeatState.{SeatState, own_graph, own_graph_seat, held_value}
 
 -- the entry is the seat's, and its command's numbers are in their ranges
 abbrev pub IsOwn : ℕ → Entry → Type 0
-IsOwn s (Said q command reply) = (q ≡ s) × IsCommand command
-IsOwn s (Takes q count) = q ≡ s
-IsOwn s (GivesBack q count) = q ≡ s
-IsOwn s (Answers q phase) = q ≡ s
-IsOwn s _ = ⊥
+IsOwn number (Said other command reply) = (other ≡ number) × IsCommand command
+IsOwn number (Takes other count) = other ≡ number
+IsOwn number (GivesBack other count) = other ≡ number
+IsOwn number (Answers other phase) = other ≡ number
+IsOwn number _ = ⊥
 
 -- the heap is within its limits, the seat is one of its seats, and each of its entries is its own
 pub record IsSeat (seat : SeatState) : Type 0 where
@@ -31,7 +31,7 @@ pub record IsSeat (seat : SeatState) : Type 0 where
 -- a call adds at most two entries for each fragment that its command needs, and two more
 abbrev pub EachCallIsShort : Type 0
 EachCallIsShort =
-    (s unborn last : ℕ) (command : Command) (reply : Reply) (before : List Entry) → ComesBefore s unborn last command reply before
+    (number unborn last : ℕ) (command : Command) (reply : Reply) (before : List Entry) → ComesBefore number unborn last command reply before
     → length before + 1 ≤ 2 * need_of command + 2
 
 -- so much room is left after a call: for no more entries than those is it spent
@@ -40,7 +40,7 @@ EachCallLeavesRoom = (old new : SeatState) (command : Command) (reply : Reply) �
 
 -- register 0 of a seat that hasn't left is the board
 abbrev pub BoardStays : Type 0
-BoardStays = (seat : SeatState) → IsSeat seat → (own_party seat).left ≡ false → held seat 0 ≡ Object Board
+BoardStays = (seat : SeatState) → IsSeat seat → (own_graph_seat seat).left ≡ false → held_value seat 0 ≡ Object Board
 
 -- a call changes what the seat's own entries tell by its reply alone
 abbrev pub EachCallGrows : Type 0
@@ -48,9 +48,10 @@ EachCallGrows = (old new : SeatState) (command : Command) (reply : Reply) → Ad
 
 -- no call but a leave leaves, and a call makes one object at most and does one set at most
 pub record CountsUp (old new : SeatState) (command : Command) : Type 0 where
-  pub present_stays : command ≢ Leave → (own_party new).left ≡ (own_party old).left
-  pub made_more : length (own_party new).objects ≤ length (own_party old).objects + 1
-  pub sets_more : (own_party new).sets ≤ (own_party old).sets + 1
+  pub present_stays : command ≢ Leave → (own_graph_seat new).left ≡ (own_graph_seat old).left
+  pub made_more : length (own_graph_seat new).objects ≤ length (own_graph_seat old).objects + 1
+  pub sets_more : (own_graph_seat new).sets ≤ (own_graph_seat old).sets + 1
 
+-- each call counts up so
 abbrev pub EachCallCounts : Type 0
 EachCallCounts = (old new : SeatState) (command : Command) (reply : Reply) → Adds old new command reply → CountsUp old new command

@@ -13,7 +13,7 @@ use Rattle.heap_model.specs.declared.refusal.SpaceRefusal.{SpaceRefusal}
 use Rattle.heap_model.specs.declared.refusal.SpaceRefusal.TheVariants as spaces
 use Rattle.heap_model.specs.account.Space.{taken_of, spent_of}
 use Rattle.heap_model.specs.Needs.{array_fragments, array_words}
-use Rattle.heap_model.specs.calls.SeatState.{SeatState, own_party}
+use Rattle.heap_model.specs.calls.SeatState.{SeatState, own_graph_seat}
 
 -- the reply to `new`
 abbrev pub record_reply : Result Id Full → Reply
@@ -53,7 +53,7 @@ len_reply (Err none) = replies.NoObject
 
 -- the id of the seat's next object
 abbrev pub next_id : SeatState → Id
-next_id seat = Made seat.number (length (own_party seat).objects)
+next_id seat = Made seat.number (length (own_graph_seat seat).objects)
 
 -- the seat's fragments and those that it claimed were too few, and what it claimed is given back
 pub record LacksFragments (old new : SeatState) (wanted need found : ℕ) : Type 0 where

@@ -5,52 +5,52 @@ use Rattle.heap_model.specs.declared.id.Id.TheVariants.{Board, Made}
 use Rattle.heap_model.specs.declared.id.Value.{Value}
 use Rattle.heap_model.specs.declared.id.Value.TheVariants.{Nil, Number, Object}
 use Rattle.heap_model.specs.declared.graph.cell.Cell.{Cell}
-use Rattle.heap_model.specs.graph.Objects.{party, register}
-use Rattle.heap_model.specs.graph.State.{Node, Party, State, fresh}
+use Rattle.heap_model.specs.graph.Objects.{graph_seat, register_value}
+use Rattle.heap_model.specs.graph.Graph.{Node, GraphSeat, Graph, fresh}
 
 -- the graph with another seat at this number
-abbrev pub with_party : State → ℕ → Party → State
-with_party g s p = record g { seats = slice_set g.seats s p }
+abbrev pub with_graph_seat : Graph → ℕ → GraphSeat → Graph
+with_graph_seat g number p = record g { seats = slice_set g.seats number p }
 
 -- the register d of the seat holds the value
-abbrev pub put : State → ℕ → ℕ → Value → State
-put g s d value = with_party g s (record (party g s) { registers = slice_set (party g s).registers d value })
+abbrev pub with_register : Graph → ℕ → ℕ → Value → Graph
+with_register g number d value = with_graph_seat g number (record (graph_seat g number) { registers = slice_set (graph_seat g number).registers d value })
 
 -- the seat made one more object, and its register d holds it
-abbrev pub add : State → ℕ → ℕ → Node → State
-add g s d object =
-    let made = party g s in
-    with_party g s (record made { registers = slice_set made.registers d (Object (Made s (length made.objects))); objects = made.objects ++ object ∷ [] })
+abbrev pub add : Graph → ℕ → ℕ → Node → Graph
+add g number d object =
+    let made = graph_seat g number in
+    with_graph_seat g number (record made { registers = slice_set made.registers d (Object (Made number (length made.objects))); objects = made.objects ++ object ∷ [] })
 
 -- the object with another cell i
 abbrev pub with_cell : Node → ℕ → Cell → Node
 with_cell object i cell = record object { cells = slice_set object.cells i cell }
 
 -- the seat's objects with another cell i of one of them
-abbrev pub with_object_cell : Party → ℕ → ℕ → Cell → Party
+abbrev pub with_object_cell : GraphSeat → ℕ → ℕ → Cell → GraphSeat
 with_object_cell p count i cell =
     record p { objects = slice_set p.objects count (with_cell (slice_index_or p.objects count (fresh false 0)) i cell) }
 
 -- the graph with another cell i of what the value refers to
-abbrev pub write : State → Value → ℕ → Cell → State
+abbrev pub write : Graph → Value → ℕ → Cell → Graph
 write g Nil i cell = g
 write g (Number n) i cell = g
 write g (Object Board) i cell = record g { board = with_cell g.board i cell }
-write g (Object (Made q count)) i cell = with_party g q (with_object_cell (party g q) count i cell)
+write g (Object (Made other count)) i cell = with_graph_seat g other (with_object_cell (graph_seat g other) count i cell)
 
 -- the stamp of the n-th set of a seat
-abbrev pub stamp_of : ℕ → ℕ → ℕ
-stamp_of s n = (s + 1) * stamp_limit + n
+abbrev pub set_stamp : ℕ → ℕ → ℕ
+set_stamp number n = (number + 1) * stamp_limit + n
 
 -- the seat did one more set
-abbrev pub count_set : State → ℕ → State
-count_set g s = with_party g s (record (party g s) { sets = (party g s).sets + 1 })
+abbrev pub count_set : Graph → ℕ → Graph
+count_set g number = with_graph_seat g number (record (graph_seat g number) { sets = (graph_seat g number).sets + 1 })
 
 -- the seat did one more set: the cell i of what its register r refers to holds the value of its register v
-abbrev pub set_cell : State → ℕ → ℕ → ℕ → ℕ → State
-set_cell g s r i v =
-    write (count_set g s) (register g s r) i (record { value = register g s v; stamp = stamp_of s ((party g s).sets + 1) })
+abbrev pub set_cell : Graph → ℕ → ℕ → ℕ → ℕ → Graph
+set_cell g number r i v =
+    write (count_set g number) (register_value g number r) i (record { value = register_value g number v; stamp = set_stamp number ((graph_seat g number).sets + 1) })
 
 -- the seat's registers are empty, and it has left
-abbrev pub leave : State → ℕ → State
-leave g s = with_party g s (record (party g s) { registers = replicate register_count Nil; left = true })
+abbrev pub leave : Graph → ℕ → Graph
+leave g number = with_graph_seat g number (record (graph_seat g number) { registers = replicate register_count Nil; left = true })

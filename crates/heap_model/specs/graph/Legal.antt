@@ -4,27 +4,27 @@ use Rattle.heap_model.specs.declared.heap.Heap.{Heap}
 use Rattle.heap_model.specs.declared.entry.Entry.{Entry}
 use Rattle.heap_model.specs.declared.entry.Entry.TheVariants as entries
 use Rattle.heap_model.specs.Command.{IsCommand}
-use Rattle.heap_model.specs.graph.Objects.{party}
-use Rattle.heap_model.specs.graph.State.{State, opening}
-use Rattle.heap_model.specs.graph.Growth.{after}
+use Rattle.heap_model.specs.graph.Objects.{graph_seat}
+use Rattle.heap_model.specs.graph.Graph.{Graph, opening}
+use Rattle.heap_model.specs.graph.Growth.{after_entry}
 pub use Rattle.heap_model.specs.graph.Replies.{Says, Gets, Sets, Compares, Polls, Collects, length_reply}
 
 -- the seat is below the seats, and hasn't left
-abbrev pub IsPresent : State → ℕ → Type 0
-IsPresent g s = (party g s).left ≡ false
+abbrev pub IsPresent : Graph → ℕ → Type 0
+IsPresent g number = (graph_seat g number).left ≡ false
 
 -- the entry may stand after what led to this graph
-abbrev pub Accepts : State → Entry → Type 0
-Accepts g (entries.Said s command reply) = IsPresent g s × IsCommand command × Says g s command reply
-Accepts g (entries.Takes s count) = IsPresent g s
-Accepts g (entries.GivesBack s count) = IsPresent g s
-Accepts g (entries.Answers s phase) = IsPresent g s
+abbrev pub Accepts : Graph → Entry → Type 0
+Accepts g (entries.Said number command reply) = IsPresent g number × IsCommand command × Says g number command reply
+Accepts g (entries.Takes number count) = IsPresent g number
+Accepts g (entries.GivesBack number count) = IsPresent g number
+Accepts g (entries.Answers number phase) = IsPresent g number
 Accepts g _ = Unit {0}
 
 -- each entry may stand after those before it
-abbrev pub AcceptsAll : State → List Entry → Type 0
+abbrev pub AcceptsAll : Graph → List Entry → Type 0
 AcceptsAll g [] = Unit {0}
-AcceptsAll g (entry ∷ history) = Accepts g entry × AcceptsAll (after g entry) history
+AcceptsAll g (entry ∷ history) = Accepts g entry × AcceptsAll (after_entry g entry) history
 
 -- each reply is the one that a heap gives which never collects
 abbrev pub IsObjectLegal : Heap → List Entry → Type 0

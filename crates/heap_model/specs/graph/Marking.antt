@@ -5,7 +5,7 @@ use Rattle.heap_model.specs.declared.id.Id.TheVariants.{Board, Made}
 use Rattle.heap_model.specs.declared.id.Value.{Value}
 use Rattle.heap_model.specs.declared.id.Value.TheVariants.{Nil, Number, Object}
 use Rattle.heap_model.specs.graph.Objects.{made_counts}
-use Rattle.heap_model.specs.graph.State.{State}
+use Rattle.heap_model.specs.graph.Graph.{Graph}
 use Rattle.heap_model.specs.graph.Reach.{IsBefore}
 
 -- the board's mark, and each seat's marks in the order of its objects
@@ -15,25 +15,25 @@ pub record Marking : Type 0 where
 
 -- the marks of this seat
 abbrev pub marks_of : Marking → ℕ → List Bool
-marks_of m s = slice_index_or m.seats s []
+marks_of m number = slice_index_or m.seats number []
 
 -- the mark of this id, where there is such an object
-abbrev pub mark : Marking → Id → Option Bool
-mark m Board = Some m.board
-mark m (Made s count) = slice_get (marks_of m s) count
+abbrev pub mark_of : Marking → Id → Option Bool
+mark_of m Board = Some m.board
+mark_of m (Made number count) = slice_get (marks_of m number) count
 
 -- there is an object of this id, and it is marked
-abbrev pub IsMarked : Marking → Id → Type 0
-IsMarked m id = mark m id ≡ Some true
+abbrev pub HasMark : Marking → Id → Type 0
+HasMark m id = mark_of m id ≡ Some true
 
 -- whether there is and it is
 abbrev pub is_marked : Marking → Id → Bool
-is_marked m id = unwrap_or (mark m id) false
+is_marked m id = unwrap_or (mark_of m id) false
 
 -- the marks, that of this id among them
 abbrev pub with_mark : Marking → Id → Marking
 with_mark m Board = record m { board = true }
-with_mark m (Made s count) = record m { seats = slice_set m.seats s (slice_set (marks_of m s) count true) }
+with_mark m (Made number count) = record m { seats = slice_set m.seats number (slice_set (marks_of m number) count true) }
 
 -- how many objects are not marked
 abbrev pub unmarked : Marking → ℕ
@@ -52,17 +52,17 @@ abbrev pub no_marks : List ℕ → Marking
 no_marks counts = record { board = false; seats = map (λ n. replicate n false) counts }
 
 -- there is a mark for each object of the graph, and no more
-abbrev pub HasMarks : State → Marking → Type 0
+abbrev pub HasMarks : Graph → Marking → Type 0
 HasMarks g m = mark_counts m ≡ made_counts g
 
 -- where the value refers to an object, that one is marked
 abbrev pub IsFound : Marking → Value → Type 0
 IsFound m Nil = Unit {0}
 IsFound m (Number n) = Unit {0}
-IsFound m (Object id) = IsSome (mark m id) → IsMarked m id
+IsFound m (Object id) = IsSome (mark_of m id) → HasMark m id
 
 -- the list has exactly the marked ids before this one, in their order
 pub record IsListed (m : Marking) (place : Id) (ids : List Id) : Type 0 where
   pub ordered : AllPairs IsBefore ids
-  pub marked : (id : Id) → Contains ids id → IsMarked m id × IsBefore id place
-  pub whole : (id : Id) → IsMarked m id → IsBefore id place → Contains ids id
+  pub marked : (id : Id) → Contains ids id → HasMark m id × IsBefore id place
+  pub whole : (id : Id) → HasMark m id → IsBefore id place → Contains ids id

@@ -7,34 +7,34 @@ use Rattle.heap_model.specs.declared.id.Value.TheVariants.{Nil, Number, Object}
 use Rattle.heap_model.specs.declared.graph.cell.Cell.{Cell}
 use Rattle.heap_model.specs.declared.reply.Reply.{Reply}
 use Rattle.heap_model.specs.declared.reply.Reply.TheVariants.{NoObject, NoField}
-pub use Rattle.heap_model.specs.graph.State.{Node, Party, State, unset, fresh, opening_party, opening}
+pub use Rattle.heap_model.specs.graph.Graph.{Node, GraphSeat, Graph, unset, fresh, opening_graph_seat, opening}
 
 -- what stands for a seat that isn't there: it has left
-abbrev pub nobody : Party
-nobody = record { registers = []; objects = []; sets = 0; left = true }
+abbrev pub absent_graph_seat : GraphSeat
+absent_graph_seat = record { registers = []; objects = []; sets = 0; left = true }
 
 -- the seat of this number
-abbrev pub party : State → ℕ → Party
-party g s = slice_index_or g.seats s nobody
+abbrev pub graph_seat : Graph → ℕ → GraphSeat
+graph_seat g number = slice_index_or g.seats number absent_graph_seat
 
 -- the value of a seat's register
-abbrev pub register : State → ℕ → ℕ → Value
-register g s r = slice_index_or (party g s).registers r Nil
+abbrev pub register_value : Graph → ℕ → ℕ → Value
+register_value g number r = slice_index_or (graph_seat g number).registers r Nil
 
 -- how many objects each seat made, in the order of the seats
-abbrev pub made_counts : State → List ℕ
+abbrev pub made_counts : Graph → List ℕ
 made_counts g = map (λ seat. length seat.objects) g.seats
 
 -- the object of this id, where it was made
-abbrev pub node : State → Id → Option Node
+abbrev pub node : Graph → Id → Option Node
 node g Board = Some g.board
-node g (Made s count) = slice_get (party g s).objects count
+node g (Made number count) = slice_get (graph_seat g number).objects count
 
 -- the object that a value refers to
-abbrev pub target : State → Value → Option Node
-target g Nil = None
-target g (Number n) = None
-target g (Object id) = node g id
+abbrev pub target_node : Graph → Value → Option Node
+target_node g Nil = None
+target_node g (Number n) = None
+target_node g (Object id) = node g id
 
 -- the cell that was found, or the refusal of an index past the end
 abbrev pub or_no_field : Option Cell → Result Cell Reply
@@ -42,10 +42,10 @@ or_no_field None = Err NoField
 or_no_field (Some cell) = Ok cell
 
 -- the cell of an object, or the refusal that tells why there is none
-abbrev pub cell_of : Option Node → ℕ → Result Cell Reply
-cell_of None i = Err NoObject
-cell_of (Some object) i = or_no_field (slice_get object.cells i)
+abbrev pub cell_or_refusal : Option Node → ℕ → Result Cell Reply
+cell_or_refusal None i = Err NoObject
+cell_or_refusal (Some object) i = or_no_field (slice_get object.cells i)
 
 -- the cell i of what a register refers to
-abbrev pub cell_at : State → ℕ → ℕ → ℕ → Result Cell Reply
-cell_at g s r i = cell_of (target g (register g s r)) i
+abbrev pub cell_at : Graph → ℕ → ℕ → ℕ → Result Cell Reply
+cell_at g number r i = cell_or_refusal (target_node g (register_value g number r)) i

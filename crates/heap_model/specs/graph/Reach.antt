@@ -4,14 +4,14 @@ use Rattle.heap_model.specs.declared.id.Id.{Id}
 use Rattle.heap_model.specs.declared.id.Id.TheVariants.{Board, Made}
 use Rattle.heap_model.specs.declared.id.Value.TheVariants.{Object}
 use Rattle.heap_model.specs.graph.Objects.{node}
-use Rattle.heap_model.specs.graph.State.{Node, Party, State}
+use Rattle.heap_model.specs.graph.Graph.{Node, GraphSeat, Graph}
 
 -- the object was made
-abbrev pub IsMade : State → Id → Type 0
+abbrev pub IsMade : Graph → Id → Type 0
 IsMade g id = IsSome (node g id)
 
 -- a register of the seat holds the id
-abbrev pub IsRegistered : Party → Id → Type 0
+abbrev pub IsRegistered : GraphSeat → Id → Type 0
 IsRegistered seat id = Contains seat.registers (Object id)
 
 -- a cell of the object holds the id
@@ -19,15 +19,15 @@ abbrev pub PointsTo : Node → Id → Type 0
 PointsTo object id = Any (λ cell. cell.value ≡ Object id) object.cells
 
 -- there is an object of the first id, and a cell of it holds the second
-abbrev pub Points : State → Id → Id → Type 0
+abbrev pub Points : Graph → Id → Id → Type 0
 Points g holder id = IsSomeAnd (node g holder) (λ object. PointsTo object id)
 
 -- a register of some seat holds the id
-abbrev pub IsRoot : State → Id → Type 0
+abbrev pub IsRoot : Graph → Id → Type 0
 IsRoot g id = Any (λ seat. IsRegistered seat id) g.seats
 
 -- the object was made, and a register of some seat or a cell of a reached object holds its id
-pub data Reaches (g : State) : Id → Type 0 where
+pub data Reaches (g : Graph) : Id → Type 0 where
   from_register : (id : Id) → IsMade g id → IsRoot g id → Reaches g id
   from_cell : (id : Id) → IsMade g id → (holder : Id) → Reaches g holder → Points g holder id → Reaches g id
 
@@ -35,15 +35,15 @@ pub data Reaches (g : State) : Id → Type 0 where
 abbrev pub IsBefore : Id → Id → Type 0
 IsBefore Board Board = ⊥
 IsBefore Board (Made t later) = Unit {0}
-IsBefore (Made s count) Board = ⊥
-IsBefore (Made s count) (Made t later) = (s < t) ⊎ ((s ≡ t) × (count < later))
+IsBefore (Made number count) Board = ⊥
+IsBefore (Made number count) (Made t later) = (number < t) ⊎ ((number ≡ t) × (count < later))
 
 -- the list has exactly the reached ids, in their order and so each once
-pub record IsReach (g : State) (ids : List Id) : Type 0 where
+pub record IsReach (g : Graph) (ids : List Id) : Type 0 where
   pub ordered : AllPairs IsBefore ids
   pub reached : (id : Id) → Contains ids id ↔ Reaches g id
 
 -- the list has exactly the reached ones of the ids, in their order
-pub record IsReachAmong (g : State) (ids both : List Id) : Type 0 where
+pub record IsReachAmong (g : Graph) (ids both : List Id) : Type 0 where
   pub ordered : AllPairs IsBefore ids → AllPairs IsBefore both
   pub reached : (id : Id) → Contains both id ↔ Contains ids id × Reaches g id

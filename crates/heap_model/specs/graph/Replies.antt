@@ -7,19 +7,19 @@ use Rattle.heap_model.specs.declared.command.Command.TheVariants as commands
 use Rattle.heap_model.specs.declared.reply.Reply.{Reply}
 use Rattle.heap_model.specs.declared.reply.Reply.TheVariants as replies
 use Rattle.heap_model.specs.declared.graph.cell.Cell.{Cell}
-use Rattle.heap_model.specs.graph.Objects.{party, register, target, cell_at}
-use Rattle.heap_model.specs.graph.State.{Node, State}
+use Rattle.heap_model.specs.graph.Objects.{graph_seat, register_value, target_node, cell_at}
+use Rattle.heap_model.specs.graph.Graph.{Node, Graph}
 
 -- an object is made under the seat's next count, or there is too little space
-abbrev pub Makes : State → ℕ → Reply → Type 0
-Makes g s (replies.Made id) = id ≡ Made s (length (party g s).objects)
-Makes g s (replies.Full need found) = Unit {0}
-Makes g s _ = ⊥
+abbrev pub Makes : Graph → ℕ → Reply → Type 0
+Makes g number (replies.Made id) = id ≡ Made number (length (graph_seat g number).objects)
+Makes g number (replies.Full need found) = Unit {0}
+Makes g number _ = ⊥
 
 -- an array may lack spine words too
-abbrev pub MakesArray : State → ℕ → Reply → Type 0
-MakesArray g s (replies.SpineFull need used) = Unit {0}
-MakesArray g s reply = Makes g s reply
+abbrev pub MakesArray : Graph → ℕ → Reply → Type 0
+MakesArray g number (replies.SpineFull need used) = Unit {0}
+MakesArray g number reply = Makes g number reply
 
 -- a get answers the cell's value and stamp
 abbrev pub Gets : Result Cell Reply → Reply → Type 0
@@ -52,16 +52,16 @@ Collects (replies.Waits seat answered phase) = Unit {0}
 Collects _ = ⊥
 
 -- the graph gives this reply to the seat's command
-abbrev pub Says : State → ℕ → Command → Reply → Type 0
-Says g s (commands.New d fields) reply = Makes g s reply
-Says g s (commands.Array d cells) reply = MakesArray g s reply
-Says g s (commands.Get d r i) reply = Gets (cell_at g s r i) reply
-Says g s (commands.Set r i v) reply = Sets (party g s).sets (cell_at g s r i) reply
-Says g s (commands.Num d n) reply = reply ≡ replies.Done
-Says g s (commands.Nil d) reply = reply ≡ replies.Done
-Says g s (commands.Copy d r) reply = reply ≡ replies.Done
-Says g s (commands.Same a b) reply = Compares (register g s a) (register g s b) reply
-Says g s (commands.Len r) reply = reply ≡ length_reply (target g (register g s r))
-Says g s commands.Poll reply = Polls reply
-Says g s commands.Collect reply = Collects reply
-Says g s commands.Leave reply = reply ≡ replies.Done
+abbrev pub Says : Graph → ℕ → Command → Reply → Type 0
+Says g number (commands.New d fields) reply = Makes g number reply
+Says g number (commands.Array d cells) reply = MakesArray g number reply
+Says g number (commands.Get d r i) reply = Gets (cell_at g number r i) reply
+Says g number (commands.Set r i v) reply = Sets (graph_seat g number).sets (cell_at g number r i) reply
+Says g number (commands.Num d n) reply = reply ≡ replies.Done
+Says g number (commands.Nil d) reply = reply ≡ replies.Done
+Says g number (commands.Copy d r) reply = reply ≡ replies.Done
+Says g number (commands.Same a b) reply = Compares (register_value g number a) (register_value g number b) reply
+Says g number (commands.Len r) reply = reply ≡ length_reply (target_node g (register_value g number r))
+Says g number commands.Poll reply = Polls reply
+Says g number commands.Collect reply = Collects reply
+Says g number commands.Leave reply = reply ≡ replies.Done

@@ -3,9 +3,9 @@ use Rattle.std.specs.Prelude.{◌≡◌, ℕ, ◌+◌, ◌≤◌, ◌⊎◌, Lis
 use Rattle.std.specs.Option.{IfSome}
 use Rattle.heap_model.specs.declared.id.Id.{Id}
 use Rattle.heap_model.specs.graph.Objects.{node}
-use Rattle.heap_model.specs.graph.State.{Node, Party, State}
+use Rattle.heap_model.specs.graph.Graph.{Node, GraphSeat, Graph}
 use Rattle.heap_model.specs.graph.Reach.{Reaches}
-use Rattle.heap_model.specs.graph.Marking.{Marking, IsMarked, unmarked, all_marks, mark_counts, HasMarks, IsFound}
+use Rattle.heap_model.specs.graph.Marking.{Marking, HasMark, unmarked, all_marks, mark_counts, HasMarks, IsFound}
 
 -- the marks, and the marked ids that wait
 pub record Search : Type 0 where
@@ -20,15 +20,15 @@ pub record HasPlaces (m : Marking) (waiting places capacity : ℕ) : Type 0 wher
 
 -- the search went on by marking some more objects, of which `P` holds, and which wait now
 pub record GoesOn (P : Id → Type 0) (old new : Search) : Type 0 where
-  pub marked_stay : (id : Id) → IsMarked old.marks id → IsMarked new.marks id
+  pub marked_stay : (id : Id) → HasMark old.marks id → HasMark new.marks id
   pub marks_stay : mark_counts new.marks ≡ mark_counts old.marks
   pub waiting_stay : (id : Id) → Contains old.waiting id → Contains new.waiting id
-  pub marked_more : (id : Id) → IsMarked new.marks id → IsMarked old.marks id ⊎ (Contains new.waiting id × P id)
-  pub waiting_more : (id : Id) → Contains new.waiting id → Contains old.waiting id ⊎ IsMarked new.marks id
+  pub marked_more : (id : Id) → HasMark new.marks id → HasMark old.marks id ⊎ (Contains new.waiting id × P id)
+  pub waiting_more : (id : Id) → Contains new.waiting id → Contains old.waiting id ⊎ HasMark new.marks id
   pub work_stays : unmarked new.marks + length new.waiting ≡ unmarked old.marks + length old.waiting
 
 -- all that a register of the seat refers to is marked
-abbrev pub FoundFromSeat : Marking → Party → Type 0
+abbrev pub FoundFromSeat : Marking → GraphSeat → Type 0
 FoundFromSeat m seat = All (IsFound m) seat.registers
 
 -- all that a cell of the object refers to is marked
@@ -37,9 +37,9 @@ FoundFromObject m object = All (λ cell. IsFound m cell.value) object.cells
 
 -- marked are reached objects alone, among them all that a register refers to, and all that a marked object refers to
 -- unless that one waits
-pub record IsSearch (g : State) (walk : Search) : Type 0 where
+pub record IsSearch (g : Graph) (walk : Search) : Type 0 where
   pub objects : HasMarks g walk.marks
-  pub reached : (id : Id) → IsMarked walk.marks id → Reaches g id
-  pub waiting : (id : Id) → Contains walk.waiting id → IsMarked walk.marks id
+  pub reached : (id : Id) → HasMark walk.marks id → Reaches g id
+  pub waiting : (id : Id) → Contains walk.waiting id → HasMark walk.marks id
   pub from_seats : All (FoundFromSeat walk.marks) g.seats
-  pub from_objects : (id : Id) → IsMarked walk.marks id → Contains walk.waiting id ⊎ IfSome (node g id) (FoundFromObject walk.marks)
+  pub from_objects : (id : Id) → HasMark walk.marks id → Contains walk.waiting id ⊎ IfSome (node g id) (FoundFromObject walk.marks)

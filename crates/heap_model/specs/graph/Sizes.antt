@@ -3,7 +3,7 @@ use Rattle.std.specs.Prelude.{ℕ, if◌then◌else◌, List, length, sum_by}
 use Rattle.std.specs.Option.{option_map_or}
 use Rattle.heap_model.specs.declared.id.Id.{Id}
 use Rattle.heap_model.specs.graph.Objects.{node}
-use Rattle.heap_model.specs.graph.State.{Node, State}
+use Rattle.heap_model.specs.graph.Graph.{Node, Graph}
 use Rattle.heap_model.specs.Needs.{record_fragments, array_fragments, array_words}
 
 -- the fragments of an object
@@ -15,17 +15,17 @@ abbrev pub spine_words_of : Node → ℕ
 spine_words_of object = if object.array then array_words (length object.cells) else 0
 
 -- the fragments of the object of this id, and 0 where there is none
-abbrev pub frags : State → Id → ℕ
-frags g id = option_map_or fragments_of (node g id) 0
+abbrev pub fragments_at : Graph → Id → ℕ
+fragments_at g id = option_map_or fragments_of (node g id) 0
 
 -- the spine words of the object of this id, and 0 where there is none
-abbrev pub words : State → Id → ℕ
-words g id = option_map_or spine_words_of (node g id) 0
+abbrev pub spine_words_at : Graph → Id → ℕ
+spine_words_at g id = option_map_or spine_words_of (node g id) 0
 
 -- the fragments of all these objects
-abbrev pub frags_of : State → List Id → ℕ
-frags_of g ids = sum_by (frags g) ids
+abbrev pub fragments_of_all : Graph → List Id → ℕ
+fragments_of_all g ids = sum_by (fragments_at g) ids
 
 -- the spine words of all these objects
-abbrev pub words_of : State → List Id → ℕ
-words_of g ids = sum_by (words g) ids
+abbrev pub spine_words_of_all : Graph → List Id → ℕ
+spine_words_of_all g ids = sum_by (spine_words_at g) ids

@@ -13,8 +13,8 @@ use crate::reply::Reply;
 impl Account {
     ghost use Rattle.heap_model.specs.Limits.{board_fragments, group_fragments};
     ghost use Rattle.heap_model.specs.account.Books.{Tells};
-    ghost use Rattle.heap_model.specs.account.SeatBooks.{seat_at};
-    ghost use Rattle.heap_model.specs.account.Space.{total_but, returned};
+    ghost use Rattle.heap_model.specs.account.SeatBooks.{account_at};
+    ghost use Rattle.heap_model.specs.account.Space.{total_but, words_returned};
     ghost use Rattle.heap_model.specs.account.Sums.{IsFew};
     ghost use Rattle.heap_model.specs.account.Windows.{since_reply};
     ghost use Rattle.heap_model.specs.account.Account.{TakesAndGives, MakesOfOwn};
@@ -130,7 +130,7 @@ impl Account {
 
     fn returned_since(&self, seat: u8) -> u128
         requires { seat < self.now.heap.seats }
-        ensures sum { (history : List Entries) → Tells self.now history → result ≡ returned (since_reply seat history) }
+        ensures sum { (history : List Entries) → Tells self.now history → result ≡ words_returned (since_reply seat history) }
         ensures fits { result < 2 ^ 66 }
     {
         let then = self.seat(seat);
@@ -161,7 +161,7 @@ impl Account {
 
     pub(super) fn seat(&self, seat: u8) -> SeatAccount
         requires { seat < self.now.heap.seats }
-        ensures kept { result ≡ seat_at self.now.seats seat }
+        ensures kept { result ≡ account_at self.now.seats seat }
         ensures few { IsFew self.now.entries result.own }
     {
         self.seats[seat as usize]

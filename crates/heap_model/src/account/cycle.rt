@@ -22,7 +22,7 @@ pub struct Cycle {
 impl Account {
     ghost use Rattle.heap_model.specs.account.Cycles.{graph_of, LeavesLittle};
     ghost use Rattle.heap_model.specs.account.Books.{Tells};
-    ghost use Rattle.heap_model.specs.account.SeatBooks.{seat_at};
+    ghost use Rattle.heap_model.specs.account.SeatBooks.{account_at};
     ghost use Rattle.heap_model.specs.account.Preparing.{IsBegun, brought_by, IsWithinBy};
 
     /// What is kept of a cycle that begins here.
@@ -44,7 +44,7 @@ impl Account {
 
     /// What the seats bring into a cycle that begins here.
     fn brought(&self) -> u128
-        ensures sum { result ≡ sum_by (λ s. brought_by (seat_at self.now.seats s)) (range_with_len 0 self.now.heap.seats) }
+        ensures sum { result ≡ sum_by (λ s. brought_by (account_at self.now.seats s)) (range_with_len 0 self.now.heap.seats) }
         ensures fits { result < 2 ^ 100 }
     {
         let mut sum = 0;
@@ -56,7 +56,7 @@ impl Account {
 
     fn brought_by(&self, seat: u8) -> u128
         requires { seat < self.now.heap.seats }
-        ensures number { result ≡ brought_by (seat_at self.now.seats seat) }
+        ensures number { result ≡ brought_by (account_at self.now.seats seat) }
         ensures fits { result < 2 ^ 64 }
     {
         let own = self.seat(seat);

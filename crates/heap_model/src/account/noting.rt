@@ -11,7 +11,7 @@ use crate::entry::Entry;
 impl Account {
     ghost use Rattle.heap_model.specs.account.Effects.{effect_of};
     ghost use Rattle.heap_model.specs.account.Sums.{plus, IsFew};
-    ghost use Rattle.heap_model.specs.account.SeatBooks.{seat_at};
+    ghost use Rattle.heap_model.specs.account.SeatBooks.{account_at};
     ghost use Rattle.heap_model.specs.account.Noting.{IsNoted, IsNotedSeat, IsSeatBelow, is_behind_now};
 
     /// Counts an entry that was judged.
@@ -54,7 +54,7 @@ impl Account {
         requires seat { seat < self.old.heap.seats }
         requires few { IsFew self.old.entries noted.own }
         ensures puts { self.new ≡ record self.old { seats = slice_set self.old.seats seat noted } }
-        ensures put { seat_at self.new.seats seat ≡ noted }
+        ensures put { account_at self.new.seats seat ≡ noted }
     {
         self.seats[seat as usize] = noted;
     }
@@ -65,7 +65,7 @@ impl Account {
         requires seat { seat < self.now.heap.seats }
         requires own { seat_of entry.now ≡ Some seat }
         requires all { all ≡ plus self.now.all (effect_of entry.now) }
-        ensures noted { IsNotedSeat self.now.heap self.now.all self.now.seats seat entry.now (seat_at self.now.seats seat) result }
+        ensures noted { IsNotedSeat self.now.heap self.now.all self.now.seats seat entry.now (account_at self.now.seats seat) result }
         ensures few { IsFew (self.now.entries + 1) result.own }
     {
         let mut noted = self.seat(seat);

@@ -8,8 +8,8 @@ use crate::phase_plan::{BARRIERS, CYCLE_PHASES, REST};
 use crate::reply::{Reply, TurnReply};
 
 impl Account {
-    ghost use Rattle.heap_model.specs.account.Books.{Tells, HasAnswered};
-    ghost use Rattle.heap_model.specs.account.SeatBooks.{seat_at, first_behind, last_phase};
+    ghost use Rattle.heap_model.specs.account.Books.{Tells, IsUpToDate};
+    ghost use Rattle.heap_model.specs.account.SeatBooks.{account_at, first_behind, last_phase};
     ghost use Rattle.heap_model.specs.account.Phases.{AnswersPhase, BeginsPhase, IsBehind, WasBehind, SawBehind, ShowsPhases, TurnShows};
     ghost use Rattle.heap_model.specs.account.PhaseCounts.{AllAnswered, HasEnded, BeganSince};
 
@@ -44,7 +44,7 @@ impl Account {
     /// Whether the seat has answered the phase or left.
     fn has_answered(&self, seat: u8) -> bool
         requires { seat < self.now.heap.seats }
-        ensures { IsTrue result ↔ HasAnswered self.now seat }
+        ensures { IsTrue result ↔ IsUpToDate self.now seat }
     {
         let own = self.seat(seat);
         own.left.is_some() || own.own.answers == self.all.phases
@@ -145,7 +145,7 @@ impl Account {
     fn first_behind(&self, seat: u8, other: u8) -> u128
         requires seat { seat < self.now.heap.seats }
         requires other { other < self.now.heap.seats }
-        ensures first { result ≡ first_behind (seat_at self.now.seats seat) other }
+        ensures first { result ≡ first_behind (account_at self.now.seats seat) other }
         ensures fits { result < 2 ^ 66 }
     {
         let _ = &self.heap;
@@ -159,7 +159,7 @@ impl Account {
 
     pub(super) fn last_phase(&self, seat: u8) -> u64
         requires { seat < self.now.heap.seats }
-        ensures { result ≡ last_phase (seat_at self.now.seats seat) self.now.all.phases }
+        ensures { result ≡ last_phase (account_at self.now.seats seat) self.now.all.phases }
     {
         let own = self.seat(seat);
         own.left.unwrap_or(self.all.phases)

@@ -3,7 +3,7 @@ ghost use Rattle.heap_model.specs.declared.command.Command.TheVariants.{New, Arr
 ghost use Rattle.heap_model.specs.declared.reply.Reply.TheVariants.{Phase, Done};
 ghost use Rattle.heap_model.specs.Limits.{name_limit, stamp_limit};
 ghost use Rattle.heap_model.specs.Needs.{record_fragments};
-ghost use Rattle.heap_model.specs.calls.SeatState.{SeatState, own_party, held, HoldsNoObject, own_object};
+ghost use Rattle.heap_model.specs.calls.SeatState.{SeatState, own_graph_seat, held_value, HoldsNoObject, own_object};
 ghost use Rattle.heap_model.specs.calls.SeatCalls.{IsReady, Adds};
 ghost use Rattle.heap_model.specs.calls.SeatLaws.{IsSeat};
 ghost use Rattle.heap_model.specs.calls.SeatReplies.{record_reply, array_reply, get_reply, set_reply, same_reply, len_reply, next_id, LacksFragments, LacksSpace, KeepsNothing};
@@ -70,7 +70,7 @@ pub trait SeatCalls {
     fn same(&mut self, a: u8, b: u8) -> bool
         requires { IsReady (state self.old) (Same a b) }
         ensures added { Adds (state self.old) (state self.new) (Same a b) (same_reply result) }
-        ensures same { IsTrue result ↔ (held (state self.old) a ≡ held (state self.old) b) };
+        ensures same { IsTrue result ↔ (held_value (state self.old) a ≡ held_value (state self.old) b) };
 
     fn len(&mut self, r: u8) -> Result<u16, NoObject>
         requires { IsReady (state self.old) (Len r) }
@@ -98,14 +98,14 @@ pub trait SeatCalls {
 
     /// How many more objects the seat can make.
     fn names_left(&self) -> u32
-        ensures { result + length (own_party (state self.now)).objects ≡ name_limit - 1 };
+        ensures { result + length (own_graph_seat (state self.now)).objects ≡ name_limit - 1 };
 
     /// How many more sets the seat can do.
     fn stamps_left(&self) -> u32
-        ensures { result + (own_party (state self.now)).sets ≡ stamp_limit - 1 };
+        ensures { result + (own_graph_seat (state self.now)).sets ≡ stamp_limit - 1 };
 
     /// Whether the seat has left. Whatever it did, its heap is within the limits, and its entries are its own.
     fn left(&self) -> bool
-        ensures left { result ≡ (own_party (state self.now)).left }
+        ensures left { result ≡ (own_graph_seat (state self.now)).left }
         ensures seat { IsSeat (state self.now) };
 }

@@ -13,17 +13,17 @@ use std::alloc::AllocError;
 
 impl Graph {
     ghost use Rattle.heap_model.specs.Limits.{last_register};
-    ghost use Rattle.heap_model.specs.graph.Objects.{party};
-    ghost use Rattle.heap_model.specs.graph.State.{fresh};
-    ghost use Rattle.heap_model.specs.graph.Growth.{after, after_reply};
-    ghost use Rattle.heap_model.specs.graph.Changes.{add, put, write, set_cell, leave};
+    ghost use Rattle.heap_model.specs.graph.Objects.{graph_seat};
+    ghost use Rattle.heap_model.specs.graph.Graph.{fresh};
+    ghost use Rattle.heap_model.specs.graph.Growth.{after_entry, after_reply};
+    ghost use Rattle.heap_model.specs.graph.Changes.{add, with_register, write, set_cell, leave};
     ghost use Rattle.heap_model.specs.Command.{IsCommand};
     ghost use Rattle.heap_model.specs.graph.Legal.{Accepts, IsPresent};
     ghost use Rattle.heap_model.specs.graph.Replies.{Says};
 
     pub(super) fn grow(&mut self, entry: &Entry) -> Result<(), AllocError>
         requires { Accepts self.old entry.now }
-        ensures grown { OnOk result (self.new ≡ after self.old entry.now) }
+        ensures grown { OnOk result (self.new ≡ after_entry self.old entry.now) }
         ensures unchanged { OnErr result (self.new ≡ self.old) }
     {
         match *entry {
@@ -64,7 +64,7 @@ impl Graph {
     fn add(&mut self, seat: u8, d: u8, id: Id, array: bool, cells: u16) -> Result<(), AllocError>
         requires seat { seat < length self.old.seats }
         requires target { d ≤ last_register }
-        requires next { id ≡ Made seat (length (party self.old seat).objects) }
+        requires next { id ≡ Made seat (length (graph_seat self.old seat).objects) }
         ensures added { OnOk result (self.new ≡ add self.old seat d (fresh array cells)) }
         ensures unchanged { OnErr result (self.new ≡ self.old) }
     {
@@ -77,7 +77,7 @@ impl Graph {
     fn put(&mut self, seat: u8, d: u8, value: Value)
         requires seat { seat < length self.old.seats }
         requires target { d ≤ last_register }
-        ensures { self.new ≡ put self.old seat d value }
+        ensures { self.new ≡ with_register self.old seat d value }
     {
         let party = &mut self.seats[seat as usize];
         party.put(d, value);
@@ -86,7 +86,7 @@ impl Graph {
     /// Does a set of the seat: the value of its register `v` goes into a cell.
     fn set(&mut self, seat: u8, r: u8, i: u32, v: u8)
         requires seat { seat < length self.old.seats }
-        requires sets { (party self.old seat).sets + 1 < 2 ^ 26 }
+        requires sets { (graph_seat self.old seat).sets + 1 < 2 ^ 26 }
         ensures { self.new ≡ set_cell self.old seat r i v }
     {
         let place = self.register(seat, r);

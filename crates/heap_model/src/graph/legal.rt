@@ -8,7 +8,7 @@ use crate::limits::STAMP_LIMIT;
 use crate::reply::Reply;
 
 impl Graph {
-    ghost use Rattle.heap_model.specs.graph.Objects.{party, cell_at, register as value_of, target as target_of};
+    ghost use Rattle.heap_model.specs.graph.Objects.{graph_seat, cell_at, register_value, target_node};
     ghost use Rattle.heap_model.specs.graph.Legal.{Accepts};
     ghost use Rattle.heap_model.specs.graph.Replies.{Says, Makes, Gets, Sets, Compares, length_reply};
 
@@ -77,7 +77,7 @@ impl Graph {
     }
 
     fn sets(&self, seat: u8, r: u8, i: u32, reply: Reply) -> bool
-        ensures { IsTrue result ↔ Sets (party self.now seat).sets (cell_at self.now seat r i) reply }
+        ensures { IsTrue result ↔ Sets (graph_seat self.now seat).sets (cell_at self.now seat r i) reply }
     {
         match self.cell(seat, r, i) {
             Ok(cell) => reply == Reply::Was(cell.stamp) && self.set_count(seat) < STAMP_LIMIT - 1,
@@ -86,7 +86,7 @@ impl Graph {
     }
 
     fn compares(&self, seat: u8, a: u8, b: u8, reply: Reply) -> bool
-        ensures { IsTrue result ↔ Compares (value_of self.now seat a) (value_of self.now seat b) reply }
+        ensures { IsTrue result ↔ Compares (register_value self.now seat a) (register_value self.now seat b) reply }
     {
         let same = self.register(seat, a) == self.register(seat, b);
         match reply {
@@ -98,7 +98,7 @@ impl Graph {
 
     fn has_length(&self, seat: u8, r: u8, reply: Reply) -> bool
         ensures { IsTrue result ↔
-            (reply ≡ length_reply (target_of self.now (value_of self.now seat r))) }
+            (reply ≡ length_reply (target_node self.now (register_value self.now seat r))) }
     {
         match (self.target(self.register(seat, r)), reply) {
             (Some(object), Reply::Length(n)) => object.len() == n as usize,

@@ -9,7 +9,7 @@ use crate::reply::Reply;
 
 impl Graph {
     ghost use Rattle.heap_model.specs.Limits.{name_limit};
-    ghost use Rattle.heap_model.specs.graph.Objects.{cell_at, party, register as value_of, target as target_of};
+    ghost use Rattle.heap_model.specs.graph.Objects.{cell_at, graph_seat, register_value, target_node};
     ghost use Rattle.heap_model.specs.graph.Legal.{IsPresent};
 
     pub(super) fn is_present(&self, seat: u8) -> bool
@@ -23,7 +23,7 @@ impl Graph {
 
     /// How many objects the seat made.
     pub(super) fn made(&self, seat: u8) -> usize
-        ensures count { result ≡ length (party self.now seat).objects }
+        ensures count { result ≡ length (graph_seat self.now seat).objects }
         ensures few { result ≤ name_limit }
     {
         match self.seats.get(seat as usize) {
@@ -33,7 +33,7 @@ impl Graph {
     }
 
     pub(super) fn set_count(&self, seat: u8) -> u32
-        ensures { result ≡ (party self.now seat).sets }
+        ensures { result ≡ (graph_seat self.now seat).sets }
     {
         match self.seats.get(seat as usize) {
             Some(party) => party.sets(),
@@ -42,7 +42,7 @@ impl Graph {
     }
 
     pub(super) fn register(&self, seat: u8, r: u8) -> Value
-        ensures { result ≡ value_of self.now seat r }
+        ensures { result ≡ register_value self.now seat r }
     {
         match self.seats.get(seat as usize) {
             Some(party) => party.register(r),
@@ -52,7 +52,7 @@ impl Graph {
 
     /// The object that the value refers to.
     pub(super) fn target(&self, value: Value) -> Option<&Object>
-        ensures { option_copied result ≡ target_of self.now value }
+        ensures { option_copied result ≡ target_node self.now value }
     {
         match value {
             Value::Object(Id::Board) => Some(&self.board),

@@ -14,7 +14,7 @@ pub struct Object {
 
 impl Model for Object {
     ghost use Rattle.std.specs.Prelude.{◌<◌, ◌^◌, length};
-    ghost use Rattle.heap_model.specs.graph.State.{Node};
+    ghost use Rattle.heap_model.specs.graph.Graph.{Node};
 
     ghost Value = { Node };
 
@@ -24,7 +24,7 @@ impl Model for Object {
 }
 
 impl Object {
-    ghost use Rattle.heap_model.specs.graph.State.{fresh};
+    ghost use Rattle.heap_model.specs.graph.Graph.{fresh};
     ghost use Rattle.heap_model.specs.graph.Changes.{with_cell};
     ghost use Rattle.heap_model.specs.graph.Sizes.{fragments_of, spine_words_of};
 

@@ -15,7 +15,7 @@ pub(crate) mod search;
 impl Graph {
     ghost use Rattle.heap_model.specs.graph.Objects.{node};
     ghost use Rattle.heap_model.specs.graph.Reach.{IsReach, IsReachAmong, Points};
-    ghost use Rattle.heap_model.specs.graph.Sizes.{frags as frags_at, frags_of};
+    ghost use Rattle.heap_model.specs.graph.Sizes.{fragments_at, fragments_of_all};
     ghost use Rattle.heap_model.specs.graph.Search.{IsSearch, GoesOn, FoundFromObject};
     ghost use Rattle.heap_model.specs.graph.Marking.{HasMarks, IsListed, mark_counts};
 
@@ -38,7 +38,7 @@ impl Graph {
 
     /// The fragments of those of the ids to which a path leads from some register.
     pub(crate) fn reached_frags(&self, ids: &[Id], search: &mut Search) -> u128
-        ensures sum { HasMarks self.now search.old.marks → (both : List Ids) × IsReachAmong self.now ids.now both × (result ≡ frags_of self.now both) }
+        ensures sum { HasMarks self.now search.old.marks → (both : List Ids) × IsReachAmong self.now ids.now both × (result ≡ fragments_of_all self.now both) }
         ensures marks { mark_counts search.new.marks ≡ mark_counts search.old.marks }
     {
         self.search(search);
@@ -59,7 +59,7 @@ impl Graph {
 
     /// How many fragments the object has, and 0 where there is no such object.
     pub fn frags(&self, id: Id) -> u32
-        ensures { result ≡ frags_at self.now id }
+        ensures { result ≡ fragments_at self.now id }
     {
         match self.target(Value::Object(id)) {
             Some(object) => object.fragments(),

@@ -21,9 +21,9 @@ pub struct Seat {
 impl Model for Seat {
     ghost use Rattle.std.specs.Prelude.{◌≤◌, ◌^◌, length};
     ghost use Rattle.heap_model.specs.Limits.{name_limit};
-    ghost use Rattle.heap_model.specs.graph.State.{Party};
+    ghost use Rattle.heap_model.specs.graph.Graph.{GraphSeat};
 
-    ghost Value = { Party };
+    ghost Value = { GraphSeat };
 
     ghost view = { λ s. record { registers = s.registers; objects = s.objects.items; sets = s.sets; left = s.left } };
 
@@ -32,11 +32,11 @@ impl Model for Seat {
 
 impl Seat {
     ghost use Rattle.heap_model.specs.Limits.{last_register, name_limit, register_count, stamp_limit};
-    ghost use Rattle.heap_model.specs.graph.State.{opening_party};
+    ghost use Rattle.heap_model.specs.graph.Graph.{opening_graph_seat};
     ghost use Rattle.heap_model.specs.graph.Changes.{with_object_cell};
 
     pub fn new(alloc: Global) -> Seat
-        ensures { result ≡ opening_party }
+        ensures { result ≡ opening_graph_seat }
     {
         let mut registers = [Value::Nil; REGISTER_COUNT];
         registers[0] = Value::Object(Id::Board);

@@ -6,7 +6,7 @@ use crate::graph::reach::marks::Marks;
 use crate::id::{Id, Value};
 
 impl Graph {
-    ghost use Rattle.heap_model.specs.graph.Sizes.{words as words_at, frags_of, words_of};
+    ghost use Rattle.heap_model.specs.graph.Sizes.{spine_words_at, fragments_of_all, spine_words_of_all};
     ghost use Rattle.heap_model.specs.graph.Marking.{is_marked};
     ghost use Rattle.heap_model.specs.account.Sweep.{IsArray};
 
@@ -21,7 +21,7 @@ impl Graph {
 
     /// The spine words of the object, and 0 where there is no such object.
     pub(crate) fn words(&self, id: Id) -> u32
-        ensures { result ≡ words_at self.now id }
+        ensures { result ≡ spine_words_at self.now id }
     {
         match self.target(Value::Object(id)) {
             Some(object) => object.spine_words(),
@@ -31,7 +31,7 @@ impl Graph {
 
     /// The fragments of all these objects.
     pub(crate) fn frags_of(&self, ids: &[Id]) -> u128
-        ensures sum { result ≡ frags_of self.now ids.now }
+        ensures sum { result ≡ fragments_of_all self.now ids.now }
         ensures fits { result < 2 ^ 100 }
     {
         let mut sum = 0;
@@ -43,7 +43,7 @@ impl Graph {
 
     /// The fragments of those of the objects that are marked.
     pub(super) fn marked_frags(&self, ids: &[Id], marks: &Marks) -> u128
-        ensures { result ≡ frags_of self.now (filter (is_marked marks.now) ids.now) }
+        ensures { result ≡ fragments_of_all self.now (filter (is_marked marks.now) ids.now) }
     {
         let mut sum = 0;
         for id in ids {
@@ -56,7 +56,7 @@ impl Graph {
 
     /// The spine words of all these objects.
     pub(crate) fn words_of(&self, ids: &[Id]) -> u128
-        ensures sum { result ≡ words_of self.now ids.now }
+        ensures sum { result ≡ spine_words_of_all self.now ids.now }
         ensures fits { result < 2 ^ 100 }
     {
         let mut sum = 0;

@@ -6,7 +6,7 @@ ghost use Rattle.heap_model.specs.account.Noting.{IsSeatBelow};
 ghost use Rattle.heap_model.specs.account.Cycles.{graph_of};
 ghost use Rattle.script_text.specs.declared.script.Form.{Form};
 ghost use Rattle.log_merge.specs.Lines.{KeepsEntry, KeepsRules};
-ghost use Rattle.log_merge.specs.Checking.{Accounts, IsReady, Judged};
+ghost use Rattle.log_merge.specs.Checking.{Accounts, AccountFits, Judged};
 
 use crate::checker::Checker;
 use heap_model::{Account, ApplyFault, Entry, Graph};
@@ -38,7 +38,7 @@ impl Checker {
     /// Judges the entry, and lets graph and account go on by it.
     pub(super) fn apply(&mut self, entry: &Entry) -> Result<(), ApplyFault>
         requires few { self.old.line < 2 ^ 32 - 1 }
-        requires ready { IsReady self.old }
+        requires ready { AccountFits self.old }
         requires seat { IsSeatBelow self.old.heap.seats entry.now }
         ensures keeps { (form : Form) (before : List AnEntry) → Judged form self.old before →
             OnOk result (KeepsEntry form self.old.heap before entry.now) }
@@ -46,7 +46,7 @@ impl Checker {
             OnOk result (Judged form self.new (before ++ entry.now ∷ [])) }
         ensures not_legal { (form : Form) (before : List AnEntry) → Judged form self.old before →
             result ≡ Err ApplyFault.NotLegal → ¬ KeepsEntry form self.old.heap before entry.now }
-        ensures ready { OnOk result (IsReady (record self.new { line = self.old.line + 1 })) }
+        ensures ready { OnOk result (AccountFits (record self.new { line = self.old.line + 1 })) }
         ensures heap { self.new.heap ≡ self.old.heap }
         ensures line { self.new.line ≡ self.old.line }
     {

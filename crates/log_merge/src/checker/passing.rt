@@ -5,10 +5,10 @@ ghost use Rattle.heap_model.specs.account.Noting.{IsSeatBelow};
 ghost use Rattle.script_text.specs.declared.script.Form.{Form};
 ghost use Rattle.reply_text.specs.declared.history_line.HistoryLine.{HistoryLine};
 ghost use Rattle.reply_text.specs.declared.history_line.HistoryLine.TheVariants as lines;
-ghost use Rattle.reply_text.specs.History.{marked, space_line, IsSpellable};
+ghost use Rattle.reply_text.specs.History.{lines_with_mark, space_line, IsSpellable};
 ghost use Rattle.log_merge.specs.Legal.{IsLegalHistory, ShowsUse};
 ghost use Rattle.log_merge.specs.Lines.{entries_of, IsFirstIllegal};
-ghost use Rattle.log_merge.specs.Checking.{GoesOver, IsReady, Passed, StopsIn};
+ghost use Rattle.log_merge.specs.Checking.{GoesOver, AccountFits, Passed, StopsIn};
 
 use crate::checker::Checker;
 use crate::fault::CheckFault;
@@ -26,13 +26,13 @@ impl Checker {
 
     fn pass_entry(&mut self, entry: &Entry) -> Result<(), CheckFault>
         requires few { self.old.line < 2 ^ 32 - 1 }
-        requires ready { IsReady self.old }
+        requires ready { AccountFits self.old }
         requires seat { IsSeatBelow self.old.heap.seats entry.now }
         ensures passes { (form : Form) (passed : List HistoryLine) →
             OnOk result (GoesOver form self.old self.new passed (lines.Entry entry.now ∷ [])) }
         ensures stops { (form : Form) (passed : List HistoryLine) →
             IfErr result (StopsIn form self.old passed (lines.Entry entry.now ∷ [])) }
-        ensures ready { OnOk result (IsReady self.new) }
+        ensures ready { OnOk result (AccountFits self.new) }
         ensures line { OnOk result (self.new.line ≡ self.old.line + 1) }
         ensures heap { self.new.heap ≡ self.old.heap }
     {
@@ -48,13 +48,13 @@ impl Checker {
 
     fn pass_entries(&mut self, entries: &[Entry]) -> Result<(), CheckFault>
         requires few { self.old.line + length entries.now < 2 ^ 32 }
-        requires ready { IsReady self.old }
+        requires ready { AccountFits self.old }
         requires seats { AllByRecursion (IsSeatBelow self.old.heap.seats) entries.now }
         ensures passes { (form : Form) (passed : List HistoryLine) →
             OnOk result (GoesOver form self.old self.new passed (map lines.Entry entries.now)) }
         ensures stops { (form : Form) (passed : List HistoryLine) →
             IfErr result (StopsIn form self.old passed (map lines.Entry entries.now)) }
-        ensures ready { OnOk result (IsReady self.new) }
+        ensures ready { OnOk result (AccountFits self.new) }
         ensures line { OnOk result (self.new.line ≡ self.old.line + length entries.now) }
         ensures heap { self.new.heap ≡ self.old.heap }
     {
@@ -67,12 +67,12 @@ impl Checker {
     fn pass_space(&mut self, front: &[Entry], mark: SpaceMark) -> Result<(), CheckFault>
         requires few { length front.now < 2 ^ 30 }
         requires lines { self.old.line < 2 ^ 32 - 1 }
-        requires ready { IsReady self.old }
+        requires ready { AccountFits self.old }
         ensures passes { (form : Form) (passed : List HistoryLine) → entries_of passed ≡ front.now →
             OnOk result (GoesOver form self.old self.new passed (space_line mark ∷ [])) }
         ensures stops { (form : Form) (passed : List HistoryLine) → entries_of passed ≡ front.now →
             IfErr result (StopsIn form self.old passed (space_line mark ∷ [])) }
-        ensures ready { OnOk result (IsReady self.new) }
+        ensures ready { OnOk result (AccountFits self.new) }
         ensures line { OnOk result (self.new.line ≡ self.old.line + 1) }
         ensures heap { self.new.heap ≡ self.old.heap }
     {
@@ -88,12 +88,12 @@ impl Checker {
         requires first { self.old.line ≡ 3 }
         requires few { length entries.now < 2 ^ 30 }
         requires mark { ForSome mark (λ mark. mark.before ≤ length entries.now) }
-        requires ready { IsReady self.old }
+        requires ready { AccountFits self.old }
         requires seats { AllByRecursion (IsSeatBelow self.old.heap.seats) entries.now }
         ensures passes { (form : Form) →
-            OnOk result (GoesOver form self.old self.new [] (marked mark entries.now)) }
+            OnOk result (GoesOver form self.old self.new [] (lines_with_mark mark entries.now)) }
         ensures stops { (form : Form) →
-            IfErr result (StopsIn form self.old [] (marked mark entries.now)) }
+            IfErr result (StopsIn form self.old [] (lines_with_mark mark entries.now)) }
         ensures heap { self.new.heap ≡ self.old.heap }
     {
         let Some(mark) = mark else {
@@ -123,7 +123,7 @@ impl Checker {
         requires value { IsSpellable history.now }
         requires heap { self.old.heap ≡ history.now.heap }
         requires first { Passed history.now.form self.old [] }
-        requires ready { IsReady self.old }
+        requires ready { AccountFits self.old }
         ensures legal { OnOk result (IsLegalHistory history.now) }
         ensures first { (line : ℕ) → result ≡ Err (CheckFault.NotLegal line) →
             IsFirstIllegal history.now line }

@@ -1,6 +1,6 @@
 ghost use Rattle.std.specs.Prelude.{◌≡◌, ◌+◌, ◌<◌, ◌≤◌, ◌^◌, false, length, IsTrue};
 ghost use Rattle.heap_model.specs.calls.SeatCalls.{IsReady};
-ghost use Rattle.heap_model.specs.calls.SeatState.{own_party};
+ghost use Rattle.heap_model.specs.calls.SeatState.{own_graph_seat};
 
 use heap_model::{Command, Entry, SeatCalls, seat_laws};
 use lone::Lone;
@@ -159,10 +159,10 @@ fn does_as_told(rt: HostRuntime) -> Result<(), Fail> {
 
 /// Makes an object of one fragment and polls five times, in room for 16 entries.
 fn make_and_poll<S: SeatCalls>(seat: &mut S)
-    requires present { (own_party (S.state seat.old)).left ≡ false }
-    requires name { length (own_party (S.state seat.old)).objects + 1 < 2 ^ 32 }
+    requires present { (own_graph_seat (S.state seat.old)).left ≡ false }
+    requires name { length (own_graph_seat (S.state seat.old)).objects + 1 < 2 ^ 32 }
     requires room { 16 ≤ (S.state seat.old).spare }
-    ensures { (own_party (S.state seat.new)).left ≡ false }
+    ensures { (own_graph_seat (S.state seat.new)).left ≡ false }
 {
     seat_laws();
     let _ = seat.new_record(1, 2);
@@ -173,7 +173,7 @@ fn make_and_poll<S: SeatCalls>(seat: &mut S)
 
 /// Polls seven times, in room for 16 entries.
 fn poll_seven_times<S: SeatCalls>(seat: &mut S)
-    requires present { (own_party (S.state seat.old)).left ≡ false }
+    requires present { (own_graph_seat (S.state seat.old)).left ≡ false }
     requires room { 16 ≤ (S.state seat.old).spare }
 {
     seat_laws();

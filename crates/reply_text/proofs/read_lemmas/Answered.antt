@@ -15,7 +15,7 @@ use Rattle.reply_text.specs.read.Answers.{making_at, arraying_at, getting_at, se
 use Rattle.reply_text.specs.read.TurnAnswers.{turning_at, cycling_at}
 use Rattle.reply_text.specs.write.Entries.{stamp_word, reply_words, turn_reply_words}
 use Rattle.reply_text.specs.read.Tokens.{by_first}
-use Rattle.reply_text.specs.Ranges.{IsWait, IsLack}
+use Rattle.reply_text.specs.Values.{IsWait, IsLack}
 use Rattle.reply_text.specs.Replies.{IsMaking, IsArraying, IsGetting, IsSetting, IsComparing, IsMeasuring, IsPolling, IsCollecting, IsReply, IsTurnReply}
 use Rattle.reply_text.proofs.read_lemmas.Reread.{number_at-decimal, decimal-other, id_word-other, id_of-word, stamp_of-word}
 

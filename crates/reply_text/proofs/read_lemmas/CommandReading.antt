@@ -8,7 +8,7 @@ use Rattle.script_text.specs.declared.cause.Cause.{Cause}
 use Rattle.script_text.specs.declared.cause.Cause.TheVariants.{OutOfRange, TooManyWords}
 use Rattle.script_text.specs.LineFaults.{command_fault, named_fault}
 use Rattle.script_text.specs.Numbers.{number_of}
-use Rattle.script_text.specs.Operands.{Range, target, register, index, commands, commands_with, fault_or, after_number, operands_fault}
+use Rattle.script_text.specs.Operands.{Range, target_range, register_range, index_range, commands, commands_with, fault_or, after_number, operands_fault}
 use Rattle.script_text.specs.Words.{command_words}
 use Rattle.script_text.proofs.Numbers.{number_below-decimal}
 use Rattle.reply_text.specs.read.Commands.{within, operand_of, operands_at, scripted_at, command_at}
@@ -21,13 +21,13 @@ operand_of-decimal least most n fits h =
     let below : nat_le n most ≡ true = search rules in
     rw (number_below-decimal (10 ^ 10) n (omega arith) (omega arith), above, below) refl
 
-target_of : (d : ℕ) → IsTarget d → operand_of target (decimal d) ≡ Some d
+target_of : (d : ℕ) → IsTarget d → operand_of target_range (decimal d) ≡ Some d
 target_of d h = operand_of-decimal 1 15 d (omega arith) h
 
-register_of : (r : ℕ) → IsRegister r → operand_of register (decimal r) ≡ Some r
+register_of : (r : ℕ) → IsRegister r → operand_of register_range (decimal r) ≡ Some r
 register_of r h = operand_of-decimal 0 15 r (omega arith) (omega arith, h)
 
-index_of : (i : ℕ) → IsIndex i → operand_of index (decimal i) ≡ Some i
+index_of : (i : ℕ) → IsIndex i → operand_of index_range (decimal i) ≡ Some i
 index_of i h = operand_of-decimal 0 4096 i (omega arith) (omega arith, h)
 
 -- the command that begins with the first word

@@ -15,8 +15,8 @@ use Rattle.reply_text.specs.declared.history_line.HistoryLine.TheVariants as lin
 use Rattle.reply_text.specs.declared.read.stage.Stage.{Stage}
 use Rattle.reply_text.specs.declared.read.stage.Stage.TheVariants.{Unmarked, Marked, Ended}
 use Rattle.reply_text.specs.read.Stages.{after_line, first_stage}
-use Rattle.reply_text.specs.read.Faults.{end_fault, line_fault, lines_fault}
-use Rattle.reply_text.specs.History.{IsMarked, marked, space_line, too_many}
+use Rattle.reply_text.specs.read.Faults.{end_fault, history_line_fault, history_lines_fault}
+use Rattle.reply_text.specs.History.{MarkFits, lines_with_mark, space_line, too_many}
 use Rattle.reply_text.specs.write.Lines.{history_line, history_words, IsHistoryLine}
 use Rattle.reply_text.specs.read.LineWords.{line_at, line_of}
 use Rattle.reply_text.specs.read.Tokens.{◌>>=◌}
@@ -39,7 +39,7 @@ follow stage [] = Some stage
 follow stage (line ∷ lines) = after_line stage line >>= λ next. follow next lines
 
 step-none : (number : ℕ) (led : Option Stage) (lines : List HistoryLine) (rest : Stage → Option LineFault) → number < too_many →
-    (led >>= λ next. follow next lines) ≡ Some Ended → ((next : Stage) → follow next lines ≡ Some Ended → rest next ≡ None) → line_fault number led rest ≡ None
+    (led >>= λ next. follow next lines) ≡ Some Ended → ((next : Stage) → follow next lines ≡ Some Ended → rest next ≡ None) → history_line_fault number led rest ≡ None
 step-none number None lines rest early e none = cc
 step-none number (Some next) lines rest early e none =
     let is : (number == too_many) ≡ false = grind (arith, common_steps) in
@@ -52,11 +52,11 @@ end_fault-none Ended number e = refl
 
 -- lines that lead to the end have no fault
 pub lines_fault-none : (form : Form) (seats : ℕ) (stage : Stage) (number : ℕ) (lines : List HistoryLine) → seats < 2 ^ 8 → AllByRecursion (IsHistoryLine form seats) lines →
-    follow stage lines ≡ Some Ended → number + length lines ≤ too_many → lines_fault form seats stage number (map history_line lines) ≡ None
+    follow stage lines ≡ Some Ended → number + length lines ≤ too_many → history_lines_fault form seats stage number (map history_line lines) ≡ None
 lines_fault-none form seats stage number [] few h e short = end_fault-none stage number e
 lines_fault-none form seats stage number (line ∷ lines) few h e short =
     rw (line_of-history_line form seats line few h.0)
-    (step-none number (after_line stage line) lines (λ next. lines_fault form seats next (number + 1) (map history_line lines)) (omega arith) e
+    (step-none number (after_line stage line) lines (λ next. history_lines_fault form seats next (number + 1) (map history_line lines)) (omega arith) e
     (λ next led. lines_fault-none form seats next (number + 1) lines few h.1 led (omega arith)))
 
 follow-entries : (stage : Stage) (entries : List Entry) (more : List HistoryLine) → ((entry : Entry) → after_line stage (lines.Entry entry) ≡ Some stage) →
@@ -65,8 +65,8 @@ follow-entries stage [] more stays = refl
 follow-entries stage (entry ∷ entries) more stays = rw (stays entry) (follow-entries stage entries more stays)
 
 -- the lines of a history lead to the end
-pub follow-body : (form : Form) (count : ℕ) (mark : Option SpaceMark) (entries : List Entry) (used : ℕ) → IsMarked form count mark →
-    follow (first_stage form) (marked mark entries ++ lines.End used ∷ []) ≡ Some Ended
+pub follow-body : (form : Form) (count : ℕ) (mark : Option SpaceMark) (entries : List Entry) (used : ℕ) → MarkFits form count mark →
+    follow (first_stage form) (lines_with_mark mark entries ++ lines.End used ∷ []) ≡ Some Ended
 follow-body Play count None entries used h = absurd h
 follow-body Play count (Some mark) entries used h =
     rw (
@@ -90,8 +90,8 @@ entry_lines : (form : Form) (seats : ℕ) (entries : List Entry) → AllByRecurs
 entry_lines form seats [] f = tt
 entry_lines form seats (entry ∷ entries) f = (f.0, entry_lines form seats entries f.1)
 
-marked_lines : (form : Form) (seats count : ℕ) (mark : Option SpaceMark) (entries : List Entry) → AllByRecursion (IsWritten form seats) entries → IsMarked form count mark →
-    AllByRecursion (IsHistoryLine form seats) (marked mark entries)
+marked_lines : (form : Form) (seats count : ℕ) (mark : Option SpaceMark) (entries : List Entry) → AllByRecursion (IsWritten form seats) entries → MarkFits form count mark →
+    AllByRecursion (IsHistoryLine form seats) (lines_with_mark mark entries)
 marked_lines Play seats count None entries f h = absurd h
 marked_lines Play seats count (Some mark) entries f h =
     let P : List Entry → Type 0 = λ es. AllByRecursion (IsWritten Play seats) es in
@@ -102,10 +102,10 @@ marked_lines Run seats count None entries f h = entry_lines Run seats entries f
 marked_lines Run seats count (Some mark) entries f h = absurd h
 
 -- the lines of a history are lines that it may have
-pub body_lines : (form : Form) (seats count : ℕ) (mark : Option SpaceMark) (entries : List Entry) (used : ℕ) → AllByRecursion (IsWritten form seats) entries → IsMarked form count mark → used < 2 ^ 64 →
-    AllByRecursion (IsHistoryLine form seats) (marked mark entries ++ lines.End used ∷ [])
+pub body_lines : (form : Form) (seats count : ℕ) (mark : Option SpaceMark) (entries : List Entry) (used : ℕ) → AllByRecursion (IsWritten form seats) entries → MarkFits form count mark → used < 2 ^ 64 →
+    AllByRecursion (IsHistoryLine form seats) (lines_with_mark mark entries ++ lines.End used ∷ [])
 body_lines form seats count mark entries used f h small =
-    all_joined (IsHistoryLine form seats) (marked mark entries) (lines.End used ∷ []) (marked_lines form seats count mark entries f h) (small, tt)
+    all_joined (IsHistoryLine form seats) (lines_with_mark mark entries) (lines.End used ∷ []) (marked_lines form seats count mark entries f h) (small, tt)
 
 -- and none has a line feed
 pub history_lines-above : (form : Form) (seats : ℕ) (lines : List HistoryLine) → seats < 2 ^ 8 → AllByRecursion (IsHistoryLine form seats) lines → AllByRecursion (IsAbove 31) (map history_line lines)

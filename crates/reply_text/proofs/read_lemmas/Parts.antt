@@ -2,7 +2,7 @@
 use Rattle.std.proofs.Common.{◌≡◌, ◌==◌, ℕ, ◌<◌, List, [], ◌∷◌, ◌++◌, length, Some, None, refl, sym, ap, ◌∙◌, arith}
 use Rattle.std.specs.List.{slice_split, join_with_byte}
 use Rattle.std.proofs.lemmas.List.Splits.{length-slice_split, join_with_byte-slice_split}
-use Rattle.reply_text.specs.read.Tokens.{pair_of, parted}
+use Rattle.reply_text.specs.read.Tokens.{pair_of, word_parts}
 
 pair_of-Some : (parts : List (List ℕ)) (first second : List ℕ) → pair_of parts ≡ Some (first, second) → parts ≡ first ∷ second ∷ []
 pair_of-Some [] first second e = cc
@@ -13,7 +13,7 @@ pair_of-Some (a ∷ b ∷ []) first second e =
 pair_of-Some (a ∷ b ∷ c ∷ more) first second e = cc
 
 -- a word of two parts is these, with the mark between them
-pub parted-whole : (mark : ℕ) (word first second : List ℕ) → parted mark word ≡ Some (first, second) → word ≡ first ++ mark ∷ second
+pub parted-whole : (mark : ℕ) (word first second : List ℕ) → word_parts mark word ≡ Some (first, second) → word ≡ first ++ mark ∷ second
 parted-whole mark word first second e =
     sym (join_with_byte-slice_split mark word) ∙ ap (join_with_byte mark) (pair_of-Some (slice_split (λ b. b == mark) word) first second e)
 
@@ -23,6 +23,6 @@ pair_of-more first second (part ∷ more) some = refl
 
 -- a word of three parts or more isn't one of two
 pub parted-more : (mark : ℕ) (word first rest second more : List ℕ) → slice_split (λ b. b == mark) word ≡ first ∷ slice_split (λ b. b == mark) rest →
-    slice_split (λ b. b == mark) rest ≡ second ∷ slice_split (λ b. b == mark) more → parted mark word ≡ None
+    slice_split (λ b. b == mark) rest ≡ second ∷ slice_split (λ b. b == mark) more → word_parts mark word ≡ None
 parted-more mark word first rest second more e f =
     rw (e, f) (pair_of-more first second (slice_split (λ b. b == mark) more) (omega (arith, length-slice_split (λ b. b == mark) more)))

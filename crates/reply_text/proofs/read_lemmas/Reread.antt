@@ -7,8 +7,8 @@ use Rattle.heap_model.specs.declared.id.Id.{Id}
 use Rattle.heap_model.specs.declared.id.Id.TheVariants.{Board, Made}
 use Rattle.script_text.proofs.Numbers.{number_below-decimal}
 use Rattle.reply_text.specs.write.Entries.{id_word, stamp_word}
-use Rattle.reply_text.specs.read.Tokens.{number_at, parted, id_of, stamp_of, set_of}
-use Rattle.reply_text.specs.Ranges.{IsId, IsStamp}
+use Rattle.reply_text.specs.read.Tokens.{number_at, word_parts, word_id, word_stamp, set_of}
+use Rattle.reply_text.specs.Values.{IsId, IsStamp}
 use Rattle.reply_text.proofs.read_lemmas.Digits.{IsMark, decimal-apart, number-apart}
 
 -- a number
@@ -20,7 +20,7 @@ pub decimal-other : (n c : ℕ) (cs : List ℕ) → n < 2 ^ 64 → IsMark c → 
 decimal-other n c cs small h = ap (λ t. bytes_eq t (c ∷ cs)) (sym (append-nil (decimal n))) ∙ number-apart n [] c cs small h
 
 -- two numbers with a mark between them
-parted-decimals : (mark m n : ℕ) → (mark == mark) ≡ true → IsMark mark → m < 2 ^ 64 → n < 2 ^ 64 → parted mark (decimal m ++ mark ∷ decimal n) ≡ Some (decimal m, decimal n)
+parted-decimals : (mark m n : ℕ) → (mark == mark) ≡ true → IsMark mark → m < 2 ^ 64 → n < 2 ^ 64 → word_parts mark (decimal m ++ mark ∷ decimal n) ≡ Some (decimal m, decimal n)
 parted-decimals mark m n is h first second =
     rw (slice_split_at (λ b. b == mark) (decimal m) mark (decimal n) (decimal-apart mark m h first) is, slice_split_none (λ b. b == mark) (decimal n) (decimal-apart mark n h second)) refl
 
@@ -30,7 +30,7 @@ id_word-other seat count c cs h mark =
     rw (append_assoc (decimal seat) (46 ∷ []) (decimal count)) (number-apart seat (46 ∷ decimal count) c cs (omega (arith, h.0)) mark)
 
 -- an id
-pub id_of-word : (id : Id) → IsId id → id_of (id_word id) ≡ Some id
+pub id_of-word : (id : Id) → IsId id → word_id (id_word id) ≡ Some id
 id_of-word Board h = refl
 id_of-word (Made seat count) h =
     rw (
@@ -44,7 +44,7 @@ id_of-word (Made seat count) h =
 set_of-count : (seat count : ℕ) → 1 ≤ count → set_of seat count ≡ Some ((seat + 1) * 2 ^ 26 + count)
 set_of-count seat count some = let is : (count == 0) ≡ false = grind (arith, common_steps) in rw is refl
 
-stamp_of-set : (seat count : ℕ) → seat ≤ 15 → 1 ≤ count → count < 2 ^ 26 → stamp_of (decimal seat ++ codes ":" ++ decimal count) ≡ Some ((seat + 1) * 2 ^ 26 + count)
+stamp_of-set : (seat count : ℕ) → seat ≤ 15 → 1 ≤ count → count < 2 ^ 26 → word_stamp (decimal seat ++ codes ":" ++ decimal count) ≡ Some ((seat + 1) * 2 ^ 26 + count)
 stamp_of-set seat count last some few =
     rw (
       append_assoc (decimal seat) (58 ∷ []) (decimal count),
@@ -55,7 +55,7 @@ stamp_of-set seat count last some few =
     ) (set_of-count seat count some)
 
 -- a stamp
-pub stamp_of-word : (stamp : ℕ) → IsStamp stamp → stamp_of (stamp_word stamp) ≡ Some stamp
+pub stamp_of-word : (stamp : ℕ) → IsStamp stamp → word_stamp (stamp_word stamp) ≡ Some stamp
 stamp_of-word stamp (inl none) = rw none refl
 stamp_of-word stamp (inr set) =
     let is : (stamp == 0) ≡ false = grind (arith, common_steps) in

@@ -8,7 +8,7 @@ use Rattle.script_text.specs.declared.script.Form.TheVariants.{Play, Run}
 use Rattle.reply_text.specs.declared.history.SpaceMark.{SpaceMark}
 use Rattle.reply_text.specs.declared.history_line.HistoryLine.{HistoryLine}
 use Rattle.reply_text.specs.declared.history_line.HistoryLine.TheVariants as lines
-use Rattle.reply_text.specs.History.{IsMarked, marked, space_line}
+use Rattle.reply_text.specs.History.{MarkFits, lines_with_mark, space_line}
 use Rattle.reply_text.specs.write.Lines.{history_line, IsHistoryLine}
 use Rattle.reply_text.specs.read.LineWords.{line_of}
 use Rattle.reply_text.proofs.read_lemmas.LinesReread.{line_of-history_line}
@@ -24,7 +24,7 @@ entries_in-entries : (entries : List Entry) (more : List HistoryLine) → entrie
 entries_in-entries [] more = refl
 entries_in-entries (entry ∷ entries) more = ap (λ es. entry ∷ es) (entries_in-entries entries more)
 
-pub entries_in-body : (mark : Option SpaceMark) (entries : List Entry) (used : ℕ) → entries_in (marked mark entries ++ lines.End used ∷ []) ≡ entries
+pub entries_in-body : (mark : Option SpaceMark) (entries : List Entry) (used : ℕ) → entries_in (lines_with_mark mark entries ++ lines.End used ∷ []) ≡ entries
 entries_in-body None entries used = entries_in-entries entries (lines.End used ∷ []) ∙ append-nil entries
 entries_in-body (Some mark) entries used =
     rw (
@@ -45,7 +45,7 @@ mark_in-entries : (before : ℕ) (entries : List Entry) (more : List HistoryLine
 mark_in-entries before [] more = ap (λ n. mark_in n more) (omega arith)
 mark_in-entries before (entry ∷ entries) more = mark_in-entries (before + 1) entries more ∙ ap (λ n. mark_in n more) (omega arith)
 
-pub mark_in-body : (form : Form) (mark : Option SpaceMark) (entries : List Entry) (used : ℕ) → IsMarked form (length entries) mark → mark_in 0 (marked mark entries ++ lines.End used ∷ []) ≡ mark
+pub mark_in-body : (form : Form) (mark : Option SpaceMark) (entries : List Entry) (used : ℕ) → MarkFits form (length entries) mark → mark_in 0 (lines_with_mark mark entries ++ lines.End used ∷ []) ≡ mark
 mark_in-body form None entries used h = mark_in-entries 0 entries (lines.End used ∷ [])
 mark_in-body Run (Some mark) entries used h = absurd h
 mark_in-body Play (Some mark) entries used h =
@@ -67,7 +67,7 @@ end_in-entries : (entries : List Entry) (more : List HistoryLine) → end_in (ma
 end_in-entries [] more = refl
 end_in-entries (entry ∷ entries) more = end_in-entries entries more
 
-pub end_in-body : (mark : Option SpaceMark) (entries : List Entry) (used : ℕ) → end_in (marked mark entries ++ lines.End used ∷ []) ≡ used
+pub end_in-body : (mark : Option SpaceMark) (entries : List Entry) (used : ℕ) → end_in (lines_with_mark mark entries ++ lines.End used ∷ []) ≡ used
 end_in-body None entries used = end_in-entries entries (lines.End used ∷ [])
 end_in-body (Some mark) entries used =
     rw (

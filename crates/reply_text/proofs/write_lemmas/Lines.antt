@@ -4,21 +4,21 @@ use Rattle.std.proofs.lemmas.List.Concat.{flat_map-append}
 use Rattle.heap_model.specs.declared.command.Command.{Command}
 use Rattle.heap_model.specs.declared.reply.Reply.{Reply}
 use Rattle.heap_model.specs.declared.entry.Entry.TheVariants.{Said, GivesBack}
-use Rattle.script_text.specs.Text.{sentence, spaced}
+use Rattle.script_text.specs.Text.{sentence, words_with_spaces}
 use Rattle.script_text.specs.Words.{command_words}
 use Rattle.script_text.proofs.Sentences.{sentence-cons}
 use Rattle.reply_text.specs.write.Entries.{reply_words, entry_text}
 
 -- a first word, some words, and further words
-pub sentence-append : (word : List ℕ) (words more : List (List ℕ)) → sentence (word ∷ words ++ more) ≡ word ++ (spaced words ++ spaced more)
+pub sentence-append : (word : List ℕ) (words more : List (List ℕ)) → sentence (word ∷ words ++ more) ≡ word ++ (words_with_spaces words ++ words_with_spaces more)
 sentence-append word words more = sentence-cons word (words ++ more) ∙ ap (λ (rest : List ℕ). word ++ rest) (flat_map-append (λ w. 32 ∷ w) words more)
 
 -- the line of a reply
-pub said_text : (seat : ℕ) (command : Command) (reply : Reply) → entry_text (Said seat command reply) ≡ decimal seat ++ (spaced (command_words command) ++ 32 ∷ 61 ∷ spaced (reply_words reply))
+pub said_text : (seat : ℕ) (command : Command) (reply : Reply) → entry_text (Said seat command reply) ≡ decimal seat ++ (words_with_spaces (command_words command) ++ 32 ∷ 61 ∷ words_with_spaces (reply_words reply))
 said_text seat command reply = sentence-append (decimal seat) (command_words command) (codes "=" ∷ reply_words reply)
 
 -- the line of a seat that gives back
-pub gives_back_text : (seat count : ℕ) → decimal seat ++ spaced (codes "gives" ∷ codes "back" ∷ decimal count ∷ []) ≡ entry_text (GivesBack seat count)
+pub gives_back_text : (seat count : ℕ) → decimal seat ++ words_with_spaces (codes "gives" ∷ codes "back" ∷ decimal count ∷ []) ≡ entry_text (GivesBack seat count)
 gives_back_text seat count = sym (sentence-cons (decimal seat) (codes "gives" ∷ codes "back" ∷ decimal count ∷ []))
 
 -- a line that is written in two parts

@@ -24,7 +24,7 @@ use Rattle.reply_text.specs.declared.history_line.HistoryLine.{HistoryLine}
 use Rattle.reply_text.specs.declared.history_line.HistoryLine.TheVariants as lines
 use Rattle.reply_text.specs.write.Entries.{id_word, stamp_word, waits_words, lack_words, reply_words, turn_reply_words, entry_words}
 use Rattle.reply_text.specs.write.Lines.{history_words, IsHistoryLine}
-use Rattle.reply_text.specs.Ranges.{IsId, IsStamp, IsWait, IsLack}
+use Rattle.reply_text.specs.Values.{IsId, IsStamp, IsWait, IsLack}
 use Rattle.reply_text.specs.Replies.{IsMaking, IsArraying, IsGetting, IsSetting, IsComparing, IsMeasuring, IsPolling, IsCollecting, IsReply, IsTurnReply}
 use Rattle.reply_text.specs.Written.{IsWritten}
 

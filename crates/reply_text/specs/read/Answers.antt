@@ -5,7 +5,7 @@ use Rattle.heap_model.specs.declared.command.Command.TheVariants.{New, Array, Ge
 use Rattle.heap_model.specs.declared.reply.Reply.{Reply}
 use Rattle.heap_model.specs.declared.reply.Reply.TheVariants as replies
 use Rattle.script_text.specs.Numbers.{number_below}
-use Rattle.reply_text.specs.read.Tokens.{◌>>=◌, by_first, first_by, after_word, number_at, id_of, stamp_of}
+use Rattle.reply_text.specs.read.Tokens.{◌>>=◌, by_first, first_by, after_word, number_at, word_id, word_stamp}
 use Rattle.reply_text.specs.read.Parts.{value_at, lack_at, wait_at}
 
 -- a reply to `new`
@@ -15,7 +15,7 @@ making_at word rest =
       lack ← lack_at (codes "found") rest
       Some (replies.Full lack.0.0 lack.0.1, lack.1))
     else (do
-      id ← id_of word
+      id ← word_id word
       Some (replies.Made id, rest))
 
 -- a reply to `array`
@@ -41,7 +41,7 @@ getting_at word rest =
     else (do
       value ← value_at word rest
       stamped ← after_word (codes "at") value.1
-      stamp ← first_by stamp_of stamped
+      stamp ← first_by word_stamp stamped
       Some (replies.Got value.0 stamp.0, stamp.1))
 
 -- a reply to `set`
@@ -49,7 +49,7 @@ abbrev pub setting_at : List ℕ → List (List ℕ) → Option (Reply × List (
 setting_at word rest =
     if bytes_eq word (codes "no") then nowhere_at rest
     else if bytes_eq word (codes "was") then (do
-      stamp ← first_by stamp_of rest
+      stamp ← first_by word_stamp rest
       Some (replies.Was stamp.0, stamp.1))
     else None
 

@@ -13,24 +13,24 @@ use Rattle.reply_text.specs.declared.history_line.HistoryLine.TheVariants as lin
 use Rattle.reply_text.specs.declared.read.stage.Stage.{Stage}
 use Rattle.reply_text.specs.declared.read.stage.Stage.TheVariants.{Unmarked, Marked, Ended}
 use Rattle.reply_text.specs.read.Stages.{after_line}
-use Rattle.reply_text.specs.History.{IsMarked, marked}
+use Rattle.reply_text.specs.History.{MarkFits, lines_with_mark}
 use Rattle.reply_text.specs.Written.{IsWritten}
 
 -- the end line, if it was read
-abbrev pub ended : Stage → ℕ → List HistoryLine
-ended Unmarked used = []
-ended Marked used = []
-ended Ended used = lines.End used ∷ []
+abbrev pub end_lines : Stage → ℕ → List HistoryLine
+end_lines Unmarked used = []
+end_lines Marked used = []
+end_lines Ended used = lines.End used ∷ []
 
 -- the lines that were read
 abbrev pub lines_read : Body → List HistoryLine
-lines_read body = marked body.mark body.entries ++ ended body.stage body.end_used
+lines_read body = lines_with_mark body.mark body.entries ++ end_lines body.stage body.end_used
 
 -- the mark is there exactly where no space line may follow
 abbrev pub IsStaged : Form → Stage → ℕ → Option SpaceMark → Type 0
 IsStaged form Unmarked count mark = (form ≡ Play) × (mark ≡ None)
-IsStaged form Marked count mark = IsMarked form count mark
-IsStaged form Ended count mark = IsMarked form count mark
+IsStaged form Marked count mark = MarkFits form count mark
+IsStaged form Ended count mark = MarkFits form count mark
 
 -- what was read may begin a history of this form and these seats
 pub record IsBody (form : Form) (seats : ℕ) (body : Body) : Type 0 where

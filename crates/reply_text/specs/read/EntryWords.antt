@@ -9,7 +9,7 @@ use Rattle.script_text.specs.Numbers.{number_below}
 use Rattle.reply_text.specs.read.Answers.{answer_at}
 use Rattle.reply_text.specs.read.TurnAnswers.{turning_at, cycling_at}
 use Rattle.reply_text.specs.read.Commands.{command_at}
-use Rattle.reply_text.specs.read.Tokens.{◌>>=◌, first_by, after_word, number_at, id_of}
+use Rattle.reply_text.specs.read.Tokens.{◌>>=◌, first_by, after_word, number_at, word_id}
 
 -- a seat's command and its reply, from the command's first word on
 abbrev pub said_at : ℕ → List ℕ → List (List ℕ) → Option (Entry × List (List ℕ))
@@ -80,7 +80,7 @@ collector_entry form (word ∷ rest) =
       count ← number_at (2 ^ 32) rest
       Some (entries.Returns count.0, count.1))
     else if bytes_eq word (codes "swings") then (do
-      id ← first_by id_of rest
+      id ← first_by word_id rest
       Some (entries.Swings id.0, id.1))
     else if bytes_eq word (codes "ends") then ends_at rest
     else turned_at form word rest

@@ -26,15 +26,15 @@ end_fault Unmarked number = fault_at number NoEnd
 end_fault Marked number = fault_at number NoEnd
 
 -- what is wrong with the line of this number, by where it leads, or else with the lines after it
-abbrev pub line_fault : ℕ → Option Stage → (Stage → Option LineFault) → Option LineFault
-line_fault number None rest = fault_at number BadEntry
-line_fault number (Some stage) rest = if number == too_many then fault_at number HistoryLines else rest stage
+abbrev pub history_line_fault : ℕ → Option Stage → (Stage → Option LineFault) → Option LineFault
+history_line_fault number None rest = fault_at number BadEntry
+history_line_fault number (Some stage) rest = if number == too_many then fault_at number HistoryLines else rest stage
 
 -- the first fault of the lines, of which the first has this number
-abbrev pub lines_fault : Form → ℕ → Stage → ℕ → List (List ℕ) → Option LineFault
-lines_fault form seats stage number [] = end_fault stage number
-lines_fault form seats stage number (line ∷ more) =
-    line_fault number (line_of form seats line >>= after_line stage) (λ next. lines_fault form seats next (number + 1) more)
+abbrev pub history_lines_fault : Form → ℕ → Stage → ℕ → List (List ℕ) → Option LineFault
+history_lines_fault form seats stage number [] = end_fault stage number
+history_lines_fault form seats stage number (line ∷ more) =
+    history_line_fault number (line_of form seats line >>= after_line stage) (λ next. history_lines_fault form seats next (number + 1) more)
 
 -- the form that the first line tells
 abbrev pub form_of : List ℕ → Option Form
@@ -44,21 +44,21 @@ form_of line =
     else None
 
 -- the first fault from the third line on, if the second asks for a heap
-abbrev pub further_fault : Form → Option Heap → List (List ℕ) → Option LineFault
-further_fault form None more = fault_at 2 BadHeap
-further_fault form (Some heap) more = lines_fault form heap.seats (first_stage form) 3 more
+abbrev pub history_further_fault : Form → Option Heap → List (List ℕ) → Option LineFault
+history_further_fault form None more = fault_at 2 BadHeap
+history_further_fault form (Some heap) more = history_lines_fault form heap.seats (first_stage form) 3 more
 
 -- the first fault from the second line on, if the first tells a form
-abbrev pub heap_fault : Option Form → List (List ℕ) → Option LineFault
-heap_fault None more = fault_at 1 NoHeader
-heap_fault (Some form) [] = fault_at 2 BadHeap
-heap_fault (Some form) (line ∷ more) = further_fault form (heap_of (words_of line)) more
+abbrev pub history_heap_fault : Option Form → List (List ℕ) → Option LineFault
+history_heap_fault None more = fault_at 1 NoHeader
+history_heap_fault (Some form) [] = fault_at 2 BadHeap
+history_heap_fault (Some form) (line ∷ more) = history_further_fault form (heap_of (words_of line)) more
 
 -- the first fault of the lines of a text
-abbrev pub header_fault : List (List ℕ) → Option LineFault
-header_fault [] = fault_at 1 NoHeader
-header_fault (line ∷ more) = heap_fault (form_of line) more
+abbrev pub history_header_fault : List (List ℕ) → Option LineFault
+history_header_fault [] = fault_at 1 NoHeader
+history_header_fault (line ∷ more) = history_heap_fault (form_of line) more
 
 -- the first fault of a text
 unfoldable pub first_history_fault : List ℕ → Option LineFault
-first_history_fault text = header_fault (lines_of text)
+first_history_fault text = history_header_fault (lines_of text)

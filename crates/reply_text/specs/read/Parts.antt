@@ -3,7 +3,7 @@ use Rattle.std.specs.Prelude.{ℕ, ◌^◌, List, Option, Some, None, bytes_eq, 
 use Rattle.heap_model.specs.Limits.{most_seats}
 use Rattle.heap_model.specs.declared.id.Value.{Value}
 use Rattle.heap_model.specs.declared.id.Value.TheVariants as values
-use Rattle.reply_text.specs.read.Tokens.{◌>>=◌, first_by, after_word, number_at, id_of}
+use Rattle.reply_text.specs.read.Tokens.{◌>>=◌, first_by, after_word, number_at, word_id}
 
 -- a value
 abbrev pub value_at : List ℕ → List (List ℕ) → Option (Value × List (List ℕ))
@@ -13,7 +13,7 @@ value_at word rest =
       n ← number_at 1073741824 rest
       Some (values.Number n.0, n.1))
     else if bytes_eq word (codes "object") then (do
-      id ← first_by id_of rest
+      id ← first_by word_id rest
       Some (values.Object id.0, id.1))
     else None
 

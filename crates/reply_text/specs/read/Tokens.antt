@@ -37,8 +37,8 @@ pair_of (first ∷ second ∷ []) = Some (first, second)
 pair_of _ = None
 
 -- the parts of a word before and after its only mark
-abbrev pub parted : ℕ → List ℕ → Option (List ℕ × List ℕ)
-parted mark word = pair_of (slice_split (λ b. b == mark) word)
+abbrev pub word_parts : ℕ → List ℕ → Option (List ℕ × List ℕ)
+word_parts mark word = pair_of (slice_split (λ b. b == mark) word)
 
 -- an id of a seat, by its two parts
 abbrev pub made_of : List ℕ × List ℕ → Option Id
@@ -48,8 +48,8 @@ made_of parts = do
   Some (Made seat count)
 
 -- the id that a word is
-abbrev pub id_of : List ℕ → Option Id
-id_of word = if bytes_eq word (codes "board") then Some Board else (parted 46 word >>= made_of)
+abbrev pub word_id : List ℕ → Option Id
+word_id word = if bytes_eq word (codes "board") then Some Board else (word_parts 46 word >>= made_of)
 
 -- a count of sets, which begins at 1
 abbrev pub set_of : ℕ → ℕ → Option ℕ
@@ -63,5 +63,5 @@ stamp_from parts = do
   set_of seat count
 
 -- the stamp that a word is
-abbrev pub stamp_of : List ℕ → Option ℕ
-stamp_of word = if bytes_eq word (codes "-") then Some 0 else (parted 58 word >>= stamp_from)
+abbrev pub word_stamp : List ℕ → Option ℕ
+word_stamp word = if bytes_eq word (codes "-") then Some 0 else (word_parts 58 word >>= stamp_from)

@@ -6,7 +6,7 @@ use Rattle.reply_text.specs.declared.history_line.HistoryLine.{HistoryLine}
 use Rattle.reply_text.specs.declared.history_line.HistoryLine.TheVariants as lines
 use Rattle.reply_text.specs.write.Entries.{entry_words}
 use Rattle.reply_text.specs.Written.{IsWritten}
-use Rattle.reply_text.specs.Ranges.{IsSpace}
+use Rattle.reply_text.specs.Values.{IsSpace}
 
 -- the words of a line
 abbrev pub history_words : HistoryLine → List (List ℕ)

@@ -3,8 +3,8 @@ ghost use Rattle.heap_model.specs.declared.reply.Reply.TheVariants as replies;
 ghost use Rattle.reply_text.specs.read.Parts.{value_at, lack_at, wait_at};
 ghost use Rattle.reply_text.specs.read.Answers.{making_at, arraying_at, nowhere_at, getting_at, setting_at, done_at, comparing_at, measuring_at, polling_at, collecting_at, answer_at};
 ghost use Rattle.reply_text.specs.write.Entries.{reply_words, value_words, waits_words};
-ghost use Rattle.reply_text.specs.Ranges.{IsValue, IsWait};
-ghost use Rattle.reply_text.specs.Replies.{IsMaking, IsArraying, IsNowhere, IsGetting, IsSetting, IsComparing, IsMeasuring, IsPolling, IsCollecting, IsReply};
+ghost use Rattle.reply_text.specs.Values.{IsValue, IsWait};
+ghost use Rattle.reply_text.specs.Replies.{IsMaking, IsArraying, TellsNoPlace, IsGetting, IsSetting, IsComparing, IsMeasuring, IsPolling, IsCollecting, IsReply};
 
 use crate::read::misspelled::Misspelled;
 use crate::read::tokens::{count, id, literal, next_word, number, number_of_word, read_id, stamp};
@@ -96,7 +96,7 @@ fn arraying(word: &[u8], words: &mut Parts<'_>) -> Result<Reply, Misspelled>
 /// What isn't there, after the word `no`.
 fn nowhere(words: &mut Parts<'_>) -> Result<Reply, Misspelled>
     ensures found { IfOk result (λ reply. codes "no" ∷ words.old ≡ reply_words reply ++ words.new) }
-    ensures range { IfOk result IsNowhere }
+    ensures range { IfOk result TellsNoPlace }
     ensures gives { MatchResult result
         (λ reply. nowhere_at words.old ≡ Some (reply, words.new))
         (λ _. nowhere_at words.old ≡ None) }

@@ -1,7 +1,7 @@
 ghost use Rattle.std.specs.Prelude.{◌≡◌, ℕ, [], ◌∷◌, ◌++◌, Some, OnOk, IfErr};
 ghost use Rattle.script_text.specs.declared.cause.ScriptFault.TheVariants as faults;
 ghost use Rattle.script_text.specs.declared.script.Form.{Form};
-ghost use Rattle.reply_text.specs.read.Body.{IsBody, IsMisplaced, ended, lines_read};
+ghost use Rattle.reply_text.specs.read.Body.{IsBody, IsMisplaced, end_lines, lines_read};
 ghost use Rattle.reply_text.specs.read.Stages.{after_line, first_stage};
 ghost use Rattle.reply_text.specs.write.Lines.{IsHistoryLine};
 ghost use Rattle.reply_text.specs.Written.{IsWritten};
@@ -45,7 +45,7 @@ impl Body {
 
     /// Adds an entry.
     fn add_entry(&mut self, entry: Entry) -> Result<(), ScriptFault>
-        requires { ended self.old.stage self.old.end_used ≡ [] }
+        requires { end_lines self.old.stage self.old.end_used ≡ [] }
         ensures found { (form : Form) (seats : ℕ) → IsBody form seats self.old →
             OnOk result (lines_read self.new ≡ lines_read self.old ++ lines.Entry entry ∷ []) }
         ensures range { (form : Form) (seats : ℕ) → IsBody form seats self.old →

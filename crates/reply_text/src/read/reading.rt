@@ -6,7 +6,7 @@ ghost use Rattle.script_text.specs.Words.{heap_line};
 ghost use Rattle.reply_text.specs.declared.read.stage.Stage.TheVariants.{Ended};
 ghost use Rattle.reply_text.specs.read.Body.{IsBody, lines_read};
 ghost use Rattle.reply_text.specs.read.Reading.{GivesOnlyHistory};
-ghost use Rattle.reply_text.specs.read.Faults.{first_history_fault, form_of, header_fault, lines_fault};
+ghost use Rattle.reply_text.specs.read.Faults.{first_history_fault, form_of, history_header_fault, history_lines_fault};
 ghost use Rattle.reply_text.specs.read.Stages.{first_stage};
 ghost use Rattle.reply_text.specs.History.{IsHistory, form_line, too_many};
 ghost use Rattle.reply_text.specs.write.Lines.{history_line};
@@ -41,9 +41,9 @@ fn add_line(
     ensures range { OnOk result (IsBody form seats body.new) }
     ensures short { OnOk result (number < too_many) }
     ensures none { (rest : List (List ℕ)) → OnOk result
-        (lines_fault form seats body.old.stage number (line.now ∷ rest) ≡ lines_fault form seats body.new.stage (number + 1) rest) }
+        (history_lines_fault form seats body.old.stage number (line.now ∷ rest) ≡ history_lines_fault form seats body.new.stage (number + 1) rest) }
     ensures fault { (rest : List (List ℕ)) →
-        IfErr result (FailsBy (lines_fault form seats body.old.stage number (line.now ∷ rest))) }
+        IfErr result (FailsBy (history_lines_fault form seats body.old.stage number (line.now ∷ rest))) }
 {
     let Ok(read) = read_line(line, form, seats) else {
         return Err(Cause::BadEntry.at(number).into());
@@ -62,9 +62,9 @@ fn read_body(alloc: Global, lines: Parts<'_>, form: Form, seats: u8) -> Result<B
     ensures range { IfOk result (IsBody form seats) }
     ensures ended { IfOk result (λ body. body.stage ≡ Ended) }
     ensures short { IfOk result (λ body. length (lines_read body) + 2 < too_many) }
-    ensures none { OnOk result (lines_fault form seats (first_stage form) 3 lines.entry ≡ None) }
+    ensures none { OnOk result (history_lines_fault form seats (first_stage form) 3 lines.entry ≡ None) }
     ensures fault { IfErr result
-        (FailsBy (lines_fault form seats (first_stage form) 3 lines.entry)) }
+        (FailsBy (history_lines_fault form seats (first_stage form) 3 lines.entry)) }
 {
     let mut body = Body::new(alloc, form);
     let mut number = 3;
@@ -99,8 +99,8 @@ fn read_head(lines: &mut Parts<'_>) -> Result<(Form, Heap), LineFault>
         (λ head. lines.old ≡ form_line head.0 ∷ heap_line head.1 ∷ lines.new) }
     ensures range { IfOk result (λ head. IsHeap head.1) }
     ensures rest { IfOk result
-        (λ head. header_fault lines.old ≡ lines_fault head.0 head.1.seats (first_stage head.0) 3 lines.new) }
-    ensures fault { IfErr result (λ fault. header_fault lines.old ≡ Some fault) }
+        (λ head. history_header_fault lines.old ≡ history_lines_fault head.0 head.1.seats (first_stage head.0) 3 lines.new) }
+    ensures fault { IfErr result (λ fault. history_header_fault lines.old ≡ Some fault) }
 {
     let Some(first) = lines.next() else {
         return Err(Cause::NoHeader.at(1));

@@ -2,8 +2,8 @@ ghost use Rattle.std.specs.Prelude.{◌≡◌, ◌+◌, ◌≤◌, ◌<◌, ◌^
 ghost use Rattle.heap_model.specs.Limits.{last_seat, stamp_limit};
 ghost use Rattle.script_text.specs.Numbers.{number_below};
 ghost use Rattle.reply_text.specs.write.Entries.{id_word, stamp_word};
-ghost use Rattle.reply_text.specs.read.Tokens.{after_word, first_by, id_of, number_at, parted, set_of, stamp_of};
-ghost use Rattle.reply_text.specs.Ranges.{IsId, IsStamp};
+ghost use Rattle.reply_text.specs.read.Tokens.{after_word, first_by, word_id, number_at, word_parts, set_of, word_stamp};
+ghost use Rattle.reply_text.specs.Values.{IsId, IsStamp};
 
 use crate::read::misspelled::Misspelled;
 use heap_model::Id;
@@ -78,8 +78,8 @@ pub fn count(words: &mut Parts<'_>) -> Result<u32, Misspelled>
 /// The parts of a word before and after its only mark.
 fn parts(word: &[u8], mark: u8) -> Result<(&[u8], &[u8]), Misspelled>
     ensures { MatchResult result
-        (λ p. parted mark word.now ≡ Some (p.0.now, p.1.now))
-        (λ _. parted mark word.now ≡ None) }
+        (λ p. word_parts mark word.now ≡ Some (p.0.now, p.1.now))
+        (λ _. word_parts mark word.now ≡ None) }
 {
     let (before, rest) = cut_at(word, mark);
     let Some(rest) = rest else {
@@ -97,8 +97,8 @@ pub fn read_id(word: &[u8]) -> Result<Id, Misspelled>
     ensures found { IfOk result (λ id. word.now ≡ id_word id) }
     ensures range { IfOk result IsId }
     ensures gives { MatchResult result
-        (λ id. id_of word.now ≡ Some id)
-        (λ _. id_of word.now ≡ None) }
+        (λ id. word_id word.now ≡ Some id)
+        (λ _. word_id word.now ≡ None) }
 {
     if word == b"board".as_slice() {
         return Ok(Id::Board);
@@ -114,8 +114,8 @@ pub fn id(words: &mut Parts<'_>) -> Result<Id, Misspelled>
     ensures found { IfOk result (λ id. words.old ≡ id_word id ∷ words.new) }
     ensures range { IfOk result IsId }
     ensures gives { MatchResult result
-        (λ id. first_by id_of words.old ≡ Some (id, words.new))
-        (λ _. first_by id_of words.old ≡ None) }
+        (λ id. first_by word_id words.old ≡ Some (id, words.new))
+        (λ _. first_by word_id words.old ≡ None) }
 {
     let word = next_word(words)?;
     read_id(word)
@@ -141,8 +141,8 @@ fn read_stamp(word: &[u8]) -> Result<u32, Misspelled>
     ensures found { IfOk result (λ stamp. word.now ≡ stamp_word stamp) }
     ensures range { IfOk result IsStamp }
     ensures gives { MatchResult result
-        (λ stamp. stamp_of word.now ≡ Some stamp)
-        (λ _. stamp_of word.now ≡ None) }
+        (λ stamp. word_stamp word.now ≡ Some stamp)
+        (λ _. word_stamp word.now ≡ None) }
 {
     if word == b"-".as_slice() {
         return Ok(0);
@@ -158,8 +158,8 @@ pub fn stamp(words: &mut Parts<'_>) -> Result<u32, Misspelled>
     ensures found { IfOk result (λ stamp. words.old ≡ stamp_word stamp ∷ words.new) }
     ensures range { IfOk result IsStamp }
     ensures gives { MatchResult result
-        (λ stamp. first_by stamp_of words.old ≡ Some (stamp, words.new))
-        (λ _. first_by stamp_of words.old ≡ None) }
+        (λ stamp. first_by word_stamp words.old ≡ Some (stamp, words.new))
+        (λ _. first_by word_stamp words.old ≡ None) }
 {
     let word = next_word(words)?;
     read_stamp(word)

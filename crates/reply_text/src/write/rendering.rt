@@ -1,5 +1,5 @@
 ghost use Rattle.std.specs.Prelude.{◌≡◌, [], ◌∷◌, ◌++◌, codes, decimal, IfOk, OnOk};
-ghost use Rattle.script_text.specs.Text.{spaced};
+ghost use Rattle.script_text.specs.Text.{words_with_spaces};
 ghost use Rattle.reply_text.specs.write.Entries.{entry_text};
 
 use crate::write::replies::{push_id, push_named, push_reply, push_turn_reply};
@@ -15,7 +15,7 @@ fn push_seat(text: &mut Vec<u8>, seat: u8) -> Result<(), Memory>
 
 fn push_gives_back(text: &mut Vec<u8>, count: u32) -> Result<(), Memory>
     ensures { OnOk result
-        (text.new.items ≡ text.old.items ++ spaced (codes "gives" ∷ codes "back" ∷ decimal count ∷ [])) }
+        (text.new.items ≡ text.old.items ++ words_with_spaces (codes "gives" ∷ codes "back" ∷ decimal count ∷ [])) }
 {
     push_word(text, b"gives")?;
     push_named(text, b"back", count.into())

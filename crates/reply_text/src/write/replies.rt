@@ -1,5 +1,5 @@
 ghost use Rattle.std.specs.Prelude.{◌≡◌, [], ◌∷◌, ◌++◌, decimal, OnOk};
-ghost use Rattle.script_text.specs.Text.{spaced};
+ghost use Rattle.script_text.specs.Text.{words_with_spaces};
 ghost use Rattle.reply_text.specs.write.Entries.{id_word, stamp_word, value_words, waits_words, lack_words, reply_words, turn_reply_words};
 
 use heap_model::limits::STAMP_LIMIT;
@@ -33,14 +33,14 @@ pub fn push_stamp(text: &mut Vec<u8>, stamp: u32) -> Result<(), Memory>
 /// Appends a space and the word, and a space and the number.
 pub fn push_named(text: &mut Vec<u8>, word: &[u8], number: u64) -> Result<(), Memory>
     ensures { OnOk result
-        (text.new.items ≡ text.old.items ++ spaced (word.now ∷ decimal number ∷ [])) }
+        (text.new.items ≡ text.old.items ++ words_with_spaces (word.now ∷ decimal number ∷ [])) }
 {
     push_word(text, word)?;
     push_number(text, number)
 }
 
 fn push_value(text: &mut Vec<u8>, value: Value) -> Result<(), Memory>
-    ensures { OnOk result (text.new.items ≡ text.old.items ++ spaced (value_words value)) }
+    ensures { OnOk result (text.new.items ≡ text.old.items ++ words_with_spaces (value_words value)) }
 {
     match value {
         Value::Nil => push_word(text, b"nil"),
@@ -54,7 +54,7 @@ fn push_value(text: &mut Vec<u8>, value: Value) -> Result<(), Memory>
 
 fn push_waits(text: &mut Vec<u8>, seat: u8, answered: u64, phase: u64) -> Result<(), Memory>
     ensures { OnOk result
-        (text.new.items ≡ text.old.items ++ spaced (waits_words seat answered phase)) }
+        (text.new.items ≡ text.old.items ++ words_with_spaces (waits_words seat answered phase)) }
 {
     push_named(text, b"waits", seat.into())?;
     push_named(text, b"answered", answered)?;
@@ -70,7 +70,7 @@ fn push_lack(
     number: u32,
 ) -> Result<(), Memory>
     ensures { OnOk result
-        (text.new.items ≡ text.old.items ++ spaced (lack_words kind.now need shown.now number)) }
+        (text.new.items ≡ text.old.items ++ words_with_spaces (lack_words kind.now need shown.now number)) }
 {
     push_word(text, kind)?;
     push_named(text, b"need", need.into())?;
@@ -79,7 +79,7 @@ fn push_lack(
 
 /// Appends the words of a reply, each after a space.
 pub fn push_reply(text: &mut Vec<u8>, reply: &Reply) -> Result<(), Memory>
-    ensures { OnOk result (text.new.items ≡ text.old.items ++ spaced (reply_words reply.now)) }
+    ensures { OnOk result (text.new.items ≡ text.old.items ++ words_with_spaces (reply_words reply.now)) }
 {
     match *reply {
         Reply::Made(id) => push_id(text, id),
@@ -118,7 +118,7 @@ pub fn push_reply(text: &mut Vec<u8>, reply: &Reply) -> Result<(), Memory>
 
 /// Appends the words of a reply to the collector's command, each after a space.
 pub fn push_turn_reply(text: &mut Vec<u8>, reply: &TurnReply) -> Result<(), Memory>
-    ensures { OnOk result (text.new.items ≡ text.old.items ++ spaced (turn_reply_words reply.now)) }
+    ensures { OnOk result (text.new.items ≡ text.old.items ++ words_with_spaces (turn_reply_words reply.now)) }
 {
     match *reply {
         TurnReply::Done => push_word(text, b"done"),

@@ -1,7 +1,7 @@
 ghost use Rattle.std.specs.Prelude.{◌≡◌, [], ◌∷◌, ◌++◌, map, OnOk, IfOk};
 ghost use Rattle.script_text.specs.Text.{text_of};
 ghost use Rattle.reply_text.specs.declared.history_line.HistoryLine.TheVariants as lines;
-ghost use Rattle.reply_text.specs.History.{IsHistory, IsSpellable, form_line, history_lines, marked, space_line};
+ghost use Rattle.reply_text.specs.History.{IsHistory, IsSpellable, form_line, history_lines, lines_with_mark, space_line};
 ghost use Rattle.reply_text.specs.write.Lines.{history_line};
 
 use crate::history::{History, SpaceMark};
@@ -64,7 +64,7 @@ fn push_end(text: &mut Vec<u8>, used: u64) -> Result<(), Memory>
 /// Appends the lines of entries, and the space line where it stands among them.
 fn push_marked(text: &mut Vec<u8>, mark: Option<SpaceMark>, entries: &[Entry]) -> Result<(), Memory>
     ensures { OnOk result
-        (text.new.items ≡ text.old.items ++ text_of (map history_line (marked mark entries.now))) }
+        (text.new.items ≡ text.old.items ++ text_of (map history_line (lines_with_mark mark entries.now))) }
 {
     let Some(mark) = mark else {
         return push_entries(text, entries);

@@ -4,19 +4,19 @@ use Rattle.heap_model.specs.declared.command.Command.{Command}
 use Rattle.heap_model.specs.declared.heap.Heap.{Heap}
 use Rattle.heap_model.specs.account.Cycles.{graph_of}
 use Rattle.heap_model.specs.account.Effects.{is_of}
-use Rattle.heap_model.specs.graph.Objects.{register}
-use Rattle.heap_model.specs.account.PhaseCounts.{phase, answered, has_left}
-use Rattle.heap_model.specs.graph.State.{State as Graph}
+use Rattle.heap_model.specs.graph.Objects.{register_value}
+use Rattle.heap_model.specs.account.PhaseCounts.{phase, last_answer, has_left}
+use Rattle.heap_model.specs.graph.Graph.{Graph}
 use Rattle.core_machine.specs.declared.place.Place.TheVariants as places
 use Rattle.core_machine.specs.seat.Commands.{IsRecord, target_of}
 use Rattle.core_machine.specs.seat.Fits.{IsAtRest}
-use Rattle.core_machine.specs.machine.Machine.{State, seat_at, starts, MayBegin, Begins, after}
+use Rattle.core_machine.specs.machine.Machine.{State, seat_at, call_start, MayBegin, Begins, state_after}
 use Rattle.core_machine.specs.seat.Registers.{register_in}
 use Rattle.core_machine.specs.seat.Seat.{Seat}
 use Rattle.core_machine.specs.machine.Value.{IsMachine}
 use Rattle.core_rule.specs.Book.{Book}
 use Rattle.core_rule.specs.Objects.{cells_at}
-use Rattle.core_rule.specs.Registers.{Holds}
+use Rattle.core_rule.specs.Registers.{HoldsValue}
 use Rattle.core_rule.specs.Rule.{Rule}
 use Rattle.core_rule.proofs.steps.Assemble.{Keeps, seat_steps, fit_after}
 use Rattle.core_rule.proofs.entries.AtRest.{none_awaited}
@@ -27,38 +27,38 @@ use Rattle.core_rule.proofs.entries.SeatLists.{all_told}
 use Rattle.core_rule.proofs.entries.Starting.{Starts, starts_other}
 
 -- the begin of any call but a new object's keeps the rule
-pub begin_others_keep : (heap : Heap) (state : State) (book : Book) (q : ℕ) (command : Command) → Rule heap state book → q < heap.seats
-    → MayBegin (seat_at state q) command → (IsRecord command → ⊥) → IsMachine heap (after heap state (Begins q command))
-    → Keeps heap (after heap state (Begins q command)) book (begins q (length book.history) book.begun) []
-begin_others_keep heap state book q command rule here may other machine =
-    let old : Seat = seat_at state q in
+pub begin_others_keep : (heap : Heap) (state : State) (book : Book) (number : ℕ) (command : Command) → Rule heap state book → number < heap.seats
+    → MayBegin (seat_at state number) command → (IsRecord command → ⊥) → IsMachine heap (state_after heap state (Begins number command))
+    → Keeps heap (state_after heap state (Begins number command)) book (begins number (length book.history) book.begun) []
+begin_others_keep heap state book number command rule here may other machine =
+    let old : Seat = seat_at state number in
     let seat : Seat = record old { command = command } in
-    let next : Seat = starts heap seat command in
+    let next : Seat = call_start heap seat command in
     let g : Graph = graph_of heap book.history in
-    let stands = rule.seats_stand q here in
+    let stands = rule.seats_stand number here in
     let rest : IsAtRest old = rw may.idle at stands.fits.at_place in
     let awaits = rw may.idle at stands.told.list.awaits in
-    let holds : (r : ℕ) → Holds book.made book.owner book.fragments (register_in old.registers r) (register g q r)
+    let holds : (r : ℕ) → HoldsValue book.made book.owner book.fragments (register_in old.registers r) (register_value g number r)
     = λ r. stands.names.registers r (none_awaited old.place places.Idle (target_of old.command) r may.idle (λ none. none)) in
-    let start : Starts g (cells_at g book.made) book.made book.owner book.fragments q seat next
-    = starts_other g (cells_at g book.made) book.made book.owner book.fragments q heap seat command other may.served refl (λ r. (register g q r, holds r)) in
+    let start : Starts g (cells_at g book.made) book.made book.owner book.fragments number seat next
+    = starts_other g (cells_at g book.made) book.made book.owner book.fragments number heap seat command other may.served refl (λ r. (register_value g number r, holds r)) in
     let own = start.own in
     let same = own.same in
-    seat_steps heap state book q state.words next (book_begun heap state.words book q) []
+    seat_steps heap state book number state.words next (book_begun heap state.words book number) []
     rule here machine (sym (append-nil book.history)) refl
-    (heap_begins heap state.words book q rule.heap_stands)
+    (heap_begins heap state.words book number rule.heap_stands)
     record {
-      fits = fit_after heap state book q rule here machine;
+      fits = fit_after heap state book number rule here machine;
       own = record {
-        holding = holding_as book.owner q old.reserve old.hand old.body next.reserve next.hand next.body own.reserve own.hand own.body stands.own.holding;
-        stored = none_stored heap state.words q next (same.stored ∙ rest.none_stored);
+        holding = holding_as book.owner number old.reserve old.hand old.body next.reserve next.hand next.body own.reserve own.hand own.body stands.own.holding;
+        stored = none_stored heap state.words number next (same.stored ∙ rest.none_stored);
         together = nothing_together heap next.cursor next.tried next.hand next.body (own.hand ∙ rest.empty_hand) (own.body ∙ rest.no_body);
       };
       names = record { registers = λ r awake. rw same.registers (holds r); way = start.way };
       told = record {
         list = record {
           awaited = [];
-          own = append-nil next.mine ∙ same.mine ∙ all_told old.mine stands.told.list.awaited (filter (is_of q) book.history) stands.told.list.own awaits;
+          own = append-nil next.mine ∙ same.mine ∙ all_told old.mine stands.told.list.awaited (filter (is_of number) book.history) stands.told.list.own awaits;
           awaits = start.awaits;
         };
         counts = record {
@@ -67,10 +67,10 @@ begin_others_keep heap state book q command rule here may other machine =
           leaves = stands.told.counts.leaves ∙ sym same.left;
           unborn = rw (own.reserve, own.hand, own.body) stands.told.counts.unborn;
         };
-        began = began_now heap state.words book q next.place;
-        gathers = gathers_none heap book.owner q (drop (begins q (length book.history) book.begun q) book.history) next.cursor next.tried next.given (own.tried ∙ rest.none_tried) (own.given ∙ rest.none_given);
+        began = began_now heap state.words book number next.place;
+        gathers = gathers_none heap book.owner number (drop (begins number (length book.history) book.begun number) book.history) next.cursor next.tried next.given (own.tried ∙ rest.none_tried) (own.given ∙ rest.none_given);
       };
-      cycle = cycle_fresh heap state.words book.owner book.colour (phase book.history) (answered q book.history) (has_left q book.history) q old next
+      cycle = cycle_fresh heap state.words book.owner book.colour (phase book.history) (last_answer number book.history) (has_left number book.history) number old next
           record { answered = same.answered; left = same.left; asked = same.asked } start.fresh stands.cycle;
     }
-    (λ r below apart other. other_begins heap state.words book q r (seat_at state r) apart other)
+    (λ r below apart other. other_begins heap state.words book number r (seat_at state r) apart other)

@@ -4,17 +4,17 @@ use Rattle.std.proofs.lemmas.List.{append-nil}
 use Rattle.heap_model.specs.declared.heap.Heap.{Heap}
 use Rattle.heap_model.specs.account.Cycles.{graph_of}
 use Rattle.heap_model.specs.account.Effects.{is_of}
-use Rattle.heap_model.specs.graph.State.{State as Graph}
+use Rattle.heap_model.specs.graph.Graph.{Graph}
 use Rattle.core_machine.specs.declared.table.address.Address.TheVariants.{Word}
 use Rattle.core_machine.specs.declared.place.Place.TheVariants as places
-use Rattle.core_machine.specs.declared.place.Reaching.TheVariants.{Walking}
+use Rattle.core_machine.specs.declared.place.Access.TheVariants.{Walking}
 use Rattle.core_machine.specs.seat.Commands.{target_of}
-use Rattle.core_machine.specs.seat.FitsReaching.{Walks}
+use Rattle.core_machine.specs.seat.FitsAccess.{SeatIsOnWay}
 use Rattle.core_machine.specs.table.Layout.{at}
-use Rattle.core_machine.specs.table.Loaded.{link_in}
+use Rattle.core_machine.specs.table.Decode.{link_of}
 use Rattle.core_machine.specs.machine.Machine.{State, seat_at}
-use Rattle.core_machine.specs.seat.Reaching.{has_barrier, way_place, stepped_on, onward}
-use Rattle.core_machine.specs.seat.ReachingMoves.{walk_move}
+use Rattle.core_machine.specs.seat.Access.{has_barrier_of, way_place_of, after_link, after_walk}
+use Rattle.core_machine.specs.seat.AccessMoves.{walk_move}
 use Rattle.core_machine.specs.seat.Seat.{Seat, with_entries}
 use Rattle.core_machine.specs.machine.Value.{IsMachine}
 use Rattle.core_rule.specs.Book.{Book}
@@ -31,54 +31,54 @@ use Rattle.core_rule.proofs.ways.OnwardWays.{way_unwatched, way_cases, onward_ca
 use Rattle.core_rule.proofs.entries.SeatLists.{list_more}
 use Rattle.core_rule.proofs.cycle.Unwatched.{IsUnwatched}
 
-module _ (heap : Heap) (state : State) (book : Book) (q : ℕ) (rule : Rule heap state book) (here : q < heap.seats)
-    (busy : ¬ IsAnswered (seat_at state q).place) (free : (d r : ℕ) → ¬ IsAwaited (seat_at state q).place d r) (unloaded : (seat_at state q).loaded ≡ 0) where
+module _ (heap : Heap) (state : State) (book : Book) (number : ℕ) (rule : Rule heap state book) (here : number < heap.seats)
+    (busy : ¬ IsAnswered (seat_at state number).place) (free : (d r : ℕ) → ¬ IsAwaited (seat_at state number).place d r) (unloaded : (seat_at state number).loaded ≡ 0) where
   -- the word that the step finds, and the state after it
   abbrev found_first : ℕ
-  found_first = at heap state.words (Word (seat_at state q).reached 0)
+  found_first = at heap state.words (Word (seat_at state number).reached 0)
 
   -- a seat that goes on to this place
-  goes_to : (reached links : ℕ) (next : Seat) → has_barrier next ≡ has_barrier (seat_at state q)
+  goes_to : (reached links : ℕ) (next : Seat) → has_barrier_of next ≡ has_barrier_of (seat_at state number)
       → Finds (cells_at (graph_of heap book.history) book.made) book.made book.owner book.fragments
-      (went (seat_at state q) (seat_at state q).registers reached links (seat_at state q).loaded (places.Reaching (way_place next)) [])
-      → IsMachine heap (loaded_state heap state q (Word (seat_at state q).reached 0)
-      (went (seat_at state q) (seat_at state q).registers reached links (seat_at state q).loaded (places.Reaching (way_place next)) []))
-      → Keeps heap (loaded_state heap state q (Word (seat_at state q).reached 0)
-      (went (seat_at state q) (seat_at state q).registers reached links (seat_at state q).loaded (places.Reaching (way_place next)) [])) book book.begun []
+      (went (seat_at state number) (seat_at state number).registers reached links (seat_at state number).loaded (places.Access (way_place_of next)) [])
+      → IsMachine heap (loaded_state heap state number (Word (seat_at state number).reached 0)
+      (went (seat_at state number) (seat_at state number).registers reached links (seat_at state number).loaded (places.Access (way_place_of next)) []))
+      → Keeps heap (loaded_state heap state number (Word (seat_at state number).reached 0)
+      (went (seat_at state number) (seat_at state number).registers reached links (seat_at state number).loaded (places.Access (way_place_of next)) [])) book book.begun []
   goes_to reached links next same finds machine =
-      let seat : Seat = seat_at state q in
+      let seat : Seat = seat_at state number in
       let g : Graph = graph_of heap book.history in
-      let stands = rule.seats_stand q here in
-      let new : Seat = went seat seat.registers reached links seat.loaded (places.Reaching (way_place next)) [] in
-      load_goes heap state book q rule here (Word seat.reached 0) seat.registers reached links seat.loaded (places.Reaching (way_place next)) [] machine
+      let stands = rule.seats_stand number here in
+      let new : Seat = went seat seat.registers reached links seat.loaded (places.Access (way_place_of next)) [] in
+      load_goes heap state book number rule here (Word seat.reached 0) seat.registers reached links seat.loaded (places.Access (way_place_of next)) [] machine
       (λ r unawaited. stands.names.registers r (free (target_of seat.command) r))
-      (list_more g book.made book.owner book.fragments q seat book.history busy stands.told.list g book.history new [] [] [] refl refl (sym (append-nil (filter (is_of q) book.history)))
-      (way_cases (λ place. Awaits g book.made book.owner book.fragments q new (places.Reaching place) []) next refl refl (λ on. refl) (λ off. refl)))
+      (list_more g book.made book.owner book.fragments number seat book.history busy stands.told.list g book.history new [] [] [] refl refl (sym (append-nil (filter (is_of number) book.history)))
+      (way_cases (λ place. Awaits g book.made book.owner book.fragments number new (places.Access place) []) next refl refl (λ on. refl) (λ off. refl)))
       (way_stands (cells_at g book.made) book.made book.owner book.fragments new next unloaded finds)
-      (began_on book.history q (book.begun q) seat.place (places.Reaching (way_place next)) busy stands.told.began)
-      (went_cycle heap state book q rule here (Word seat.reached 0) seat.registers reached links seat.loaded (places.Reaching (way_place next)) [] machine
-      (subst (λ b. IsUnwatched b (way_place next)) same (way_unwatched next)))
+      (began_on book.history number (book.begun number) seat.place (places.Access (way_place_of next)) busy stands.told.began)
+      (went_cycle heap state book number rule here (Word seat.reached 0) seat.registers reached links seat.loaded (places.Access (way_place_of next)) [] machine
+      (subst (λ b. IsUnwatched b (way_place_of next)) same (way_unwatched next)))
 
   -- the way goes on, or the field's fragment is reached
-  pub onward_keeps : Finds (cells_at (graph_of heap book.history) book.made) book.made book.owner book.fragments (seat_at state q)
-      → IsMachine heap (loaded_state heap state q (Word (seat_at state q).reached 0) (with_entries (onward (seat_at state q) found_first) []))
-      → Keeps heap (loaded_state heap state q (Word (seat_at state q).reached 0) (with_entries (onward (seat_at state q) found_first) [])) book book.begun []
+  pub onward_keeps : Finds (cells_at (graph_of heap book.history) book.made) book.made book.owner book.fragments (seat_at state number)
+      → IsMachine heap (loaded_state heap state number (Word (seat_at state number).reached 0) (with_entries (after_walk (seat_at state number) found_first) []))
+      → Keeps heap (loaded_state heap state number (Word (seat_at state number).reached 0) (with_entries (after_walk (seat_at state number) found_first) [])) book book.begun []
   onward_keeps finds =
-      let seat : Seat = seat_at state q in
+      let seat : Seat = seat_at state number in
       let g : Graph = graph_of heap book.history in
-      onward_cases (λ s. IsMachine heap (loaded_state heap state q (Word seat.reached 0) (with_entries s []))
-      → Keeps heap (loaded_state heap state q (Word seat.reached 0) (with_entries s [])) book book.begun []) seat found_first
+      onward_cases (λ s. IsMachine heap (loaded_state heap state number (Word seat.reached 0) (with_entries s []))
+      → Keeps heap (loaded_state heap state number (Word seat.reached 0) (with_entries s [])) book book.begun []) seat found_first
       (λ arrived. goes_to seat.reached seat.links seat refl
-      (finds_at (cells_at g book.made) book.made book.owner book.fragments seat seat.loaded (way_place seat) _ finds))
-      (λ more. goes_to (link_in found_first) (seat.links - 1) (stepped_on seat found_first) refl
+      (finds_at (cells_at g book.made) book.made book.owner book.fragments seat seat.loaded (way_place_of seat) _ finds))
+      (λ more. goes_to (link_of found_first) (seat.links - 1) (after_link seat found_first) refl
       (finds_on heap state.words g book.made book.owner book.fragments rule.machine.limits rule.heap_stands.control_words rule.heap_stands.ids rule.heap_stands.objects
-      seat seat.loaded (way_place (stepped_on seat found_first)) _ more finds))
+      seat seat.loaded (way_place_of (after_link seat found_first)) _ more finds))
 
 -- walking a link keeps the rule
-pub walk_keeps : StepKeeps (places.Reaching Walking) (λ heap q. walk_move)
-walk_keeps heap state book q rule here place machine =
-    let finds : Finds (cells_at (graph_of heap book.history) book.made) book.made book.owner book.fragments (seat_at state q)
-    = rw place at (rule.seats_stand q here).names.way in
-    let walks : Walks (seat_at state q) = rw place at (rule.seats_stand q here).fits.way_at_place in
-    onward_keeps heap state book q rule here (λ answered. subst IsAnswered place answered) (λ d r awaited. subst (λ p. IsAwaited p d r) place awaited)
+pub walk_keeps : StepKeeps (places.Access Walking) (λ heap number. walk_move)
+walk_keeps heap state book number rule here place machine =
+    let finds : Finds (cells_at (graph_of heap book.history) book.made) book.made book.owner book.fragments (seat_at state number)
+    = rw place at (rule.seats_stand number here).names.way in
+    let walks : SeatIsOnWay (seat_at state number) = rw place at (rule.seats_stand number here).fits.way_at_place in
+    onward_keeps heap state book number rule here (λ answered. subst IsAnswered place answered) (λ d r awaited. subst (λ p. IsAwaited p d r) place awaited)
     walks.none_loaded finds machine

@@ -15,17 +15,17 @@ use Rattle.heap_model.specs.account.Effects.{effect_of, no_effect}
 use Rattle.heap_model.specs.graph.Growth.{after_reply}
 use Rattle.heap_model.specs.graph.Legal.{Accepts}
 use Rattle.heap_model.specs.account.PhaseCounts.{is_leave_of}
-use Rattle.heap_model.specs.graph.State.{State as Graph}
+use Rattle.heap_model.specs.graph.Graph.{Graph}
 use Rattle.core_machine.specs.declared.table.address.Address.TheVariants.{Word}
 use Rattle.core_machine.specs.declared.place.Place.TheVariants as places
-use Rattle.core_machine.specs.declared.place.Reaching.TheVariants.{Opening}
+use Rattle.core_machine.specs.declared.place.Access.TheVariants.{LoadingMeta}
 use Rattle.core_machine.specs.seat.Commands.{target_of, field_of}
-use Rattle.core_machine.specs.seat.FitsReaching.{NamesObject, NamesField, Opens}
+use Rattle.core_machine.specs.seat.FitsAccess.{NamesObject, NamesField, SeatIsAtHead}
 use Rattle.core_machine.specs.table.Layout.{at}
-use Rattle.core_machine.specs.table.Loaded.{length_in}
+use Rattle.core_machine.specs.table.Decode.{length_of}
 use Rattle.core_machine.specs.machine.Machine.{State, seat_at}
-use Rattle.core_machine.specs.seat.Reaching.{row_of, meta_reply, met}
-use Rattle.core_machine.specs.seat.ReachingMoves.{open_move, said, said_some}
+use Rattle.core_machine.specs.seat.Access.{row_of, meta_reply_of, after_meta}
+use Rattle.core_machine.specs.seat.AccessMoves.{open_move, reply_entries, reply_entries_if}
 use Rattle.core_machine.specs.seat.Seat.{Seat, with_entries}
 use Rattle.core_machine.specs.machine.Value.{IsMachine}
 use Rattle.core_rule.proofs.entries.AtRest.{spent_own, few_own}
@@ -47,80 +47,80 @@ use Rattle.core_rule.proofs.graph.PutRegister.{only_none}
 use Rattle.core_rule.proofs.entries.SeatLists.{list_more}
 
 -- a meta answers a question for the length; a field goes on, or is none of the object's
-meta_cases : (P : Option Reply → Type 0) (command : Command) (found : ℕ) → NamesObject command → (IsLen command → P (Some (replies.Length (length_in found))))
-    → (NamesField command → field_of command < length_in found → P None) → (NamesField command → length_in found ≤ field_of command → P (Some replies.NoField))
-    → P (meta_reply command found)
+meta_cases : (P : Option Reply → Type 0) (command : Command) (found : ℕ) → NamesObject command → (IsLen command → P (Some (replies.Length (length_of found))))
+    → (NamesField command → field_of command < length_of found → P None) → (NamesField command → length_of found ≤ field_of command → P (Some replies.NoField))
+    → P (meta_reply_of command found)
 meta_cases P (commands.Len r) found is len more past = len tt
 meta_cases P (commands.Get d r i) found is len more past =
-    cond_both (ltb i (length_in found)) None (Some replies.NoField) P (λ e. more tt (ltb-true i (length_in found) e)) (λ e. past tt (ltb-false i (length_in found) e))
+    cond_both (ltb i (length_of found)) None (Some replies.NoField) P (λ e. more tt (ltb-true i (length_of found) e)) (λ e. past tt (ltb-false i (length_of found) e))
 meta_cases P (commands.Set r i v) found is len more past =
-    cond_both (ltb i (length_in found)) None (Some replies.NoField) P (λ e. more tt (ltb-true i (length_in found) e)) (λ e. past tt (ltb-false i (length_in found) e))
+    cond_both (ltb i (length_of found)) None (Some replies.NoField) P (λ e. more tt (ltb-true i (length_of found) e)) (λ e. past tt (ltb-false i (length_of found) e))
 meta_cases P _ found is len more past = absurd is
 
-module _ (heap : Heap) (state : State) (book : Book) (q : ℕ) (rule : Rule heap state book) (here : q < heap.seats)
-    (place : (seat_at state q).place ≡ places.Reaching Opening) where
-  busy : ¬ IsAnswered (seat_at state q).place
+module _ (heap : Heap) (state : State) (book : Book) (number : ℕ) (rule : Rule heap state book) (here : number < heap.seats)
+    (place : (seat_at state number).place ≡ places.Access LoadingMeta) where
+  busy : ¬ IsAnswered (seat_at state number).place
   busy answered = subst IsAnswered place answered
 
-  free : (d r : ℕ) → ¬ IsAwaited (seat_at state q).place d r
+  free : (d r : ℕ) → ¬ IsAwaited (seat_at state number).place d r
   free d r awaited = subst (λ p. IsAwaited p d r) place awaited
 
   -- a reply at the meta, which changes nothing of the graph
-  met_keeps : (reply : Reply) → effect_of (Said q (seat_at state q).command reply) ≡ no_effect
-      → after_reply (graph_of heap book.history) q (seat_at state q).command reply ≡ graph_of heap book.history
-      → Accepts (graph_of heap book.history) (Said q (seat_at state q).command reply)
-      → KeepsSpace heap false book.history (Said q (seat_at state q).command reply)
-      → is_leave_of q (Said q (seat_at state q).command reply) ≡ false
-      → IsMachine heap (loaded_state heap state q (Word (seat_at state q).reached 0)
-      (went (seat_at state q) (seat_at state q).registers 0 0 0 places.Idle (said q (seat_at state q) reply)))
-      → Keeps heap (loaded_state heap state q (Word (seat_at state q).reached 0)
-      (went (seat_at state q) (seat_at state q).registers 0 0 0 places.Idle (said q (seat_at state q) reply))) book book.begun (said q (seat_at state q) reply)
+  met_keeps : (reply : Reply) → effect_of (Said number (seat_at state number).command reply) ≡ no_effect
+      → after_reply (graph_of heap book.history) number (seat_at state number).command reply ≡ graph_of heap book.history
+      → Accepts (graph_of heap book.history) (Said number (seat_at state number).command reply)
+      → KeepsSpace heap false book.history (Said number (seat_at state number).command reply)
+      → is_leave_of number (Said number (seat_at state number).command reply) ≡ false
+      → IsMachine heap (loaded_state heap state number (Word (seat_at state number).reached 0)
+      (went (seat_at state number) (seat_at state number).registers 0 0 0 places.Idle (reply_entries number (seat_at state number) reply)))
+      → Keeps heap (loaded_state heap state number (Word (seat_at state number).reached 0)
+      (went (seat_at state number) (seat_at state number).registers 0 0 0 places.Idle (reply_entries number (seat_at state number) reply))) book book.begun (reply_entries number (seat_at state number) reply)
   met_keeps reply nothing stays accepts keeps stays_here machine =
-      let seat : Seat = seat_at state q in
+      let seat : Seat = seat_at state number in
       let g : Graph = graph_of heap book.history in
-      let stands = rule.seats_stand q here in
-      let entry : Entry = Said q seat.command reply in
-      load_tells heap state book q rule here (Word seat.reached 0) seat.registers 0 0 0 places.Idle (entry ∷ []) machine seat.command reply nothing g stays (only_none g q)
+      let stands = rule.seats_stand number here in
+      let entry : Entry = Said number seat.command reply in
+      load_tells heap state book number rule here (Word seat.reached 0) seat.registers 0 0 0 places.Idle (entry ∷ []) machine seat.command reply nothing g stays (only_none g number)
       accepts keeps
       (λ r unawaited. stands.names.registers r (free (target_of seat.command) r))
-      (list_more g book.made book.owner book.fragments q seat book.history busy stands.told.list g _ _ (entry ∷ []) [] (entry ∷ []) refl refl
-      (own_entries q book.history entry (eq-eqb q q refl)) refl)
+      (list_more g book.made book.owner book.fragments number seat book.history busy stands.told.list g _ _ (entry ∷ []) [] (entry ∷ []) refl refl
+      (own_entries number book.history entry (eq-eqb number number refl)) refl)
       tt tt stays_here
-      (went_cycle heap state book q rule here (Word seat.reached 0) seat.registers 0 0 0 places.Idle (entry ∷ []) machine tt)
+      (went_cycle heap state book number rule here (Word seat.reached 0) seat.registers 0 0 0 places.Idle (entry ∷ []) machine tt)
 
 -- loading the length keeps the rule
-pub open_keeps : StepKeeps (places.Reaching Opening) (λ heap. open_move)
-open_keeps heap state book q rule here place machine =
-    let seat : Seat = seat_at state q in
+pub open_keeps : StepKeeps (places.Access LoadingMeta) (λ heap. open_move)
+open_keeps heap state book number rule here place machine =
+    let seat : Seat = seat_at state number in
     let g : Graph = graph_of heap book.history in
-    let stands = rule.seats_stand q here in
+    let stands = rule.seats_stand number here in
     let found : ℕ = at heap state.words (Word seat.reached 0) in
-    let opens : Opens seat = rw place at stands.fits.way_at_place in
+    let opens : SeatIsAtHead seat = rw place at stands.fits.way_at_place in
     let out : SetsOut book.made book.owner book.fragments seat = rw place at stands.names.way in
-    let number : ℕ = out.number in
+    let index : ℕ = out.index in
     let way = out.way in
-    let id : Id = id_at book.made number in
+    let id : Id = id_at book.made index in
     let none_walked : row_of (field_of seat.command) - seat.links ≡ 0 = omega (arith, opens.whole_way) in
-    let at_head : seat.reached ≡ fragment_at (book.fragments number) 0 = way.here ∙ ap (fragment_at (book.fragments number)) none_walked in
-    let size : length_in found ≡ length (cells_at g book.made number)
-    = ap (λ f. length_in (at heap state.words (Word f 0))) at_head
-    ∙ length_found heap state.words g book.made book.owner book.fragments rule.machine.limits rule.heap_stands.control_words rule.heap_stands.ids rule.heap_stands.objects number way.below way.kept in
-    let present = is_present heap state book q rule here Opening place in
-    let made = rule.heap_stands.ids.in_graph number way.below in
-    let held = way_object heap state book q rule here Opening place (free heap state book q rule here place) number way in
-    let enough = spent_own heap state book q rule here (at_rest heap state book q rule here Opening place) in
-    let little = few_own heap state book q rule here (at_rest heap state book q rule here Opening place) in
-    let leaves_none = λ (reply : Reply). no_leave_told q q seat.command reply (λ leaves. subst NamesObject leaves opens.names) in
-    let ends = λ (reply : Reply). over_went heap state book q (Word seat.reached 0) seat.registers (said q seat reply) (said q seat reply) (rw place at stands.fits.at_place) (rw place at stands.fits.answer_at_place) in
-    meta_cases (λ reply. IsMachine heap (loaded_state heap state q (Word seat.reached 0) (with_entries (met seat found reply) (said_some q seat reply)))
-    → Keeps heap (loaded_state heap state q (Word seat.reached 0) (with_entries (met seat found reply) (said_some q seat reply))) book book.begun (said_some q seat reply))
+    let at_head : seat.reached ≡ fragment_at (book.fragments index) 0 = way.here ∙ ap (fragment_at (book.fragments index)) none_walked in
+    let size : length_of found ≡ length (cells_at g book.made index)
+    = ap (λ f. length_of (at heap state.words (Word f 0))) at_head
+    ∙ length_found heap state.words g book.made book.owner book.fragments rule.machine.limits rule.heap_stands.control_words rule.heap_stands.ids rule.heap_stands.objects index way.below way.kept in
+    let present = is_present heap state book number rule here LoadingMeta place in
+    let made = rule.heap_stands.ids.in_graph index way.below in
+    let held = way_object heap state book number rule here LoadingMeta place (free heap state book number rule here place) index way in
+    let enough = spent_own heap state book number rule here (at_rest heap state book number rule here LoadingMeta place) in
+    let little = few_own heap state book number rule here (at_rest heap state book number rule here LoadingMeta place) in
+    let leaves_none = λ (reply : Reply). no_leave_told number number seat.command reply (λ leaves. subst NamesObject leaves opens.names) in
+    let ends = λ (reply : Reply). over_went heap state book number (Word seat.reached 0) seat.registers (reply_entries number seat reply) (reply_entries number seat reply) (rw place at stands.fits.at_place) (rw place at stands.fits.answer_at_place) in
+    meta_cases (λ reply. IsMachine heap (loaded_state heap state number (Word seat.reached 0) (with_entries (after_meta seat found reply) (reply_entries_if number seat reply)))
+    → Keeps heap (loaded_state heap state number (Word seat.reached 0) (with_entries (after_meta seat found reply) (reply_entries_if number seat reply))) book book.begun (reply_entries_if number seat reply))
     seat.command found opens.names
-    (λ len. ends (replies.Length (length_in found)) (met_keeps heap state book q rule here place (replies.Length (length_in found)) refl (graph_length g q (length_in found) seat.command len)
-    (subst (λ n. Accepts g (Said q seat.command (replies.Length n))) (sym size) (accepts_length g q id seat.command opens.works.in_range present made held len))
-    (keeps_length heap false book.history q enough little (length_in found) seat.command len) (leaves_none (replies.Length (length_in found)))))
-    (λ field more. onward_keeps heap state book q rule here (busy heap state book q rule here place) (free heap state book q rule here place)
-    opens.none_loaded (record { number = number; way = way; within = omega (arith, more, size) }))
-    (λ field past. ends replies.NoField (met_keeps heap state book q rule here place replies.NoField refl (graph_no_field g q seat.command field)
-    (accepts_no_field g q id seat.command opens.works.in_range present made held field (omega (arith, past, size)))
-    (keeps_no_field heap false book.history q enough little seat.command field) (leaves_none replies.NoField)))
+    (λ len. ends (replies.Length (length_of found)) (met_keeps heap state book number rule here place (replies.Length (length_of found)) refl (graph_length g number (length_of found) seat.command len)
+    (subst (λ n. Accepts g (Said number seat.command (replies.Length n))) (sym size) (accepts_length g number id seat.command opens.works.in_range present made held len))
+    (keeps_length heap false book.history number enough little (length_of found) seat.command len) (leaves_none (replies.Length (length_of found)))))
+    (λ field more. onward_keeps heap state book number rule here (busy heap state book number rule here place) (free heap state book number rule here place)
+    opens.none_loaded (record { index = index; way = way; within = omega (arith, more, size) }))
+    (λ field past. ends replies.NoField (met_keeps heap state book number rule here place replies.NoField refl (graph_no_field g number seat.command field)
+    (accepts_no_field g number id seat.command opens.works.in_range present made held field (omega (arith, past, size)))
+    (keeps_no_field heap false book.history number enough little seat.command field) (leaves_none replies.NoField)))
     machine

@@ -3,20 +3,20 @@ use Rattle.std.specs.Prelude.{unwrap_or}
 use Rattle.std.proofs.Common.{◌≡◌, ℕ, true, [], ◌++◌, Option, Some, None, IfSome, inl, refl, subst, IsSome}
 use Rattle.heap_model.specs.account.Cycles.{graph_of}
 use Rattle.heap_model.specs.account.PhaseCounts.{phase}
-use Rattle.heap_model.specs.graph.State.{State as Graph}
+use Rattle.heap_model.specs.graph.Graph.{Graph}
 use Rattle.core_machine.specs.declared.place.Place.TheVariants as places
-use Rattle.core_machine.specs.declared.place.Reaching.TheVariants.{ShadingNew, Swapping}
+use Rattle.core_machine.specs.declared.place.Access.TheVariants.{ShadingNew, Swapping}
 use Rattle.core_machine.specs.seat.Commands.{source_of}
-use Rattle.core_machine.specs.seat.FitsReaching.{Sets}
-use Rattle.core_machine.specs.table.Loaded.{head_in}
+use Rattle.core_machine.specs.seat.FitsAccess.{SeatIsAtSet}
+use Rattle.core_machine.specs.table.Decode.{head_of}
 use Rattle.core_machine.specs.machine.Machine.{seat_at}
-use Rattle.core_machine.specs.seat.Reaching.{has_barrier}
-use Rattle.core_machine.specs.seat.ReachingMoves.{shade_new_move, field_part, new_register}
-use Rattle.core_machine.specs.seat.Registers.{head_of}
+use Rattle.core_machine.specs.seat.Access.{has_barrier_of}
+use Rattle.core_machine.specs.seat.AccessMoves.{shade_new_move, field_part_of, new_register_of}
+use Rattle.core_machine.specs.seat.Registers.{register_head}
 use Rattle.core_machine.specs.seat.Seat.{Seat}
 use Rattle.core_rule.specs.Book.{Colour}
 use Rattle.core_rule.specs.Colours.{IsMarked, IsBetween}
-use Rattle.core_rule.specs.Flight.{Watches, FieldStands, ShadedStands, WhileReaching}
+use Rattle.core_rule.specs.Flight.{DeletionBarrier, FieldStands, ShadedStands, WhileAccess}
 use Rattle.core_rule.specs.Objects.{cells_at}
 use Rattle.core_rule.specs.Ways.{Finds, OldKept}
 use Rattle.core_rule.proofs.steps.Assemble.{StepKeeps}
@@ -29,33 +29,33 @@ use Rattle.core_rule.proofs.colours.ShadeColours.{with_mark, mark_marks, mark_ke
 use Rattle.core_rule.proofs.steps.ShadeStep.{words_shaded}
 
 -- shading the new value keeps the rule
-pub shade_new_keeps : StepKeeps (places.Reaching ShadingNew) (λ heap q. shade_new_move)
-shade_new_keeps heap state book q rule here place machine =
-    let seat : Seat = seat_at state q in
+pub shade_new_keeps : StepKeeps (places.Access ShadingNew) (λ heap number. shade_new_move)
+shade_new_keeps heap state book number rule here place machine =
+    let seat : Seat = seat_at state number in
     let g : Graph = graph_of heap book.history in
     let p : ℕ = phase book.history in
-    let stands = rule.seats_stand q here in
-    let fits : Sets seat × (has_barrier seat ≡ true) × IsSome (head_of (new_register seat)) = rw place at stands.fits.way_at_place in
+    let stands = rule.seats_stand number here in
+    let fits : SeatIsAtSet seat × (has_barrier_of seat ≡ true) × IsSome (register_head (new_register_of seat)) = rw place at stands.fits.way_at_place in
     let way : Finds (cells_at g book.made) book.made book.owner book.fragments seat × OldKept book.made book.owner book.fragments seat = rw place at stands.names.way in
-    let f : ℕ = unwrap_or (head_of (new_register seat)) 0 in
-    let some : head_of (new_register seat) ≡ Some f = whole (head_of (new_register seat)) fits.2 in
-    let head = held_kept book.made book.owner book.fragments (new_register seat) _
-    (holds_all heap state book q rule here ShadingNew place (λ answered. answered) (λ d r awaited. awaited) (source_of seat.command)) f some in
+    let f : ℕ = unwrap_or (register_head (new_register_of seat)) 0 in
+    let some : register_head (new_register_of seat) ≡ Some f = whole (register_head (new_register_of seat)) fits.2 in
+    let head = held_kept book.made book.owner book.fragments (new_register_of seat) _
+    (holds_all heap state book number rule here ShadingNew place (λ answered. answered) (λ d r awaited. awaited) (source_of seat.command)) f some in
     let coloured : ℕ → Colour = with_mark book.colour f in
-    let back = leads_back heap state book q rule here ShadingNew place (λ answered. answered) (λ d r awaited. awaited) f head fits.1 in
-    let watched : IsBetween 2 5 p → IsBetween 2 5 seat.answered → Watches heap state.words book.colour seat.reached (field_part seat) None
-    = subst (λ x. IsBetween 2 5 p → IsBetween 2 5 seat.answered → WhileReaching (FieldStands heap state.words book.colour seat) x) place stands.cycle.flight.set in
-    let was : IsBetween 1 5 p → IfSome (head_in seat.loaded) (IsMarked book.colour)
-    = subst (λ x. IsBetween 1 5 p → WhileReaching (ShadedStands book.colour seat) x) place stands.cycle.flight.shaded in
-    shades_on heap state book q rule here ShadingNew place (λ answered. answered) (λ d r awaited. awaited) f head fits.1 Swapping (λ s. refl) (
+    let back = leads_back heap state book number rule here ShadingNew place (λ answered. answered) (λ d r awaited. awaited) f head fits.1 in
+    let watched : IsBetween 2 5 p → IsBetween 2 5 seat.answered → DeletionBarrier heap state.words book.colour seat.reached (field_part_of seat) None
+    = subst (λ x. IsBetween 2 5 p → IsBetween 2 5 seat.answered → WhileAccess (FieldStands heap state.words book.colour seat) x) place stands.cycle.flight.set in
+    let was : IsBetween 1 5 p → IfSome (head_of seat.loaded) (IsMarked book.colour)
+    = subst (λ x. IsBetween 1 5 p → WhileAccess (ShadedStands book.colour seat) x) place stands.cycle.flight.shaded in
+    shades_on heap state book number rule here ShadingNew place (λ answered. answered) (λ d r awaited. awaited) f head fits.1 Swapping (λ s. refl) (
       finds_at (cells_at g book.made) book.made book.owner book.fragments seat seat.loaded Swapping (seat.mine ++ []) way.0,
-      λ (some : IsSome (head_in seat.loaded)). loaded_at book.made book.owner book.fragments seat Swapping (seat.mine ++ []) (way.1 some),
+      λ (some : IsSome (head_of seat.loaded)). loaded_at book.made book.owner book.fragments seat Swapping (seat.mine ++ []) (way.1 some),
     )
-    (λ making snapped. watches_stay heap state.words (words_shaded heap state book q rule here f head.number head.kept head.is) book.colour coloured (mark_keeps book.colour f)
-    seat.reached (field_part seat) (λ x lead. inl (back x lead)) None (watched making snapped))
+    (λ making snapped. watches_stay heap state.words (words_shaded heap state book number rule here f head.index head.kept head.is) book.colour coloured (mark_keeps book.colour f)
+    seat.reached (field_part_of seat) (λ x lead. inl (back x lead)) None (watched making snapped))
     (λ making is_on. (
-      if_some (IsMarked book.colour) (IsMarked coloured) (mark_keeps book.colour f) (head_in seat.loaded) (was making),
-      some_holds (IsMarked coloured) (head_of (new_register seat)) f some (mark_marks book.colour f),
+      if_some (IsMarked book.colour) (IsMarked coloured) (mark_keeps book.colour f) (head_of seat.loaded) (was making),
+      some_holds (IsMarked coloured) (register_head (new_register_of seat)) f some (mark_marks book.colour f),
     ))
     machine
   where

@@ -13,33 +13,33 @@ use Rattle.heap_model.specs.declared.id.Value.TheVariants as values
 use Rattle.heap_model.specs.declared.reply.Reply.{Reply}
 use Rattle.heap_model.specs.declared.reply.Reply.TheVariants as replies
 use Rattle.heap_model.specs.account.Account.{most_kept}
-use Rattle.heap_model.specs.graph.Changes.{count_set, set_cell, stamp_of, write}
+use Rattle.heap_model.specs.graph.Changes.{count_set, set_cell, set_stamp, write}
 use Rattle.heap_model.specs.account.Cycles.{graph_of}
 use Rattle.heap_model.specs.account.Effects.{is_of}
 use Rattle.heap_model.specs.graph.Growth.{after_reply}
-use Rattle.heap_model.specs.graph.Objects.{party, register, node, target, cell_of, cell_at, or_no_field}
-use Rattle.heap_model.specs.account.PhaseCounts.{phase, answered, has_left}
+use Rattle.heap_model.specs.graph.Objects.{graph_seat, register_value, node, target_node, cell_or_refusal, cell_at, or_no_field}
+use Rattle.heap_model.specs.account.PhaseCounts.{phase, last_answer, has_left}
 use Rattle.heap_model.specs.account.Phases.{ShowsPhases}
 use Rattle.heap_model.specs.graph.Replies.{Says}
 use Rattle.heap_model.specs.graph.Replies as says
-use Rattle.heap_model.specs.graph.State.{State as Graph, Node, unset}
+use Rattle.heap_model.specs.graph.Graph.{Graph, Node, unset}
 use Rattle.core_machine.specs.declared.table.address.Address.TheVariants.{Word}
 use Rattle.core_machine.specs.declared.place.Place.TheVariants as places
-use Rattle.core_machine.specs.declared.place.Reaching.TheVariants.{Swapping}
+use Rattle.core_machine.specs.declared.place.Access.TheVariants.{Swapping}
 use Rattle.core_machine.specs.seat.Commands.{object_of, source_of, field_of, target_of}
 use Rattle.core_machine.specs.seat.Fits.{IsAtRest, IsSilent}
-use Rattle.core_machine.specs.seat.FitsReaching.{IsSet, Sets as FitsSets}
+use Rattle.core_machine.specs.seat.FitsAccess.{IsSet, SeatIsAtSet as FitsSets}
 use Rattle.core_machine.specs.table.Layout.{at, put}
-use Rattle.core_machine.specs.table.Loaded.{stamp_in}
+use Rattle.core_machine.specs.table.Decode.{stamp_of}
 use Rattle.core_machine.specs.machine.Machine.{seat_at}
 use Rattle.core_machine.specs.Move.{seat_after}
-use Rattle.core_machine.specs.seat.Reaching.{has_barrier, row_of}
-use Rattle.core_machine.specs.seat.ReachingMoves.{swap_move, field_part, new_word}
+use Rattle.core_machine.specs.seat.Access.{has_barrier_of, row_of}
+use Rattle.core_machine.specs.seat.AccessMoves.{swap_move, field_part_of, new_word_of}
 use Rattle.core_machine.specs.seat.Registers.{register_in}
-use Rattle.core_machine.specs.seat.Seat.{Seat, HasNumber}
-use Rattle.core_rule.specs.Book.{fragment_at, id_at, head_of}
+use Rattle.core_machine.specs.seat.Seat.{Seat, HasNumberLeft}
+use Rattle.core_rule.specs.Book.{fragment_at, id_at, object_head}
 use Rattle.core_rule.specs.Objects.{AreMade, NamesKept, Objects, cells_in, cells_at, value_word}
-use Rattle.core_rule.specs.Registers.{Holds}
+use Rattle.core_rule.specs.Registers.{HoldsValue}
 use Rattle.core_rule.specs.Ways.{Finds, OldKept}
 use Rattle.core_rule.proofs.steps.Assemble.{StepKeeps}
 use Rattle.core_rule.proofs.entries.AtRest.{in_flight, spent_own, few_own, none_awaited}
@@ -62,48 +62,48 @@ set_only P set _ is = absurd is
 
 module _ (command : Command) (is : IsSet command) where
   -- the graph after it
-  set_graph : (g : Graph) (q stamp : ℕ) → after_reply g q command (replies.Was stamp) ≡ set_cell g q (object_of command) (field_of command) (source_of command)
-  set_graph g q stamp = set_only (λ c. after_reply g q c (replies.Was stamp) ≡ set_cell g q (object_of c) (field_of c) (source_of c)) (λ r i v. refl) command is
+  set_graph : (g : Graph) (number stamp : ℕ) → after_reply g number command (replies.Was stamp) ≡ set_cell g number (object_of command) (field_of command) (source_of command)
+  set_graph g number stamp = set_only (λ c. after_reply g number c (replies.Was stamp) ≡ set_cell g number (object_of c) (field_of c) (source_of c)) (λ r i v. refl) command is
 
   -- it has a number left, shows no phase, and its seat may keep fifteen fragments
-  set_numbered : (made sets : ℕ) → HasNumber made sets command → sets + 1 < 2 ^ 26
-  set_numbered made sets = set_only (λ c. HasNumber made sets c → sets + 1 < 2 ^ 26) (λ r i v numbered. numbered) command is
+  set_numbered : (made sets : ℕ) → HasNumberLeft made sets command → sets + 1 < 2 ^ 26
+  set_numbered made sets = set_only (λ c. HasNumberLeft made sets c → sets + 1 < 2 ^ 26) (λ r i v numbered. numbered) command is
 
-  set_shows : (heap : Heap) (history : List Entry) (q stamp : ℕ) → ShowsPhases heap false history q command (replies.Was stamp)
-  set_shows heap history q stamp = set_only (λ c. ShowsPhases heap false history q c (replies.Was stamp)) (λ r i v. tt) command is
+  set_shows : (heap : Heap) (history : List Entry) (number stamp : ℕ) → ShowsPhases heap false history number command (replies.Was stamp)
+  set_shows heap history number stamp = set_only (λ c. ShowsPhases heap false history number c (replies.Was stamp)) (λ r i v. tt) command is
 
   set_most : most_kept command ≡ 15
   set_most = set_only (λ c. most_kept c ≡ 15) (λ r i v. refl) command is
 
   -- the graph answers the stamp that the cell had
-  set_says : (g : Graph) (q : ℕ) (id : Id) (object : Node) (cell : Cell) (stamp : ℕ) → register g q (object_of command) ≡ values.Object id → node g id ≡ Some object
-      → slice_get object.cells (field_of command) ≡ Some cell → stamp ≡ cell.stamp → (party g q).sets + 1 < 2 ^ 26 → Says g q command (replies.Was stamp)
-  set_says g q id object cell stamp =
-      set_only (λ c. register g q (object_of c) ≡ values.Object id → node g id ≡ Some object → slice_get object.cells (field_of c) ≡ Some cell → stamp ≡ cell.stamp → (party g q).sets + 1 < 2 ^ 26 → Says g q c (replies.Was stamp))
+  set_says : (g : Graph) (number : ℕ) (id : Id) (object : Node) (cell : Cell) (stamp : ℕ) → register_value g number (object_of command) ≡ values.Object id → node g id ≡ Some object
+      → slice_get object.cells (field_of command) ≡ Some cell → stamp ≡ cell.stamp → (graph_seat g number).sets + 1 < 2 ^ 26 → Says g number command (replies.Was stamp)
+  set_says g number id object cell stamp =
+      set_only (λ c. register_value g number (object_of c) ≡ values.Object id → node g id ≡ Some object → slice_get object.cells (field_of c) ≡ Some cell → stamp ≡ cell.stamp → (graph_seat g number).sets + 1 < 2 ^ 26 → Says g number c (replies.Was stamp))
       (λ r i v refers there finds same few.
-      let found : cell_at g q r i ≡ Ok cell
-      = ap (λ (x : Value). cell_of (target g x) i) refers ∙ ap (λ (o : Option Node). cell_of o i) there ∙ ap (λ (c : Option Cell). or_no_field c) finds in
-      subst (λ (x : Result Cell Reply). says.Sets (party g q).sets x (replies.Was stamp)) (sym found) (ap replies.Was same, few))
+      let found : cell_at g number r i ≡ Ok cell
+      = ap (λ (x : Value). cell_or_refusal (target_node g x) i) refers ∙ ap (λ (o : Option Node). cell_or_refusal o i) there ∙ ap (λ (c : Option Cell). or_no_field c) finds in
+      subst (λ (x : Result Cell Reply). says.Sets (graph_seat g number).sets x (replies.Was stamp)) (sym found) (ap replies.Was same, few))
       command is
 
 -- the swap keeps the rule
-pub swap_keeps : StepKeeps (places.Reaching Swapping) (λ heap. swap_move)
-swap_keeps heap state book q rule here place machine =
-    let seat : Seat = seat_at state q in
+pub swap_keeps : StepKeeps (places.Access Swapping) (λ heap. swap_move)
+swap_keeps heap state book number rule here place machine =
+    let seat : Seat = seat_at state number in
     let g : Graph = graph_of heap book.history in
-    let stands = rule.seats_stand q here in
+    let stands = rule.seats_stand number here in
     let rest : IsAtRest seat = rw place at stands.fits.at_place in
-    let fits : FitsSets seat × (has_barrier seat ≡ false → seat.loaded ≡ 0) = rw place at stands.fits.way_at_place in
+    let fits : FitsSets seat × (has_barrier_of seat ≡ false → seat.loaded ≡ 0) = rw place at stands.fits.way_at_place in
     let a_set : IsSet seat.command = fits.0.1 in
     let way : Finds (cells_at g book.made) book.made book.owner book.fragments seat × OldKept book.made book.owner book.fragments seat = rw place at stands.names.way in
     let finds : Finds (cells_at g book.made) book.made book.owner book.fragments seat = way.0 in
     let busy : seat.place ≢ places.Idle = λ idle. absurd (cc (place, idle)) in
-    let present : (party g q).left ≡ false = stands.told.counts.leaves ∙ in_flight heap seat stands.fits busy in
+    let present : (graph_seat g number).left ≡ false = stands.told.counts.leaves ∙ in_flight heap seat stands.fits busy in
     let awaits = rw place at stands.told.list.awaits in
     let silent : IsSilent seat = rw place at stands.fits.answer_at_place in
-    let holds : (r : ℕ) → Holds book.made book.owner book.fragments (register_in seat.registers r) (register g q r)
-    = λ r. stands.names.registers r (none_awaited seat.place (places.Reaching Swapping) (target_of seat.command) r place (λ none. none)) in
-    let n : ℕ = finds.number in
+    let holds : (r : ℕ) → HoldsValue book.made book.owner book.fragments (register_in seat.registers r) (register_value g number r)
+    = λ r. stands.names.registers r (none_awaited seat.place (places.Access Swapping) (target_of seat.command) r place (λ none. none)) in
+    let n : ℕ = finds.index in
     let i : ℕ = field_of seat.command in
     let id : Id = id_at book.made n in
     let cells : List Cell = cells_at g book.made n in
@@ -112,47 +112,47 @@ swap_keeps heap state book q rule here place machine =
     let there = made_node (node g id) (ids.in_graph n finds.way.below) in
     let old : Cell = get_or cells i unset in
     let old_there : slice_get cells i ≡ Some old = slice_get-get_or cells i unset finds.within in
-    let part : ℕ = field_part seat in
+    let part : ℕ = field_part_of seat in
     let fragment : ℕ = fragment_at (book.fragments n) (row_of i) in
     let arrived : seat.reached ≡ fragment = finds.way.here ∙ ap (fragment_at (book.fragments n)) (no_links (row_of i) seat.links fits.0.2) in
-    let word : ℕ = new_word q seat in
+    let word : ℕ = new_word_of number seat in
     let found : ℕ = at heap state.words (Word seat.reached part) in
-    let stamp : ℕ = stamp_in found in
-    let cell : Cell = record { value = register g q (source_of seat.command); stamp = stamp_of q ((party g q).sets + 1) } in
-    let refers : register g q (object_of seat.command) ≡ values.Object id
-    = (subst (λ h. Holds book.made book.owner book.fragments h (register g q (object_of seat.command))) finds.way.holds (holds (object_of seat.command))).0 in
-    let now : Graph = after_reply g q seat.command (replies.Was stamp) in
-    let grown : now ≡ write (count_set g q) (values.Object id) i cell
-    = set_graph seat.command a_set g q stamp ∙ ap (λ (x : Value). write (count_set g q) x i cell) refers in
-    let sets : Sets g now q id i cell = subst (λ (x : Graph). Sets g x q id i cell) (sym grown) (sets_cell g q id i cell there.0 present there.1) in
+    let stamp : ℕ = stamp_of found in
+    let cell : Cell = record { value = register_value g number (source_of seat.command); stamp = set_stamp number ((graph_seat g number).sets + 1) } in
+    let refers : register_value g number (object_of seat.command) ≡ values.Object id
+    = (subst (λ h. HoldsValue book.made book.owner book.fragments h (register_value g number (object_of seat.command))) finds.way.holds (holds (object_of seat.command))).0 in
+    let now : Graph = after_reply g number seat.command (replies.Was stamp) in
+    let grown : now ≡ write (count_set g number) (values.Object id) i cell
+    = set_graph seat.command a_set g number stamp ∙ ap (λ (x : Value). write (count_set g number) x i cell) refers in
+    let sets : Sets g now number id i cell = subst (λ (x : Graph). Sets g x number id i cell) (sym grown) (sets_cell g number id i cell there.0 present there.1) in
     let numbered : seat.sets + 1 < 2 ^ 26 = set_numbered seat.command a_set seat.made seat.sets fits.0.0.numbered in
-    let few : (party g q).sets + 1 < 2 ^ 26 = omega (arith, numbered, stands.told.counts.stamped) in
+    let few : (graph_seat g number).sets + 1 < 2 ^ 26 = omega (arith, numbered, stands.told.counts.stamped) in
     let old_stamp : stamp ≡ old.stamp
-    = ap (λ f. stamp_in (at heap state.words (Word f part))) arrived
-    ∙ ap stamp_in (found_is heap state.words g now q book.made book.owner book.fragments n i cell word ids objects finds.way.below finds.way.kept sets finds.within old old_there)
-    ∙ stamp_of_value (head_of book.made book.fragments) old.value old.stamp (objects.named n i finds.way.below finds.way.kept old old_there).1 in
+    = ap (λ f. stamp_of (at heap state.words (Word f part))) arrived
+    ∙ ap stamp_of (found_is heap state.words g now number book.made book.owner book.fragments n i cell word ids objects finds.way.below finds.way.kept sets finds.within old old_there)
+    ∙ stamp_of_value (object_head book.made book.fragments) old.value old.stamp (objects.named n i finds.way.below finds.way.kept old old_there).1 in
     let cells_there : slice_get there.0.cells i ≡ Some old = ap (λ (o : Option Node). slice_get (cells_in o) i) (sym there.1) ∙ old_there in
-    let is_word : word ≡ value_word (head_of book.made book.fragments) cell.value cell.stamp
-    = register_is_value book.made book.owner book.fragments (register_in seat.registers (source_of seat.command)) cell.value (stamp_of q (seat.sets + 1)) (holds (source_of seat.command))
-    ∙ ap (λ s. value_word (head_of book.made book.fragments) cell.value (stamp_of q (s + 1))) stands.told.counts.stamped in
+    let is_word : word ≡ value_word (object_head book.made book.fragments) cell.value cell.stamp
+    = register_is_value book.made book.owner book.fragments (register_in seat.registers (source_of seat.command)) cell.value (set_stamp number (seat.sets + 1)) (holds (source_of seat.command))
+    ∙ ap (λ s. value_word (object_head book.made book.fragments) cell.value (set_stamp number (s + 1))) stands.told.counts.stamped in
     let small : cell.stamp < 2 ^ 32 = omega (arith, few, here, rule.machine.limits.seats_fit) in
     let names : NamesKept book.made book.owner book.fragments cell.value × (cell.stamp < 2 ^ 32)
     = (register_names book.made book.owner book.fragments (register_in seat.registers (source_of seat.command)) cell.value (holds (source_of seat.command)), small) in
     let inside : fragment < 16 * heap.groups = subst (λ f. f < 16 * heap.groups) arrived stands.fits.way.reached_within in
-    reply_keeps heap state book q (put heap state.words (Word seat.reached part) word) (seat_after (swap_move q seat) found) seat.command (replies.Was stamp) rule here machine
-    refl rest (all_told seat.mine stands.told.list.awaited (filter (is_of q) book.history) stands.told.list.own awaits)
-    (legal_more heap false book.history (entries.Said q seat.command (replies.Was stamp)) rule.heap_stands.legal
-    (present, fits.0.0.in_range, set_says seat.command a_set g q id there.0 old stamp refers there.1 cells_there old_stamp few)
-    (keeps_said heap false book.history q seat.command (replies.Was stamp) refl tt tt (set_shows seat.command a_set heap book.history q stamp)
-    (spent_own heap state book q rule here rest) (omega (arith, set_most seat.command a_set, few_own heap state book q rule here rest))))
+    reply_keeps heap state book number (put heap state.words (Word seat.reached part) word) (seat_after (swap_move number seat) found) seat.command (replies.Was stamp) rule here machine
+    refl rest (all_told seat.mine stands.told.list.awaited (filter (is_of number) book.history) stands.told.list.own awaits)
+    (legal_more heap false book.history (entries.Said number seat.command (replies.Was stamp)) rule.heap_stands.legal
+    (present, fits.0.0.in_range, set_says seat.command a_set g number id there.0 old stamp refers there.1 cells_there old_stamp few)
+    (keeps_said heap false book.history number seat.command (replies.Was stamp) refl tt tt (set_shows seat.command a_set heap book.history number stamp)
+    (spent_own heap state book number rule here rest) (omega (arith, set_most seat.command a_set, few_own heap state book number rule here rest))))
     (subst (λ f. SameUnkept heap book.owner state.words (put heap state.words (Word f part) word)) (sym arrived)
-    (set_unkept heap state.words g now q book.made book.owner book.fragments n i cell word ids objects finds.way.below finds.way.kept sets finds.within))
+    (set_unkept heap state.words g now number book.made book.owner book.fragments n i cell word ids objects finds.way.below finds.way.kept sets finds.within))
     record {
-      ids = ids_set heap state.words g now q book.made book.owner book.fragments n i cell word ids objects finds.way.below finds.way.kept sets finds.within;
+      ids = ids_set heap state.words g now number book.made book.owner book.fragments n i cell word ids objects finds.way.below finds.way.kept sets finds.within;
       objects = subst (λ f. Objects heap (put heap state.words (Word f part) word) now book.made book.owner book.fragments) (sym arrived)
-          (objects_set heap state.words g now q book.made book.owner book.fragments n i cell word ids objects finds.way.below finds.way.kept sets finds.within
+          (objects_set heap state.words g now number book.made book.owner book.fragments n i cell word ids objects finds.way.below finds.way.kept sets finds.within
           rule.machine.table inside is_word names);
-      lengths = lengths_stay heap state.words g now q book.made book.owner book.fragments n i cell word ids objects finds.way.below finds.way.kept sets finds.within;
+      lengths = lengths_stay heap state.words g now number book.made book.owner book.fragments n i cell word ids objects finds.way.below finds.way.kept sets finds.within;
       others = sets.others;
     }
     record {
@@ -162,16 +162,16 @@ swap_keeps heap state book q rule here place machine =
       made = stands.told.counts.numbered ∙ sym sets.objects;
       sets = ap (λ s. s + 1) stands.told.counts.stamped ∙ sym sets.sets;
       left = sets.left ∙ stands.told.counts.leaves;
-      registers = λ r. subst (λ (vs : List Value). Holds book.made book.owner book.fragments (register_in seat.registers r) (get_or vs r values.Nil)) (sym sets.registers) (holds r);
+      registers = λ r. subst (λ (vs : List Value). HoldsValue book.made book.owner book.fragments (register_in seat.registers r) (get_or vs r values.Nil)) (sym sets.registers) (holds r);
     }
-    (heap_swapped heap state book q rule here place cell.value cell.stamp (holds (source_of seat.command)) names.0 small word is_word)
-    (cycle_own heap (put heap state.words (Word seat.reached part) word) book.owner book.colour book.history (entries.Said q seat.command (replies.Was stamp)) refl q
-    (seat_after (swap_move q seat) found)
-    (cycle_apart heap state.words (put heap state.words (Word seat.reached part) word) book.owner book.owner book.colour book.colour (phase book.history) (answered q book.history) (has_left q book.history)
-    q seat (seat_after (swap_move q seat) found) record { answered = refl; left = refl; asked = sym silent.none_asked } tt
-    (answer_swapped heap state book q rule here place cell.value cell.stamp (holds (source_of seat.command)) names.0 small word is_word q here) stands.cycle.births stands.cycle)
-    refl (no_leave_told q q seat.command (replies.Was stamp) (λ leaves. subst IsSet leaves a_set)))
-    (leaves_swapped heap state book q rule here place cell.value cell.stamp (holds (source_of seat.command)) names.0 small word is_word)
+    (heap_swapped heap state book number rule here place cell.value cell.stamp (holds (source_of seat.command)) names.0 small word is_word)
+    (cycle_own heap (put heap state.words (Word seat.reached part) word) book.owner book.colour book.history (entries.Said number seat.command (replies.Was stamp)) refl number
+    (seat_after (swap_move number seat) found)
+    (cycle_apart heap state.words (put heap state.words (Word seat.reached part) word) book.owner book.owner book.colour book.colour (phase book.history) (last_answer number book.history) (has_left number book.history)
+    number seat (seat_after (swap_move number seat) found) record { answered = refl; left = refl; asked = sym silent.none_asked } tt
+    (answer_swapped heap state book number rule here place cell.value cell.stamp (holds (source_of seat.command)) names.0 small word is_word number here) stands.cycle.births stands.cycle)
+    refl (no_leave_told number number seat.command (replies.Was stamp) (λ leaves. subst IsSet leaves a_set)))
+    (leaves_swapped heap state book number rule here place cell.value cell.stamp (holds (source_of seat.command)) names.0 small word is_word)
   where
     no_links : (row links : ℕ) → links ≡ 0 → row - links ≡ row
     no_links row links none = omega (arith, none)

@@ -1,19 +1,19 @@
--- Telling the reply of a call that looks at no word keeps the rule.
+-- Local the reply of a call that looks at no word keeps the rule.
 use Rattle.std.proofs.Common.{◌≡◌, ◌≢◌, false, filter, refl, ◌∙◌, subst, sym}
 use Rattle.heap_model.specs.Command.{IsCommand}
 use Rattle.heap_model.specs.account.Cycles.{graph_of}
 use Rattle.heap_model.specs.account.Effects.{is_of}
-use Rattle.heap_model.specs.graph.Objects.{party}
-use Rattle.heap_model.specs.graph.State.{State as Graph}
+use Rattle.heap_model.specs.graph.Objects.{graph_seat}
+use Rattle.heap_model.specs.graph.Graph.{Graph}
 use Rattle.core_machine.specs.declared.table.address.Address.TheVariants.{Phase}
 use Rattle.core_machine.specs.declared.place.Place.TheVariants as places
 use Rattle.core_machine.specs.seat.Commands.{target_of}
 use Rattle.core_machine.specs.seat.Fits.{IsAtRest, IsSilent, IsLocal}
 use Rattle.core_machine.specs.table.Layout.{at}
 use Rattle.core_machine.specs.machine.Machine.{seat_at}
-use Rattle.core_machine.specs.Moves.{telling_move, seat_after}
+use Rattle.core_machine.specs.Moves.{local_move, seat_after}
 use Rattle.core_machine.specs.seat.Seat.{Seat}
-use Rattle.core_machine.specs.seat.Telling.{local_reply}
+use Rattle.core_machine.specs.seat.Local.{local_reply_of}
 use Rattle.core_rule.proofs.steps.Assemble.{StepKeeps}
 use Rattle.core_rule.proofs.entries.AtRest.{in_flight, none_awaited}
 use Rattle.core_rule.proofs.graph.GraphRegisters.{registers_length}
@@ -23,19 +23,19 @@ use Rattle.core_rule.proofs.entries.PhaseEntries.{no_leave_told}
 use Rattle.core_rule.proofs.entries.SeatLists.{all_told}
 
 -- telling such a reply keeps the rule
-pub telling_keeps : StepKeeps places.Telling (λ heap. telling_move)
-telling_keeps heap state book q rule here place machine =
-    let seat : Seat = seat_at state q in
+pub telling_keeps : StepKeeps places.Local (λ heap. local_move)
+telling_keeps heap state book number rule here place machine =
+    let seat : Seat = seat_at state number in
     let g : Graph = graph_of heap book.history in
-    let stands = rule.seats_stand q here in
+    let stands = rule.seats_stand number here in
     let at_place : IsAtRest seat × IsCommand seat.command × IsLocal seat.registers seat.command = rw place at stands.fits.at_place in
     let busy : seat.place ≢ places.Idle = λ idle. absurd (cc (place, idle)) in
-    let present : (party g q).left ≡ false = stands.told.counts.leaves ∙ in_flight heap seat stands.fits busy in
+    let present : (graph_seat g number).left ≡ false = stands.told.counts.leaves ∙ in_flight heap seat stands.fits busy in
     let awaits = rw place at stands.told.list.awaits in
     let silent : IsSilent seat = rw place at stands.fits.answer_at_place in
-    local_reply_keeps heap state book q Phase (seat_after (telling_move q seat) (at heap state.words Phase)) (local_reply seat.registers seat.command) rule here machine
-    at_place.0 (all_told seat.mine stands.told.list.awaited (filter (is_of q) book.history) stands.told.list.own awaits) present at_place.1
-    (local_replies heap book.history g q book.made book.owner book.fragments seat.registers present stands.fits.own.registers_whole (registers_length heap book.history q present)
-    (λ i. stands.names.registers i (none_awaited seat.place places.Telling (target_of seat.command) i place (λ none. none))) seat.command at_place.1 at_place.2)
-    (no_leave_told q q seat.command (local_reply seat.registers seat.command) (λ leaves. subst (IsLocal seat.registers) leaves at_place.2))
+    local_reply_keeps heap state book number Phase (seat_after (local_move number seat) (at heap state.words Phase)) (local_reply_of seat.registers seat.command) rule here machine
+    at_place.0 (all_told seat.mine stands.told.list.awaited (filter (is_of number) book.history) stands.told.list.own awaits) present at_place.1
+    (local_replies heap book.history g number book.made book.owner book.fragments seat.registers present stands.fits.own.registers_whole (registers_length heap book.history number present)
+    (λ i. stands.names.registers i (none_awaited seat.place places.Local (target_of seat.command) i place (λ none. none))) seat.command at_place.1 at_place.2)
+    (no_leave_told number number seat.command (local_reply_of seat.registers seat.command) (λ leaves. subst (IsLocal seat.registers) leaves at_place.2))
     record { idle = refl; reserve = refl; mine = refl; answered = refl; asked = sym silent.none_asked; made = refl; sets = refl; left = refl }

@@ -5,9 +5,9 @@ use Rattle.heap_model.specs.declared.entry.Entry.TheVariants.{Advance}
 use Rattle.heap_model.specs.declared.heap.Heap.{Heap}
 use Rattle.heap_model.specs.account.Account.{KeepsSpace}
 use Rattle.heap_model.specs.account.Cycles.{graph_of}
-use Rattle.heap_model.specs.graph.Objects.{party}
-use Rattle.heap_model.specs.account.PhaseCounts.{phase, answered, has_left, AllAnswered}
-use Rattle.heap_model.specs.graph.State.{State as Graph, opening}
+use Rattle.heap_model.specs.graph.Objects.{graph_seat}
+use Rattle.heap_model.specs.account.PhaseCounts.{phase, last_answer, has_left, AllAnswered}
+use Rattle.heap_model.specs.graph.Graph.{Graph, opening}
 use Rattle.heap_model.proofs.Histories.{graph_after-more}
 use Rattle.core_machine.specs.declared.table.address.Address.TheVariants.{Answer, Phase}
 use Rattle.core_machine.specs.declared.collector.stage.Stage.TheVariants as stages
@@ -17,7 +17,7 @@ use Rattle.core_machine.specs.table.Layout.{put}
 use Rattle.core_machine.specs.machine.Machine.{State, seat_at}
 use Rattle.core_machine.proofs.table_lemmas.Addresses.{at-put_same}
 use Rattle.core_rule.specs.Book.{Book}
-use Rattle.core_rule.specs.Colours.{Leads}
+use Rattle.core_rule.specs.Colours.{WordPointsTo}
 use Rattle.core_rule.specs.Counts.{is_collectors}
 use Rattle.core_rule.specs.Cycle.{HeapInCycle}
 use Rattle.core_rule.specs.Rule.{Rule, HeapStands, SeatStands}
@@ -55,7 +55,7 @@ module _ (heap : Heap) (state : State) (book : Book) (rule : Rule heap state boo
 
   -- all have answered
   all_answered : AllAnswered heap book.history
-  all_answered q below present = rule.collector_stands.looked q (omega (arith, below, has_looked.all)) below present
+  all_answered number below present = rule.collector_stands.looked number (omega (arith, below, has_looked.all)) below present
 
   told : next ≡ phase book.history + 1
   told = ap (λ p. p + 1) rule.collector_stands.phase_told
@@ -72,7 +72,7 @@ module _ (heap : Heap) (state : State) (book : Book) (rule : Rule heap state boo
   keeps : KeepsSpace heap false book.history (Advance next)
   keeps = keeps_begins heap false book.history next (told, (λ whole. omega (arith, whole, told, early)), all_answered)
 
-  leads_on : (f part g : ℕ) → Leads heap words f part g → Leads heap state.words f part g
+  leads_on : (f part g : ℕ) → WordPointsTo heap words f part g → WordPointsTo heap state.words f part g
   leads_on f part g leads = leads_apart heap state.words Phase next f part g (λ e. omega (arith, e)) leads
 
   heap_on : HeapStands heap words later
@@ -91,10 +91,10 @@ module _ (heap : Heap) (state : State) (book : Book) (rule : Rule heap state boo
   seat_on : (r : ℕ) → r < heap.seats → SeatStands heap words later r (seat_at state r)
   seat_on r below =
       let stands = rule.seats_stand r below in
-      seat_past heap state.words words (fragments_phase heap state.words next) book (Advance next) nodes r (seat_at state r) refl (ap (λ (g : Graph). party g r) graph)
-      (cycle_told heap words (phase book.history + 1) (phase later.history) (answered r book.history) (answered r later.history) (has_left r book.history) (has_left r later.history)
+      seat_past heap state.words words (fragments_phase heap state.words next) book (Advance next) nodes r (seat_at state r) refl (ap (λ (g : Graph). graph_seat g r) graph)
+      (cycle_told heap words (phase book.history + 1) (phase later.history) (last_answer r book.history) (last_answer r later.history) (has_left r book.history) (has_left r later.history)
       book.owner book.colour r (seat_at state r) grown (answered_stays book.history (Advance next) r refl) (left_stays book.history (Advance next) r refl)
-      (cycle_next heap state.words words book.owner book.colour (phase book.history) (answered r book.history) (has_left r book.history) r (seat_at state r) early
+      (cycle_next heap state.words words book.owner book.colour (phase book.history) (last_answer r book.history) (has_left r book.history) r (seat_at state r) early
       (at-put_apart heap state.words Phase (Answer r) next (λ e. omega (arith, e))) leads_on stands.fits (all_answered r below) stands.cycle)) stands
 
   advance_kept : TurnKeeps heap state book (advance_turn state.collector)
@@ -104,7 +104,7 @@ module _ (heap : Heap) (state : State) (book : Book) (rule : Rule heap state boo
       record {
         log = rw (filter-append is_collectors book.history (Advance next ∷ []), rule.collector_stands.log) refl;
         phase_told = told ∙ sym grown;
-        looked = λ q none below present. absurd (omega (arith, none));
+        looked = λ number none below present. absurd (omega (arith, none));
       }
 
 -- the begin of the next phase keeps the rule

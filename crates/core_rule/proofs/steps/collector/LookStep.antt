@@ -5,20 +5,20 @@ use Rattle.std.proofs.lemmas.Bool.Decides.{eqb_tells, leb_tells}
 use Rattle.heap_words.specs.declared.phase.TheConstants.{LEFT}
 use Rattle.heap_model.specs.declared.entry.Entry.{Entry}
 use Rattle.heap_model.specs.declared.heap.Heap.{Heap}
-use Rattle.heap_model.specs.account.PhaseCounts.{phase, answered, has_left}
+use Rattle.heap_model.specs.account.PhaseCounts.{phase, last_answer, has_left}
 use Rattle.core_machine.specs.declared.table.address.Address.TheVariants.{Answer}
 use Rattle.core_machine.specs.declared.collector.stage.Stage.{Stage}
 use Rattle.core_machine.specs.declared.collector.stage.Stage.TheVariants as stages
-use Rattle.core_machine.specs.collector.Collector.{Collector, has_answered, looked_all, looked_on, looked_at}
+use Rattle.core_machine.specs.collector.Collector.{Collector, has_answered_of, after_last_look, after_counted_look, after_look}
 use Rattle.core_machine.specs.seat.Fits.{FitsStage}
 use Rattle.core_machine.specs.table.Layout.{at}
 use Rattle.core_machine.specs.machine.Machine.{seat_at}
-use Rattle.core_rule.specs.Phases.{CollectorStands}
+use Rattle.core_rule.specs.Phases.{CollectorAgrees}
 use Rattle.core_rule.proofs.steps.Assemble.{few_answers}
 use Rattle.core_rule.proofs.steps.TurnSteps.{StageKeeps, load_turns}
 
 -- the word of a seat that hasn't left tells that it has answered the phase
-word_tells : (p answer : ℕ) → answer ≤ p → p ≤ 3 → has_answered p answer ≡ true → answer ≡ p
+word_tells : (p answer : ℕ) → answer ≤ p → p ≤ 3 → has_answered_of p answer ≡ true → answer ≡ p
 word_tells p answer near early seen = elim (eqb_tells answer p) [
   | inl same ↦ same.1
   | inr other ↦ elim (eqb_tells answer LEFT) [
@@ -27,42 +27,42 @@ word_tells p answer near early seen = elim (eqb_tells answer p) [
   ]
 ]
 
-module _ (heap : Heap) (collector : Collector) (history : List Entry) (stands : CollectorStands heap collector history) where
+module _ (heap : Heap) (collector : Collector) (history : List Entry) (stands : CollectorAgrees heap collector history) where
   -- it has seen so many seats, at whatever stage it stands then
   abbrev HasSeen : ℕ → Type 0
-  HasSeen n = (q : ℕ) → q < n → q < heap.seats → has_left q history ≡ false → answered q history ≡ phase history
+  HasSeen n = (number : ℕ) → number < n → number < heap.seats → has_left number history ≡ false → last_answer number history ≡ phase history
 
-  stands_seen : (stage : Stage) (looked : ℕ) → HasSeen looked → CollectorStands heap (record collector { stage = stage; looked = looked }) history
+  stands_seen : (stage : Stage) (looked : ℕ) → HasSeen looked → CollectorAgrees heap (record collector { stage = stage; looked = looked }) history
   stands_seen stage looked seen = record { log = stands.log; phase_told = stands.phase_told; looked = seen }
 
   -- it looks from seat 0 again, or goes on to the next phase
-  all_seen : HasSeen heap.seats → CollectorStands heap (looked_all heap collector) history
-  all_seen all = elim (eqb_tells (collector.phase % 7) 3) as (λ _. CollectorStands heap (looked_all heap collector) history) [
-    | inl third ↦ rw third.0 (stands_seen collector.stage 0 (λ q none below present. absurd (omega (arith, none))))
+  all_seen : HasSeen heap.seats → CollectorAgrees heap (after_last_look heap collector) history
+  all_seen all = elim (eqb_tells (collector.phase % 7) 3) as (λ _. CollectorAgrees heap (after_last_look heap collector) history) [
+    | inl third ↦ rw third.0 (stands_seen collector.stage 0 (λ number none below present. absurd (omega (arith, none))))
     | inr other ↦ rw other.0 (stands_seen _ heap.seats all)
   ]
 
-  module _ (seen : has_left collector.looked history ≡ false → answered collector.looked history ≡ phase history) where
+  module _ (seen : has_left collector.looked history ≡ false → last_answer collector.looked history ≡ phase history) where
     -- the seats up to this one have answered
     more_seen : HasSeen (collector.looked + 1)
-    more_seen q less below present = elim (eqb_tells q collector.looked) [
-      | inl here ↦ subst (λ n. has_left n history ≡ false → answered n history ≡ phase history) (sym here.1) seen present
-      | inr other ↦ stands.looked q (omega (arith, less, other.1)) below present
+    more_seen number less below present = elim (eqb_tells number collector.looked) [
+      | inl here ↦ subst (λ n. has_left n history ≡ false → last_answer n history ≡ phase history) (sym here.1) seen present
+      | inr other ↦ stands.looked number (omega (arith, less, other.1)) below present
     ]
 
-    on_seen : CollectorStands heap (looked_on heap collector) history
-    on_seen = elim (leb_tells (suc (collector.looked + 1)) heap.seats) as (λ _. CollectorStands heap (looked_on heap collector) history) [
+    on_seen : CollectorAgrees heap (after_counted_look heap collector) history
+    on_seen = elim (leb_tells (suc (collector.looked + 1)) heap.seats) as (λ _. CollectorAgrees heap (after_counted_look heap collector) history) [
       | inl more ↦ rw more.0 (stands_seen collector.stage (collector.looked + 1) more_seen)
-      | inr last ↦ rw last.0 (all_seen (λ q within below present. more_seen q (omega (arith, last.1, below)) below present))
+      | inr last ↦ rw last.0 (all_seen (λ number within below present. more_seen number (omega (arith, last.1, below)) below present))
     ]
 
   -- one more seat was looked at
-  look_seen : (found : ℕ) → (has_answered collector.phase found ≡ true → has_left collector.looked history ≡ false → answered collector.looked history ≡ phase history)
-      → CollectorStands heap (looked_at heap collector found) history
-  look_seen found tells = by (has_answered collector.phase found) tells
+  look_seen : (found : ℕ) → (has_answered_of collector.phase found ≡ true → has_left collector.looked history ≡ false → last_answer collector.looked history ≡ phase history)
+      → CollectorAgrees heap (after_look heap collector found) history
+  look_seen found tells = by (has_answered_of collector.phase found) tells
     where
-      by : (b : Bool) → (b ≡ true → has_left collector.looked history ≡ false → answered collector.looked history ≡ phase history)
-          → CollectorStands heap (if b then looked_on heap collector else collector) history
+      by : (b : Bool) → (b ≡ true → has_left collector.looked history ≡ false → last_answer collector.looked history ≡ phase history)
+          → CollectorAgrees heap (if b then after_counted_look heap collector else collector) history
       by true seen = on_seen (seen refl)
       by false seen = stands
 
@@ -70,14 +70,14 @@ module _ (heap : Heap) (collector : Collector) (history : List Entry) (stands : 
 pub look_keeps : StageKeeps stages.Looking
 look_keeps heap state book rule looking machine =
     let collector : Collector = state.collector in
-    let q : ℕ = collector.looked in
-    let found : ℕ = at heap state.words (Answer q) in
-    let below : q < heap.seats = subst (FitsStage heap.seats collector.phase q) looking rule.machine.collector_fit.at_stage in
-    let stands = rule.seats_stand q below in
+    let number : ℕ = collector.looked in
+    let found : ℕ = at heap state.words (Answer number) in
+    let below : number < heap.seats = subst (FitsStage heap.seats collector.phase number) looking rule.machine.collector_fit.at_stage in
+    let stands = rule.seats_stand number below in
     let told = stands.cycle.answers_told in
     let early : phase book.history ≤ 3 = rule.heap_stands.cycle.so_far in
-    let tells : has_answered collector.phase found ≡ true → has_left q book.history ≡ false → answered q book.history ≡ phase book.history
-    = λ seen present. word_tells (phase book.history) (answered q book.history) (few_answers heap state.words book q (seat_at state q) stands present) early
-    (subst (λ w. has_answered (phase book.history) w ≡ true) (told.word ∙ rw (sym told.leaves ∙ present) (sym told.told))
-    (subst (λ p. has_answered p found ≡ true) rule.collector_stands.phase_told seen)) in
-    load_turns heap state book (Answer q) (looked_at heap collector found) rule machine (look_seen heap collector book.history rule.collector_stands found tells)
+    let tells : has_answered_of collector.phase found ≡ true → has_left number book.history ≡ false → last_answer number book.history ≡ phase book.history
+    = λ seen present. word_tells (phase book.history) (last_answer number book.history) (few_answers heap state.words book number (seat_at state number) stands present) early
+    (subst (λ w. has_answered_of (phase book.history) w ≡ true) (told.word ∙ rw (sym told.leaves ∙ present) (sym told.told))
+    (subst (λ p. has_answered_of p found ≡ true) rule.collector_stands.phase_told seen)) in
+    load_turns heap state book (Answer number) (after_look heap collector found) rule machine (look_seen heap collector book.history rule.collector_stands found tells)

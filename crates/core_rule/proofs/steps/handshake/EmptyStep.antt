@@ -6,15 +6,15 @@ use Rattle.heap_model.specs.declared.entry.Entry.{Entry}
 use Rattle.heap_model.specs.declared.entry.Entry.TheVariants as entries
 use Rattle.heap_model.specs.account.Cycles.{graph_of}
 use Rattle.heap_model.specs.account.Effects.{is_of}
-use Rattle.heap_model.specs.graph.Objects.{party}
-use Rattle.heap_model.specs.account.PhaseCounts.{answered}
+use Rattle.heap_model.specs.graph.Objects.{graph_seat}
+use Rattle.heap_model.specs.account.PhaseCounts.{last_answer}
 use Rattle.heap_model.specs.account.Space.{taken_of, spent_of}
-use Rattle.heap_model.specs.graph.State.{State as Graph}
+use Rattle.heap_model.specs.graph.Graph.{Graph}
 use Rattle.core_machine.specs.declared.table.address.Address.TheVariants.{Control}
 use Rattle.core_machine.specs.declared.place.Leaving.TheVariants.{Emptying, Parting}
 use Rattle.core_machine.specs.declared.place.Place.{Place}
 use Rattle.core_machine.specs.declared.place.Place.TheVariants as places
-use Rattle.core_machine.specs.seat.AnsweringMoves.{empty_move}
+use Rattle.core_machine.specs.seat.HandshakeMoves.{empty_move}
 use Rattle.core_machine.specs.seat.Commands.{target_of}
 use Rattle.core_machine.specs.seat.Fits.{IsAtRest}
 use Rattle.core_machine.specs.table.Layout.{at}
@@ -37,52 +37,52 @@ use Rattle.core_rule.proofs.hand.StoredFrames.{stored_control}
 
 -- the give back keeps the rule
 pub empty_keeps : StepKeeps (places.Leaving Emptying) (λ heap. empty_move)
-empty_keeps heap state book q rule here place machine =
-    let seat : Seat = seat_at state q in
-    let stands = rule.seats_stand q here in
+empty_keeps heap state book number rule here place machine =
+    let seat : Seat = seat_at state number in
+    let stands = rule.seats_stand number here in
     let fs : List ℕ = seat.reserve in
-    let now : Seat = seat_after (empty_move q seat) (at heap state.words (Control seat.cursor)) in
-    let entry : Entry = entries.GivesBack q (length fs) in
+    let now : Seat = seat_after (empty_move number seat) (at heap state.words (Control seat.cursor)) in
+    let entry : Entry = entries.GivesBack number (length fs) in
     let g : Graph = graph_of heap book.history in
     let at_place : IsAtRest seat × (seat.command ≡ commands.Leave) × (0 < length seat.reserve) = rw place at stands.fits.at_place in
     let rest : IsAtRest seat = at_place.0 in
     let busy : seat.place ≢ places.Idle = λ idle. absurd (cc (place, idle)) in
-    let present : (party g q).left ≡ false = stands.told.counts.leaves ∙ in_flight heap seat stands.fits busy in
+    let present : (graph_seat g number).left ≡ false = stands.told.counts.leaves ∙ in_flight heap seat stands.fits busy in
     let awaits = rw place at stands.told.list.awaits in
-    let told : seat.mine ≡ filter (is_of q) book.history = all_told seat.mine stands.told.list.awaited (filter (is_of q) book.history) stands.told.list.own awaits in
+    let told : seat.mine ≡ filter (is_of number) book.history = all_told seat.mine stands.told.list.awaited (filter (is_of number) book.history) stands.told.list.own awaits in
     let below : seat.cursor < heap.groups = stands.fits.own.cursor_within in
-    let held = reserve_held book.owner q fs seat.hand seat.body stands.own.holding in
-    let once = reserve_once book.owner q fs seat.hand seat.body stands.own.holding in
-    let graph = graph_given heap state book q rule here seat.cursor fs below held once in
-    let kept = kept_given heap state book q rule here seat.cursor fs below held once in
-    let later : Book = book_given heap state book q rule here seat.cursor fs below held once in
-    let own : length fs + spent_of q book.history ≡ taken_of q book.history = own_reserve heap state book q rule here rest in
-    seat_steps heap state book q (words_given heap state book q rule here seat.cursor fs below held once) now later (entry ∷ []) rule here machine refl refl
-    (heap_given heap state book q rule here seat.cursor fs below held once
-    (emptied_bits book.owner q fs seat.hand seat.body stands.own.holding heap state.words seat.cursor rule.machine.table below stands.fits.own.reserve_of_cursor rule.heap_stands.control_words)
+    let held = reserve_held book.owner number fs seat.hand seat.body stands.own.holding in
+    let once = reserve_once book.owner number fs seat.hand seat.body stands.own.holding in
+    let graph = graph_given heap state book number rule here seat.cursor fs below held once in
+    let kept = kept_given heap state book number rule here seat.cursor fs below held once in
+    let later : Book = book_given heap state book number rule here seat.cursor fs below held once in
+    let own : length fs + spent_of number book.history ≡ taken_of number book.history = own_reserve heap state book number rule here rest in
+    seat_steps heap state book number (words_given heap state book number rule here seat.cursor fs below held once) now later (entry ∷ []) rule here machine refl refl
+    (heap_given heap state book number rule here seat.cursor fs below held once
+    (emptied_bits book.owner number fs seat.hand seat.body stands.own.holding heap state.words seat.cursor rule.machine.table below stands.fits.own.reserve_of_cursor rule.heap_stands.control_words)
     present at_place.2 (omega (arith, own)))
     record {
-      fits = fit_after heap state book q rule here machine;
+      fits = fit_after heap state book number rule here machine;
       own = record {
-        holding = holding_emptied book.owner q fs seat.hand seat.body stands.own.holding;
-        stored = stored_control heap state.words q seat seat.cursor _ below stands.own.stored;
+        holding = holding_emptied book.owner number fs seat.hand seat.body stands.own.holding;
+        stored = stored_control heap state.words number seat seat.cursor _ below stands.own.stored;
         together = nothing_together heap seat.cursor seat.tried seat.hand seat.body rest.empty_hand rest.no_body;
       };
       names = record {
-        registers = rw graph (λ r fresh. registers_owners book.owner later.owner kept book.made book.fragments g q seat.registers seat.place (target_of seat.command) stands.names.registers r
+        registers = rw graph (λ r fresh. registers_owners book.owner later.owner kept book.made book.fragments g number seat.registers seat.place (target_of seat.command) stands.names.registers r
             (none_awaited seat.place (places.Leaving Emptying) (target_of seat.command) r place (λ none. none)));
         way = tt;
       };
       told = record {
-        list = whole_list (graph_of heap later.history) later.history book.made later.owner book.fragments q now refl (own_grows q book.history seat.mine entry (eq-eqb q q refl) told);
-        counts = rw graph (counts_own g g book.history q seat now stands.told.counts entry (eq-eqb q q refl)
+        list = whole_list (graph_of heap later.history) later.history book.made later.owner book.fragments number now refl (own_grows number book.history seat.mine entry (eq-eqb number number refl) told);
+        counts = rw graph (counts_own g g book.history number seat now stands.told.counts entry (eq-eqb number number refl)
             stands.told.counts.numbered stands.told.counts.stamped stands.told.counts.leaves (omega arith));
-        began = began_past book.history entry q (book.begun q) seat.place (places.Leaving Parting) refl (λ still. unanswered seat.place place) stands.told.began;
-        gathers = gathers_none heap later.owner q (drop (book.begun q) later.history) seat.cursor seat.tried seat.given rest.none_tried rest.none_given;
+        began = began_past book.history entry number (book.begun number) seat.place (places.Leaving Parting) refl (λ still. unanswered seat.place place) stands.told.began;
+        gathers = gathers_none heap later.owner number (drop (book.begun number) later.history) seat.cursor seat.tried seat.given rest.none_tried rest.none_given;
       };
-      cycle = cycle_given heap state book q rule here seat.cursor fs below held once now record { answered = refl; left = refl; asked = refl } tt;
+      cycle = cycle_given heap state book number rule here seat.cursor fs below held once now record { answered = refl; left = refl; asked = refl } tt;
     }
-    (other_given heap state book q rule here seat.cursor fs below held once)
+    (other_given heap state book number rule here seat.cursor fs below held once)
   where
     unanswered : (p : Place) → p ≡ places.Leaving Emptying → ¬ IsAnswered p
-    unanswered p is answered = subst IsAnswered is answered
+    unanswered p is last_answer = subst IsAnswered is last_answer

@@ -13,16 +13,16 @@ use Rattle.heap_model.specs.Command.{IsCommand}
 use Rattle.heap_model.specs.account.Cycles.{graph_of}
 use Rattle.heap_model.specs.account.Effects.{is_of}
 use Rattle.heap_model.specs.graph.Growth.{after_reply}
-use Rattle.heap_model.specs.graph.Objects.{party}
+use Rattle.heap_model.specs.graph.Objects.{graph_seat}
 use Rattle.heap_model.specs.account.PhaseCounts.{phase, is_leave_of}
 use Rattle.heap_model.specs.account.Phases.{ShowsPhases}
 use Rattle.heap_model.specs.graph.Replies.{Says}
-use Rattle.heap_model.specs.graph.State.{State as Graph, Party}
+use Rattle.heap_model.specs.graph.Graph.{Graph, GraphSeat}
 use Rattle.core_machine.specs.declared.table.address.Address.TheVariants.{Answer}
 use Rattle.core_machine.specs.declared.place.Leaving.TheVariants.{Parting}
 use Rattle.core_machine.specs.declared.place.Place.TheVariants as places
 use Rattle.core_machine.specs.declared.seat.register.Register.TheVariants as registers
-use Rattle.core_machine.specs.seat.AnsweringMoves.{leave_move}
+use Rattle.core_machine.specs.seat.HandshakeMoves.{leave_move}
 use Rattle.core_machine.specs.seat.Fits.{IsAtRest}
 use Rattle.core_machine.specs.table.Layout.{at, put}
 use Rattle.core_machine.specs.machine.Machine.{seat_at}
@@ -49,55 +49,55 @@ all_nil x (suc n) zero = refl
 all_nil x (suc n) (suc i) = all_nil x n i
 
 -- the party that has left
-abbrev gone : Graph → ℕ → Party
-gone g q = record (party g q) { registers = replicate 16 values.Nil; left = true }
+abbrev gone : Graph → ℕ → GraphSeat
+gone g number = record (graph_seat g number) { registers = replicate 16 values.Nil; left = true }
 
 -- a leave keeps the rule
 pub leave_keeps : StepKeeps (places.Leaving Parting) (λ heap. leave_move)
-leave_keeps heap state book q rule here place machine =
-    let seat : Seat = seat_at state q in
+leave_keeps heap state book number rule here place machine =
+    let seat : Seat = seat_at state number in
     let g : Graph = graph_of heap book.history in
-    let words : List ℕ = put heap state.words (Answer q) LEFT in
-    let stands = rule.seats_stand q here in
+    let words : List ℕ = put heap state.words (Answer number) LEFT in
+    let stands = rule.seats_stand number here in
     let at_place : IsAtRest seat × (seat.command ≡ commands.Leave) × (seat.reserve ≡ []) = rw place at stands.fits.at_place in
     let busy : seat.place ≢ places.Idle = λ idle. absurd (cc (place, idle)) in
-    let present : (party g q).left ≡ false = stands.told.counts.leaves ∙ in_flight heap seat stands.fits busy in
+    let present : (graph_seat g number).left ≡ false = stands.told.counts.leaves ∙ in_flight heap seat stands.fits busy in
     let awaits = rw place at stands.told.list.awaits in
-    let small : q < 16 = omega (arith, here, rule.machine.limits.seats_fit) in
-    let now : Graph = after_reply g q seat.command replies.Done in
-    let grown : now ≡ leave g q = ap (λ c. after_reply g q c replies.Done) at_place.1 in
-    let changes : SeatChanges g now q = rw grown (one_changes g q (gone g q) present refl refl) in
-    let party_now : party now q ≡ gone g q = ap (λ x. party x q) grown ∙ party_is g q (gone g q) present in
+    let small : number < 16 = omega (arith, here, rule.machine.limits.seats_fit) in
+    let now : Graph = after_reply g number seat.command replies.Done in
+    let grown : now ≡ leave g number = ap (λ c. after_reply g number c replies.Done) at_place.1 in
+    let changes : SeatChanges g now number = rw grown (one_changes g number (gone g number) present refl refl) in
+    let party_now : graph_seat now number ≡ gone g number = ap (λ x. graph_seat x number) grown ∙ party_is g number (gone g number) present in
     let empty : length seat.reserve ≡ 0 = ap length at_place.2 in
-    let same : SameFragments heap state.words words = fragments_answer heap state.words q LEFT small in
+    let same : SameFragments heap state.words words = fragments_answer heap state.words number LEFT small in
     let objects : Objects heap words g book.made book.owner book.fragments
     = objects_words heap state.words words g book.made book.owner book.fragments (λ f i k part is within. same.parts f part) rule.heap_stands.objects in
-    let left : Entry = entries.Said q seat.command replies.Done in
-    let leaves : is_leave_of q left ≡ true = ap (λ c. is_leave_of q (entries.Said q c replies.Done)) at_place.1 ∙ eq-eqb q q refl in
+    let left : Entry = entries.Said number seat.command replies.Done in
+    let leaves : is_leave_of number left ≡ true = ap (λ c. is_leave_of number (entries.Said number c replies.Done)) at_place.1 ∙ eq-eqb number number refl in
     let told = stands.cycle.answers_told in
-    reply_keeps heap state book q words (seat_after (leave_move q seat) (at heap state.words (Answer q))) seat.command replies.Done rule here machine
-    refl at_place.0 (all_told seat.mine stands.told.list.awaited (filter (is_of q) book.history) stands.told.list.own awaits)
-    (legal_more heap false book.history (entries.Said q seat.command replies.Done) rule.heap_stands.legal
-    (present, subst IsCommand (sym at_place.1) tt, subst (λ c. Says g q c replies.Done) (sym at_place.1) refl)
-    (keeps_said heap false book.history q seat.command replies.Done refl tt tt (subst (λ c. ShowsPhases heap false book.history q c replies.Done) (sym at_place.1) tt)
-    (spent_own heap state book q rule here at_place.0) (omega (arith, empty, own_reserve heap state book q rule here at_place.0))))
+    reply_keeps heap state book number words (seat_after (leave_move number seat) (at heap state.words (Answer number))) seat.command replies.Done rule here machine
+    refl at_place.0 (all_told seat.mine stands.told.list.awaited (filter (is_of number) book.history) stands.told.list.own awaits)
+    (legal_more heap false book.history (entries.Said number seat.command replies.Done) rule.heap_stands.legal
+    (present, subst IsCommand (sym at_place.1) tt, subst (λ c. Says g number c replies.Done) (sym at_place.1) refl)
+    (keeps_said heap false book.history number seat.command replies.Done refl tt tt (subst (λ c. ShowsPhases heap false book.history number c replies.Done) (sym at_place.1) tt)
+    (spent_own heap state book number rule here at_place.0) (omega (arith, empty, own_reserve heap state book number rule here at_place.0))))
     record { controls = same.controls; unkept = λ f part free within. same.parts f part }
-    (graph_replies g now q changes heap words book rule.heap_stands.ids objects)
+    (graph_replies g now number changes heap words book rule.heap_stands.ids objects)
     record {
       idle = refl;
       reserve = refl;
       mine = refl;
       made = stands.told.counts.numbered ∙ sym changes.objects;
       sets = stands.told.counts.stamped ∙ sym changes.sets;
-      left = ap (λ (p : Party). p.left) party_now;
-      registers = λ i. all_holds i (ap (λ (p : Party). get_or p.registers i values.Nil) party_now ∙ all_nil values.Nil 16 i);
+      left = ap (λ (p : GraphSeat). p.left) party_now;
+      registers = λ i. all_holds i (ap (λ (p : GraphSeat). get_or p.registers i values.Nil) party_now ∙ all_nil values.Nil 16 i);
     }
-    (heap_cycle_answer heap state.words q LEFT small (phase book.history) book.owner book.colour book.fragments rule.heap_stands.cycle)
+    (heap_cycle_answer heap state.words number LEFT small (phase book.history) book.owner book.colour book.fragments rule.heap_stands.cycle)
     record {
       answers_told = record {
-        told = answered_stays book.history left q refl ∙ told.told;
-        leaves = left_once book.history left q leaves;
-        word = at-put_same heap state.words (Answer q) LEFT rule.machine.table small;
+        told = answered_stays book.history left number refl ∙ told.told;
+        leaves = left_once book.history left number leaves;
+        word = at-put_same heap state.words (Answer number) LEFT rule.machine.table small;
         near = λ present. absurd (cc present);
         loaded = omega (arith, told.loaded, phase_stays book.history left refl);
       };
@@ -105,7 +105,7 @@ leave_keeps heap state book q rule here place machine =
       flight = record { set = λ marking snapped. tt; shaded = λ marking. tt; roots = λ begins. tt };
       births = stands.cycle.births;
     }
-    (λ r below apart. leaves_answer heap state.words q LEFT small book.owner book.colour (phase book.history) r apart)
+    (λ r below apart. leaves_answer heap state.words number LEFT small book.owner book.colour (phase book.history) r apart)
   where
-    all_holds : (i : ℕ) {value : Value} → value ≡ values.Nil → regs.Holds book.made book.owner book.fragments (get_or (replicate 16 registers.Nil) i registers.Nil) value
-    all_holds i {value} is = subst (λ h. regs.Holds book.made book.owner book.fragments h value) (sym (all_nil registers.Nil 16 i)) is
+    all_holds : (i : ℕ) {value : Value} → value ≡ values.Nil → regs.HoldsValue book.made book.owner book.fragments (get_or (replicate 16 registers.Nil) i registers.Nil) value
+    all_holds i {value} is = subst (λ h. regs.HoldsValue book.made book.owner book.fragments h value) (sym (all_nil registers.Nil 16 i)) is

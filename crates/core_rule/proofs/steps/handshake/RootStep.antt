@@ -4,22 +4,22 @@ use Rattle.std.proofs.lemmas.Bool.{cond_both, eqb-true}
 use Rattle.std.proofs.lemmas.List.{append-nil}
 use Rattle.heap_model.specs.account.Cycles.{graph_of}
 use Rattle.heap_model.specs.account.Effects.{is_of}
-use Rattle.heap_model.specs.graph.Objects.{register}
-use Rattle.heap_model.specs.account.PhaseCounts.{phase, answered, has_left}
-use Rattle.heap_model.specs.graph.State.{State as Graph}
+use Rattle.heap_model.specs.graph.Objects.{register_value}
+use Rattle.heap_model.specs.account.PhaseCounts.{phase, last_answer, has_left}
+use Rattle.heap_model.specs.graph.Graph.{Graph}
 use Rattle.core_machine.specs.declared.place.Place.TheVariants as places
 use Rattle.core_machine.specs.declared.place.Polling.TheVariants.{Shading, Answering}
-use Rattle.core_machine.specs.seat.AnsweringMoves.{root_move}
+use Rattle.core_machine.specs.seat.HandshakeMoves.{root_move}
 use Rattle.core_machine.specs.seat.Commands.{target_of}
-use Rattle.core_machine.specs.seat.Fits.{Answers as FitsAnswers}
+use Rattle.core_machine.specs.seat.Fits.{SeatIsAnswering as FitsAnswers}
 use Rattle.core_machine.specs.machine.Machine.{seat_at}
-use Rattle.core_machine.specs.seat.Polling.{roots, answer_place}
-use Rattle.core_machine.specs.seat.Registers.{heads, register_in}
+use Rattle.core_machine.specs.seat.Handshake.{roots, answer_place}
+use Rattle.core_machine.specs.seat.Registers.{heads_of, register_in}
 use Rattle.core_machine.specs.seat.Seat.{Seat}
 use Rattle.core_rule.specs.Flight.{RootsStand, WhilePolling}
 use Rattle.core_rule.specs.Gathers.{IsAnswered}
 use Rattle.core_rule.specs.Phases.{Asks, PollingStands, AnswerStands}
-use Rattle.core_rule.specs.Registers.{IsAwaited, Holds}
+use Rattle.core_rule.specs.Registers.{IsAwaited, HoldsValue}
 use Rattle.core_rule.proofs.steps.Assemble.{StepKeeps}
 use Rattle.core_rule.proofs.cycle.CycleFrames.{cycle_by_flight}
 use Rattle.core_rule.proofs.colours.Births.{births_stay}
@@ -39,35 +39,35 @@ roots_third true all n less = refl
 roots_third false all n less = absurd (omega (arith, less))
 
 -- shading a root keeps the rule
-pub root_keeps : StepKeeps (places.Polling Shading) (λ heap q. root_move)
-root_keeps heap state book q rule here place machine =
-    let seat : Seat = seat_at state q in
+pub root_keeps : StepKeeps (places.Polling Shading) (λ heap number. root_move)
+root_keeps heap state book number rule here place machine =
+    let seat : Seat = seat_at state number in
     let g : Graph = graph_of heap book.history in
     let p : ℕ = phase book.history in
-    let stands = rule.seats_stand q here in
+    let stands = rule.seats_stand number here in
     let fits : FitsAnswers seat × (seat.shaded < length (roots seat)) = rw place at stands.fits.answer_at_place in
     let asks : Asks p seat.answered seat.asked = subst (λ x. AnswerStands p seat.answered seat.asked x) place stands.cycle.answer in
-    let third : (seat.asked % 7 == 3) ≡ true = roots_third (seat.asked % 7 == 3) (heads seat.registers) seat.shaded fits.1 in
+    let third : (seat.asked % 7 == 3) ≡ true = roots_third (seat.asked % 7 == 3) (heads_of seat.registers) seat.shaded fits.1 in
     let is_third : seat.asked % 7 ≡ 3 = eqb-true (seat.asked % 7) 3 third in
-    let all : roots seat ≡ heads seat.registers = roots_all seat is_third in
+    let all : roots seat ≡ heads_of seat.registers = roots_all seat is_third in
     let f : ℕ = slice_index_or (roots seat) seat.shaded 0 in
     let busy : ¬ IsAnswered seat.place = λ done. subst IsAnswered place done in
-    let held : (r : ℕ) → Holds book.made book.owner book.fragments (register_in seat.registers r) (register g q r)
+    let held : (r : ℕ) → HoldsValue book.made book.owner book.fragments (register_in seat.registers r) (register_value g number r)
     = λ r. stands.names.registers r (λ awaited. subst (λ x. IsAwaited x (target_of seat.command) r) place awaited) in
     let head : KeptHead book.made book.owner book.fragments f
     = subst (λ (fs : List ℕ). KeptHead book.made book.owner book.fragments (slice_index_or fs seat.shaded 0)) (sym all)
-    (heads_kept book.made book.owner book.fragments seat.registers (λ r. register g q r) held seat.shaded (subst (λ (fs : List ℕ). seat.shaded < length fs) all fits.1)) in
+    (heads_kept book.made book.owner book.fragments seat.registers (λ r. register_value g number r) held seat.shaded (subst (λ (fs : List ℕ). seat.shaded < length fs) all fits.1)) in
     let front : FrontMarked book.colour seat.registers seat.shaded
     = subst (λ x. seat.asked % 7 ≡ 3 → WhilePolling (RootsStand book.colour seat) x) place stands.cycle.flight.roots is_third in
     let new : Seat = shading seat (seat.shaded + 1) (places.Polling (answer_place (record seat { shaded = seat.shaded + 1 }))) in
-    shade_keeps heap state book q rule here f head.number head.kept head.is (seat.shaded + 1) (places.Polling (answer_place (record seat { shaded = seat.shaded + 1 })))
+    shade_keeps heap state book number rule here f head.index head.kept head.is (seat.shaded + 1) (places.Polling (answer_place (record seat { shaded = seat.shaded + 1 })))
     (λ rests. omega (arith, rests, asks.now, is_third)) machine
     (λ r unawaited. held r)
-    (list_more g book.made book.owner book.fragments q seat book.history busy stands.told.list g book.history new [] [] [] refl refl (sym (append-nil (filter (is_of q) book.history))) refl)
+    (list_more g book.made book.owner book.fragments number seat book.history busy stands.told.list g book.history new [] [] [] refl refl (sym (append-nil (filter (is_of number) book.history))) refl)
     tt busy
-    (cycle_by_flight heap state.words (words_shaded heap state book q rule here f head.number head.kept head.is) book.owner book.owner book.colour (with_mark book.colour f) p
-    (answered q book.history) (has_left q book.history) q seat new
-    record { answered = refl; left = refl; asked = refl } (answer_shaded heap state book q rule here f head.number head.kept head.is q here)
+    (cycle_by_flight heap state.words (words_shaded heap state book number rule here f head.index head.kept head.is) book.owner book.owner book.colour (with_mark book.colour f) p
+    (last_answer number book.history) (has_left number book.history) number seat new
+    record { answered = refl; left = refl; asked = refl } (answer_shaded heap state book number rule here f head.index head.kept head.is number here)
     (asks_on p seat.answered seat.asked (record seat { shaded = seat.shaded + 1 }) asks)
     record {
       set = λ making snapped. tt;
@@ -76,4 +76,4 @@ root_keeps heap state book q rule here place machine =
           (subst (λ (x : ℕ). FrontMarked (with_mark book.colour x) seat.registers (seat.shaded + 1)) (ap (λ (fs : List ℕ). slice_index_or fs seat.shaded 0) (sym all))
           (front_more book.colour seat.registers seat.shaded front));
     }
-    (births_stay book.owner book.owner book.colour (with_mark book.colour f) q seat.answered (λ x borne. (borne, borne_unshaded heap state book q rule here f head.number head.kept head.is q x borne)) stands.cycle.births) stands.cycle)
+    (births_stay book.owner book.owner book.colour (with_mark book.colour f) number seat.answered (λ x borne. (borne, borne_unshaded heap state book number rule here f head.index head.kept head.is number x borne)) stands.cycle.births) stands.cycle)

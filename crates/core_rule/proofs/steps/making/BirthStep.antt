@@ -3,21 +3,21 @@ use Rattle.std.proofs.Common.{◌≡◌, ◌≢◌, ℕ, ◌<◌, Bool, false, L
 use Rattle.std.proofs.lemmas.List.{append-nil}
 use Rattle.heap_model.specs.declared.heap.Heap.{Heap}
 use Rattle.heap_model.specs.account.Cycles.{graph_of}
-use Rattle.heap_model.specs.account.PhaseCounts.{phase, answered, has_left}
+use Rattle.heap_model.specs.account.PhaseCounts.{phase, last_answer, has_left}
 use Rattle.core_machine.specs.declared.table.address.Address.TheVariants.{Control}
 use Rattle.core_machine.specs.declared.place.Making.TheVariants.{Bearing}
 use Rattle.core_machine.specs.declared.place.Place.TheVariants as places
 use Rattle.core_machine.specs.seat.Commands.{target_of}
-use Rattle.core_machine.specs.table.Fragments.{part_in, part_out, mask}
+use Rattle.core_machine.specs.table.Fragments.{part_in, part_out, mask_of}
 use Rattle.core_machine.specs.table.Layout.{at, put}
 use Rattle.core_machine.specs.machine.Machine.{State, seat_at}
-use Rattle.core_machine.specs.seat.Making.{last_group}
-use Rattle.core_machine.specs.Moves.{birth_move, bears_black, is_last_birth, seat_after}
-use Rattle.core_machine.specs.table.Operation.{birth_bits}
+use Rattle.core_machine.specs.seat.Making.{last_group_of}
+use Rattle.core_machine.specs.Moves.{birth_move, bears_black_of, is_last_birth, seat_after}
+use Rattle.core_machine.specs.table.Operation.{birth_bits_of}
 use Rattle.core_machine.specs.seat.Seat.{Seat}
 use Rattle.core_rule.specs.Book.{Book, Colour, White, fragment_at}
 use Rattle.core_rule.specs.Colours.{IsMarked}
-use Rattle.core_rule.specs.Owners.{Owner, Bears, born_bit, handed}
+use Rattle.core_rule.specs.Owners.{Owner, Borne, born_bit, owner_after}
 use Rattle.core_rule.specs.Rule.{Rule}
 use Rattle.core_rule.proofs.cycle.FieldFrames.{watched_born}
 use Rattle.core_rule.proofs.frames.SeatFrames.{same_party, told_nothing, kept_owners, seat_left, registers_owners}
@@ -41,76 +41,76 @@ use Rattle.core_rule.proofs.hand.StoredFrames.{stored_control}
 use Rattle.core_rule.proofs.cycle.Unwatched.{cycle_apart}
 
 -- a birth keeps the rule
-pub birth_keeps : (heap : Heap) (state : State) (book : Book) (q : ℕ) → Rule heap state book → q < heap.seats
-    → (seat_at state q).place ≡ places.Making Bearing → is_last_birth (seat_at state q) ≡ false → MoveKeeps heap state book q (birth_move (seat_at state q))
-birth_keeps heap state book q rule here place more machine =
-    let seat : Seat = seat_at state q in
-    let stands = rule.seats_stand q here in
+pub birth_keeps : (heap : Heap) (state : State) (book : Book) (number : ℕ) → Rule heap state book → number < heap.seats
+    → (seat_at state number).place ≡ places.Making Bearing → is_last_birth (seat_at state number) ≡ false → MoveKeeps heap state book number (birth_move (seat_at state number))
+birth_keeps heap state book number rule here place more machine =
+    let seat : Seat = seat_at state number in
+    let stands = rule.seats_stand number here in
     let heap_stands = rule.heap_stands in
-    let g : ℕ = last_group seat.hand in
+    let g : ℕ = last_group_of seat.hand in
     let part : List ℕ = part_in g seat.hand in
     let found : ℕ = at heap state.words (Control g) in
-    let word : ℕ = bit_or found (birth_bits (bears_black seat) (mask part)) in
-    let owner : ℕ → Owner = handed (Bears q) book.owner part in
-    let below = group_born heap state book q rule here place in
-    let some = some_born heap state book q rule here place in
-    let held = part_held book.owner q seat.reserve seat.hand seat.body stands.own.holding g in
-    let once = part_once book.owner q seat.reserve seat.hand seat.body stands.own.holding g in
-    let inside = held_within heap state.words book.owner heap_stands.control_words q part held in
-    let kept = part_kept book.owner q part (Bears q) (bears_keeps_none q) held in
-    let frees = birth_frees heap book.owner book.history q part once inside heap_stands.used held in
-    let black : Bool = bears_black seat in
-    let words : List ℕ = words_born heap state book q rule here place in
-    let colour : ℕ → Colour = colours_born heap state book q rule here place in
-    let marks = marks_born heap state book q rule here place in
-    seat_steps heap state book q words (seat_after (birth_move seat) found) (record book { owner = owner; colour = colour }) []
+    let word : ℕ = bit_or found (birth_bits_of (bears_black_of seat) (mask_of part)) in
+    let owner : ℕ → Owner = owner_after (Borne number) book.owner part in
+    let below = group_born heap state book number rule here place in
+    let some = some_born heap state book number rule here place in
+    let held = part_held book.owner number seat.reserve seat.hand seat.body stands.own.holding g in
+    let once = part_once book.owner number seat.reserve seat.hand seat.body stands.own.holding g in
+    let inside = held_within heap state.words book.owner heap_stands.control_words number part held in
+    let kept = part_kept book.owner number part (Borne number) (bears_keeps_none number) held in
+    let frees = birth_frees heap book.owner book.history number part once inside heap_stands.used held in
+    let black : Bool = bears_black_of seat in
+    let words : List ℕ = words_born heap state book number rule here place in
+    let colour : ℕ → Colour = colours_born heap state book number rule here place in
+    let marks = marks_born heap state book number rule here place in
+    seat_steps heap state book number words (seat_after (birth_move seat) found) (record book { owner = owner; colour = colour }) []
     rule here machine (sym (append-nil book.history)) refl
     record {
-      control_words = birth_bits_after heap state.words book.owner g rule.machine.table below heap_stands.control_words seat.hand q
-          (hand_once book.owner q seat.reserve seat.hand seat.body stands.own.holding) (hand_held book.owner q seat.reserve seat.hand seat.body stands.own.holding) (bears_black seat);
-      owners = owners_handed heap.seats book.owner heap_stands.owners (Bears q) part here kept;
+      control_words = birth_bits_after heap state.words book.owner g rule.machine.table below heap_stands.control_words seat.hand number
+          (hand_once book.owner number seat.reserve seat.hand seat.body stands.own.holding) (hand_held book.owner number seat.reserve seat.hand seat.body stands.own.holding) (bears_black_of seat);
+      owners = owners_handed heap.seats book.owner heap_stands.owners (Borne number) part here kept;
       ids = heap_stands.ids;
       objects = objects_owners book.owner owner kept book.made book.fragments heap (put heap state.words (Control g) word) (graph_of heap book.history)
           (objects_control heap state.words (graph_of heap book.history) book.made book.owner book.fragments g word below heap_stands.objects);
-      used = birth_used heap book.owner book.history q part once inside heap_stands.used held;
+      used = birth_used heap book.owner book.history number part once inside heap_stands.used held;
       legal = heap_stands.legal;
-      cycle = heap_born heap state book q rule here place owner book.fragments (gains born_bit (Bears q) book.owner part once refl (λ f there. ap born_bit (held f there)))
+      cycle = heap_born heap state book number rule here place owner book.fragments (gains born_bit (Borne number) book.owner part once refl (λ f there. ap born_bit (held f there)))
           (λ marking f i k keeps. painted_cases (λ c. c ≢ White → IsMarked colour (fragment_at (book.fragments i) 0)) (birth_colour black) book.colour part f
-          (λ there marked. absurd (holds_keeps_none q i k (sym (held f there) ∙ kept.was f i k keeps)))
+          (λ there marked. absurd (holds_keeps_none number i k (sym (held f there) ∙ kept.was f i k keeps)))
           (λ away marked. marks _ (heap_stands.cycle.coloured.first marking f i k (kept.was f i k keeps) marked)));
     }
     record {
-      fits = fit_after heap state book q rule here machine;
+      fits = fit_after heap state book number rule here machine;
       own = record {
-        holding = holding_bears book.owner q seat.reserve seat.hand seat.body stands.own.holding g some;
-        stored = stored_control heap state.words q seat g word below stands.own.stored;
+        holding = holding_bears book.owner number seat.reserve seat.hand seat.body stands.own.holding g some;
+        stored = stored_control heap state.words number seat g word below stands.own.stored;
         together = together_bears heap seat.cursor seat.tried seat.hand seat.body stands.fits.hand.hand_within some stands.own.together;
       };
       names = record {
-        registers = registers_owners book.owner owner kept book.made book.fragments (graph_of heap book.history) q seat.registers seat.place (target_of seat.command) stands.names.registers;
+        registers = registers_owners book.owner owner kept book.made book.fragments (graph_of heap book.history) number seat.registers seat.place (target_of seat.command) stands.names.registers;
         way = rw place tt;
       };
       told = record {
-        list = list_of_making (graph_of heap book.history) book.history book.made owner book.fragments q (seat_after (birth_move seat) found) Bearing place
-            (append-nil seat.mine ∙ making_list (graph_of heap book.history) book.history book.made book.owner book.fragments q seat Bearing place stands.told.list);
-        counts = counts_same (graph_of heap book.history) book.history q seat (seat_after (birth_move seat) found) refl refl refl
+        list = list_of_making (graph_of heap book.history) book.history book.made owner book.fragments number (seat_after (birth_move seat) found) Bearing place
+            (append-nil seat.mine ∙ making_list (graph_of heap book.history) book.history book.made book.owner book.fragments number seat Bearing place stands.told.list);
+        counts = counts_same (graph_of heap book.history) book.history number seat (seat_after (birth_move seat) found) refl refl refl
             (rw (whole_full (part_out g seat.hand) seat.hand seat.body some) refl) stands.told.counts;
         began = stands.told.began;
-        gathers = gathers_same heap book.owner owner q (drop (book.begun q) book.history) seat.cursor seat.tried seat.given frees stands.told.gathers;
+        gathers = gathers_same heap book.owner owner number (drop (book.begun number) book.history) seat.cursor seat.tried seat.given frees stands.told.gathers;
       };
-      cycle = cycle_apart heap state.words words book.owner owner book.colour colour (phase book.history) (answered q book.history) (has_left q book.history) q
+      cycle = cycle_apart heap state.words words book.owner owner book.colour colour (phase book.history) (last_answer number book.history) (has_left number book.history) number
           seat (seat_after (birth_move seat) found) record { answered = refl; left = refl; asked = refl } (rw place tt)
-          (answer_after_control heap state.words word g q (omega (arith, here, rule.machine.limits.seats_fit)))
-          (are_births owner colour q seat (born_more book.owner book.colour part q black (births_are book.owner book.colour q seat stands.cycle.births))) stands.cycle;
+          (answer_after_control heap state.words word g number (omega (arith, here, rule.machine.limits.seats_fit)))
+          (are_births owner colour number seat (born_more book.owner book.colour part number black (births_are book.owner book.colour number seat stands.cycle.births))) stands.cycle;
     }
     (λ r under apart other. seat_left heap state.words words book (record book { owner = owner; colour = colour }) r (seat_at state r) record {
       calls = refl;
       party = same_party (graph_of heap book.history) (graph_of heap book.history) r refl;
       told = told_nothing r book.history;
       kept = kept_owners (graph_of heap book.history) book.made book.owner owner book.fragments kept;
-      hand = hand_born book.owner r q part apart held;
+      hand = hand_born book.owner r number part apart held;
       stored = stored_control heap state.words r (seat_at state r) g word below other.own.stored;
       gathers = gathers_same heap book.owner owner r (drop (book.begun r) book.history) (seat_at state r).cursor (seat_at state r).tried (seat_at state r).given frees other.told.gathers;
-      cycle = cycle_control heap state.words book.owner owner book.colour colour (phase book.history) (answered r book.history) (has_left r book.history) r (seat_at state r) g word below
-          (omega (arith, under, rule.machine.limits.seats_fit)) marks (born_others book.owner book.colour part q black r apart) (watched_born heap state book rule r under) other.cycle;
+      cycle = cycle_control heap state.words book.owner owner book.colour colour (phase book.history) (last_answer r book.history) (has_left r book.history) r (seat_at state r) g word below
+          (omega (arith, under, rule.machine.limits.seats_fit)) marks (born_others book.owner book.colour part number black r apart) (watched_born heap state book rule r under) other.cycle;
     } other)

@@ -5,18 +5,18 @@ use Rattle.std.proofs.lemmas.List.{length-append}
 use Rattle.heap_model.specs.declared.entry.Entry.{Entry}
 use Rattle.heap_model.specs.declared.heap.Heap.{Heap}
 use Rattle.heap_model.specs.account.Cycles.{graph_of}
-use Rattle.heap_model.specs.graph.Objects.{party}
-use Rattle.heap_model.specs.account.PhaseCounts.{phase, answered, has_left}
-use Rattle.heap_model.specs.graph.State.{State as Graph}
+use Rattle.heap_model.specs.graph.Objects.{graph_seat}
+use Rattle.heap_model.specs.account.PhaseCounts.{phase, last_answer, has_left}
+use Rattle.heap_model.specs.graph.Graph.{Graph}
 use Rattle.core_machine.specs.declared.table.address.Address.TheVariants.{Control}
 use Rattle.core_machine.specs.declared.place.Making.TheVariants.{Gathering}
 use Rattle.core_machine.specs.declared.place.Place.TheVariants as places
 use Rattle.core_machine.specs.seat.Commands.{target_of}
-use Rattle.core_machine.specs.seat.Fits.{Gathers}
+use Rattle.core_machine.specs.seat.Fits.{SeatIsGathering}
 use Rattle.core_machine.specs.table.Fragments.{clear_in, tally}
 use Rattle.core_machine.specs.table.Layout.{at, put, table_length}
 use Rattle.core_machine.specs.machine.Machine.{seat_at}
-use Rattle.core_machine.specs.seat.Making.{next_group}
+use Rattle.core_machine.specs.seat.Making.{next_group_of}
 use Rattle.core_machine.specs.Moves.{claim_move, takes_some, seat_after}
 use Rattle.core_machine.specs.table.Operation.{all_taken}
 use Rattle.core_machine.specs.seat.Seat.{Seat}
@@ -25,8 +25,8 @@ use Rattle.core_machine.proofs.seat_lemmas.Fitting.{next_within}
 use Rattle.core_rule.specs.ControlWords.{Bits}
 use Rattle.core_rule.specs.Counts.{AreUsed}
 use Rattle.core_rule.specs.Gathers.{GathersRight}
-use Rattle.core_rule.specs.Holding.{whole_hand}
-use Rattle.core_rule.specs.Owners.{Owner, Free, Holds, Bears, Keeps as KeepsPart, free_bit, born_bit, handed}
+use Rattle.core_rule.specs.Holding.{fragments_in_hand}
+use Rattle.core_rule.specs.Owners.{Owner, Free, Taken, Borne, Kept as KeepsPart, free_bit, born_bit, owner_after}
 use Rattle.core_rule.specs.Together.{AreTogether}
 use Rattle.core_rule.proofs.cycle.FieldFrames.{watched_born}
 use Rattle.core_rule.proofs.frames.SeatFrames.{same_party, kept_owners, seat_left, registers_owners}
@@ -57,13 +57,13 @@ module _ (heap : Heap) (words : List ℕ) (owner : ℕ → Owner) (g : ℕ) (who
   clear_within f there = omega (arith, clear_group g (at heap words (Control g)) f there, below)
 
   -- nothing of the group is free then
-  none_free : (q : ℕ) (history : List Entry) → AreUsed heap owner history → (f : ℕ) → f / 16 ≡ g → free_bit (handed (Holds q) owner clear f) ≡ 0
-  none_free q history used f here =
-      let less : free_bit (owner f) ≡ free_bit (handed (Holds q) owner clear f) + tally f clear
-      = claim_frees heap owner history q clear (λ x. clear_once g (at heap words (Control g)) x) clear_within used (clear_is_free heap words owner g whole below bits) f in
+  none_free : (number : ℕ) (history : List Entry) → AreUsed heap owner history → (f : ℕ) → f / 16 ≡ g → free_bit (owner_after (Taken number) owner clear f) ≡ 0
+  none_free number history used f here =
+      let less : free_bit (owner f) ≡ free_bit (owner_after (Taken number) owner clear f) + tally f clear
+      = claim_frees heap owner history number clear (λ x. clear_once g (at heap words (Control g)) x) clear_within used (clear_is_free heap words owner g whole below bits) f in
       let free : tally f clear ≡ free_bit (owner f)
       = clear_here g (at heap words (Control g)) f here ∙ free_by_bit (owner f) (bit_at (at heap words (Control g)) (f % 16)) (found_taken heap words owner g whole below bits f here) in
-      all_gone (free_bit (owner f)) (free_bit (handed (Holds q) owner clear f)) (tally f clear) less free
+      all_gone (free_bit (owner f)) (free_bit (owner_after (Taken number) owner clear f)) (tally f clear) less free
     where
       all_gone : (was now gone : ℕ) → was ≡ now + gone → gone ≡ was → now ≡ 0
       all_gone was now gone less all = omega arith
@@ -72,62 +72,62 @@ module _ (heap : Heap) (words : List ℕ) (owner : ℕ → Owner) (g : ℕ) (who
 free_kept : (owner : ℕ → Owner) (f i k : ℕ) → owner f ≡ Free → owner f ≢ KeepsPart i k
 free_kept owner f i k free kept = let both : Free ≡ KeepsPart i k = sym free ∙ kept in absurd (cc)
 
-more_in_hand : (reserve hand body fs : List ℕ) → body ≡ [] → length reserve + length (whole_hand (hand ++ fs) body) ≡ length reserve + length (whole_hand hand body) + length fs
+more_in_hand : (reserve hand body fs : List ℕ) → body ≡ [] → length reserve + length (fragments_in_hand (hand ++ fs) body) ≡ length reserve + length (fragments_in_hand hand body) + length fs
 more_in_hand reserve hand body fs none = rw (whole_empty (hand ++ fs) body none, whole_empty hand body none, length-append hand fs) (omega arith)
 
 none_below : (u stored was : ℕ) → stored ≡ was → was ≡ 0 → u < stored → ⊥
 none_below u stored was same none below = omega (arith, none, same, below)
 
-holds_bears_none : {q r : ℕ} → Holds q ≢ Bears r
+holds_bears_none : {number r : ℕ} → Taken number ≢ Borne r
 holds_bears_none e = cc
 
 -- a claim keeps the rule
 pub claim_keeps : StepKeeps (places.Making Gathering) claim_move
-claim_keeps heap state book q rule here place machine =
-    let seat : Seat = seat_at state q in
-    let stands = rule.seats_stand q here in
+claim_keeps heap state book number rule here place machine =
+    let seat : Seat = seat_at state number in
+    let stands = rule.seats_stand number here in
     let heap_stands = rule.heap_stands in
-    let g : ℕ = next_group heap seat in
+    let g : ℕ = next_group_of heap seat in
     let found : ℕ = at heap state.words (Control g) in
     let fs : List ℕ = clear_in g found in
     let word : ℕ = bit_or found all_taken in
     let words : List ℕ = put heap state.words (Control g) word in
-    let owner : ℕ → Owner = handed (Holds q) book.owner fs in
-    let added : List Entry = takes_some q (length fs) in
+    let owner : ℕ → Owner = owner_after (Taken number) book.owner fs in
+    let added : List Entry = takes_some number (length fs) in
     let history : List Entry = book.history ++ added in
     let g_of : Graph = graph_of heap book.history in
     let mid : Seat = record seat { hand = seat.hand ++ fs; tried = seat.tried + 1 } in
-    let next : Seat = seat_after (claim_move heap q seat) found in
-    let gathers : Gathers heap seat = rw place at stands.fits.at_place in
+    let next : Seat = seat_after (claim_move heap number seat) found in
+    let gathers : SeatIsGathering heap seat = rw place at stands.fits.at_place in
     let below = next_within heap seat stands.fits.own.cursor_within in
     let once : (f : ℕ) → tally f fs ≤ 1 = λ f. clear_once g found f in
     let inside = clear_within heap state.words book.owner g rule.machine.table below heap_stands.control_words in
     let free = clear_is_free heap state.words book.owner g rule.machine.table below heap_stands.control_words in
-    let kept = handed_kept (Holds q) book.owner fs (holds_keeps_none q) (λ f i k there. free_kept book.owner f i k (free f there)) in
+    let kept = handed_kept (Taken number) book.owner fs (holds_keeps_none number) (λ f i k there. free_kept book.owner f i k (free f there)) in
     let stays = same_goes_on heap mid in
     let same = stays.same in
-    let present = present_at heap state book q Gathering rule here place in
-    let list = making_list g_of book.history book.made book.owner book.fragments q seat Gathering place stands.told.list in
-    let tells = told heap state book q fs rule here (is_busy Gathering seat.place place) present gathers.none_given once inside free
-    (none_free heap state.words book.owner g rule.machine.table below heap_stands.control_words q book.history heap_stands.used) in
-    seat_steps heap state book q words next (record book { history = history; owner = owner }) added
+    let present = present_at heap state book number Gathering rule here place in
+    let list = making_list g_of book.history book.made book.owner book.fragments number seat Gathering place stands.told.list in
+    let tells = told heap state book number fs rule here (is_busy Gathering seat.place place) present gathers.none_given once inside free
+    (none_free heap state.words book.owner g rule.machine.table below heap_stands.control_words number book.history heap_stands.used) in
+    seat_steps heap state book number words next (record book { history = history; owner = owner }) added
     rule here machine refl tells.log
     record {
-      control_words = claim_bits heap state.words book.owner g rule.machine.table below heap_stands.control_words q;
-      owners = owners_handed heap.seats book.owner heap_stands.owners (Holds q) fs here kept;
+      control_words = claim_bits heap state.words book.owner g rule.machine.table below heap_stands.control_words number;
+      owners = owners_handed heap.seats book.owner heap_stands.owners (Taken number) fs here kept;
       ids = rw tells.graph heap_stands.ids;
       objects = rw tells.graph (objects_owners book.owner owner kept book.made book.fragments heap words g_of
           (objects_control heap state.words g_of book.made book.owner book.fragments g word below heap_stands.objects));
       used = tells.used;
       legal = tells.legal;
-      cycle = tells.phases words owner book.colour book.fragments (heap_hands heap state.words book.owner book.colour book.fragments (phase book.history) g word (Holds q) fs below
+      cycle = tells.phases words owner book.colour book.fragments (heap_hands heap state.words book.owner book.colour book.fragments (phase book.history) g word (Taken number) fs below
           refl (λ f there. ap born_bit (free f there)) kept (marks_claim heap state.words book.colour g rule.machine.table below heap_stands.cycle.marks) heap_stands.cycle);
     }
     record {
-      fits = fit_after heap state book q rule here machine;
+      fits = fit_after heap state book number rule here machine;
       own = record {
-        holding = holding_goes_on heap owner q mid gathers.no_body
-            (holding_claims book.owner q seat.reserve seat.hand seat.body stands.own.holding fs once free gathers.no_body);
+        holding = holding_goes_on heap owner number mid gathers.no_body
+            (holding_claims book.owner number seat.reserve seat.hand seat.body stands.own.holding fs once free gathers.no_body);
         stored = λ u less. absurd (none_below u next.stored seat.stored same.stored gathers.none_stored less);
         together = together_goes_on heap mid gathers.no_body stands.fits.own.cursor_within stands.fits.own.reserve_of_cursor
             (subst (λ b. AreTogether heap seat.cursor (seat.tried + 1) (seat.hand ++ fs) b) (sym gathers.no_body)
@@ -135,32 +135,32 @@ claim_keeps heap state book q rule here place machine =
             (subst (λ b. AreTogether heap seat.cursor seat.tried seat.hand b) gathers.no_body stands.own.together)));
       };
       names = record {
-        registers = rw (tells.graph, same.registers) (λ r fresh. registers_owners book.owner owner kept book.made book.fragments g_of q seat.registers seat.place (target_of seat.command) stands.names.registers r (awaits_none Gathering seat.place (target_of seat.command) r place));
+        registers = rw (tells.graph, same.registers) (λ r fresh. registers_owners book.owner owner kept book.made book.fragments g_of number seat.registers seat.place (target_of seat.command) stands.names.registers r (awaits_none Gathering seat.place (target_of seat.command) r place));
         way = rw stays.placed tt;
       };
       told = record {
-        list = list_of_making (graph_of heap history) history book.made owner book.fragments q next stays.making stays.placed (ap (λ m. m ++ added) same.mine ∙ tells.own seat.mine list);
+        list = list_of_making (graph_of heap history) history book.made owner book.fragments number next stays.making stays.placed (ap (λ m. m ++ added) same.mine ∙ tells.own seat.mine list);
         counts = rw tells.graph (tells.counts next same.made same.sets same.left
             (length_goes_on heap mid gathers.no_body ∙ more_in_hand seat.reserve seat.hand seat.body fs gathers.no_body));
         began = tells.began next.place;
-        gathers = gathers_goes_on heap owner q (drop (book.begun q) history) mid gathers.none_given
-            (subst (λ n. GathersRight heap owner q (drop (book.begun q) history) seat.cursor (seat.tried + 1) n) (sym gathers.none_given) tells.gathers);
+        gathers = gathers_goes_on heap owner number (drop (book.begun number) history) mid gathers.none_given
+            (subst (λ n. GathersRight heap owner number (drop (book.begun number) history) seat.cursor (seat.tried + 1) n) (sym gathers.none_given) tells.gathers);
       };
-      cycle = tells.cycles words owner book.colour q next
-          (cycle_goes_on heap state.words words book.owner owner book.colour (phase book.history) (answered q book.history) (has_left q book.history) q seat next
+      cycle = tells.cycles words owner book.colour number next
+          (cycle_goes_on heap state.words words book.owner owner book.colour (phase book.history) (last_answer number book.history) (has_left number book.history) number seat next
           record { answered = same.answered; left = same.left; asked = same.asked } (rw stays.placed tt)
-          (answer_after_control heap state.words word g q (omega (arith, here, rule.machine.limits.seats_fit)))
-          (λ f. borne_before (Holds q) book.owner fs q f holds_bears_none) stands.cycle);
+          (answer_after_control heap state.words word g number (omega (arith, here, rule.machine.limits.seats_fit)))
+          (λ f. borne_before (Taken number) book.owner fs number f holds_bears_none) stands.cycle);
     }
     (λ r under apart other. seat_left heap state.words words book (record book { history = history; owner = owner }) r (seat_at state r) record {
       calls = refl;
-      party = same_party g_of (graph_of heap history) r (ap (λ (x : Graph). party x r) tells.graph);
+      party = same_party g_of (graph_of heap history) r (ap (λ (x : Graph). graph_seat x r) tells.graph);
       told = tells.others r apart;
       kept = rw tells.graph (kept_owners g_of book.made book.owner owner book.fragments kept);
-      hand = hand_claimed book.owner r q fs apart free;
+      hand = hand_claimed book.owner r number fs apart free;
       stored = stored_control heap state.words r (seat_at state r) g word below other.own.stored;
       gathers = tells.other_gathers r under apart;
       cycle = tells.cycles words owner book.colour r (seat_at state r)
-          (cycle_control heap state.words book.owner owner book.colour book.colour (phase book.history) (answered r book.history) (has_left r book.history) r (seat_at state r) g word below
-          (omega (arith, under, rule.machine.limits.seats_fit)) (λ f marked. marked) (λ f borne. (borne_before (Holds q) book.owner fs r f holds_bears_none borne, refl)) (watched_born heap state book rule r under) other.cycle);
+          (cycle_control heap state.words book.owner owner book.colour book.colour (phase book.history) (last_answer r book.history) (has_left r book.history) r (seat_at state r) g word below
+          (omega (arith, under, rule.machine.limits.seats_fit)) (λ f marked. marked) (λ f borne. (borne_before (Taken number) book.owner fs r f holds_bears_none borne, refl)) (watched_born heap state book rule r under) other.cycle);
     } other)

@@ -5,20 +5,20 @@ use Rattle.heap_model.specs.declared.entry.Entry.{Entry}
 use Rattle.heap_model.specs.declared.entry.Entry.TheVariants as entries
 use Rattle.heap_model.specs.account.Cycles.{graph_of}
 use Rattle.heap_model.specs.account.Space.{taken_of, spent_of}
-use Rattle.heap_model.specs.graph.State.{State as Graph}
+use Rattle.heap_model.specs.graph.Graph.{Graph}
 use Rattle.core_machine.specs.declared.table.address.Address.TheVariants.{Control}
 use Rattle.core_machine.specs.declared.place.Making.TheVariants.{Returning}
 use Rattle.core_machine.specs.declared.place.Place.TheVariants as places
 use Rattle.core_machine.specs.seat.Commands.{target_of}
-use Rattle.core_machine.specs.seat.Fits.{Refuses}
+use Rattle.core_machine.specs.seat.Fits.{SeatIsRefusing}
 use Rattle.core_machine.specs.table.Fragments.{part_in, part_out}
 use Rattle.core_machine.specs.table.Layout.{at}
 use Rattle.core_machine.specs.machine.Machine.{seat_at}
-use Rattle.core_machine.specs.seat.Making.{first_group, returning}
+use Rattle.core_machine.specs.seat.Making.{first_group_of, refusal_place}
 use Rattle.core_machine.specs.Moves.{give_back_move, seat_after}
 use Rattle.core_machine.specs.seat.Seat.{Seat}
 use Rattle.core_rule.specs.Book.{Book}
-use Rattle.core_rule.specs.Holding.{whole_hand}
+use Rattle.core_rule.specs.Holding.{fragments_in_hand}
 use Rattle.core_rule.proofs.frames.SeatFrames.{registers_owners}
 use Rattle.core_rule.proofs.steps.Assemble.{fit_after, present_at, seat_steps, StepKeeps}
 use Rattle.core_rule.proofs.hand.Bodies.{whole_empty}
@@ -36,60 +36,60 @@ use Rattle.core_rule.proofs.entries.SeatLists.{making_list, whole_list}
 use Rattle.core_rule.proofs.hand.StoredFrames.{stored_control}
 
 -- what a hand has without a group, and what it has of the group
-left_of_hand : (reserve hand body : List ℕ) (g : ℕ) → body ≡ [] → length reserve + length (whole_hand (part_out g hand) body) + length (part_in g hand) ≡ length reserve + length (whole_hand hand body)
+left_of_hand : (reserve hand body : List ℕ) (g : ℕ) → body ≡ [] → length reserve + length (fragments_in_hand (part_out g hand) body) + length (part_in g hand) ≡ length reserve + length (fragments_in_hand hand body)
 left_of_hand reserve hand body g none = rw (whole_empty (part_out g hand) body none, whole_empty hand body none) (omega (arith, parts_length g hand))
 
 -- a seat may give back what is in its hand
-gives_own : (reserve hand body : List ℕ) (g spent taken : ℕ) → body ≡ [] → length reserve + length (whole_hand hand body) + spent ≡ taken → spent + length (part_in g hand) ≤ taken
+gives_own : (reserve hand body : List ℕ) (g spent taken : ℕ) → body ≡ [] → length reserve + length (fragments_in_hand hand body) + spent ≡ taken → spent + length (part_in g hand) ≤ taken
 gives_own reserve hand body g spent taken none own = omega (arith, own, left_of_hand reserve hand body g none)
 
 -- a give back keeps the rule
 pub give_back_keeps : StepKeeps (places.Making Returning) (λ heap. give_back_move)
-give_back_keeps heap state book q rule here place machine =
-    let seat : Seat = seat_at state q in
-    let stands = rule.seats_stand q here in
-    let g : ℕ = first_group seat.hand in
+give_back_keeps heap state book number rule here place machine =
+    let seat : Seat = seat_at state number in
+    let stands = rule.seats_stand number here in
+    let g : ℕ = first_group_of seat.hand in
     let part : List ℕ = part_in g seat.hand in
-    let now : Seat = seat_after (give_back_move q seat) (at heap state.words (Control g)) in
-    let entry : Entry = entries.GivesBack q (length part) in
+    let now : Seat = seat_after (give_back_move number seat) (at heap state.words (Control g)) in
+    let entry : Entry = entries.GivesBack number (length part) in
     let before : Graph = graph_of heap book.history in
-    let at_place : Refuses heap seat × (0 < length seat.hand) = rw place at stands.fits.at_place in
+    let at_place : SeatIsRefusing heap seat × (0 < length seat.hand) = rw place at stands.fits.at_place in
     let refuses = at_place.0 in
     let below = first_within heap seat stands.fits at_place.1 in
     let some = first_some seat.hand at_place.1 in
-    let held = part_held book.owner q seat.reserve seat.hand seat.body stands.own.holding g in
-    let once = part_once book.owner q seat.reserve seat.hand seat.body stands.own.holding g in
-    let present = present_at heap state book q Returning rule here place in
-    let list = making_list before book.history book.made book.owner book.fragments q seat Returning place stands.told.list in
-    let graph = graph_given heap state book q rule here g part below held once in
-    let kept = kept_given heap state book q rule here g part below held once in
-    let later : Book = book_given heap state book q rule here g part below held once in
-    seat_steps heap state book q (words_given heap state book q rule here g part below held once) now later (entry ∷ []) rule here machine refl refl
-    (heap_given heap state book q rule here g part below held once
-    (give_back_bits heap state.words book.owner g rule.machine.table below rule.heap_stands.control_words seat.hand q
-    (hand_once book.owner q seat.reserve seat.hand seat.body stands.own.holding) (hand_held book.owner q seat.reserve seat.hand seat.body stands.own.holding))
-    present some (gives_own seat.reserve seat.hand seat.body g (spent_of q book.history) (taken_of q book.history) refuses.no_body stands.told.counts.unborn))
+    let held = part_held book.owner number seat.reserve seat.hand seat.body stands.own.holding g in
+    let once = part_once book.owner number seat.reserve seat.hand seat.body stands.own.holding g in
+    let present = present_at heap state book number Returning rule here place in
+    let list = making_list before book.history book.made book.owner book.fragments number seat Returning place stands.told.list in
+    let graph = graph_given heap state book number rule here g part below held once in
+    let kept = kept_given heap state book number rule here g part below held once in
+    let later : Book = book_given heap state book number rule here g part below held once in
+    seat_steps heap state book number (words_given heap state book number rule here g part below held once) now later (entry ∷ []) rule here machine refl refl
+    (heap_given heap state book number rule here g part below held once
+    (give_back_bits heap state.words book.owner g rule.machine.table below rule.heap_stands.control_words seat.hand number
+    (hand_once book.owner number seat.reserve seat.hand seat.body stands.own.holding) (hand_held book.owner number seat.reserve seat.hand seat.body stands.own.holding))
+    present some (gives_own seat.reserve seat.hand seat.body g (spent_of number book.history) (taken_of number book.history) refuses.no_body stands.told.counts.unborn))
     record {
-      fits = fit_after heap state book q rule here machine;
+      fits = fit_after heap state book number rule here machine;
       own = record {
-        holding = holding_gives book.owner q seat.reserve seat.hand seat.body stands.own.holding g refuses.no_body;
-        stored = stored_control heap state.words q seat g _ below stands.own.stored;
+        holding = holding_gives book.owner number seat.reserve seat.hand seat.body stands.own.holding g refuses.no_body;
+        stored = stored_control heap state.words number seat g _ below stands.own.stored;
         together = together_gives heap seat.cursor seat.tried g seat.hand seat.body refuses.no_body stands.own.together;
       };
       names = record {
-        registers = rw graph (λ r fresh. registers_owners book.owner later.owner kept book.made book.fragments before q seat.registers seat.place (target_of seat.command) stands.names.registers r
+        registers = rw graph (λ r fresh. registers_owners book.owner later.owner kept book.made book.fragments before number seat.registers seat.place (target_of seat.command) stands.names.registers r
             (awaits_none Returning seat.place (target_of seat.command) r place));
         way = tt;
       };
       told = record {
-        list = whole_list (graph_of heap later.history) later.history book.made later.owner book.fragments q now refl (own_grows q book.history seat.mine entry (eq-eqb q q refl) list);
-        counts = rw graph (counts_own before before book.history q seat now stands.told.counts entry (eq-eqb q q refl)
+        list = whole_list (graph_of heap later.history) later.history book.made later.owner book.fragments number now refl (own_grows number book.history seat.mine entry (eq-eqb number number refl) list);
+        counts = rw graph (counts_own before before book.history number seat now stands.told.counts entry (eq-eqb number number refl)
             stands.told.counts.numbered stands.told.counts.stamped stands.told.counts.leaves (omega (arith, left_of_hand seat.reserve seat.hand seat.body g refuses.no_body)));
-        began = began_past book.history entry q (book.begun q) seat.place (places.Making (returning (part_out g seat.hand))) refl (λ still. is_busy Returning seat.place place) stands.told.began;
-        gathers = own_gives heap book.owner book.history q part once (held_within heap state.words book.owner rule.heap_stands.control_words q part held) rule.heap_stands.used
-            (book.begun q) stands.told.began.earlier seat.cursor seat.tried seat.given held
+        began = began_past book.history entry number (book.begun number) seat.place (places.Making (refusal_place (part_out g seat.hand))) refl (λ still. is_busy Returning seat.place place) stands.told.began;
+        gathers = own_gives heap book.owner book.history number part once (held_within heap state.words book.owner rule.heap_stands.control_words number part held) rule.heap_stands.used
+            (book.begun number) stands.told.began.earlier seat.cursor seat.tried seat.given held
             stands.fits.own.cursor_within (tried_within heap seat seat.place stands.fits.at_place) stands.told.gathers;
       };
-      cycle = cycle_given heap state book q rule here g part below held once now record { answered = refl; left = refl; asked = refl } tt;
+      cycle = cycle_given heap state book number rule here g part below held once now record { answered = refl; left = refl; asked = refl } tt;
     }
-    (other_given heap state book q rule here g part below held once)
+    (other_given heap state book number rule here g part below held once)

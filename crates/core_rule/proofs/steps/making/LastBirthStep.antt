@@ -6,19 +6,19 @@ use Rattle.heap_model.specs.declared.id.Id.{Id}
 use Rattle.heap_model.specs.declared.id.Id.TheVariants.{Made}
 use Rattle.heap_model.specs.graph.Changes.{add}
 use Rattle.heap_model.specs.account.Cycles.{graph_of}
-use Rattle.heap_model.specs.account.PhaseCounts.{phase, answered, has_left}
-use Rattle.heap_model.specs.graph.State.{State as Graph, fresh}
+use Rattle.heap_model.specs.account.PhaseCounts.{phase, last_answer, has_left}
+use Rattle.heap_model.specs.graph.Graph.{Graph, fresh}
 use Rattle.core_machine.specs.declared.table.address.Address.TheVariants.{Control}
 use Rattle.core_machine.specs.declared.place.Making.TheVariants.{Bearing}
 use Rattle.core_machine.specs.declared.place.Place.TheVariants as places
 use Rattle.core_machine.specs.seat.Commands.{target_of, fields_of, IsRecord}
 use Rattle.core_machine.specs.seat.Fits.{HasBody, IsSilent}
-use Rattle.core_machine.specs.table.Fragments.{mask, tally}
+use Rattle.core_machine.specs.table.Fragments.{mask_of, tally}
 use Rattle.core_machine.specs.table.Layout.{at}
 use Rattle.core_machine.specs.machine.Machine.{State, seat_at}
-use Rattle.core_machine.specs.seat.Making.{last_group, next_id, newborn_word}
-use Rattle.core_machine.specs.Moves.{bears_black, last_birth_move, last_part, made_entry, seat_after, is_last_birth}
-use Rattle.core_machine.specs.table.Operation.{birth_bits}
+use Rattle.core_machine.specs.seat.Making.{last_group_of, next_object_id, newborn_word_of}
+use Rattle.core_machine.specs.Moves.{bears_black_of, last_birth_move, last_part, made_entry, seat_after, is_last_birth}
+use Rattle.core_machine.specs.table.Operation.{birth_bits_of}
 use Rattle.core_machine.specs.seat.Seat.{Seat}
 use Rattle.core_rule.specs.Book.{Book}
 use Rattle.core_rule.specs.Objects.{AreMade}
@@ -59,46 +59,46 @@ use Rattle.core_rule.proofs.cycle.Unwatched.{cycle_apart}
 
 -- the book after it: the object keeps its fragments, and has a number
 abbrev book_born : Book → ℕ → Seat → Book
-book_born book q seat = record book {
-  history = book.history ++ made_entry q seat ∷ [];
-  made = book.made ++ next_id q seat ∷ [];
+book_born book number seat = record book {
+  history = book.history ++ made_entry number seat ∷ [];
+  made = book.made ++ next_object_id number seat ∷ [];
   owner = kept_by (length book.made) seat.body book.owner;
   fragments = with_object book.fragments (length book.made) seat.body;
-  colour = painted (birth_colour (bears_black seat)) book.colour (last_part seat);
+  colour = painted (birth_colour (bears_black_of seat)) book.colour (last_part seat);
 }
 
 -- the last birth keeps the rule
-pub last_birth_keeps : (heap : Heap) (state : State) (book : Book) (q : ℕ) → Rule heap state book → q < heap.seats
-    → (seat_at state q).place ≡ places.Making Bearing → is_last_birth (seat_at state q) ≡ true → MoveKeeps heap state book q (last_birth_move q (seat_at state q))
-last_birth_keeps heap state book q rule here place last machine =
-    let seat : Seat = seat_at state q in
+pub last_birth_keeps : (heap : Heap) (state : State) (book : Book) (number : ℕ) → Rule heap state book → number < heap.seats
+    → (seat_at state number).place ≡ places.Making Bearing → is_last_birth (seat_at state number) ≡ true → MoveKeeps heap state book number (last_birth_move number (seat_at state number))
+last_birth_keeps heap state book number rule here place last machine =
+    let seat : Seat = seat_at state number in
     let body : List ℕ = seat.body in
-    let group : ℕ = last_group seat.hand in
+    let group : ℕ = last_group_of seat.hand in
     let found : ℕ = at heap state.words (Control group) in
-    let word : ℕ = bit_or found (birth_bits (bears_black seat) (mask (last_part seat))) in
-    let words : List ℕ = words_born heap state book q rule here place in
-    let entry : Entry = made_entry q seat in
-    let id : Id = next_id q seat in
-    let now : Book = book_born book q seat in
-    let stands = rule.seats_stand q here in
-    let present = present_at heap state book q Bearing rule here place in
-    let list = making_list (graph_of heap book.history) book.history book.made book.owner book.fragments q seat Bearing place stands.told.list in
+    let word : ℕ = bit_or found (birth_bits_of (bears_black_of seat) (mask_of (last_part seat))) in
+    let words : List ℕ = words_born heap state book number rule here place in
+    let entry : Entry = made_entry number seat in
+    let id : Id = next_object_id number seat in
+    let now : Book = book_born book number seat in
+    let stands = rule.seats_stand number here in
+    let present = present_at heap state book number Bearing rule here place in
+    let list = making_list (graph_of heap book.history) book.history book.made book.owner book.fragments number seat Bearing place stands.told.list in
     let at_place : HasBody seat × (0 < length seat.hand) × (length seat.hand ≤ length body) × (seat.stored ≡ 4 * length body) = rw place at stands.fits.at_place in
     let has = at_place.0 in
     let silent : IsSilent seat = rw place at stands.fits.answer_at_place in
-    let below = group_born heap state book q rule here place in
-    let some = some_born heap state book q rule here place in
+    let below = group_born heap state book number rule here place in
+    let some = some_born heap state book number rule here place in
     let d : ℕ = target_of seat.command in
     let fields : ℕ = fields_of seat.command in
     let ranges = ranges_made seat.command has.makes.a_record has.makes.in_range in
     let g : Graph = graph_of heap book.history in
-    let grown : Graph = add g q d (fresh false fields) in
-    let graph : graph_of heap now.history ≡ grown = graph_grown heap book.history q seat has.makes.a_record in
+    let grown : Graph = add g number d (fresh false fields) in
+    let graph : graph_of heap now.history ≡ grown = graph_grown heap book.history number seat has.makes.a_record in
     let ids : AreMade g book.made = rule.heap_stands.ids in
-    let more : OneMore g grown id (fresh false fields) = one_more g q d (fresh false fields) seat.made present stands.told.counts.numbered in
-    let once = body_once book.owner q seat.reserve seat.hand body stands.own.holding some in
-    let unkept = λ (f i k : ℕ) (there : 1 ≤ tally f body). own_keeps_none q i k (book.owner f) (body_own book.owner q seat.reserve seat.hand body stands.own.holding f there) in
-    let stored = all_stored heap state.words body (newborn_word q seat) seat.stored at_place.3 stands.own.stored in
+    let more : OneMore g grown id (fresh false fields) = one_more g number d (fresh false fields) seat.made present stands.told.counts.numbered in
+    let once = body_once book.owner number seat.reserve seat.hand body stands.own.holding some in
+    let unkept = λ (f i k : ℕ) (there : 1 ≤ tally f body). own_keeps_none number i k (book.owner f) (body_own book.owner number seat.reserve seat.hand body stands.own.holding f there) in
+    let stored = all_stored heap state.words body (newborn_word_of number seat) seat.stored at_place.3 stands.own.stored in
     let new : NewBody heap state.words book.owner id fields body = record {
       sized = (ranges.2, ranges.3);
       whole = has.whole ∙ need_made seat.command has.makes.a_record;
@@ -106,69 +106,69 @@ last_birth_keeps heap state book q rule here place last machine =
       unkept = unkept;
       newborn = stored;
     } in
-    let black : Bool = bears_black seat in
-    let births : AreBorne book.owner book.colour q black = births_are book.owner book.colour q seat stands.cycle.births in
-    let marks = marks_born heap state book q rule here place in
-    seat_steps heap state book q words (seat_after (last_birth_move q seat) found) now (entry ∷ []) rule here machine refl refl
+    let black : Bool = bears_black_of seat in
+    let births : AreBorne book.owner book.colour number black = births_are book.owner book.colour number seat stands.cycle.births in
+    let marks = marks_born heap state book number rule here place in
+    seat_steps heap state book number words (seat_after (last_birth_move number seat) found) now (entry ∷ []) rule here machine refl refl
     record {
-      control_words = kept_bits heap state.words book.owner q seat.reserve seat.hand body group (length book.made) (bears_black seat) rule.machine.table below
+      control_words = kept_bits heap state.words book.owner number seat.reserve seat.hand body group (length book.made) (bears_black_of seat) rule.machine.table below
           rule.heap_stands.control_words stands.own.holding some last;
       owners = owners_kept heap.seats book.owner rule.heap_stands.owners (length book.made) body unkept;
       ids = rw graph (ids_grown g grown book.made id (fresh false fields) ids more (omega (arith, here, rule.machine.limits.seats_fit), omega (arith, has.makes.numbered)));
       objects = rw graph (objects_control heap state.words grown now.made now.owner now.fragments group word below
           (objects_grown heap state.words g grown book.made id book.owner book.fragments fields body ids more new rule.heap_stands.objects));
-      used = used_made heap now.owner book.history q seat (used_same heap book.owner now.owner book.history
-          (kept_taken book.owner q seat.reserve seat.hand body stands.own.holding some (length book.made)) rule.heap_stands.used);
-      legal = made_legal g book.history q seat stands.told.counts has.whole some present heap refl has.makes.a_record has.makes.in_range stands.fits.own.small_reserve rule.heap_stands.legal;
+      used = used_made heap now.owner book.history number seat (used_same heap book.owner now.owner book.history
+          (kept_taken book.owner number seat.reserve seat.hand body stands.own.holding some (length book.made)) rule.heap_stands.used);
+      legal = made_legal g book.history number seat stands.told.counts has.whole some present heap refl has.makes.a_record has.makes.in_range stands.fits.own.small_reserve rule.heap_stands.legal;
       cycle = heap_cycle_more heap words now.owner now.colour book.history entry refl now.fragments
-          (heap_born heap state book q rule here place now.owner now.fragments
-          (kept_bears book.owner book.colour q seat.reserve seat.hand body stands.own.holding some group (length book.made) last black births)
-          (kept_first book.owner book.colour q seat.reserve seat.hand body stands.own.holding some group (length book.made) last black births
+          (heap_born heap state book number rule here place now.owner now.fragments
+          (kept_bears book.owner book.colour number seat.reserve seat.hand body stands.own.holding some group (length book.made) last black births)
+          (kept_first book.owner book.colour number seat.reserve seat.hand body stands.own.holding some group (length book.made) last black births
           heap state.words book.fragments (phase book.history) rule.heap_stands.cycle.coloured marks (λ f i k keeps. old_apart book.made i (rule.heap_stands.objects.back f i k keeps).0)));
     }
     record {
-      fits = fit_after heap state book q rule here machine;
+      fits = fit_after heap state book number rule here machine;
       own = record {
-        holding = kept_holding book.owner q seat.reserve seat.hand body stands.own.holding some (length book.made);
+        holding = kept_holding book.owner number seat.reserve seat.hand body stands.own.holding some (length book.made);
         stored = λ u none. absurd (omega (arith, none));
         together = nothing_together heap seat.cursor 0 [] [] refl refl;
       };
       names = record {
-        registers = rw graph (λ r still. registers_own g q d (fresh false fields) present book.made id book.owner book.fragments body unkept once some
+        registers = rw graph (λ r still. registers_own g number d (fresh false fields) present book.made id book.owner book.fragments body unkept once some
             (number_new g grown book.made id (fresh false fields) ids more) seat.registers (omega (arith, stands.fits.own.registers_whole, ranges.1))
-            (omega (arith, registers_length heap book.history q present, ranges.1)) (ap (Made q) stands.told.counts.numbered)
+            (omega (arith, registers_length heap book.history number present, ranges.1)) (ap (Made number) stands.told.counts.numbered)
             (λ i. stands.names.registers i (awaits_none Bearing seat.place d i place)) r);
         way = tt;
       };
       told = record {
-        list = whole_list (graph_of heap now.history) now.history now.made now.owner now.fragments q (seat_after (last_birth_move q seat) found) refl
-            (own_grows q book.history seat.mine entry (eq-eqb q q refl) list);
-        counts = rw graph (counts_made g book.history q seat stands.told.counts has.whole some present d (fresh false fields) found);
-        began = began_idle book.history entry q (book.begun q) seat.place stands.told.began;
-        gathers = nothing_tried heap now.owner q (drop (book.begun q) now.history) seat.cursor;
+        list = whole_list (graph_of heap now.history) now.history now.made now.owner now.fragments number (seat_after (last_birth_move number seat) found) refl
+            (own_grows number book.history seat.mine entry (eq-eqb number number refl) list);
+        counts = rw graph (counts_made g book.history number seat stands.told.counts has.whole some present d (fresh false fields) found);
+        began = began_idle book.history entry number (book.begun number) seat.place stands.told.began;
+        gathers = nothing_tried heap now.owner number (drop (book.begun number) now.history) seat.cursor;
       };
-      cycle = cycle_own heap words now.owner now.colour book.history entry refl q (seat_after (last_birth_move q seat) found)
-          (cycle_apart heap state.words words book.owner now.owner book.colour now.colour (phase book.history) (answered q book.history) (has_left q book.history) q
-          seat (seat_after (last_birth_move q seat) found) record { answered = refl; left = refl; asked = sym silent.none_asked } tt
-          (answer_after_control heap state.words word group q (omega (arith, here, rule.machine.limits.seats_fit)))
-          (are_births now.owner now.colour q seat (kept_own book.owner book.colour q seat.reserve seat.hand body stands.own.holding some group (length book.made) last black births)) stands.cycle)
-          refl (no_leave_told q q seat.command _ (λ leaves. subst IsRecord leaves has.makes.a_record));
+      cycle = cycle_own heap words now.owner now.colour book.history entry refl number (seat_after (last_birth_move number seat) found)
+          (cycle_apart heap state.words words book.owner now.owner book.colour now.colour (phase book.history) (last_answer number book.history) (has_left number book.history) number
+          seat (seat_after (last_birth_move number seat) found) record { answered = refl; left = refl; asked = sym silent.none_asked } tt
+          (answer_after_control heap state.words word group number (omega (arith, here, rule.machine.limits.seats_fit)))
+          (are_births now.owner now.colour number seat (kept_own book.owner book.colour number seat.reserve seat.hand body stands.own.holding some group (length book.made) last black births)) stands.cycle)
+          refl (no_leave_told number number seat.command _ (λ leaves. subst IsRecord leaves has.makes.a_record));
     }
     (λ r less apart other. seat_left heap state.words words book now r (seat_at state r) record {
       calls = refl;
-      party = rw graph (same_party g grown r (party_other g q d (fresh false fields) present r apart));
-      told = told_other r book.history entry (of_other q r apart);
+      party = rw graph (same_party g grown r (party_other g number d (fresh false fields) present r apart));
+      told = told_other r book.history entry (of_other number r apart);
       kept = rw graph record {
         names = names_grown book.made id book.owner book.fragments body unkept;
         objects = object_grows g grown book.made id book.owner book.fragments (fresh false fields) body unkept ids more;
       };
-      hand = kept_others book.owner q seat.reserve seat.hand body stands.own.holding some (length book.made) r apart;
+      hand = kept_others book.owner number seat.reserve seat.hand body stands.own.holding some (length book.made) r apart;
       stored = stored_control heap state.words r (seat_at state r) group word below other.own.stored;
       gathers = gathers_stay heap now.owner r book.history (book.begun r) entry (seat_at state r).cursor (seat_at state r).tried (seat_at state r).given other.told.began.earlier
           (gathers_same heap book.owner now.owner r (drop (book.begun r) book.history) (seat_at state r).cursor (seat_at state r).tried (seat_at state r).given
-          (kept_free book.owner q seat.reserve seat.hand body stands.own.holding some (length book.made)) other.told.gathers);
+          (kept_free book.owner number seat.reserve seat.hand body stands.own.holding some (length book.made)) other.told.gathers);
       cycle = cycle_other heap words now.owner now.colour book.history entry refl r (seat_at state r)
-          (cycle_control heap state.words book.owner now.owner book.colour now.colour (phase book.history) (answered r book.history) (has_left r book.history) r (seat_at state r) group word below
+          (cycle_control heap state.words book.owner now.owner book.colour now.colour (phase book.history) (last_answer r book.history) (has_left r book.history) r (seat_at state r) group word below
           (omega (arith, less, rule.machine.limits.seats_fit)) marks
-          (kept_borne book.owner book.colour q seat.reserve seat.hand body stands.own.holding some group (length book.made) last black births r) (watched_born heap state book rule r less) other.cycle) (of_other q r apart);
+          (kept_borne book.owner book.colour number seat.reserve seat.hand body stands.own.holding some group (length book.made) last black births r) (watched_born heap state book rule r less) other.cycle) (of_other number r apart);
     } other)

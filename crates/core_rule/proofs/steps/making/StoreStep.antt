@@ -2,7 +2,7 @@
 use Rattle.std.proofs.Common.{◌≡◌, ℕ, ◌*◌, ◌/◌, ◌%◌, ◌<◌, ◌≤◌, List, [], length, refl, sym, ap, ◌∙◌, subst, arith}
 use Rattle.std.proofs.lemmas.List.{append-nil}
 use Rattle.heap_model.specs.account.Cycles.{graph_of}
-use Rattle.heap_model.specs.account.PhaseCounts.{phase, answered, has_left}
+use Rattle.heap_model.specs.account.PhaseCounts.{phase, last_answer, has_left}
 use Rattle.core_machine.specs.declared.table.address.Address.TheVariants.{Answer, Word}
 use Rattle.core_machine.specs.declared.place.Making.TheVariants.{Storing}
 use Rattle.core_machine.specs.declared.place.Place.TheVariants as places
@@ -11,7 +11,7 @@ use Rattle.core_machine.specs.seat.Fits.{HasBody}
 use Rattle.core_machine.specs.table.Fragments.{tally}
 use Rattle.core_machine.specs.table.Layout.{at, put}
 use Rattle.core_machine.specs.machine.Machine.{seat_at}
-use Rattle.core_machine.specs.seat.Making.{newborn_word}
+use Rattle.core_machine.specs.seat.Making.{newborn_word_of}
 use Rattle.core_machine.specs.Moves.{store_move, seat_after}
 use Rattle.core_machine.specs.seat.Seat.{Seat}
 use Rattle.core_rule.specs.Book.{fragment_at}
@@ -34,62 +34,62 @@ use Rattle.core_rule.proofs.hand.StoreLemmas.{bits_store, store_next}
 
 -- a store keeps the rule
 pub store_keeps : StepKeeps (places.Making Storing) (λ heap. store_move)
-store_keeps heap state book q rule here place machine =
-    let seat : Seat = seat_at state q in
+store_keeps heap state book number rule here place machine =
+    let seat : Seat = seat_at state number in
     let f : ℕ = fragment_at seat.body (seat.stored / 4) in
     let part : ℕ = seat.stored % 4 in
-    let word : ℕ = newborn_word q seat (seat.stored / 4) part in
+    let word : ℕ = newborn_word_of number seat (seat.stored / 4) part in
     let found : ℕ = at heap state.words (Word f part) in
     let words : List ℕ = put heap state.words (Word f part) word in
-    let stands = rule.seats_stand q here in
+    let stands = rule.seats_stand number here in
     let at_place : HasBody seat × (seat.hand ≡ seat.body) × (seat.stored < 4 * length seat.body) = rw place at stands.fits.at_place in
     let row : seat.stored / 4 < length seat.body = omega (arith, at_place.2) in
     let fits_part : part < 4 = omega arith in
-    let own : IsOwn q (book.owner f) = body_at-own book.owner q seat.reserve seat.hand seat.body stands.own.holding (seat.stored / 4) row in
+    let own : IsOwn number (book.owner f) = body_at-own book.owner number seat.reserve seat.hand seat.body stands.own.holding (seat.stored / 4) row in
     let in_hand : 1 ≤ tally f seat.hand = subst (λ fs. 1 ≤ tally f fs) (sym at_place.1) (tally_at seat.body (seat.stored / 4) row) in
-    let unborn : born_bit (book.owner f) ≡ 0 = ap born_bit (hand_held book.owner q seat.reserve seat.hand seat.body stands.own.holding f in_hand) in
-    let once = body_once book.owner q seat.reserve seat.hand seat.body stands.own.holding (omega (arith, row)) in
-    seat_steps heap state book q words (seat_after (store_move q seat) found) book [] rule here machine (sym (append-nil book.history)) refl
+    let unborn : born_bit (book.owner f) ≡ 0 = ap born_bit (hand_held book.owner number seat.reserve seat.hand seat.body stands.own.holding f in_hand) in
+    let once = body_once book.owner number seat.reserve seat.hand seat.body stands.own.holding (omega (arith, row)) in
+    seat_steps heap state book number words (seat_after (store_move number seat) found) book [] rule here machine (sym (append-nil book.history)) refl
     record {
       control_words = bits_store heap state.words book.owner f part word rule.heap_stands.control_words;
       owners = rule.heap_stands.owners;
       ids = rule.heap_stands.ids;
       objects = objects_store heap state.words (graph_of heap book.history) book.made book.owner book.fragments f part word fits_part
-          (λ i k. own_keeps_none q i k (book.owner f) own) rule.heap_stands.objects;
+          (λ i k. own_keeps_none number i k (book.owner f) own) rule.heap_stands.objects;
       used = rule.heap_stands.used;
       legal = rule.heap_stands.legal;
       cycle = heap_store heap state.words book.owner book.colour (phase book.history) f part word fits_part unborn book.fragments rule.heap_stands.cycle;
     }
     record {
-      fits = fit_after heap state book q rule here machine;
+      fits = fit_after heap state book number rule here machine;
       own = record {
         holding = stands.own.holding;
-        stored = store_next heap seat.body (newborn_word q seat) state.words seat.stored once stands.fits.hand.body_within at_place.2 rule.machine.table stands.own.stored;
+        stored = store_next heap seat.body (newborn_word_of number seat) state.words seat.stored once stands.fits.hand.body_within at_place.2 rule.machine.table stands.own.stored;
         together = stands.own.together;
       };
       names = record { registers = λ r fresh. stands.names.registers r (awaits_none Storing seat.place (target_of seat.command) r place); way = tt };
       told = record {
-        list = whole_list (graph_of heap book.history) book.history book.made book.owner book.fragments q (seat_after (store_move q seat) found) refl
-            (append-nil seat.mine ∙ making_list (graph_of heap book.history) book.history book.made book.owner book.fragments q seat Storing place stands.told.list);
-        counts = counts_same (graph_of heap book.history) book.history q seat (seat_after (store_move q seat) found) refl refl refl refl stands.told.counts;
-        began = began_on book.history q (book.begun q) seat.place (seat_after (store_move q seat) found).place (is_busy Storing seat.place place) stands.told.began;
+        list = whole_list (graph_of heap book.history) book.history book.made book.owner book.fragments number (seat_after (store_move number seat) found) refl
+            (append-nil seat.mine ∙ making_list (graph_of heap book.history) book.history book.made book.owner book.fragments number seat Storing place stands.told.list);
+        counts = counts_same (graph_of heap book.history) book.history number seat (seat_after (store_move number seat) found) refl refl refl refl stands.told.counts;
+        began = began_on book.history number (book.begun number) seat.place (seat_after (store_move number seat) found).place (is_busy Storing seat.place place) stands.told.began;
         gathers = stands.told.gathers;
       };
-      cycle = cycle_goes_on heap state.words words book.owner book.owner book.colour (phase book.history) (answered q book.history) (has_left q book.history) q seat
-          (seat_after (store_move q seat) found) record { answered = refl; left = refl; asked = refl } tt
-          (at-put_apart heap state.words (Word f part) (Answer q) word (λ e. omega (arith, e, here, rule.machine.limits.seats_fit))) (λ x borne. borne) stands.cycle;
+      cycle = cycle_goes_on heap state.words words book.owner book.owner book.colour (phase book.history) (last_answer number book.history) (has_left number book.history) number seat
+          (seat_after (store_move number seat) found) record { answered = refl; left = refl; asked = refl } tt
+          (at-put_apart heap state.words (Word f part) (Answer number) word (λ e. omega (arith, e, here, rule.machine.limits.seats_fit))) (λ x borne. borne) stands.cycle;
     }
     (λ r below apart other. record {
       fits = other.fits;
       own = record {
         holding = other.own.holding;
         stored = stored_store heap state.words book.owner r (seat_at state r) f part word other.own.holding
-            (stored_within heap (seat_at state r) (seat_at state r).place other.fits.at_place) fits_part (λ o. apart (own_not_others r q (book.owner f) o own)) other.own.stored;
+            (stored_within heap (seat_at state r) (seat_at state r).place other.fits.at_place) fits_part (λ o. apart (own_not_others r number (book.owner f) o own)) other.own.stored;
         together = other.own.together;
       };
       names = other.names;
       told = other.told;
-      cycle = cycle_stays heap state.words words book.owner book.owner book.colour book.colour (phase book.history) (answered r book.history) (has_left r book.history) r (seat_at state r)
+      cycle = cycle_stays heap state.words words book.owner book.owner book.colour book.colour (phase book.history) (last_answer r book.history) (has_left r book.history) r (seat_at state r)
           (leaves_store heap state.words book.owner book.colour (phase book.history) f part word fits_part unborn r (omega (arith, below, rule.machine.limits.seats_fit)))
           (watched_born heap state book rule r below) other.cycle;
     })

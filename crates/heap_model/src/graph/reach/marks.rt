@@ -35,7 +35,7 @@ impl Model for Marks {
 }
 
 impl Marks {
-    ghost use Rattle.heap_model.specs.graph.Marking.{mark as mark_of, marks_of, mark_counts, no_marks, with_mark, is_marked, IsMarked};
+    ghost use Rattle.heap_model.specs.graph.Marking.{mark_of, marks_of, mark_counts, no_marks, with_mark, is_marked, HasMark};
 
     /// The marks of the board and of the objects of these seats, with none set.
     pub fn new(alloc: Global, seats: &[Seat]) -> Result<Marks, AllocError>
@@ -75,7 +75,7 @@ impl Marks {
 
     pub fn is_marked(&self, id: Id) -> bool
         ensures value { result ≡ is_marked self.now id }
-        ensures marked { IsTrue result ↔ IsMarked self.now id }
+        ensures marked { IsTrue result ↔ HasMark self.now id }
     {
         match id {
             Id::Board => self.board,

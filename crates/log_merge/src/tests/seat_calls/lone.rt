@@ -85,15 +85,15 @@ impl Lone {
 }
 
 impl Lone {
-    ghost use Rattle.heap_model.specs.graph.Objects.{register};
+    ghost use Rattle.heap_model.specs.graph.Objects.{register_value};
     ghost use Rattle.heap_model.specs.graph.Growth.{after_reply};
-    ghost use Rattle.heap_model.specs.graph.Changes.{put};
-    ghost use Rattle.heap_model.specs.calls.SeatState.{own_graph, own_object, own_party, held};
+    ghost use Rattle.heap_model.specs.graph.Changes.{with_register};
+    ghost use Rattle.heap_model.specs.calls.SeatState.{own_graph, own_object, own_graph_seat, held_value};
 
     fn value(&self, r: u8) -> Value
         requires { r ≤ 15 }
-        ensures held { result ≡ held self.now r }
-        ensures own { result ≡ register (own_graph self.now) 0 r }
+        ensures held { result ≡ held_value self.now r }
+        ensures own { result ≡ register_value (own_graph self.now) 0 r }
     {
         self.registers[r as usize]
     }
@@ -124,7 +124,7 @@ impl Lone {
         requires target { d ≤ 15 }
         requires room { 1 ≤ self.old.spare }
         requires in_range { IsCommand command }
-        requires puts { after_reply (own_graph self.old) 0 command reply ≡ put (own_graph self.old) 0 d value }
+        requires puts { after_reply (own_graph self.old) 0 command reply ≡ with_register (own_graph self.old) 0 d value }
         requires unmade { made_by command reply ≡ 0 }
         requires alone { (unborn last : ℕ) → ComesBefore 0 unborn last command reply [] }
         ensures { Adds self.old self.new command reply }
@@ -138,7 +138,7 @@ impl Lone {
         requires asked { AsksFor d cells command }
         requires in_range { IsCommand command }
         requires room { 3 ≤ self.old.spare }
-        requires named { length (own_party self.old).objects + 1 < 2 ^ 32 }
+        requires named { length (own_graph_seat self.old).objects + 1 < 2 ^ 32 }
         ensures added { Adds self.old self.new command (record_reply result) }
         ensures made { IfOk result (λ id. id ≡ next_id self.old) }
         ensures full { IfErr result (λ full.

@@ -1,7 +1,7 @@
 use Rattle.std.proofs.Common.{◌+◌, ◌≤◌, length, inl, arith, rules}
 use Rattle.schism_program.specs.declared.status.Status.TheVariants as statuses
 use Rattle.schism_program.specs.Due.{IsDueTo}
-use Rattle.schism_program.specs.Works.{most_bytes, FailsAt, Makes}
+use Rattle.schism_program.specs.Works.{most_bytes, FailsAt, MakesText}
 use Rattle.schism_program.proofs.OneStatus.{made_suits, only_due}
 use Rattle.schism_program.proofs.top.schism.Goals as goal
 
@@ -33,5 +33,5 @@ returns-in-Ok-write_all-clause-complete g c = λ status due calm_source calm_sin
     let work = c.in-Some.work in
     let input = c.in-Ok.input.items in
     let short : length input ≤ most_bytes work = search rules in
-    let makes : Makes work input c.in-Ok-made_text.text.items = search rules in
+    let makes : MakesText work input c.in-Ok-made_text.text.items = search rules in
     inl (only_due _ _ _ work input statuses.Done status c.in-Some.ensures.some c.in-Ok.ensures.ok (short, made_suits work input _ makes) due)

@@ -23,7 +23,7 @@ const OPENING: &[&str] = &[
     "word 9 0 => 8000000a00000000 at 57",
     "word 10 0 => 0 at 61",
     "word 11 0 => 0 at 65",
-    "spine 7 0 => 0 at 163",
+    "spine 7 0 => 0 at 156",
     "spine 7 1 => 0 at 164",
     "spine 8 0 => 0 at 165",
 ];

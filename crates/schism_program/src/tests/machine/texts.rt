@@ -1,4 +1,4 @@
-use core_machine::{AnsweringStep, MakingStep, ReachingStep, Step, TurningStep};
+use core_machine::{AccessStep, HandshakeStep, MakingStep, Step, TurningStep};
 use heap_model::Turn;
 use std::alloc::{AllocError, Global};
 
@@ -7,7 +7,7 @@ pub(super) fn step_text(alloc: Global, step: &Step, found: u64) -> Result<String
     let step = match *step {
         Step::PollLoad => format!(in alloc; "load the phase")?,
         Step::Making(step) => making_text(alloc, step)?,
-        Step::Reaching(step) => reaching_text(alloc, step)?,
+        Step::Access(step) => access_text(alloc, step)?,
         Step::Answering(step) => answering_text(alloc, step)?,
         Step::Turning(step) => turning_text(alloc, step)?,
     };
@@ -36,14 +36,14 @@ fn colour(black: bool) -> &'static str {
     if black { "black" } else { "white" }
 }
 
-fn reaching_text(alloc: Global, step: ReachingStep) -> Result<String, AllocError> {
+fn access_text(alloc: Global, step: AccessStep) -> Result<String, AllocError> {
     match step {
-        ReachingStep::WalkLoad { fragment } => format!(in alloc; "walk {fragment}"),
-        ReachingStep::NameLoad { head } => format!(in alloc; "name {head}"),
-        ReachingStep::GetLoad { fragment, part } => format!(in alloc; "get {fragment}.{part}"),
-        ReachingStep::OldLoad { fragment, part } => format!(in alloc; "old {fragment}.{part}"),
-        ReachingStep::Shade { fragment } => format!(in alloc; "shade {fragment}"),
-        ReachingStep::Swap {
+        AccessStep::WalkLoad { fragment } => format!(in alloc; "walk {fragment}"),
+        AccessStep::NameLoad { head } => format!(in alloc; "name {head}"),
+        AccessStep::GetLoad { fragment, part } => format!(in alloc; "get {fragment}.{part}"),
+        AccessStep::OldLoad { fragment, part } => format!(in alloc; "old {fragment}.{part}"),
+        AccessStep::Shade { fragment } => format!(in alloc; "shade {fragment}"),
+        AccessStep::Swap {
             fragment,
             part,
             word,
@@ -51,10 +51,10 @@ fn reaching_text(alloc: Global, step: ReachingStep) -> Result<String, AllocError
     }
 }
 
-fn answering_text(alloc: Global, step: AnsweringStep) -> Result<String, AllocError> {
+fn answering_text(alloc: Global, step: HandshakeStep) -> Result<String, AllocError> {
     match step {
-        AnsweringStep::AnswerStore { seat, phase } => format!(in alloc; "answer {seat} {phase}"),
-        AnsweringStep::LeaveStore { seat } => format!(in alloc; "leave {seat}"),
+        HandshakeStep::AnswerStore { seat, phase } => format!(in alloc; "answer {seat} {phase}"),
+        HandshakeStep::LeaveStore { seat } => format!(in alloc; "leave {seat}"),
     }
 }
 

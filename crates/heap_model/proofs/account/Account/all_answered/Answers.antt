@@ -8,4 +8,4 @@ returns-then-not-has_answered c history t =
     (λ w. absurd (cc w), λ all. absurd (cc (c.has_answered.ensures.1 (answered_now c.args.self.now history c.loop-seat.seat t (omega (arith, ap (λ (b : Books). b.heap.seats) c.self.view_is)) (all c.loop-seat.seat (omega (arith, ap (λ (b : Books). b.heap.seats) c.self.view_is)))))))
 
 pub returns : goal.returns
-returns c history t = (λ w s lt present. answered_then c.args.self.now history s t lt (c.loop-seat.invariant s (omega (arith, ap (λ (b : Books). b.heap.seats) c.self.view_is))) present, λ all. search rules)
+returns c history t = (λ w number lt present. answered_then c.args.self.now history number t lt (c.loop-seat.invariant number (omega (arith, ap (λ (b : Books). b.heap.seats) c.self.view_is))) present, λ all. search rules)

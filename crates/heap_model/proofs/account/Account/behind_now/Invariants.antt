@@ -3,4 +3,4 @@ use Rattle.heap_model.specs.account.Noting.{is_behind_now}
 use Rattle.heap_model.proofs.account.Account.behind_now.Given as goal
 
 abbrev pub invariant-loop-seat : goal.invariant-loop-seat
-invariant-loop-seat l = (length l.behind ≡ 16) × ((s : ℕ) → s < l.seat → slice_index_or l.behind s false ≡ is_behind_now l.self.all l.self.seats s)
+invariant-loop-seat l = (length l.behind ≡ 16) × ((number : ℕ) → number < l.seat → slice_index_or l.behind number false ≡ is_behind_now l.self.all l.self.seats number)

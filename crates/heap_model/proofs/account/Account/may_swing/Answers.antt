@@ -13,7 +13,7 @@ returns-then-is_array c history t same =
         λ fresh. (
           omega (arith, t.all.phases, w.if-self-eq-COPYING.true, ap (λ (b : Books). b.all.phases) c.self.view_is),
           subst (λ g. IsArray g c.args.id) same (w.is_array.ensures.0 (sym w.value-is ∙ c.if-is_array.true)),
-          λ s. both_ways c.has.result (not-true c.has.result fresh) (c.has.ensures.1 (subst (λ (b : Books). Contains b.swung c.args.id) (sym c.self.view_is) (swung.0 s))),
+          λ number. both_ways c.has.result (not-true c.has.result fresh) (c.has.ensures.1 (subst (λ (b : Books). Contains b.swung c.args.id) (sym c.self.view_is) (swung.0 number))),
         ),
         λ k. not_from_false c.has.result (false_from_ne_true c.has.result (λ has. k.2 (swung.1 (subst (λ (b : Books). Contains b.swung c.args.id) c.self.view_is (c.has.ensures.0 has))))),
       )

@@ -1,7 +1,7 @@
 use Rattle.std.proofs.Common.{◌≡◌, length, subst, arith}
 use Rattle.std.proofs.lemmas.Bool.{iff_false}
 use Rattle.heap_model.specs.declared.id.Id.TheVariants.{Made}
-use Rattle.heap_model.specs.graph.Objects.{party}
+use Rattle.heap_model.specs.graph.Objects.{graph_seat}
 use Rattle.heap_model.specs.graph.Marking.{IsListed}
 use Rattle.heap_model.proofs.graph_lemmas.OrderLemmas.{IsListed-push, IsListed-skip, IsListed-seat}
 use Rattle.heap_model.proofs.graph.Graph.list_seat.Goals as goal
@@ -17,6 +17,6 @@ loop-count-preserved c =
 
 pub returns : goal.returns
 returns c =
-    let all : c.loop-count.count ≡ length (party c.args.self.now c.args.seat).objects = omega (arith, c.made-count-end.ensures.count) in
+    let all : c.loop-count.count ≡ length (graph_seat c.args.self.now c.args.seat).objects = omega (arith, c.made-count-end.ensures.count) in
     IsListed-seat c.args.self.now c.args.marks.now c.args.seat c.loop-count.ids.items c.requires.objects
     (subst (λ n. IsListed c.args.marks.now (Made c.args.seat n) c.loop-count.ids.items) all c.loop-count.invariant)

@@ -1,6 +1,6 @@
 use Rattle.std.proofs.Common.{◌≡◌, ◌*◌, ◌≤◌, take, sum_by}
-use Rattle.heap_model.specs.graph.Sizes.{words}
+use Rattle.heap_model.specs.graph.Sizes.{spine_words_at}
 use Rattle.heap_model.proofs.graph.Graph.words_of.Given as goal
 
 abbrev pub invariant-loop-id : goal.invariant-loop-id
-invariant-loop-id l = (l.sum ≡ sum_by (words l.self) (take l.id-index l.ids)) × (l.sum ≤ 4294967295 * l.id-index)
+invariant-loop-id l = (l.sum ≡ sum_by (spine_words_at l.self) (take l.id-index l.ids)) × (l.sum ≤ 4294967295 * l.id-index)

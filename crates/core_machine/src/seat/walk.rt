@@ -1,18 +1,18 @@
 ghost use Rattle.std.specs.Prelude.{◌≡◌, ◌*◌, ◌<◌, ◌≤◌, ◌^◌, IfSome};
 ghost use Rattle.heap_model.specs.Limits.{last_index, register_count};
 ghost use Rattle.core_machine.specs.seat.Commands.{field_of};
-ghost use Rattle.core_machine.specs.table.Loaded.{lead_of};
-ghost use Rattle.core_machine.specs.seat.Reaching.{row_of, part_of, has_barrier as has_barrier_of, field_place as field_place_of, way_place as way_place_of, opened, onward, field_reply as field_reply_of, meta_reply as meta_reply_of};
-ghost use Rattle.core_machine.specs.seat.ReachingMoves.{open_move, field_part as field_part_of};
+ghost use Rattle.core_machine.specs.table.Decode.{pointer_in};
+ghost use Rattle.core_machine.specs.seat.Access.{row_of, part_of, has_barrier_of, field_place_of, way_place_of, access_start, after_walk, field_reply_of, meta_reply_of};
+ghost use Rattle.core_machine.specs.seat.AccessMoves.{open_move, field_part_of};
 ghost use Rattle.core_machine.specs.seat.Registers.{register_in};
 ghost use Rattle.core_machine.specs.Moves.{seat_after};
 ghost use Rattle.core_machine.specs.machine.Value.{KeepsRoom};
 
-use crate::place::{Place, Reaching};
+use crate::place::{Access, Place};
 use crate::seat::SeatParty;
 use crate::seat::commands::Parts;
 use crate::seat::register::Register;
-use crate::table::loaded::link_in;
+use crate::table::decode::link_in;
 use heap_model::phase_plan::{BARRIERS, CLEARING, CYCLE_PHASES};
 use heap_model::{Command, Reply};
 use heap_words::Meta;
@@ -60,16 +60,16 @@ impl SeatParty {
     pub(crate) fn open(&mut self, r: u8)
         requires register { r < register_count }
         requires field { field_of self.old.seat.command ≤ last_index }
-        ensures seat { self.new.seat ≡ opened self.old.seat (register_in self.old.seat.registers r) }
+        ensures seat { self.new.seat ≡ access_start self.old.seat (register_in self.old.seat.registers r) }
         ensures spare { self.new.spare ≡ self.old.spare }
     {
         let Register::Object { head, .. } = self.registers[r as usize] else {
-            self.place = Place::Telling;
+            self.place = Place::Local;
             return;
         };
         self.reached = head;
         self.links = row(Parts::of(&self.command).field);
-        self.place = Place::Reaching(Reaching::Opening);
+        self.place = Place::Access(Access::LoadingMeta);
     }
 
     /// The word of its fragment in which the call's field stands.
@@ -89,43 +89,43 @@ impl SeatParty {
     }
 
     /// What is done with the field.
-    fn field_place(&self) -> Reaching
+    fn field_place(&self) -> Access
         ensures { result ≡ field_place_of self.now.seat self.now.seat.command }
     {
         match self.command {
-            Command::Set { .. } if self.has_barrier() => Reaching::LoadingOld,
-            Command::Set { .. } => Reaching::Swapping,
-            _ => Reaching::Getting,
+            Command::Set { .. } if self.has_barrier() => Access::LoadingOld,
+            Command::Set { .. } => Access::Swapping,
+            _ => Access::Getting,
         }
     }
 
     /// Where the way stands at a fragment.
-    fn way_place(&self) -> Reaching
+    fn way_place(&self) -> Access
         ensures { result ≡ way_place_of self.now.seat }
     {
         if self.links == 0 {
             self.field_place()
         } else {
-            Reaching::Walking
+            Access::Walking
         }
     }
 
     /// Learns the first word of the fragment that was reached.
     pub(crate) fn learn_link(&mut self, found: u64)
-        requires { IfSome (lead_of 0 found) (λ fragment. fragment < 2 ^ 16) }
-        ensures seat { self.new.seat ≡ onward self.old.seat found }
+        requires { IfSome (pointer_in 0 found) (λ fragment. fragment < 2 ^ 16) }
+        ensures seat { self.new.seat ≡ after_walk self.old.seat found }
         ensures spare { self.new.spare ≡ self.old.spare }
     {
         if self.links > 0 {
             self.reached = link_in(found);
             self.links -= 1;
         }
-        self.place = Place::Reaching(self.way_place());
+        self.place = Place::Access(self.way_place());
     }
 
     /// Learns the object's meta.
     pub(crate) fn learn_meta(&mut self, number: u8, found: u64)
-        requires leads { IfSome (lead_of 0 found) (λ fragment. fragment < 2 ^ 16) }
+        requires leads { IfSome (pointer_in 0 found) (λ fragment. fragment < 2 ^ 16) }
         requires spare { 0 < self.old.spare }
         ensures seat { self.new.seat ≡ seat_after (open_move number self.old.seat) found }
         ensures spare { KeepsRoom self.old self.new }

@@ -13,16 +13,16 @@ pub record Node : Type 0 where
   pub cells : List Cell
 
 -- a seat: its registers, the objects that it made in their order, the number of its sets, and whether it left
-pub record Party : Type 0 where
+pub record GraphSeat : Type 0 where
   pub registers : List Value
   pub objects : List Node
   pub sets : ℕ
   pub left : Bool
 
 -- the board, and the seats in their order
-pub record State : Type 0 where
+pub record Graph : Type 0 where
   pub board : Node
-  pub seats : List Party
+  pub seats : List GraphSeat
 
 -- a cell that was never set
 abbrev pub unset : Cell
@@ -33,9 +33,9 @@ abbrev pub fresh : Bool → ℕ → Node
 fresh array cells = record { array = array; cells = replicate cells unset }
 
 -- a seat at the opening: register 0 is the board, and the others are nil
-abbrev pub opening_party : Party
-opening_party = record { registers = Object Board ∷ replicate last_register Nil; objects = []; sets = 0; left = false }
+abbrev pub opening_graph_seat : GraphSeat
+opening_graph_seat = record { registers = Object Board ∷ replicate last_register Nil; objects = []; sets = 0; left = false }
 
 -- the graph at the opening
-abbrev pub opening : Heap → State
-opening heap = record { board = fresh false board_fields; seats = replicate heap.seats opening_party }
+abbrev pub opening : Heap → Graph
+opening heap = record { board = fresh false board_fields; seats = replicate heap.seats opening_graph_seat }

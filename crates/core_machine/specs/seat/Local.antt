@@ -7,19 +7,19 @@ use Rattle.heap_model.specs.declared.reply.Reply.TheVariants.{Done, Yes, No, NoO
 use Rattle.core_machine.specs.declared.seat.register.Register.{Register}
 use Rattle.core_machine.specs.declared.seat.register.Register.TheVariants as held
 use Rattle.core_machine.specs.seat.Registers.{register_in, value_of, is_same_value}
-use Rattle.core_machine.specs.seat.Seat.{Seat, over}
+use Rattle.core_machine.specs.seat.Seat.{Seat, after_call}
 
 -- yes or no
 abbrev pub answer_of : Bool → Reply
 answer_of same = if same then Yes else No
 
 -- the reply of a command that looks at no word: get, set and len do so where their register holds no object, and the others never
-abbrev pub local_reply : List Register → Command → Reply
-local_reply registers (Num d n) = Done
-local_reply registers (Nil d) = Done
-local_reply registers (Copy d r) = Done
-local_reply registers (Same a b) = answer_of (is_same_value (value_of (register_in registers a)) (value_of (register_in registers b)))
-local_reply registers _ = NoObject
+abbrev pub local_reply_of : List Register → Command → Reply
+local_reply_of registers (Num d n) = Done
+local_reply_of registers (Nil d) = Done
+local_reply_of registers (Copy d r) = Done
+local_reply_of registers (Same a b) = answer_of (is_same_value (value_of (register_in registers a)) (value_of (register_in registers b)))
+local_reply_of registers _ = NoObject
 
 -- the registers after it
 abbrev pub local_registers : List Register → Command → List Register
@@ -29,5 +29,5 @@ local_registers registers (Copy d r) = slice_set registers d (register_in regist
 local_registers registers _ = registers
 
 -- the reply was told
-abbrev pub told : Seat → Seat
-told seat = over (record seat { registers = local_registers seat.registers seat.command })
+abbrev pub after_local : Seat → Seat
+after_local seat = after_call (record seat { registers = local_registers seat.registers seat.command })

@@ -9,48 +9,56 @@ use Rattle.core_machine.specs.declared.place.Leaving.{Leaving}
 use Rattle.core_machine.specs.declared.place.Leaving.TheVariants.{Emptying, Parting}
 use Rattle.core_machine.specs.declared.step.Step.TheVariants as steps
 use Rattle.core_machine.specs.declared.step.MakingStep.TheVariants.{GiveBack}
-use Rattle.core_machine.specs.declared.step.ReachingStep.TheVariants.{Shade}
-use Rattle.core_machine.specs.declared.step.AnsweringStep.TheVariants.{AnswerStore, LeaveStore}
-use Rattle.core_machine.specs.table.Fragments.{mask}
-use Rattle.core_machine.specs.seat.Polling.{roots, phase_found, shaded_more, answer_stored, emptied, parted}
+use Rattle.core_machine.specs.declared.step.AccessStep.TheVariants.{Shade}
+use Rattle.core_machine.specs.declared.step.HandshakeStep.TheVariants.{AnswerStore, LeaveStore}
+use Rattle.core_machine.specs.table.Fragments.{mask_of}
+use Rattle.core_machine.specs.seat.Handshake.{roots, after_phase_load, after_root_shade, after_answer, after_emptying, after_leave}
 use Rattle.core_machine.specs.seat.Seat.{Seat}
-use Rattle.core_machine.specs.seat.Telling.{local_reply, told}
+use Rattle.core_machine.specs.seat.Local.{local_reply_of, after_local}
 use Rattle.core_machine.specs.Move.{Move, plain_move}
 
-abbrev pub telling_move : ℕ → Seat → Move
-telling_move number seat =
-    plain_move steps.PollLoad (λ found. told seat) (λ found. Said number seat.command (local_reply seat.registers seat.command) ∷ [])
+-- a reply that needs no word but the command's registers, told at a load of the phase
+abbrev pub local_move : ℕ → Seat → Move
+local_move number seat =
+    plain_move steps.PollLoad (λ found. after_local seat) (λ found. Said number seat.command (local_reply_of seat.registers seat.command) ∷ [])
 
 -- the reply to a poll of the phase that the seat has answered
 abbrev pub poll_adds : ℕ → Seat → ℕ → List Entry
 poll_adds number seat found = if found == seat.answered then Said number seat.command (Phase found) ∷ [] else []
 
+-- a poll loads the phase
 abbrev pub poll_move : ℕ → Seat → Move
-poll_move number seat = plain_move steps.PollLoad (phase_found seat) (poll_adds number seat)
+poll_move number seat = plain_move steps.PollLoad (after_phase_load seat) (poll_adds number seat)
 
+-- the next root is shaded
 abbrev pub root_move : Seat → Move
 root_move seat =
-    plain_move (steps.Reaching (Shade (slice_index_or (roots seat) seat.shaded 0))) (λ found. shaded_more seat) (λ found. [])
+    plain_move (steps.Access (Shade (slice_index_or (roots seat) seat.shaded 0))) (λ found. after_root_shade seat) (λ found. [])
 
+-- the answer is stored
 abbrev pub answer_move : ℕ → Seat → Move
 answer_move number seat =
-    plain_move (steps.Answering (AnswerStore number seat.asked)) (λ found. answer_stored seat)
+    plain_move (steps.Handshake (AnswerStore number seat.asked)) (λ found. after_answer seat)
     (λ found. Answers number seat.asked ∷ Said number seat.command (Phase seat.asked) ∷ [])
 
+-- the move at each place of a poll
 abbrev pub polling_move : ℕ → Seat → Polling → Move
 polling_move number seat Asking = poll_move number seat
 polling_move number seat Shading = root_move seat
 polling_move number seat Answering = answer_move number seat
 
+-- the reserve is given back
 abbrev pub empty_move : ℕ → Seat → Move
 empty_move number seat =
-    plain_move (steps.Making (GiveBack seat.cursor (mask seat.reserve))) (λ found. emptied seat)
+    plain_move (steps.Making (GiveBack seat.cursor (mask_of seat.reserve))) (λ found. after_emptying seat)
     (λ found. GivesBack number (length seat.reserve) ∷ [])
 
+-- the seat's word tells that it has left
 abbrev pub leave_move : ℕ → Seat → Move
 leave_move number seat =
-    plain_move (steps.Answering (LeaveStore number)) (λ found. parted seat) (λ found. Said number seat.command Done ∷ [])
+    plain_move (steps.Handshake (LeaveStore number)) (λ found. after_leave seat) (λ found. Said number seat.command Done ∷ [])
 
+-- the move at each place of a leave
 abbrev pub leaving_move : ℕ → Seat → Leaving → Move
 leaving_move number seat Emptying = empty_move number seat
 leaving_move number seat Parting = leave_move number seat

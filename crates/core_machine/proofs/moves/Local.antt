@@ -7,7 +7,7 @@ use Rattle.heap_model.specs.Command.{IsCommand}
 use Rattle.heap_model.specs.declared.command.Command.{Command}
 use Rattle.heap_model.specs.declared.command.Command.TheVariants as commands
 use Rattle.heap_model.specs.declared.heap.Heap.{Heap}
-use Rattle.core_machine.specs.Moves.{telling_move}
+use Rattle.core_machine.specs.Moves.{local_move}
 use Rattle.core_machine.specs.declared.place.Place.TheVariants as places
 use Rattle.core_machine.specs.declared.seat.register.Register.{Register}
 use Rattle.core_machine.specs.declared.seat.register.Register.TheVariants.{Nil, Number}
@@ -15,7 +15,7 @@ use Rattle.core_machine.specs.declared.step.Step.TheVariants.{PollLoad}
 use Rattle.core_machine.specs.seat.Fits.{Fits, FitsRegister, IsLocal}
 use Rattle.core_machine.specs.seat.Registers.{register_in}
 use Rattle.core_machine.specs.seat.Seat.{Seat}
-use Rattle.core_machine.specs.seat.Telling.{told, local_registers}
+use Rattle.core_machine.specs.seat.Local.{after_local, local_registers}
 use Rattle.core_machine.proofs.call_lemmas.Awaits.{plain}
 use Rattle.core_machine.proofs.call_lemmas.Saying.{ends}
 use Rattle.core_machine.proofs.moves.Standing.{PlaceStands, present_at, BeginStands, IsReady, aside_ready, going_ready, rest_ready, resting_begins}
@@ -38,25 +38,25 @@ local_whole registers (commands.Copy d r) = length-set registers d (register_in 
 local_whole registers _ = refl
 
 -- the reply of a local command was told
-fits_local : (heap : Heap) (seat : Seat) → Fits heap seat → seat.left ≡ false → IsCommand seat.command → Fits heap (told seat)
+fits_local : (heap : Heap) (seat : Seat) → Fits heap seat → seat.left ≡ false → IsCommand seat.command → Fits heap (after_local seat)
 fits_local heap seat fits present range =
     fits_over heap (record seat { registers = local_registers seat.registers seat.command }) (local_whole seat.registers seat.command ∙ fits.own.registers_whole)
     (local_fit heap seat.registers seat.command range fits.own.registers_fit) fits.own.cursor_within fits.own.small_reserve fits.own.reserve_of_cursor (gone_aside present)
 
 -- a reply is told
-pub telling_stands : PlaceStands places.Telling
+pub telling_stands : PlaceStands places.Local
 telling_stands heap number seat here = record {
   step = load_stands heap PollLoad refl tt;
-  fits = λ found small led. fits_local heap seat here.fits (present_at heap number seat places.Telling here (λ e. cc)) here.hand.1;
+  fits = λ found small led. fits_local heap seat here.fits (present_at heap number seat places.Local here (λ e. cc)) here.hand.1;
   near = λ found. record { fewer = omega arith; paid = omega arith };
-  adds = λ now. plain heap now number seat (telling_move number seat) refl (rw here.placed refl) refl refl;
+  adds = λ now. plain heap now number seat (local_move number seat) refl (rw here.placed refl) refl refl;
   says = λ old command words told is found. ends old number command seat _ told [] _ is (omega arith) (omega arith) refl tt;
 }
 
 -- a call begins that looks at no word
 pub tell_begins : (command : Command) → command ≢ commands.Leave → (heap : Heap) (number : ℕ) (seat : Seat) → IsReady heap seat command → IsLocal seat.registers command
-    → BeginStands heap number seat command (record seat { command = command; place = places.Telling })
+    → BeginStands heap number seat command (record seat { command = command; place = places.Local })
 tell_begins command stays heap number seat ready local =
     let aside = aside_ready heap number seat command ready in
-    resting_begins heap number seat command ready places.Telling (rest_ready heap number seat command ready, ready.may.in_range, local) aside.nowhere aside.silent (λ words. refl)
+    resting_begins heap number seat command ready places.Local (rest_ready heap number seat command ready, ready.may.in_range, local) aside.nowhere aside.silent (λ words. refl)
     (going_ready heap number seat command ready _ refl refl refl refl, stays) (omega arith)

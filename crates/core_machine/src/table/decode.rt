@@ -1,5 +1,5 @@
 ghost use Rattle.std.specs.Prelude.{◌≡◌, ◌<◌, ◌^◌, IfSome};
-ghost use Rattle.core_machine.specs.table.Loaded.{head_in as head_in_of, lead_of, link_in as link_in_of, id_in as id_in_of, stamp_in as stamp_in_of, plain_in as plain_in_of};
+ghost use Rattle.core_machine.specs.table.Decode.{head_of, pointer_in, link_of, id_of, stamp_of, plain_of};
 
 use crate::seat::register::Register;
 use heap_model::Id;
@@ -7,7 +7,7 @@ use heap_words::{Cell, Kind, Meta, Name};
 
 /// The first fragment of the object that a field refers to.
 pub fn head_in(word: u64) -> Option<u32>
-    ensures { result ≡ head_in_of word }
+    ensures { result ≡ head_of word }
 {
     let cell = Cell::read(word);
     match cell.kind {
@@ -18,7 +18,7 @@ pub fn head_in(word: u64) -> Option<u32>
 
 /// Where the first word of a fragment leads: by a link, or by a record's meta.
 fn first_lead(word: u64) -> Option<u32>
-    ensures { result ≡ lead_of 0 word }
+    ensures { result ≡ pointer_in 0 word }
 {
     let cell = Cell::read(word);
     match cell.kind {
@@ -30,8 +30,8 @@ fn first_lead(word: u64) -> Option<u32>
 
 /// The fragment after the one whose first word this is; 0 where it leads nowhere.
 pub fn link_in(word: u64) -> u16
-    requires { IfSome (lead_of 0 word) (λ fragment. fragment < 2 ^ 16) }
-    ensures { result ≡ link_in_of word }
+    requires { IfSome (pointer_in 0 word) (λ fragment. fragment < 2 ^ 16) }
+    ensures { result ≡ link_of word }
 {
     match first_lead(word) {
         Some(fragment) => fragment as u16,
@@ -41,7 +41,7 @@ pub fn link_in(word: u64) -> u16
 
 /// The id in a name.
 pub fn id_in(word: u64) -> Id
-    ensures { result ≡ id_in_of word }
+    ensures { result ≡ id_of word }
 {
     let name = Name::told(word);
     if name.owner == 0 {
@@ -56,14 +56,14 @@ pub fn id_in(word: u64) -> Id
 
 /// The stamp of a field.
 pub fn stamp_in(word: u64) -> u32
-    ensures { result ≡ stamp_in_of word }
+    ensures { result ≡ stamp_of word }
 {
     Cell::read(word).stamp
 }
 
 /// What a register holds after it got a field that is no reference.
 pub fn plain_in(word: u64) -> Register
-    ensures { result ≡ plain_in_of word }
+    ensures { result ≡ plain_of word }
 {
     let cell = Cell::read(word);
     match cell.kind {

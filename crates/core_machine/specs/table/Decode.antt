@@ -4,7 +4,7 @@ use Rattle.heap_words.specs.declared.cell.Cell.{Cell}
 use Rattle.heap_words.specs.declared.kind.Kind.{Kind}
 use Rattle.heap_words.specs.declared.kind.Kind.TheVariants as kinds
 use Rattle.heap_words.specs.Cell.{cell_of}
-pub use Rattle.heap_words.specs.Meta.{meta_lead, length_in}
+pub use Rattle.heap_words.specs.Meta.{meta_pointer, length_of}
 use Rattle.heap_words.specs.Name.{name_in}
 use Rattle.heap_model.specs.declared.heap.Heap.{Heap}
 use Rattle.heap_model.specs.declared.id.Id.{Id}
@@ -17,41 +17,42 @@ use Rattle.core_machine.specs.declared.seat.register.Register.TheVariants.{Nil, 
 use Rattle.core_machine.specs.table.Layout.{at, InTable}
 
 -- what a cell of this kind and value refers to
-abbrev pub referred : Kind → ℕ → Option ℕ
-referred kinds.Reference value = Some value
-referred kinds.Nil value = None
-referred kinds.Number value = None
-referred kinds.Fixed value = None
+abbrev pub reference_of : Kind → ℕ → Option ℕ
+reference_of kinds.Reference value = Some value
+reference_of kinds.Nil value = None
+reference_of kinds.Number value = None
+reference_of kinds.Fixed value = None
 
 -- the first fragment of the object that a field refers to
-abbrev pub head_in : ℕ → Option ℕ
-head_in word = referred (cell_of word).kind (cell_of word).value
+abbrev pub head_of : ℕ → Option ℕ
+head_of word = reference_of (cell_of word).kind (cell_of word).value
 
 -- where a fragment's first word of this kind leads
-abbrev pub first_lead : Kind → Cell → Option ℕ
-first_lead kinds.Reference cell = Some cell.value
-first_lead kinds.Fixed cell = meta_lead cell
-first_lead kinds.Nil cell = None
-first_lead kinds.Number cell = None
+abbrev pub first_pointer : Kind → Cell → Option ℕ
+first_pointer kinds.Reference cell = Some cell.value
+first_pointer kinds.Fixed cell = meta_pointer cell
+first_pointer kinds.Nil cell = None
+first_pointer kinds.Number cell = None
 
 -- where word `part` of a fragment leads: the first one by a link or a record's meta, each by a reference
-abbrev pub lead_of : ℕ → ℕ → Option ℕ
-lead_of part word = if part == 0 then first_lead (cell_of word).kind (cell_of word) else head_in word
+abbrev pub pointer_in : ℕ → ℕ → Option ℕ
+pointer_in part word = if part == 0 then first_pointer (cell_of word).kind (cell_of word) else head_of word
 
 -- the fragment after the one whose first word this is; 0 where it leads nowhere
-abbrev pub link_in : ℕ → ℕ
-link_in word = unwrap_or (lead_of 0 word) 0
+abbrev pub link_of : ℕ → ℕ
+link_of word = unwrap_or (pointer_in 0 word) 0
 
 -- the id in a name
 abbrev pub id_of_owner : ℕ → ℕ → Id
 id_of_owner owner count = if owner == 0 then Board else Made (owner - 1) count
 
-abbrev pub id_in : ℕ → Id
-id_in word = id_of_owner (name_in word).owner (name_in word).count
+-- the id in a name word
+abbrev pub id_of : ℕ → Id
+id_of word = id_of_owner (name_in word).owner (name_in word).count
 
 -- the stamp of a field
-abbrev pub stamp_in : ℕ → ℕ
-stamp_in word = (cell_of word).stamp
+abbrev pub stamp_of : ℕ → ℕ
+stamp_of word = (cell_of word).stamp
 
 -- what a register holds after it got a field of this kind and value that is no reference
 abbrev pub plain_register : Kind → ℕ → Register
@@ -60,8 +61,9 @@ plain_register kinds.Nil value = Nil
 plain_register kinds.Reference value = Nil
 plain_register kinds.Fixed value = Nil
 
-abbrev pub plain_in : ℕ → Register
-plain_in word = plain_register (cell_of word).kind (cell_of word).value
+-- what a register holds after it got this word
+abbrev pub plain_of : ℕ → Register
+plain_of word = plain_register (cell_of word).kind (cell_of word).value
 
 -- the fragment is one of the heap's, where there is one
 abbrev pub IsWithinHeap : Heap → Option ℕ → Type 0
@@ -73,15 +75,15 @@ payload_in word = (cell_of word).value
 
 -- the word that was found at the address leads within the heap: a fragment's word to one of its fragments or nowhere, and a spine word
 -- names one
-abbrev pub FoundWithin : Heap → Address → ℕ → Type 0
-FoundWithin heap (Word fragment part) found = IsWithinHeap heap (lead_of part found)
-FoundWithin heap (Spine half offset) found = payload_in found < group_fragments * heap.groups
-FoundWithin heap Phase found = Unit {0}
-FoundWithin heap (Answer seat) found = Unit {0}
-FoundWithin heap Budget found = Unit {0}
-FoundWithin heap Spot found = Unit {0}
-FoundWithin heap (Control group) found = Unit {0}
+abbrev pub FoundPointsWithin : Heap → Address → ℕ → Type 0
+FoundPointsWithin heap (Word fragment part) found = IsWithinHeap heap (pointer_in part found)
+FoundPointsWithin heap (Spine half offset) found = payload_in found < group_fragments * heap.groups
+FoundPointsWithin heap Phase found = Unit {0}
+FoundPointsWithin heap (Answer seat) found = Unit {0}
+FoundPointsWithin heap Budget found = Unit {0}
+FoundPointsWithin heap Spot found = Unit {0}
+FoundPointsWithin heap (Control group) found = Unit {0}
 
 -- every word leads within the heap
-abbrev pub LeadWithin : Heap → List ℕ → Type 0
-LeadWithin heap words = (address : Address) → InTable heap address → FoundWithin heap address (at heap words address)
+abbrev pub PointersWithin : Heap → List ℕ → Type 0
+PointersWithin heap words = (address : Address) → InTable heap address → FoundPointsWithin heap address (at heap words address)

@@ -2,9 +2,9 @@ ghost use Rattle.std.specs.Prelude.{◌≡◌, ◌<◌, ◌≤◌, length, slice
 ghost use Rattle.heap_model.specs.Limits.{register_count, most_reserve};
 ghost use Rattle.core_machine.specs.declared.step.Step.TheVariants.{Making as Makes};
 ghost use Rattle.core_machine.specs.declared.place.Place.TheVariants.{Leaving as Leaves};
-ghost use Rattle.core_machine.specs.seat.Registers.{heads as heads_of};
-ghost use Rattle.core_machine.specs.seat.Polling.{roots, shades_on as shades_on_of, shaded_more, leaving as leaving_of};
-ghost use Rattle.core_machine.specs.seat.AnsweringMoves.{poll_move, answer_move, empty_move, leave_move};
+ghost use Rattle.core_machine.specs.seat.Registers.{heads_of};
+ghost use Rattle.core_machine.specs.seat.Handshake.{roots, answer_next, after_root_shade, leave_place};
+ghost use Rattle.core_machine.specs.seat.HandshakeMoves.{poll_move, answer_move, empty_move, leave_move};
 ghost use Rattle.core_machine.specs.Moves.{seat_after};
 ghost use Rattle.core_machine.specs.machine.Value.{KeepsRoom};
 
@@ -42,7 +42,7 @@ fn head_at(registers: &[Register], n: usize) -> u16
 
 /// The reserve is given back before the seat leaves.
 fn leaving(reserve: &[u16]) -> Leaving
-    ensures { result ≡ leaving_of reserve.now }
+    ensures { result ≡ leave_place reserve.now }
 {
     if reserve.is_empty() {
         Leaving::Parting
@@ -73,7 +73,7 @@ impl SeatParty {
 
     /// The next root is shaded, or the answer is stored.
     fn shade_on(&mut self)
-        ensures seat { self.new.seat ≡ shades_on_of self.old.seat }
+        ensures seat { self.new.seat ≡ answer_next self.old.seat }
         ensures spare { self.new.spare ≡ self.old.spare }
     {
         let more = (self.shaded as usize) < self.root_count();
@@ -103,7 +103,7 @@ impl SeatParty {
     pub(crate) fn learn_root(&mut self)
         requires registers { length self.old.seat.registers ≡ register_count }
         requires more { self.old.seat.shaded < length (roots self.old.seat) }
-        ensures seat { self.new.seat ≡ shaded_more self.old.seat }
+        ensures seat { self.new.seat ≡ after_root_shade self.old.seat }
         ensures spare { self.new.spare ≡ self.old.spare }
     {
         self.shaded += 1;
@@ -127,7 +127,7 @@ impl SeatParty {
 
     /// Begins to leave.
     pub(crate) fn go(&mut self)
-        ensures seat { self.new.seat ≡ record self.old.seat { place = Leaves (leaving_of self.old.seat.reserve) } }
+        ensures seat { self.new.seat ≡ record self.old.seat { place = Leaves (leave_place self.old.seat.reserve) } }
         ensures spare { self.new.spare ≡ self.old.spare }
     {
         self.place = Place::Leaving(leaving(self.reserve.as_slice()));

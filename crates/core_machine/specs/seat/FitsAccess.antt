@@ -3,14 +3,14 @@ use Rattle.std.specs.Prelude.{◌≡◌, ℕ, ◌<◌, true, false, List, Some, 
 use Rattle.heap_model.specs.declared.command.Command.{Command}
 use Rattle.heap_model.specs.declared.command.Command.TheVariants.{Get, Set, Len}
 use Rattle.heap_model.specs.Command.{IsCommand}
-use Rattle.core_machine.specs.declared.place.Reaching.{Reaching}
-use Rattle.core_machine.specs.declared.place.Reaching.TheVariants.{Opening, Walking, Getting, Naming, LoadingOld, ShadingOld, ShadingNew, Swapping}
+use Rattle.core_machine.specs.declared.place.Access.{Access}
+use Rattle.core_machine.specs.declared.place.Access.TheVariants.{LoadingMeta, Walking, Getting, Naming, LoadingOld, ShadingOld, ShadingNew, Swapping}
 use Rattle.core_machine.specs.declared.seat.register.Register.{Register}
 use Rattle.core_machine.specs.seat.Commands.{object_of, source_of, field_of}
-use Rattle.core_machine.specs.table.Loaded.{head_in}
-use Rattle.core_machine.specs.seat.Reaching.{row_of, has_barrier}
-use Rattle.core_machine.specs.seat.Registers.{register_in, head_of}
-use Rattle.core_machine.specs.seat.Seat.{Seat, HasNumber}
+use Rattle.core_machine.specs.table.Decode.{head_of}
+use Rattle.core_machine.specs.seat.Access.{row_of, has_barrier_of}
+use Rattle.core_machine.specs.seat.Registers.{register_in, register_head}
+use Rattle.core_machine.specs.seat.Seat.{Seat, HasNumberLeft}
 
 -- nothing was reached or loaded
 pub record HasNoWay (reached links loaded : ℕ) : Type 0 where
@@ -18,13 +18,16 @@ pub record HasNoWay (reached links loaded : ℕ) : Type 0 where
   pub no_links : links ≡ 0
   pub none_loaded : loaded ≡ 0
 
+-- the seat has nothing reached or loaded
 abbrev pub IsNowhere : Seat → Type 0
 IsNowhere seat = HasNoWay seat.reached seat.links seat.loaded
 
+-- the command is a get
 abbrev pub IsGet : Command → Type 0
 IsGet (Get d r i) = Unit {0}
 IsGet _ = ⊥
 
+-- the command is a set
 abbrev pub IsSet : Command → Type 0
 IsSet (Set r i v) = Unit {0}
 IsSet _ = ⊥
@@ -45,9 +48,10 @@ NamesField _ = ⊥
 -- the register that the command names holds an object, and a stamp is left for a set
 pub record HoldsObject (registers : List Register) (made sets : ℕ) (command : Command) : Type 0 where
   pub in_range : IsCommand command
-  pub numbered : HasNumber made sets command
-  pub holds : IsSome (head_of (register_in registers (object_of command)))
+  pub numbered : HasNumberLeft made sets command
+  pub holds : IsSome (register_head (register_in registers (object_of command)))
 
+-- the seat's call has an object to work on
 abbrev pub WorksOnObject : Seat → Type 0
 WorksOnObject seat = HoldsObject seat.registers seat.made seat.sets seat.command
 
@@ -55,12 +59,13 @@ WorksOnObject seat = HoldsObject seat.registers seat.made seat.sets seat.command
 pub record IsAtHead (registers : List Register) (made sets : ℕ) (command : Command) (reached links loaded : ℕ) : Type 0 where
   pub works : HoldsObject registers made sets command
   pub names : NamesObject command
-  pub at_head : head_of (register_in registers (object_of command)) ≡ Some reached
+  pub at_head : register_head (register_in registers (object_of command)) ≡ Some reached
   pub whole_way : links ≡ row_of (field_of command)
   pub none_loaded : loaded ≡ 0
 
-abbrev pub Opens : Seat → Type 0
-Opens seat = IsAtHead seat.registers seat.made seat.sets seat.command seat.reached seat.links seat.loaded
+-- the seat's way begins at its object's first fragment
+abbrev pub SeatIsAtHead : Seat → Type 0
+SeatIsAtHead seat = IsAtHead seat.registers seat.made seat.sets seat.command seat.reached seat.links seat.loaded
 
 -- some links of the way are still to be walked
 pub record IsOnWay (registers : List Register) (made sets : ℕ) (command : Command) (links loaded : ℕ) : Type 0 where
@@ -70,24 +75,26 @@ pub record IsOnWay (registers : List Register) (made sets : ℕ) (command : Comm
   pub some_done : links < row_of (field_of command)
   pub none_loaded : loaded ≡ 0
 
-abbrev pub Walks : Seat → Type 0
-Walks seat = IsOnWay seat.registers seat.made seat.sets seat.command seat.links seat.loaded
+-- the seat has links of its way still to walk
+abbrev pub SeatIsOnWay : Seat → Type 0
+SeatIsOnWay seat = IsOnWay seat.registers seat.made seat.sets seat.command seat.links seat.loaded
 
 -- the field was reached by a get
-abbrev pub Gets : Seat → Type 0
-Gets seat = WorksOnObject seat × IsGet seat.command × (seat.links ≡ 0)
+abbrev pub SeatIsAtGet : Seat → Type 0
+SeatIsAtGet seat = WorksOnObject seat × IsGet seat.command × (seat.links ≡ 0)
 
 -- the field was reached by a set
-abbrev pub Sets : Seat → Type 0
-Sets seat = WorksOnObject seat × IsSet seat.command × (seat.links ≡ 0)
+abbrev pub SeatIsAtSet : Seat → Type 0
+SeatIsAtSet seat = WorksOnObject seat × IsSet seat.command × (seat.links ≡ 0)
 
-abbrev pub FitsReaching : Seat → Reaching → Type 0
-FitsReaching seat Opening = Opens seat
-FitsReaching seat Walking = Walks seat
-FitsReaching seat Getting = Gets seat × (seat.loaded ≡ 0)
-FitsReaching seat Naming = Gets seat × IsSome (head_in seat.loaded)
-FitsReaching seat LoadingOld = Sets seat × (has_barrier seat ≡ true) × (seat.loaded ≡ 0)
-FitsReaching seat ShadingOld = Sets seat × (has_barrier seat ≡ true) × IsSome (head_in seat.loaded)
-FitsReaching seat ShadingNew =
-    Sets seat × (has_barrier seat ≡ true) × IsSome (head_of (register_in seat.registers (source_of seat.command)))
-FitsReaching seat Swapping = Sets seat × (has_barrier seat ≡ false → seat.loaded ≡ 0)
+-- what is true of the seat's data at each place of access
+abbrev pub FitsAccess : Seat → Access → Type 0
+FitsAccess seat LoadingMeta = SeatIsAtHead seat
+FitsAccess seat Walking = SeatIsOnWay seat
+FitsAccess seat Getting = SeatIsAtGet seat × (seat.loaded ≡ 0)
+FitsAccess seat Naming = SeatIsAtGet seat × IsSome (head_of seat.loaded)
+FitsAccess seat LoadingOld = SeatIsAtSet seat × (has_barrier_of seat ≡ true) × (seat.loaded ≡ 0)
+FitsAccess seat ShadingOld = SeatIsAtSet seat × (has_barrier_of seat ≡ true) × IsSome (head_of seat.loaded)
+FitsAccess seat ShadingNew =
+    SeatIsAtSet seat × (has_barrier_of seat ≡ true) × IsSome (register_head (register_in seat.registers (source_of seat.command)))
+FitsAccess seat Swapping = SeatIsAtSet seat × (has_barrier_of seat ≡ false → seat.loaded ≡ 0)

@@ -3,8 +3,8 @@ ghost use Rattle.heap_model.specs.Limits.{register_count, most_seats};
 ghost use Rattle.core_machine.specs.declared.step.Step.TheVariants.{Making as Makes};
 ghost use Rattle.core_machine.specs.seat.Commands.{fields_of, target_of};
 ghost use Rattle.core_machine.specs.seat.Fits.{HasBody};
-ghost use Rattle.core_machine.specs.seat.Making.{stored_more, newborn_word as newborn_word_of};
-ghost use Rattle.core_machine.specs.Moves.{due_store, bearing_move, last_birth_move, bears_black as bears_black_of, seat_after};
+ghost use Rattle.core_machine.specs.seat.Making.{after_store, newborn_word_of};
+ghost use Rattle.core_machine.specs.Moves.{due_store, bearing_move, last_birth_move, bears_black_of, seat_after};
 ghost use Rattle.core_machine.specs.machine.Value.{KeepsRoom};
 
 use crate::place::{Making, Place};
@@ -60,7 +60,7 @@ impl SeatParty {
     pub(crate) fn learn_store(&mut self)
         requires body { HasBody self.old.seat }
         requires within { self.old.seat.stored < 4 * length self.old.seat.body }
-        ensures seat { self.new.seat ≡ stored_more self.old.seat }
+        ensures seat { self.new.seat ≡ after_store self.old.seat }
         ensures spare { self.new.spare ≡ self.old.spare }
     {
         self.stored += 1;

@@ -2,35 +2,35 @@ ghost use Rattle.std.specs.Prelude.{◌≡◌, ◌+◌, ◌<◌, ◌^◌, IfSome
 ghost use Rattle.heap_model.specs.Limits.{register_count, most_seats, stamp_limit};
 ghost use Rattle.core_machine.specs.seat.Seat.{with_entries};
 ghost use Rattle.core_machine.specs.seat.Commands.{target_of, source_of};
-ghost use Rattle.core_machine.specs.table.Loaded.{head_in as head_in_of};
-ghost use Rattle.core_machine.specs.seat.Reaching.{got, old_done, new_place as new_place_of};
-ghost use Rattle.core_machine.specs.seat.ReachingMoves.{got_adds, name_move, old_move, swap_move, loaded_head as loaded_head_of, new_register as new_register_of, new_word as new_word_of};
-ghost use Rattle.core_machine.specs.seat.Registers.{head_of, IsSmall};
+ghost use Rattle.core_machine.specs.table.Decode.{head_of};
+ghost use Rattle.core_machine.specs.seat.Access.{after_get, after_old, new_place_of};
+ghost use Rattle.core_machine.specs.seat.AccessMoves.{got_adds, name_move, old_move, swap_move, loaded_head_of, new_register_of, new_word_of};
+ghost use Rattle.core_machine.specs.seat.Registers.{register_head, IsSmall};
 ghost use Rattle.core_machine.specs.Moves.{seat_after};
 ghost use Rattle.core_machine.specs.machine.Value.{KeepsRoom};
 
-use crate::place::{Place, Reaching};
+use crate::place::{Access, Place};
 use crate::seat::SeatParty;
 use crate::seat::commands::Parts;
 use crate::seat::register::Register;
-use crate::table::loaded::{head_in, id_in, plain_in, stamp_in};
+use crate::table::decode::{head_in, id_in, plain_in, stamp_in};
 use heap_model::limits::STAMP_LIMIT;
 use heap_model::{Reply, Value};
 
 /// The new value is shaded where it is an object; then comes the swap.
-fn new_place(register: &Register) -> Reaching
-    ensures { result ≡ new_place_of (head_of register.now) }
+fn new_place(register: &Register) -> Access
+    ensures { result ≡ new_place_of (register_head register.now) }
 {
     match register {
-        Register::Object { .. } => Reaching::ShadingNew,
-        Register::Nil | Register::Number(_) => Reaching::Swapping,
+        Register::Object { .. } => Access::ShadingNew,
+        Register::Nil | Register::Number(_) => Access::Swapping,
     }
 }
 
 impl SeatParty {
     /// The first fragment of the object that the loaded field refers to.
     pub(crate) fn loaded_head(&self) -> u16
-        requires { IfSome (head_in_of self.now.seat.loaded) (λ head. head < 2 ^ 16) }
+        requires { IfSome (head_of self.now.seat.loaded) (λ head. head < 2 ^ 16) }
         ensures { result ≡ loaded_head_of self.now.seat }
     {
         match head_in(self.loaded) {
@@ -72,12 +72,12 @@ impl SeatParty {
     pub(crate) fn learn_get(&mut self, number: u8, found: u64)
         requires target { target_of self.old.seat.command < register_count }
         requires spare { 0 < self.old.spare }
-        ensures seat { self.new.seat ≡ with_entries (got self.old.seat found (head_in_of found)) (got_adds number self.old.seat found (head_in_of found)) }
+        ensures seat { self.new.seat ≡ with_entries (after_get self.old.seat found (head_of found)) (got_adds number self.old.seat found (head_of found)) }
         ensures spare { KeepsRoom self.old self.new }
     {
         if head_in(found).is_some() {
             self.loaded = found;
-            self.place = Place::Reaching(Reaching::Naming);
+            self.place = Place::Access(Access::Naming);
             return;
         }
         let register = plain_in(found);
@@ -94,7 +94,7 @@ impl SeatParty {
     /// Learns the name of the object that the field of a get refers to.
     pub(crate) fn learn_name(&mut self, number: u8, found: u64)
         requires target { target_of self.old.seat.command < register_count }
-        requires head { IfSome (head_in_of self.old.seat.loaded) (λ head. head < 2 ^ 16) }
+        requires head { IfSome (head_of self.old.seat.loaded) (λ head. head < 2 ^ 16) }
         requires spare { 0 < self.old.spare }
         ensures seat { self.new.seat ≡ seat_after (name_move number self.old.seat) found }
         ensures spare { KeepsRoom self.old self.new }
@@ -120,7 +120,7 @@ impl SeatParty {
     {
         self.loaded = found;
         if head_in(found).is_some() {
-            self.place = Place::Reaching(Reaching::ShadingOld);
+            self.place = Place::Access(Access::ShadingOld);
         } else {
             self.finish_old();
         }
@@ -129,11 +129,11 @@ impl SeatParty {
     /// The old value is dealt with.
     pub(crate) fn finish_old(&mut self)
         requires { source_of self.old.seat.command < register_count }
-        ensures seat { self.new.seat ≡ old_done self.old.seat }
+        ensures seat { self.new.seat ≡ after_old self.old.seat }
         ensures spare { self.new.spare ≡ self.old.spare }
     {
         let register = self.new_register();
-        self.place = Place::Reaching(new_place(&register));
+        self.place = Place::Access(new_place(&register));
     }
 
     /// Learns what the swap took out of the field.

@@ -1,7 +1,7 @@
 ghost use Rattle.std.specs.Prelude.{◌≡◌, ◌<◌};
 ghost use Rattle.heap_model.specs.Command.{IsCommand};
-ghost use Rattle.core_machine.specs.seat.Telling.{local_reply as local_reply_of, local_registers, answer_of};
-ghost use Rattle.core_machine.specs.seat.AnsweringMoves.{telling_move};
+ghost use Rattle.core_machine.specs.seat.Local.{local_reply_of, local_registers, answer_of};
+ghost use Rattle.core_machine.specs.seat.HandshakeMoves.{local_move};
 ghost use Rattle.core_machine.specs.Moves.{seat_after};
 ghost use Rattle.core_machine.specs.machine.Value.{KeepsRoom};
 
@@ -48,10 +48,10 @@ impl SeatParty {
     }
 
     /// Tells the reply.
-    pub(crate) fn learn_told(&mut self, number: u8)
+    pub(crate) fn learn_local(&mut self, number: u8)
         requires command { IsCommand self.old.seat.command }
         requires spare { 0 < self.old.spare }
-        ensures seat { self.new.seat ≡ seat_after (telling_move number self.old.seat) 0 }
+        ensures seat { self.new.seat ≡ seat_after (local_move number self.old.seat) 0 }
         ensures spare { KeepsRoom self.old self.new }
     {
         let reply = self.local_reply();

@@ -5,13 +5,13 @@ use Rattle.std.proofs.lemmas.List.{length-set}
 use Rattle.std.proofs.lemmas.List.Elements.{All-set}
 use Rattle.heap_model.specs.declared.heap.Heap.{Heap}
 use Rattle.core_machine.specs.declared.place.Place.TheVariants as places
-use Rattle.core_machine.specs.declared.place.Reaching.{Reaching}
+use Rattle.core_machine.specs.declared.place.Access.{Access}
 use Rattle.core_machine.specs.declared.seat.register.Register.{Register}
 use Rattle.core_machine.specs.seat.Commands.{target_of}
-use Rattle.core_machine.specs.table.Loaded.{head_in, IsWithinHeap}
-use Rattle.core_machine.specs.seat.Seat.{Seat, over}
-use Rattle.core_machine.specs.seat.Reaching.{filled}
-use Rattle.core_machine.specs.seat.FitsReaching.{FitsReaching}
+use Rattle.core_machine.specs.table.Decode.{head_of, IsWithinHeap}
+use Rattle.core_machine.specs.seat.Seat.{Seat, after_call}
+use Rattle.core_machine.specs.seat.Access.{with_register_filled}
+use Rattle.core_machine.specs.seat.FitsAccess.{FitsAccess}
 use Rattle.core_machine.specs.seat.Fits.{FitsRegister, IsAtRest, IsSilent, Fits}
 use Rattle.core_machine.proofs.seat_lemmas.Aside.{gone_aside, fits_over}
 
@@ -23,11 +23,11 @@ pub record Rests (heap : Heap) (seat : Seat) : Type 0 where
   pub present : seat.left ≡ false
 
 -- the seat at another place of reaching
-pub fits_reaching : (heap : Heap) (seat : Seat) (reached links loaded : ℕ) (place : Reaching) → Rests heap seat → reached < 16 * heap.groups
-    → IsWithinHeap heap (head_in loaded)
-    → FitsReaching (record seat { reached = reached; links = links; loaded = loaded; place = places.Reaching place }) place
-    → Fits heap (record seat { reached = reached; links = links; loaded = loaded; place = places.Reaching place })
-fits_reaching heap seat reached links loaded place rests within led way =
+pub fits_access : (heap : Heap) (seat : Seat) (reached links loaded : ℕ) (place : Access) → Rests heap seat → reached < 16 * heap.groups
+    → IsWithinHeap heap (head_of loaded)
+    → FitsAccess (record seat { reached = reached; links = links; loaded = loaded; place = places.Access place }) place
+    → Fits heap (record seat { reached = reached; links = links; loaded = loaded; place = places.Access place })
+fits_access heap seat reached links loaded place rests within led way =
     let fits = rests.fits in
     record {
       own = fits.own;
@@ -45,13 +45,13 @@ fits_reaching heap seat reached links loaded place rests within led way =
 
 -- the call is over, with these registers and so many sets
 pub fits_closed : (heap : Heap) (seat : Seat) (registers : List Register) (sets : ℕ) → Rests heap seat → length registers ≡ 16
-    → All (FitsRegister heap) registers → Fits heap (over (record seat { registers = registers; sets = sets }))
+    → All (FitsRegister heap) registers → Fits heap (after_call (record seat { registers = registers; sets = sets }))
 fits_closed heap seat registers sets rests whole fit =
     let fits = rests.fits in
     fits_over heap (record seat { registers = registers; sets = sets }) whole fit fits.own.cursor_within fits.own.small_reserve fits.own.reserve_of_cursor (gone_aside rests.present)
 
 -- a register got another value, and the call is over
-pub fits_filled : (heap : Heap) (seat : Seat) (register : Register) → Rests heap seat → FitsRegister heap register → Fits heap (filled seat register)
+pub fits_filled : (heap : Heap) (seat : Seat) (register : Register) → Rests heap seat → FitsRegister heap register → Fits heap (with_register_filled seat register)
 fits_filled heap seat register rests fit =
     fits_closed heap seat (set seat.registers (target_of seat.command) register) seat.sets rests
     (length-set seat.registers (target_of seat.command) register ∙ rests.fits.own.registers_whole)

@@ -6,17 +6,17 @@ use Rattle.std.proofs.lemmas.List.Elements.{All-filter, All-set}
 use Rattle.std.specs.List.{list_all}
 use Rattle.heap_model.specs.declared.heap.Heap.{Heap}
 use Rattle.heap_model.specs.declared.reply.Reply.TheVariants as replies
-use Rattle.core_machine.specs.Moves.{seat_after, bearing_move, is_last_birth, birth_move, last_birth_move, bears_black}
+use Rattle.core_machine.specs.Moves.{seat_after, bearing_move, is_last_birth, birth_move, last_birth_move, bears_black_of}
 use Rattle.core_machine.specs.declared.place.Making.TheVariants.{Storing, Bearing}
 use Rattle.core_machine.specs.declared.place.Place.TheVariants as places
 use Rattle.core_machine.specs.declared.seat.register.Register.TheVariants.{Object}
 use Rattle.core_machine.specs.seat.Commands.{target_of, fields_of}
 use Rattle.core_machine.specs.seat.Fits.{HasBody, FitsMaking, Fits, FitsRegister}
-use Rattle.core_machine.specs.seat.Making.{stored_more, born, made_last, last_group, storing, next_id, next_name}
+use Rattle.core_machine.specs.seat.Making.{after_store, after_birth, after_last_birth, last_group_of, store_place, next_object_id, next_name}
 use Rattle.core_machine.specs.seat.MakingMoves.{store_move, last_part}
 use Rattle.core_machine.specs.seat.Seat.{Seat, with_entries}
-use Rattle.core_machine.specs.table.Fragments.{part_out, in_group, out_of_group, mask}
-use Rattle.core_machine.specs.table.Operation.{birth_bits}
+use Rattle.core_machine.specs.table.Fragments.{part_out, in_group, out_of_group, mask_of}
+use Rattle.core_machine.specs.table.Operation.{birth_bits_of}
 use Rattle.core_machine.proofs.call_lemmas.Awaits.{plain}
 use Rattle.core_machine.proofs.call_lemmas.Owes.{Nears}
 use Rattle.core_machine.proofs.call_lemmas.Saying.{Says, on, ends}
@@ -31,27 +31,27 @@ use Rattle.core_machine.proofs.table_lemmas.Owned.{group_within}
 use Rattle.core_machine.proofs.table_lemmas.Wide.{fields_few, record_wide, fragment_small, birth_wide}
 
 fits_storing : (heap : Heap) (seat : Seat) → HasBody seat → seat.hand ≡ seat.body → seat.stored ≤ 4 * length seat.body
-    → FitsMaking heap seat (storing seat.stored seat.body)
+    → FitsMaking heap seat (store_place seat.stored seat.body)
 fits_storing heap seat is whole within =
     let some = need_of_record seat.command is.makes.a_record is.makes.in_range in
     let same = ap length whole in
-    elim (eqb_tells seat.stored (4 * length seat.body)) as (λ _. FitsMaking heap seat (storing seat.stored seat.body)) [
+    elim (eqb_tells seat.stored (4 * length seat.body)) as (λ _. FitsMaking heap seat (store_place seat.stored seat.body)) [
       | inl all ↦ rw all.0 (is, omega (arith, is.whole), omega arith, all.1)
       | inr left ↦ rw left.0 (is, whole, omega arith)
     ]
 
 -- a word was stored
 fits_stored : (heap : Heap) (seat : Seat) → Fits heap seat → IsAside heap seat → HasBody seat → seat.hand ≡ seat.body → seat.stored < 4 * length seat.body
-    → Fits heap (stored_more seat)
+    → Fits heap (after_store seat)
 fits_stored heap seat fits aside is whole within =
-    fits_hand heap seat seat.hand (seat.stored + 1) seat.tried seat.given (places.Making (storing (seat.stored + 1) seat.body)) fits aside fits.hand.hand_within
-    (fits_storing heap (stored_more seat) (record { makes = is.makes; whole = is.whole; none_tried = is.none_tried; none_given = is.none_given }) whole (omega arith))
+    fits_hand heap seat seat.hand (seat.stored + 1) seat.tried seat.given (places.Making (store_place (seat.stored + 1) seat.body)) fits aside fits.hand.hand_within
+    (fits_storing heap (after_store seat) (record { makes = is.makes; whole = is.whole; none_tried = is.none_tried; none_given = is.none_given }) whole (omega arith))
     aside.nowhere aside.silent
 
 nears_stored : (heap : Heap) (seat : Seat) → seat.stored < 4 * length seat.body → 0 < length seat.hand
-    → Nears heap (with_entries (stored_more seat) []) 1 ((4 * length seat.body - seat.stored) + length seat.hand) 0
+    → Nears heap (with_entries (after_store seat) []) 1 ((4 * length seat.body - seat.stored) + length seat.hand) 0
 nears_stored heap seat within some =
-    elim (eqb_tells (seat.stored + 1) (4 * length seat.body)) as (λ _. Nears heap (with_entries (stored_more seat) []) 1 ((4 * length seat.body - seat.stored) + length seat.hand) 0) [
+    elim (eqb_tells (seat.stored + 1) (4 * length seat.body)) as (λ _. Nears heap (with_entries (after_store seat) []) 1 ((4 * length seat.body - seat.stored) + length seat.hand) 0) [
       | inl all ↦ rw all.0 (record { fewer = omega arith; paid = omega arith })
       | inr left ↦ rw left.0 (record { fewer = omega arith; paid = omega arith })
     ]
@@ -86,9 +86,9 @@ some_out group (fragment ∷ more) some =
 
 -- the hand's last group was born, and others are left
 fits_born : (heap : Heap) (seat : Seat) → Fits heap seat → IsAside heap seat → HasBody seat → length seat.hand ≤ length seat.body → seat.stored ≡ 4 * length seat.body
-    → seat.place ≡ places.Making Bearing → is_last_birth seat ≡ false → Fits heap (born seat)
+    → seat.place ≡ places.Making Bearing → is_last_birth seat ≡ false → Fits heap (after_birth seat)
 fits_born heap seat fits aside is within stored place more =
-    let group = last_group seat.hand in
+    let group = last_group_of seat.hand in
     let fewer = length-filter_le (out_of_group group) seat.hand in
     fits_hand heap seat (part_out group seat.hand) seat.stored seat.tried seat.given seat.place fits aside
     (All-filter (out_of_group group) (λ fragment. fragment < 16 * heap.groups) seat.hand fits.hand.hand_within)
@@ -96,13 +96,13 @@ fits_born heap seat fits aside is within stored place more =
     (rw place aside.nowhere) (rw place aside.silent)
 
 -- the object was made
-fits_made : (heap : Heap) (number : ℕ) (seat : Seat) → Fits heap seat → IsAside heap seat → HasBody seat → Fits heap (made_last number seat)
+fits_made : (heap : Heap) (number : ℕ) (seat : Seat) → Fits heap seat → IsAside heap seat → HasBody seat → Fits heap (after_last_birth number seat)
 fits_made heap number seat fits aside is =
     let some = need_of_record seat.command is.makes.a_record is.makes.in_range in
     let head = fits.hand.body_within 0 0 (omega (arith, is.whole)) in
-    fits_over heap (record seat { registers = set seat.registers (target_of seat.command) (Object (get_or seat.body 0 0) (next_id number seat)); made = seat.made + 1 })
+    fits_over heap (record seat { registers = set seat.registers (target_of seat.command) (Object (get_or seat.body 0 0) (next_object_id number seat)); made = seat.made + 1 })
     (length-set seat.registers _ _ ∙ fits.own.registers_whole)
-    (All-set (FitsRegister heap) seat.registers (target_of seat.command) (Object (get_or seat.body 0 0) (next_id number seat)) head fits.own.registers_fit)
+    (All-set (FitsRegister heap) seat.registers (target_of seat.command) (Object (get_or seat.body 0 0) (next_object_id number seat)) head fits.own.registers_fit)
     fits.own.cursor_within fits.own.small_reserve fits.own.reserve_of_cursor (gone_aside aside.present)
 
 module _ (heap : Heap) (number : ℕ) (seat : Seat) (here : IsAt heap number seat (places.Making Bearing)) where
@@ -110,14 +110,14 @@ module _ (heap : Heap) (number : ℕ) (seat : Seat) (here : IsAt heap number sea
   aside = aside_at heap number seat (places.Making Bearing) here (λ e. cc) here.way here.answer
 
   -- the group is one of the heap's, the word that a birth leaves has 64 bits, and the hand gets shorter
-  last_within : last_group seat.hand < heap.groups
+  last_within : last_group_of seat.hand < heap.groups
   last_within = group_within heap seat.hand (length seat.hand - 1) (omega (arith, here.hand.1)) here.fits.hand.hand_within
 
-  born_wide : (found : ℕ) → found < 2 ^ 64 → bit_or found (birth_bits (bears_black seat) (mask (last_part seat))) < 2 ^ 64
-  born_wide found small = birth_wide (bears_black seat) (mask (last_part seat)) found (mask-lt (last_part seat)) small
+  born_wide : (found : ℕ) → found < 2 ^ 64 → bit_or found (birth_bits_of (bears_black_of seat) (mask_of (last_part seat))) < 2 ^ 64
+  born_wide found small = birth_wide (bears_black_of seat) (mask_of (last_part seat)) found (mask-lt (last_part seat)) small
 
-  shorter : length (part_out (last_group seat.hand) seat.hand) < length seat.hand
-  shorter = out_shorter (last_group seat.hand) seat.hand (length seat.hand - 1) (omega (arith, here.hand.1)) refl
+  shorter : length (part_out (last_group_of seat.hand) seat.hand) < length seat.hand
+  shorter = out_shorter (last_group_of seat.hand) seat.hand (length seat.hand - 1) (omega (arith, here.hand.1)) refl
 
   birth_stands : is_last_birth seat ≡ false → MoveStands heap number seat (places.Making Bearing) (birth_move seat)
   birth_stands more = record {
@@ -136,7 +136,7 @@ module _ (heap : Heap) (number : ℕ) (seat : Seat) (here : IsAt heap number sea
     near = λ found. record { fewer = omega (arith, here.hand.1); paid = omega arith };
     adds = λ now. plain heap now number seat (last_birth_move number seat) refl (rw here.placed refl) refl refl;
     says = λ old command words told is found.
-        ends old number command seat (seat_after (last_birth_move number seat) found) told [] (replies.Made (next_id number seat)) is (omega arith) (omega arith) refl tt;
+        ends old number command seat (seat_after (last_birth_move number seat) found) told [] (replies.Made (next_object_id number seat)) is (omega arith) (omega arith) refl tt;
   }
 
 -- the fragments of a group are born

@@ -7,8 +7,8 @@ use Rattle.core_machine.specs.declared.place.Polling.TheVariants.{Asking, Shadin
 use Rattle.core_machine.specs.declared.place.Leaving.{Leaving}
 use Rattle.core_machine.specs.declared.place.Leaving.TheVariants.{Emptying, Parting}
 use Rattle.core_machine.specs.declared.seat.register.Register.{Register}
-use Rattle.core_machine.specs.seat.Polling.{roots}
-use Rattle.core_machine.specs.seat.Registers.{register_in, head_of}
+use Rattle.core_machine.specs.seat.Handshake.{roots}
+use Rattle.core_machine.specs.seat.Registers.{register_in, register_head}
 use Rattle.core_machine.specs.seat.Seat.{Seat}
 
 -- a command that looks at no word: one on an object does so where its register holds none
@@ -17,9 +17,9 @@ IsLocal registers (commands.Num d n) = Unit {0}
 IsLocal registers (commands.Nil d) = Unit {0}
 IsLocal registers (commands.Copy d r) = Unit {0}
 IsLocal registers (commands.Same a b) = Unit {0}
-IsLocal registers (commands.Get d r i) = head_of (register_in registers r) ≡ None
-IsLocal registers (commands.Set r i v) = head_of (register_in registers r) ≡ None
-IsLocal registers (commands.Len r) = head_of (register_in registers r) ≡ None
+IsLocal registers (commands.Get d r i) = register_head (register_in registers r) ≡ None
+IsLocal registers (commands.Set r i v) = register_head (register_in registers r) ≡ None
+IsLocal registers (commands.Len r) = register_head (register_in registers r) ≡ None
 IsLocal registers _ = ⊥
 
 -- the reserve is given back before the seat leaves
@@ -32,6 +32,7 @@ pub record HasNoAnswer (asked shaded : ℕ) : Type 0 where
   pub none_asked : asked ≡ 0
   pub none_shaded : shaded ≡ 0
 
+-- the seat is about to answer no phase
 abbrev pub IsSilent : Seat → Type 0
 IsSilent seat = HasNoAnswer seat.asked seat.shaded
 
@@ -40,10 +41,12 @@ pub record IsNew (command : Command) (asked answered : ℕ) : Type 0 where
   pub polls : command ≡ commands.Poll
   pub anew : asked ≢ answered
 
-abbrev pub Answers : Seat → Type 0
-Answers seat = IsNew seat.command seat.asked seat.answered
+-- the seat is about to answer a phase that it hasn't answered
+abbrev pub SeatIsAnswering : Seat → Type 0
+SeatIsAnswering seat = IsNew seat.command seat.asked seat.answered
 
+-- what is true of the seat's data at each place of a poll
 abbrev pub FitsPolling : Seat → Polling → Type 0
 FitsPolling seat Asking = IsSilent seat × (seat.command ≡ commands.Poll)
-FitsPolling seat Shading = Answers seat × (seat.shaded < length (roots seat))
-FitsPolling seat Answering = Answers seat × (seat.shaded ≡ length (roots seat))
+FitsPolling seat Shading = SeatIsAnswering seat × (seat.shaded < length (roots seat))
+FitsPolling seat Answering = SeatIsAnswering seat × (seat.shaded ≡ length (roots seat))

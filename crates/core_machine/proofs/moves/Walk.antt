@@ -1,0 +1,156 @@
+-- The way to a field.
+use Rattle.std.proofs.Common.{◌≡◌, ℕ, ◌+◌, ◌-◌, ◌*◌, ◌<◌, ◌≤◌, [], inl, inr, refl, arith, List, ◌++◌, subst, sym, Option, Some, None, ◌⊎◌, ◌≢◌}
+use Rattle.std.proofs.lemmas.Bool.Decides.{eqb_tells}
+use Rattle.std.specs.Prelude.{unwrap_or}
+use Rattle.heap_model.specs.declared.command.Command.{Command}
+use Rattle.heap_model.specs.declared.command.Command.TheVariants.{Get, Set}
+use Rattle.heap_model.specs.declared.command.Command.TheVariants as commands
+use Rattle.heap_model.specs.declared.entry.Entry.{Entry}
+use Rattle.heap_model.specs.declared.heap.Heap.{Heap}
+use Rattle.core_machine.specs.declared.place.Place.TheVariants as places
+use Rattle.core_machine.specs.declared.place.Access.TheVariants.{Walking}
+use Rattle.core_machine.specs.machine.Machine.{found_by}
+use Rattle.core_machine.specs.seat.Awaiting.{entries_awaited_at, entries_awaited}
+use Rattle.core_machine.specs.seat.Commands.{field_of}
+use Rattle.core_machine.specs.seat.Fits.{Fits}
+use Rattle.core_machine.specs.seat.FitsAccess.{FitsAccess, IsGet, IsSet, NamesField, WorksOnObject}
+use Rattle.core_machine.specs.seat.Access.{after_walk, at_access, row_of, has_barrier_of, field_place_of, way_place_of, after_link}
+use Rattle.core_machine.specs.seat.AccessMoves.{walk_move}
+use Rattle.core_machine.specs.seat.Seat.{Seat, with_entries}
+use Rattle.core_machine.specs.table.Decode.{pointer_in, link_of, IsWithinHeap}
+use Rattle.core_machine.proofs.call_lemmas.Awaits.{plain, after_words}
+use Rattle.core_machine.proofs.call_lemmas.Owes.{access_steps, Nears}
+use Rattle.core_machine.proofs.call_lemmas.Saying.{IsGoing, Says, on}
+use Rattle.core_machine.proofs.moves.Standing.{PlaceStands, rests_at}
+use Rattle.core_machine.proofs.seat_lemmas.FieldPlaces.{field_cases}
+use Rattle.core_machine.proofs.seat_lemmas.FittingAccess.{Rests, fits_access}
+use Rattle.core_machine.proofs.table_lemmas.Bits.{bool_tells}
+use Rattle.core_machine.proofs.table_lemmas.StepStands.{load_stands}
+
+-- a link that leads within the heap, or to fragment 0 where there is none
+unwrap_within : (heap : Heap) (fragment : Option ℕ) → 0 < heap.groups → IsWithinHeap heap fragment → unwrap_or fragment 0 < 16 * heap.groups
+unwrap_within heap None some led = omega arith
+unwrap_within heap (Some f) some led = led
+
+-- the field was reached
+field_fits : (seat : Seat) (command : Command) → seat.command ≡ command → WorksOnObject seat → NamesField command → seat.links ≡ 0 → seat.loaded ≡ 0
+    → FitsAccess seat (field_place_of seat command)
+field_fits seat (Get d r i) is works names none empty = ((works, subst IsGet (sym is) tt, none), empty)
+field_fits seat (Set r i v) is works names none empty =
+    elim (bool_tells (has_barrier_of seat)) as (λ _. FitsAccess seat (field_place_of seat (Set r i v))) [
+      | inl on ↦ rw on ((works, subst IsSet (sym is) tt, none), on, empty)
+      | inr off ↦ rw off ((works, subst IsSet (sym is) tt, none), λ e. empty)
+    ]
+field_fits seat _ is works names none empty = absurd names
+
+-- the way stands at a fragment
+way_fits : (heap : Heap) (seat : Seat) (reached links : ℕ) → Rests heap seat → WorksOnObject seat → NamesField seat.command → seat.loaded ≡ 0
+    → reached < 16 * heap.groups → links < row_of (field_of seat.command) ⊎ (links ≡ 0)
+    → Fits heap (at_access (record seat { reached = reached; links = links }) (way_place_of (record seat { reached = reached; links = links })))
+way_fits heap seat reached links rests works names empty within fewer =
+    elim (eqb_tells links 0) as (λ _. Fits heap (at_access (record seat { reached = reached; links = links }) (way_place_of (record seat { reached = reached; links = links })))) [
+      | inl none ↦ rw none.0 (fits_access heap seat reached links seat.loaded (field_place_of seat seat.command) rests within rests.fits.way.loaded_within
+          (field_fits_there none.1))
+      | inr some ↦ rw some.0 (fits_access heap seat reached links seat.loaded Walking rests within rests.fits.way.loaded_within
+          (record { works = works; names = names; more = omega (arith, some.1); some_done = less some.1 fewer; none_loaded = empty }))
+    ]
+  where
+    field_fits_there : links ≡ 0 → FitsAccess (record seat { reached = reached; links = links; place = places.Access (field_place_of seat seat.command) }) (field_place_of seat seat.command)
+    field_fits_there none =
+        field_fits (record seat { reached = reached; links = links; place = places.Access (field_place_of seat seat.command) }) seat.command refl works names none empty
+
+    less : (links ≡ 0 → ⊥) → links < row_of (field_of seat.command) ⊎ (links ≡ 0) → links < row_of (field_of seat.command)
+    less some (inl l) = l
+    less some (inr none) = absurd (some none)
+
+-- the way went on by a link that leads within the heap
+pub fits_onward : (heap : Heap) (seat : Seat) (found : ℕ) → Rests heap seat → WorksOnObject seat → NamesField seat.command → seat.loaded ≡ 0
+    → seat.links ≤ row_of (field_of seat.command) → IsWithinHeap heap (pointer_in 0 found) → Fits heap (after_walk seat found)
+fits_onward heap seat found rests works names empty fewer led =
+    elim (eqb_tells seat.links 0) as (λ _. Fits heap (after_walk seat found)) [
+      | inl none ↦ let fit = way_fits heap seat seat.reached seat.links rests works names empty rests.fits.way.reached_within (inr none.1) in rw none.0 (rw none.0 at fit)
+      | inr some ↦ rw some.0 (way_fits heap seat (link_of found) (seat.links - 1) rests works names empty
+          (unwrap_within heap (pointer_in 0 found) (omega (arith, rests.fits.own.cursor_within)) led) (inl (omega (arith, some.1, fewer))))
+    ]
+
+-- few steps are left where the field was reached
+field_few : (links : ℕ) (seat : Seat) (command : Command) → access_steps links (field_place_of seat command) ≤ 4
+field_few links seat command = field_cases (λ p. access_steps links p ≤ 4) seat command (omega arith) (λ on. omega arith) (λ off. omega arith)
+
+way_few : (seat : Seat) → access_steps seat.links (way_place_of seat) ≤ seat.links + 4
+way_few seat =
+    elim (eqb_tells seat.links 0) as (λ _. access_steps seat.links (way_place_of seat) ≤ seat.links + 4) [
+      | inl none ↦ rw none.0 (let few = field_few seat.links seat seat.command in omega arith)
+      | inr some ↦ rw some.0 (omega arith)
+    ]
+
+-- the way went on
+pub nears_onward : (heap : Heap) (seat : Seat) (found steps : ℕ) → seat.links + 4 < steps ⊎ ((0 < seat.links) × (seat.links + 4 ≡ steps))
+    → Nears heap (with_entries (after_walk seat found) []) 1 steps 0
+nears_onward heap seat found steps more =
+    elim (eqb_tells seat.links 0) as (λ _. Nears heap (with_entries (after_walk seat found) []) 1 steps 0) [
+      | inl none ↦ let near : Nears heap (with_entries (at_access seat (way_place_of seat)) []) 1 steps 0 = record { fewer = none_more none.1 (way_few seat) more; paid = omega arith } in rw none.0 (rw none.0 at near)
+      | inr some ↦ rw some.0 (let few = way_few (after_link seat found) in record { fewer = some_more some.1 few more; paid = omega arith })
+    ]
+  where
+    none_more : seat.links ≡ 0 → access_steps seat.links (way_place_of seat) ≤ seat.links + 4 → seat.links + 4 < steps ⊎ ((0 < seat.links) × (seat.links + 4 ≡ steps))
+        → access_steps seat.links (way_place_of seat) < steps
+    none_more none few (inl l) = omega arith
+    none_more none few (inr e) = absurd (omega (arith, e.0))
+
+    some_more : (seat.links ≡ 0 → ⊥) → access_steps (seat.links - 1) (way_place_of (after_link seat found)) ≤ (seat.links - 1) + 4 → seat.links + 4 < steps ⊎ ((0 < seat.links) × (seat.links + 4 ≡ steps))
+        → access_steps (seat.links - 1) (way_place_of (after_link seat found)) < steps
+    some_more some few (inl l) = omega (arith, some)
+    some_more some few (inr e) = omega (arith, some, e.0, e.1)
+
+-- no way awaits a name
+field_awaits : (heap : Heap) (words : List ℕ) (number : ℕ) (seat s : Seat) (command : Command) → entries_awaited_at heap words number s (places.Access (field_place_of seat command)) ≡ []
+field_awaits heap words number seat s command = field_cases (λ p. entries_awaited_at heap words number s (places.Access p) ≡ []) seat command refl (λ on. refl) (λ off. refl)
+
+way_awaits : (heap : Heap) (words : List ℕ) (number : ℕ) (seat s : Seat) → entries_awaited_at heap words number s (places.Access (way_place_of seat)) ≡ []
+way_awaits heap words number seat s =
+    elim (eqb_tells seat.links 0) as (λ _. entries_awaited_at heap words number s (places.Access (way_place_of seat)) ≡ []) [ inl none ↦ rw none.0 (field_awaits heap words number seat s seat.command) | inr some ↦ rw some.0 refl ]
+
+pub onward_awaits : (heap : Heap) (words : List ℕ) (number : ℕ) (seat : Seat) (found : ℕ) (more : List Entry) → entries_awaited heap words number (with_entries (after_walk seat found) more) ≡ []
+onward_awaits heap words number seat found more =
+    elim (eqb_tells seat.links 0) as (λ _. entries_awaited heap words number (with_entries (after_walk seat found) more) ≡ []) [
+      | inl none ↦ let way = way_awaits heap words number seat (with_entries (at_access seat (way_place_of seat)) more) in rw none.0 (rw none.0 at way)
+      | inr some ↦ rw some.0 (way_awaits heap words number (after_link seat found) (with_entries (at_access (after_link seat found) (way_place_of (after_link seat found))) more))
+    ]
+
+pub onward_mine : (seat : Seat) (found : ℕ) → (after_walk seat found).mine ≡ seat.mine
+onward_mine seat found = elim (eqb_tells seat.links 0) as (λ _. (after_walk seat found).mine ≡ seat.mine) [ inl none ↦ rw none.0 refl | inr some ↦ rw some.0 refl ]
+
+module _ (old : Seat) (number : ℕ) (command : Command) where
+  -- the way goes on
+  field_says : (seat next : Seat) (told : List Entry) (c : Command) → IsGoing old number command next told × (command ≢ commands.Leave) → Says old number command next told (places.Access (field_place_of seat c))
+  field_says seat next told c is = field_cases (λ p. Says old number command next told (places.Access p)) seat c is (λ on. is) (λ off. is)
+
+  way_says : (seat next : Seat) (told : List Entry) → IsGoing old number command next told × (command ≢ commands.Leave) → Says old number command next told (places.Access (way_place_of seat))
+  way_says seat next told is =
+      elim (eqb_tells seat.links 0) as (λ _. Says old number command next told (places.Access (way_place_of seat))) [ inl none ↦ rw none.0 (field_says seat next told seat.command is) | inr some ↦ rw some.0 is ]
+
+  pub onward_says : (seat : Seat) (told : List Entry) (found : ℕ) → IsGoing old number command seat told × (command ≢ commands.Leave) → Says old number command (with_entries (after_walk seat found) []) (told ++ []) (after_walk seat found).place
+  onward_says seat told found is =
+      elim (eqb_tells seat.links 0) as (λ _. Says old number command (with_entries (after_walk seat found) []) (told ++ []) (after_walk seat found).place) [
+        | inl none ↦
+            let next = with_entries (at_access seat (way_place_of seat)) [] in
+            let says : Says old number command next (told ++ []) (places.Access (way_place_of seat)) = way_says seat next (told ++ []) (on old number command seat next told [] is.0 refl refl refl refl tt, is.1) in
+            rw none.0 (rw none.0 at says)
+        | inr some ↦
+            let next = with_entries (at_access (after_link seat found) (way_place_of (after_link seat found))) [] in
+            rw some.0 (way_says (after_link seat found) next (told ++ []) (on old number command seat next told [] is.0 refl refl refl refl tt, is.1))
+      ]
+
+-- a link is loaded
+pub walk_stands : PlaceStands (places.Access Walking)
+walk_stands heap number seat here =
+    let move = walk_move seat in
+    record {
+      step = load_stands heap move.step refl (here.fits.way.reached_within, omega arith);
+      fits = λ found small led. fits_onward heap seat found (rests_at heap number seat Walking here) here.way.works here.way.names here.way.none_loaded (omega (arith, here.way.some_done)) led;
+      near = λ found. nears_onward heap seat found (seat.links + 4) (inr (here.way.more, refl));
+      adds = λ now. let found = found_by heap now move.step in
+          plain heap now number seat move (onward_mine seat found) (rw here.placed refl) (onward_awaits heap (after_words heap now number seat move) number seat found []) refl;
+      says = λ old command words told is found. onward_says old number command seat told found is;
+    }

@@ -1,0 +1,106 @@
+-- How a seat goes on while it reads or writes an object: the way to the field, and what is done with it.
+use Rattle.std.specs.Prelude.{ℕ, ◌+◌, ◌-◌, ◌/◌, ◌%◌, ◌==◌, nat_lt, nat_le, Bool, false, if◌then◌else◌, Option, Some, None, slice_set}
+use Rattle.heap_model.specs.declared.command.Command.{Command}
+use Rattle.heap_model.specs.declared.command.Command.TheVariants as commands
+use Rattle.heap_model.specs.declared.id.Id.{Id}
+use Rattle.heap_model.specs.declared.reply.Reply.{Reply}
+use Rattle.heap_model.specs.declared.reply.Reply.TheVariants.{Length, NoField}
+use Rattle.heap_model.specs.PhasePlan.{cycle_phases, barriers, clearing}
+use Rattle.core_machine.specs.declared.place.Place.TheVariants as places
+use Rattle.core_machine.specs.declared.place.Access.{Access}
+use Rattle.core_machine.specs.declared.place.Access.TheVariants.{LoadingMeta, Walking, Getting, Naming, LoadingOld, ShadingOld, ShadingNew, Swapping}
+use Rattle.core_machine.specs.declared.seat.register.Register.{Register}
+use Rattle.core_machine.specs.declared.seat.register.Register.TheVariants.{Nil, Number, Object}
+use Rattle.core_machine.specs.seat.Commands.{target_of, source_of, field_of}
+use Rattle.core_machine.specs.table.Decode.{link_of, length_of, plain_of}
+use Rattle.core_machine.specs.seat.Registers.{register_in, register_head}
+use Rattle.core_machine.specs.seat.Seat.{Seat, after_call}
+
+-- the row in which a field stands: 0 is the object's first fragment, 1 its second
+abbrev pub row_of : ℕ → ℕ
+row_of field = (field + 1) / 3
+
+-- the word of its fragment in which a field stands: 3 * row + part is the field's number plus 2
+abbrev pub part_of : ℕ → ℕ
+part_of field = (field + 1) % 3 + 1
+
+-- the barrier is on from the answer to a cycle's phase of barriers on, until that to its clearing
+abbrev pub has_barrier_of : Seat → Bool
+has_barrier_of seat =
+    if nat_le barriers (seat.answered % cycle_phases) then nat_lt (seat.answered % cycle_phases) clearing else false
+
+-- the seat at this place of access
+abbrev pub at_access : Seat → Access → Seat
+at_access seat place = record seat { place = places.Access place }
+
+-- the register has another value, and the call is over
+abbrev pub with_register_filled : Seat → Register → Seat
+with_register_filled seat register = after_call (record seat { registers = slice_set seat.registers (target_of seat.command) register })
+
+-- the way begins at the object's first fragment; without an object the reply is told at once
+abbrev pub access_start : Seat → Register → Seat
+access_start seat (Object head id) =
+    at_access (record seat { reached = head; links = row_of (field_of seat.command) }) LoadingMeta
+access_start seat Nil = record seat { place = places.Local }
+access_start seat (Number n) = record seat { place = places.Local }
+
+-- what is done with the field: a get loads it, and so does a set with the barrier on; no other command goes to one
+abbrev pub field_place_of : Seat → Command → Access
+field_place_of seat (commands.Set r i v) = if has_barrier_of seat then LoadingOld else Swapping
+field_place_of seat _ = Getting
+
+-- where the way stands at a fragment: at the field, where no link leads on
+abbrev pub way_place_of : Seat → Access
+way_place_of seat = if seat.links == 0 then field_place_of seat seat.command else Walking
+
+-- the link that was found leads to the next fragment of the way
+abbrev pub after_link : Seat → ℕ → Seat
+after_link seat found = record seat { reached = link_of found; links = seat.links - 1 }
+
+-- a fragment's first word was found: the way goes on by it, unless the field stands in this fragment
+abbrev pub after_walk : Seat → ℕ → Seat
+after_walk seat found =
+    if seat.links == 0 then at_access seat (way_place_of seat) else at_access (after_link seat found) (way_place_of (after_link seat found))
+
+-- the reply at the meta of a command on this field, where there is no such field
+abbrev pub field_reply_of : ℕ → ℕ → Option Reply
+field_reply_of field found = if nat_lt field (length_of found) then None else Some NoField
+
+-- the reply at the meta, where the call ends there: the length, or that there is no such field; no other command comes to a meta
+abbrev pub meta_reply_of : Command → ℕ → Option Reply
+meta_reply_of (commands.Get d r i) found = field_reply_of i found
+meta_reply_of (commands.Set r i v) found = field_reply_of i found
+meta_reply_of (commands.Len r) found = Some (Length (length_of found))
+meta_reply_of _ found = None
+
+-- the meta was found
+abbrev pub after_meta : Seat → ℕ → Option Reply → Seat
+after_meta seat found None = after_walk seat found
+after_meta seat found (Some reply) = after_call seat
+
+-- a get's field was found: a number or nil stands in the register, a reference waits for its object's name
+abbrev pub after_get : Seat → ℕ → Option ℕ → Seat
+after_get seat found None = with_register_filled seat (plain_of found)
+after_get seat found (Some head) = at_access (record seat { loaded = found }) Naming
+
+-- the name was found
+abbrev pub after_name : Seat → ℕ → Id → Seat
+after_name seat head id = with_register_filled seat (Object head id)
+
+-- the new value is shaded where it is an object; then comes the swap
+abbrev pub new_place_of : Option ℕ → Access
+new_place_of None = Swapping
+new_place_of (Some head) = ShadingNew
+
+-- the old value is dealt with
+abbrev pub after_old : Seat → Seat
+after_old seat = at_access seat (new_place_of (register_head (register_in seat.registers (source_of seat.command))))
+
+-- a set's old value was found: a reference is shaded
+abbrev pub after_old_load : Seat → Option ℕ → Seat
+after_old_load seat None = after_old seat
+after_old_load seat (Some head) = at_access seat ShadingOld
+
+-- the field has its new word
+abbrev pub after_swap : Seat → Seat
+after_swap seat = after_call (record seat { sets = seat.sets + 1 })
