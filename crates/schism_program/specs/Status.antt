@@ -6,15 +6,15 @@ use Rattle.schism_program.specs.declared.status.Status.{Status}
 use Rattle.schism_program.specs.declared.status.Status.TheVariants.{Done, Refused, Usage, ReadFault, WriteFault, Memory, TooLong, NotLegal}
 
 -- the exit status of the process
-abbrev pub exit_status : Status → ℕ
-exit_status Done = 0
-exit_status (Refused line cause) = 1
-exit_status Usage = 2
-exit_status ReadFault = 3
-exit_status WriteFault = 4
-exit_status Memory = 5
-exit_status TooLong = 6
-exit_status (NotLegal line) = 7
+abbrev pub status_number : Status → ℕ
+status_number Done = 0
+status_number (Refused line cause) = 1
+status_number Usage = 2
+status_number ReadFault = 3
+status_number WriteFault = 4
+status_number Memory = 5
+status_number TooLong = 6
+status_number (NotLegal line) = 7
 
 -- the name of a cause
 abbrev pub cause_name : Cause → List ℕ

@@ -2,7 +2,7 @@ ghost use Rattle.std.specs.Prelude.{◌≡◌};
 ghost use Rattle.std.specs.Process.{exit_status};
 ghost use Rattle.io_edge.specs.Faults.{Rose};
 ghost use Rattle.io_edge.specs.Taken.{Takes, TakesFront};
-ghost use Rattle.schism_program.specs.Status.{exit_status, status_line};
+ghost use Rattle.schism_program.specs.Status.{status_number, status_line};
 
 use crate::status::{Status, status_text};
 use io_edge::{Sink, write_all};
@@ -10,7 +10,7 @@ use std::process::ExitCode;
 
 /// Says how the program ended, and gives the exit status of its process, which a failed write doesn't change.
 pub fn report<K: Sink>(status: &Status, errors: &mut K) -> ExitCode
-    ensures number { exit_status result ≡ exit_status status.now }
+    ensures number { exit_status result ≡ status_number status.now }
     ensures silent { status.now ≡ Status.Done → errors.new ≡ errors.old }
     ensures line { ¬ Rose (K.faults errors.old) (K.faults errors.new) →
         Takes (K.taken errors.old) (K.taken errors.new) (status_line status.now) }

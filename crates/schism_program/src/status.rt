@@ -1,5 +1,5 @@
 ghost use Rattle.std.specs.Prelude.{◌≡◌, ◌≢◌, ◌<◌, length};
-ghost use Rattle.schism_program.specs.Status.{cause_name, exit_status, status_words};
+ghost use Rattle.schism_program.specs.Status.{cause_name, status_number, status_words};
 
 use arrayvec::ArrayString;
 use itoa::Buffer;
@@ -34,7 +34,7 @@ impl Status {
 
     /// The exit status of the process.
     pub fn number(&self) -> u8
-        ensures { result ≡ exit_status self.now }
+        ensures { result ≡ status_number self.now }
     {
         match self {
             Status::Done => 0,
