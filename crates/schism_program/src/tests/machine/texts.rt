@@ -8,7 +8,7 @@ pub(super) fn step_text(alloc: Global, step: &Step, found: u64) -> Result<String
         Step::PollLoad => format!(in alloc; "load the phase")?,
         Step::Making(step) => making_text(alloc, step)?,
         Step::Access(step) => access_text(alloc, step)?,
-        Step::Answering(step) => answering_text(alloc, step)?,
+        Step::Handshake(step) => handshake_text(alloc, step)?,
         Step::Turning(step) => turning_text(alloc, step)?,
     };
     format!(in alloc; "{step} found {found:x}")
@@ -51,7 +51,7 @@ fn access_text(alloc: Global, step: AccessStep) -> Result<String, AllocError> {
     }
 }
 
-fn answering_text(alloc: Global, step: HandshakeStep) -> Result<String, AllocError> {
+fn handshake_text(alloc: Global, step: HandshakeStep) -> Result<String, AllocError> {
     match step {
         HandshakeStep::AnswerStore { seat, phase } => format!(in alloc; "answer {seat} {phase}"),
         HandshakeStep::LeaveStore { seat } => format!(in alloc; "leave {seat}"),
