@@ -46,8 +46,18 @@ access_start seat (Number n) = record seat { place = places.Local }
 
 -- what is done with the field: a get loads it, and so does a set with the barrier on; no other command goes to one
 abbrev pub field_place_of : Seat → Command → Access
+field_place_of seat (commands.New d fields) = Getting
+field_place_of seat (commands.Array d cells) = Getting
+field_place_of seat (commands.Get d r i) = Getting
 field_place_of seat (commands.Set r i v) = if has_barrier_of seat then LoadingOld else Swapping
-field_place_of seat _ = Getting
+field_place_of seat (commands.Num d n) = Getting
+field_place_of seat (commands.Nil d) = Getting
+field_place_of seat (commands.Copy d r) = Getting
+field_place_of seat (commands.Same a b) = Getting
+field_place_of seat (commands.Len r) = Getting
+field_place_of seat commands.Poll = Getting
+field_place_of seat commands.Collect = Getting
+field_place_of seat commands.Leave = Getting
 
 -- where the way stands at a fragment: at the field, where no link leads on
 abbrev pub way_place_of : Seat → Access
@@ -68,10 +78,18 @@ field_reply_of field found = if nat_lt field (length_of found) then None else So
 
 -- the reply at the meta, where the call ends there: the length, or that there is no such field; no other command comes to a meta
 abbrev pub meta_reply_of : Command → ℕ → Option Reply
+meta_reply_of (commands.New d fields) found = None
+meta_reply_of (commands.Array d cells) found = None
 meta_reply_of (commands.Get d r i) found = field_reply_of i found
 meta_reply_of (commands.Set r i v) found = field_reply_of i found
+meta_reply_of (commands.Num d n) found = None
+meta_reply_of (commands.Nil d) found = None
+meta_reply_of (commands.Copy d r) found = None
+meta_reply_of (commands.Same a b) found = None
 meta_reply_of (commands.Len r) found = Some (Length (length_of found))
-meta_reply_of _ found = None
+meta_reply_of commands.Poll found = None
+meta_reply_of commands.Collect found = None
+meta_reply_of commands.Leave found = None
 
 -- the meta was found
 abbrev pub after_meta : Seat → ℕ → Option Reply → Seat

@@ -86,8 +86,17 @@ need seat = need_of seat.command
 -- where so many objects were made and sets done, a name is left for the object that the command makes, or a stamp for its set
 abbrev pub HasNumberLeft : ℕ → ℕ → Command → Type 0
 HasNumberLeft made sets (commands.New d fields) = made + 1 < name_limit
+HasNumberLeft made sets (commands.Array d cells) = Unit {0}
+HasNumberLeft made sets (commands.Get d r i) = Unit {0}
 HasNumberLeft made sets (commands.Set r i v) = sets + 1 < stamp_limit
-HasNumberLeft made sets _ = Unit {0}
+HasNumberLeft made sets (commands.Num d n) = Unit {0}
+HasNumberLeft made sets (commands.Nil d) = Unit {0}
+HasNumberLeft made sets (commands.Copy d r) = Unit {0}
+HasNumberLeft made sets (commands.Same a b) = Unit {0}
+HasNumberLeft made sets (commands.Len r) = Unit {0}
+HasNumberLeft made sets commands.Poll = Unit {0}
+HasNumberLeft made sets commands.Collect = Unit {0}
+HasNumberLeft made sets commands.Leave = Unit {0}
 
 -- the call is over, and nothing of it is left
 abbrev pub after_call : Seat → Seat
