@@ -7,7 +7,6 @@ use Rattle.heap_model.specs.account.Account.{IsLegal}
 use Rattle.heap_model.specs.account.Cycles.{graph_of}
 use Rattle.heap_model.specs.graph.Graph.{Graph}
 use Rattle.core_machine.specs.seat.Commands.{target_of}
-use Rattle.core_machine.specs.seat.Fits.{Fits}
 use Rattle.core_machine.specs.machine.Machine.{State, seat_at}
 use Rattle.core_machine.specs.seat.Seat.{Seat}
 use Rattle.core_machine.specs.machine.Value.{IsMachine}
@@ -55,7 +54,6 @@ pub record ToldStands (heap : Heap) (g : Graph) (history : List Entry) (made : L
 
 -- what is true of a seat
 pub record SeatStands (heap : Heap) (words : List ℕ) (book : Book) (number : ℕ) (seat : Seat) : Type 0 where
-  pub fits : Fits heap seat
   pub own : OwnStands heap words book.owner number seat
   pub names : NamesStand (graph_of heap book.history) book.made book.owner book.fragments number seat
   pub told : ToldStands heap (graph_of heap book.history) book.history book.made book.owner book.fragments (book.begun number) number seat

@@ -18,6 +18,7 @@ use Rattle.core_rule.specs.Colours.{IsMarked, IsBetween}
 use Rattle.core_rule.specs.Cycle.{HeapInCycle}
 use Rattle.core_rule.specs.Owners.{born_bit, Owner, Kept as KeepsPart}
 use Rattle.core_rule.specs.Rule.{Rule, SeatStands}
+use Rattle.core_rule.proofs.entries.AtRest.{seat_fits}
 use Rattle.core_rule.proofs.colours.BirthAhead.{born_ahead}
 use Rattle.core_rule.proofs.colours.Births.{birth_colour, AreBorne, births_are}
 use Rattle.core_rule.proofs.colours.BirthColours.{painted, was_white, marks_stay, birth_coloured, marks_birth}
@@ -45,11 +46,11 @@ module _ (heap : Heap) (state : State) (book : Book) (number : ℕ) (rule : Rule
   stands = rule.seats_stand number here
 
   at_place : HasBody seat × (0 < length seat.hand) × (length seat.hand ≤ length seat.body) × (seat.stored ≡ 4 * length seat.body)
-  at_place = rw place at stands.fits.at_place
+  at_place = rw place at (seat_fits rule number here).at_place
 
   -- the group is the heap's, and the object's fragments are chosen
   pub group_born : g < heap.groups
-  group_born = last_within heap seat stands.fits at_place.1
+  group_born = last_within heap seat (seat_fits rule number here) at_place.1
 
   pub some_born : 1 ≤ length seat.body
   some_born = omega (arith, at_place.1, at_place.2)
@@ -77,9 +78,9 @@ module _ (heap : Heap) (state : State) (book : Book) (number : ℕ) (rule : Rule
         coloured = birth_coloured heap state.words words_born book.owner later book.colour (last_part seat) black unborn cycle.coloured.born book.fragments fragments (phase book.history)
             (bears_late heap state book number Bearing rule here place) bears
             (λ f k x leads. leads_control heap state.words g _ group_born f k x leads)
-            (λ dark. born_ahead heap state.words book.owner book.colour number seat rule.machine.limits here at_place.0.makes.numbered (few_fields seat at_place.0) some_born stands.fits.hand.body_within stands.own.holding
+            (λ dark. born_ahead heap state.words book.owner book.colour number seat rule.machine.limits here at_place.0.makes.numbered (few_fields seat at_place.0) some_born (seat_fits rule number here).hand.body_within stands.own.holding
             (subst (AreBorne book.owner book.colour number) dark (births_are book.owner book.colour number seat stands.cycle.births))
             (all_stored heap state.words seat.body (newborn_word_of number seat) seat.stored at_place.3 stands.own.stored)
-            g (born_in_order heap seat.cursor seat.tried seat.hand seat.body stands.fits.hand.hand_within some_born stands.own.together))
+            g (born_in_order heap seat.cursor seat.tried seat.hand seat.body (seat_fits rule number here).hand.hand_within some_born stands.own.together))
             first cycle.coloured;
       }

@@ -12,9 +12,13 @@ use Rattle.core_rule.specs.Registers.{IsAwaited}
 use Rattle.core_rule.specs.Rule.{Rule}
 use Rattle.core_rule.proofs.hand.Bodies.{bare_hand}
 
+-- each seat's own data fit together, as the machine says
+pub seat_fits : {heap : Heap} {state : State} {book : Book} → Rule heap state book → (number : ℕ) → number < heap.seats → Fits heap (seat_at state number)
+seat_fits rule number here = rule.machine.fit number (rw rule.machine.seated here)
+
 -- a seat with a call in flight hasn't left
-pub in_flight : (heap : Heap) (seat : Seat) → Fits heap seat → seat.place ≢ places.Idle → seat.left ≡ false
-in_flight heap seat fits busy = by seat.left (λ left. busy (fits.gone left).idle)
+pub in_flight : {heap : Heap} {state : State} {book : Book} → Rule heap state book → (number : ℕ) → number < heap.seats → (seat_at state number).place ≢ places.Idle → (seat_at state number).left ≡ false
+in_flight {heap} {state} rule number here busy = by (seat_at state number).left (λ left. busy ((seat_fits rule number here).gone left).idle)
   where
     by : (left : Bool) → (left ≡ true → ⊥) → left ≡ false
     by true none = absurd (none refl)
@@ -35,4 +39,4 @@ module _ (heap : Heap) (state : State) (book : Book) (number : ℕ) (rule : Rule
   spent_own = omega (arith, own_reserve)
 
   pub few_own : taken_of number book.history ≤ spent_of number book.history + 15
-  few_own = omega (arith, own_reserve, (rule.seats_stand number here).fits.own.small_reserve)
+  few_own = omega (arith, own_reserve, (seat_fits rule number here).own.small_reserve)

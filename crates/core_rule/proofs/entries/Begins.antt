@@ -59,7 +59,6 @@ module _ (heap : Heap) (words : List ℕ) (book : Book) (number : ℕ) where
   -- each other seat stands
   pub other_begins : (r : ℕ) (seat : Seat) → r ≢ number → SeatStands heap words book r seat → SeatStands heap words book_begun r seat
   other_begins r seat apart other = record {
-    fits = other.fits;
     own = other.own;
     names = other.names;
     told = rw (of_other r number (λ e. apart (sym e))) other.told;

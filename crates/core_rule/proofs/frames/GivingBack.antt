@@ -26,6 +26,7 @@ use Rattle.core_rule.proofs.cycle.CycleFrames.{SameAnswer}
 use Rattle.core_rule.proofs.cycle.CycleHistory.{cycle_own, heap_cycle_more, cycle_other}
 use Rattle.core_rule.proofs.gather.GatherSteps.{other_gives}
 use Rattle.core_rule.proofs.hand.HandMoves.{held_within, hand_given}
+use Rattle.core_rule.proofs.entries.AtRest.{seat_fits}
 use Rattle.core_rule.proofs.entries.InFlight.{tried_within}
 use Rattle.core_rule.proofs.cycle.MakingCycle.{cycle_goes_on, answer_after_control, heap_hands, borne_before, cycle_control}
 use Rattle.core_rule.proofs.objects.ObjectFrames.{SameKept, objects_owners, part_kept, objects_control, free_keeps_none}
@@ -101,6 +102,7 @@ module _ (heap : Heap) (state : State) (book : Book) (number : ℕ) (rule : Rule
   pub other_given : (r : ℕ) → r < heap.seats → r ≢ number → SeatStands heap state.words book r (seat_at state r) → SeatStands heap words_given book_given r (seat_at state r)
   other_given r under apart other =
       let seat : Seat = seat_at state r in
+      let fits = seat_fits rule r under in
       let away = of_other number r apart in
       seat_left heap state.words words_given book book_given r seat record {
         calls = refl;
@@ -110,7 +112,7 @@ module _ (heap : Heap) (state : State) (book : Book) (number : ℕ) (rule : Rule
         hand = hand_given book.owner r number fs apart held;
         stored = stored_control heap state.words r seat g word below other.own.stored;
         gathers = other_gives heap book.owner book.history number fs once inside rule.heap_stands.used (book.begun r) other.told.began.earlier seat.cursor seat.tried seat.given held
-            other.fits.own.cursor_within (tried_within heap seat seat.place other.fits.at_place) r apart other.told.gathers;
+            fits.own.cursor_within (tried_within heap seat seat.place fits.at_place) r apart other.told.gathers;
         cycle = cycle_other heap words_given owner book.colour book.history entry refl r seat
             (cycle_control heap state.words book.owner owner book.colour book.colour (phase book.history) (last_answer r book.history) (has_left r book.history) r seat g word below
             (omega (arith, under, rule.machine.limits.seats_fit)) (λ f marked. marked) (λ f borne. (borne_before Free book.owner fs r f free_bears_none borne, refl)) (watched_born heap state book rule r under) other.cycle) away;

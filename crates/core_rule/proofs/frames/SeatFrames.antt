@@ -115,7 +115,6 @@ seat_left heap words now_words book now r seat leaves old =
     let after : Graph = graph_of heap now.history in
     let same : (i : ℕ) → register_value after r i ≡ register_value g r i = register_stays g after r leaves.party in
     record {
-      fits = old.fits;
       own = record {
         holding = holding_stays book.owner now.owner r seat.reserve seat.hand seat.body leaves.hand old.own.holding;
         stored = leaves.stored;

@@ -21,9 +21,8 @@ use Rattle.core_rule.proofs.entries.RecordCommands.{ranges_made}
 pub bears_late : (heap : Heap) (state : State) (book : Book) (number : ℕ) (making : Making) → Rule heap state book → number < heap.seats → (seat_at state number).place ≡ places.Making making
     → phase book.history % 7 ≤ 1 → bears_black_of (seat_at state number) ≡ false
 bears_late heap state book number making rule here place early =
-    let stands = rule.seats_stand number here in
-    let present = in_flight heap (seat_at state number) stands.fits (λ idle. absurd (cc (place, idle))) in
-    white_early (phase book.history) (seat_at state number) (stands.cycle.answers_told.near present) early
+    let present = in_flight rule number here (λ idle. absurd (cc (place, idle))) in
+    white_early (phase book.history) (seat_at state number) ((rule.seats_stand number here).cycle.answers_told.near present) early
 
 -- the groups of its hand's first and last fragments are the heap's
 pub first_within : (heap : Heap) (seat : Seat) → Fits heap seat → 0 < length seat.hand → first_group_of seat.hand < heap.groups

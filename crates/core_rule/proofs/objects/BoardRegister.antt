@@ -1,5 +1,5 @@
 -- Register 0 of a seat that hasn't left holds the board.
-use Rattle.std.proofs.Common.{◌≡◌, ℕ, ◌≤◌, false, List, ap, ◌∙◌, subst, arith}
+use Rattle.std.proofs.Common.{◌≡◌, ◌<◌, ℕ, ◌≤◌, false, List, ap, ◌∙◌, subst, arith}
 use Rattle.heap_model.specs.declared.command.Command.{Command}
 use Rattle.heap_model.specs.declared.command.Command.TheVariants.{Get}
 use Rattle.heap_model.specs.declared.heap.Heap.{Heap}
@@ -15,6 +15,7 @@ use Rattle.core_machine.specs.declared.place.Access.TheVariants.{Naming}
 use Rattle.core_machine.specs.declared.seat.register.Register.{Register}
 use Rattle.core_machine.specs.declared.seat.register.Register.TheVariants as registers
 use Rattle.core_machine.specs.seat.Commands.{target_of}
+use Rattle.core_machine.specs.machine.Machine.{State, seat_at}
 use Rattle.core_machine.specs.seat.Fits.{FitsWay}
 use Rattle.core_machine.specs.seat.FitsAccess.{IsGet}
 use Rattle.core_machine.specs.seat.Registers.{register_in}
@@ -22,7 +23,8 @@ use Rattle.core_machine.specs.seat.Seat.{Seat}
 use Rattle.core_rule.specs.Book.{Book, object_head}
 use Rattle.core_rule.specs.Owners.{Owner}
 use Rattle.core_rule.specs.Registers.{HoldsValue, IsAwaited}
-use Rattle.core_rule.specs.Rule.{HeapStands, SeatStands}
+use Rattle.core_rule.specs.Rule.{Rule}
+use Rattle.core_rule.proofs.entries.AtRest.{seat_fits}
 use Rattle.core_rule.proofs.objects.BoardFragment.{board_head}
 
 -- a register that holds the board has its first fragment and its id
@@ -43,11 +45,13 @@ first_awake seat (places.Access Naming) fits awaited = let gets = fits.0 in omeg
 first_awake seat _ fits awaited = absurd awaited
 
 -- its fragment is 0
-pub board_register : (heap : Heap) (words : List ℕ) (book : Book) (number : ℕ) (seat : Seat) → HeapStands heap words book → SeatStands heap words book number seat → seat.left ≡ false
-    → register_in seat.registers 0 ≡ registers.Object 0 Board
-board_register heap words book number seat heap_stands stands there =
-    let value = board_held heap book.history number heap_stands.legal.objects (stands.told.counts.leaves ∙ there) in
+pub board_register : (heap : Heap) (state : State) (book : Book) (number : ℕ) → Rule heap state book → number < heap.seats → (seat_at state number).left ≡ false
+    → register_in (seat_at state number).registers 0 ≡ registers.Object 0 Board
+board_register heap state book number rule here there =
+    let seat : Seat = seat_at state number in
+    let heap_stands = rule.heap_stands in
+    let value = board_held heap book.history number heap_stands.legal.objects ((rule.seats_stand number here).told.counts.leaves ∙ there) in
     holds_board book.made book.owner book.fragments (register_in seat.registers 0)
-    (subst (HoldsValue book.made book.owner book.fragments (register_in seat.registers 0)) value (stands.names.registers 0 (first_awake seat seat.place stands.fits.way_at_place)))
+    (subst (HoldsValue book.made book.owner book.fragments (register_in seat.registers 0)) value ((rule.seats_stand number here).names.registers 0 (first_awake seat seat.place (seat_fits rule number here).way_at_place)))
     ∙ ap (λ head. registers.Object head Board)
-    (board_head heap.seats book.owner heap_stands.owners heap words (graph_of heap book.history) book.made book.fragments heap_stands.objects heap_stands.ids)
+    (board_head heap.seats book.owner heap_stands.owners heap state.words (graph_of heap book.history) book.made book.fragments heap_stands.objects heap_stands.ids)

@@ -13,7 +13,6 @@ use Rattle.core_machine.specs.declared.place.Place.TheVariants as places
 use Rattle.core_machine.specs.declared.seat.register.Register.{Register}
 use Rattle.core_machine.specs.declared.seat.register.Register.TheVariants as registers
 use Rattle.core_machine.specs.collector.Collector.{Collector}
-use Rattle.core_machine.specs.seat.Fits.{Fits}
 use Rattle.core_machine.specs.table.Layout.{at}
 use Rattle.core_machine.specs.machine.Machine.{State, seat_at}
 use Rattle.core_machine.specs.machine.Opening.{IsOpening, opening_seat, opening_word}
@@ -57,10 +56,9 @@ opening_answer : (heap : Heap) (number : ℕ) → number < heap.seats → openin
 opening_answer heap number below = rw (lt-ltb number heap.seats below) refl
 
 -- a seat stands
-opening_seat_stands : (heap : Heap) (words : List ℕ) (number : ℕ) → Fits heap (opening_seat heap number) → number < heap.seats → at heap words (Answer number) ≡ 0
+opening_seat_stands : (heap : Heap) (words : List ℕ) (number : ℕ) → number < heap.seats → at heap words (Answer number) ≡ 0
     → SeatStands heap words opening_book number (opening_seat heap number)
-opening_seat_stands heap words number fits below none_answered = record {
-  fits = fits;
+opening_seat_stands heap words number below none_answered = record {
   own = record {
     holding = record {
       held = λ f. opening_cases (λ o. 0 ≡ holds_bit number o) f (λ less. refl) (λ past. refl);
@@ -117,7 +115,7 @@ opening_rule heap state fits machine opens = record {
     };
   };
   seats_stand = λ number below. subst (λ (s : Seat). SeatStands heap state.words opening_book number s) (sym (opening_seat_at heap state number opens below))
-      (opening_seat_stands heap state.words number (subst (Fits heap) (opening_seat_at heap state number opens below) (machine.fit number (rw machine.seated below))) below
+      (opening_seat_stands heap state.words number below
       (opens.words_open (Answer number) (omega (arith, below, fits.seats_fit)) ∙ opening_answer heap number below));
   collector_stands = subst (λ (c : Collector). CollectorAgrees heap c []) (sym opens.nothing_done)
       record { log = refl; phase_told = refl; looked = λ number less. absurd (omega (arith, less)) };

@@ -38,6 +38,7 @@ use Rattle.core_machine.specs.seat.Local.{answer_of, local_reply_of}
 use Rattle.core_rule.specs.Book.{Book}
 use Rattle.core_rule.specs.Gathers.{GathersRight}
 use Rattle.core_rule.specs.Rule.{Rule}
+use Rattle.core_rule.proofs.entries.AtRest.{seat_fits}
 use Rattle.core_rule.proofs.hand.Bodies.{bare_hand}
 use Rattle.core_rule.proofs.runs.Plays.{IsPlainReply, MayPlay, taking, giving, answering, saying, plain_keeps, finds_in_play}
 use Rattle.core_rule.proofs.entries.RecordCommands.{full_keeps}
@@ -111,7 +112,7 @@ refusal : (heap : Heap) (state : State) (book : Book) (number : ℕ) → Rule he
 refusal heap state book number rule here placed alone =
     let seat : Seat = seat_at state number in
     let stands = rule.seats_stand number here in
-    let fits = stands.fits in
+    let fits = seat_fits rule number here in
     let refuses : SeatIsRefusing heap seat × (seat.hand ≡ []) = rw placed at fits.at_place in
     let own : length seat.reserve + spent_of number book.history ≡ taken_of number book.history
     = bare_hand seat.reserve seat.hand seat.body (spent_of number book.history) (taken_of number book.history) refuses.1 refuses.0.no_body stands.told.counts.unborn in

@@ -1,7 +1,7 @@
 -- A seat's step keeps the rule, where the heap, the seat and each other seat stand after it.
 use Rattle.std.proofs.Common.{◌≡◌, ◌≢◌, ℕ, ◌<◌, ◌≤◌, List, ap, arith, [], ◌++◌, length, filter, slice_set, slice_index_or, refl, sym, false, ◌∙◌, subst, inl, inr}
 use Rattle.std.proofs.lemmas.Bool.Decides.{eqb_tells}
-use Rattle.std.proofs.lemmas.List.{get_or-set_same, get_or-set_other, append-nil, length-set}
+use Rattle.std.proofs.lemmas.List.{get_or-set_same, get_or-set_other, append-nil}
 use Rattle.std.proofs.lemmas.List.Elements.{filter-append}
 use Rattle.heap_model.specs.declared.entry.Entry.{Entry}
 use Rattle.heap_model.specs.declared.heap.Heap.{Heap}
@@ -12,7 +12,6 @@ use Rattle.core_machine.specs.declared.place.Making.{Making}
 use Rattle.core_machine.specs.declared.place.Place.{Place}
 use Rattle.core_machine.specs.declared.place.Place.TheVariants as places
 use Rattle.core_machine.specs.collector.Collector.{Collector}
-use Rattle.core_machine.specs.seat.Fits.{Fits}
 use Rattle.core_machine.specs.Moves.{Move}
 use Rattle.core_machine.specs.machine.Machine.{State, seat_at, state_after_move, found_by}
 use Rattle.core_machine.specs.seat.Seat.{Seat, absent_seat}
@@ -22,7 +21,7 @@ use Rattle.core_rule.specs.Counts.{is_collectors}
 use Rattle.core_rule.specs.Laws.{StandsFor}
 use Rattle.core_rule.specs.Phases.{CollectorAgrees}
 use Rattle.core_rule.specs.Rule.{Rule, HeapStands, SeatStands}
-use Rattle.core_rule.proofs.entries.AtRest.{in_flight}
+pub use Rattle.core_rule.proofs.entries.AtRest.{seat_fits, in_flight}
 use Rattle.core_rule.proofs.entries.PhaseEntries.{seats_phase, answers_grow, was_present}
 
 -- a seat's new data leave the other seats'
@@ -85,17 +84,10 @@ pub present_at : (heap : Heap) (state : State) (book : Book) (number : ℕ) (mak
     → (seat_at state number).place ≡ places.Making making → (graph_seat (graph_of heap book.history) number).left ≡ false
 present_at heap state book number making rule here placed =
     let stands = rule.seats_stand number here in
-    stands.told.counts.leaves ∙ in_flight heap (seat_at state number) stands.fits (λ idle. busy (sym placed ∙ idle))
+    stands.told.counts.leaves ∙ in_flight rule number here (λ idle. busy (sym placed ∙ idle))
   where
     busy : places.Making making ≡ places.Idle → ⊥
     busy e = cc
-
--- the seat's own data fit together after its step
-pub fit_after : (heap : Heap) (state : State) (book : Book) (number : ℕ) {words : List ℕ} {seat : Seat} → Rule heap state book → number < heap.seats
-    → IsMachine heap (record state { words = words; seats = slice_set state.seats number seat }) → Fits heap seat
-fit_after heap state book number {words} {seat} rule here machine =
-    let below : number < length state.seats = rw rule.machine.seated here in
-    subst (Fits heap) (get_or-set_same state.seats number seat absent_seat below) (machine.fit number (rw (length-set state.seats number seat) below))
 
 -- the rule after a seat's step
 pub seat_steps : (heap : Heap) (state : State) (book : Book) (number : ℕ) (words : List ℕ) (seat : Seat) (now : Book) (added : List Entry)

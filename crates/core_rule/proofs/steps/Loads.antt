@@ -35,7 +35,7 @@ use Rattle.core_rule.specs.Objects.{cells_at}
 use Rattle.core_rule.specs.Registers.{Registers}
 use Rattle.core_rule.specs.Rule.{Rule}
 use Rattle.core_rule.specs.Ways.{WayStands}
-use Rattle.core_rule.proofs.steps.Assemble.{Keeps, seat_steps, fit_after}
+use Rattle.core_rule.proofs.steps.Assemble.{Keeps, seat_steps}
 use Rattle.core_rule.proofs.cycle.CycleHistory.{cycle_own}
 use Rattle.core_rule.proofs.entries.Others.{gathers_stay}
 use Rattle.core_rule.proofs.entries.OwnEntries.{counts_own, counts_same}
@@ -102,7 +102,6 @@ module _ (heap : Heap) (state : State) (book : Book) (number : ℕ) (rule : Rule
       from_same book.begun []
       (seat_steps heap state book number state.words new book [] rule here same_machine (sym (append-nil book.history)) refl rule.heap_stands
       record {
-        fits = fit_after heap state book number rule here same_machine;
         own = record { holding = stands.own.holding; stored = stands.own.stored; together = stands.own.together };
         names = record { registers = held; way = way };
         told = record {

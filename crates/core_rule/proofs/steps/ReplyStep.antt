@@ -1,5 +1,6 @@
 -- A reply that makes no object keeps the rule, where the words that it changes are none but a seat's answer or a kept object's.
-use Rattle.std.proofs.Common.{◌≡◌, ◌≢◌, ℕ, ◌+◌, ◌<◌, false, List, [], ◌∷◌, ◌++◌, length, filter, drop, slice_set, refl, sym, ◌∙◌, arith, append-nil, ap}
+use Rattle.std.proofs.Common.{subst, ◌≡◌, ◌≢◌, ℕ, ◌+◌, ◌<◌, false, List, [], ◌∷◌, ◌++◌, length, filter, drop, slice_set, refl, sym, ◌∙◌, arith, append-nil, ap}
+use Rattle.std.proofs.lemmas.List.{get_or-set_same, length-set}
 use Rattle.heap_model.specs.declared.graph.cell.Cell.{Cell}
 use Rattle.heap_model.specs.declared.command.Command.{Command}
 use Rattle.heap_model.specs.declared.entry.Entry.{Entry}
@@ -20,14 +21,14 @@ use Rattle.core_machine.specs.declared.place.Place.TheVariants as places
 use Rattle.core_machine.specs.seat.Fits.{Fits, IsAtRest}
 use Rattle.core_machine.specs.machine.Machine.{State, seat_at}
 use Rattle.core_machine.specs.seat.Registers.{register_in}
-use Rattle.core_machine.specs.seat.Seat.{Seat}
+use Rattle.core_machine.specs.seat.Seat.{Seat, absent_seat}
 use Rattle.core_machine.specs.machine.Value.{IsMachine}
 use Rattle.core_rule.specs.Book.{Book}
 use Rattle.core_rule.specs.Cycle.{HeapInCycle, SeatInCycle}
 use Rattle.core_rule.specs.Objects.{AreMade, Objects, cells_at}
 use Rattle.core_rule.specs.Registers as regs
 use Rattle.core_rule.specs.Rule.{Rule, OwnStands, NamesStand, ToldStands}
-use Rattle.core_rule.proofs.steps.Assemble.{Keeps, seat_steps, fit_after}
+use Rattle.core_rule.proofs.steps.Assemble.{Keeps, seat_fits, seat_steps}
 use Rattle.core_rule.proofs.hand.Bodies.{bare_hand}
 use Rattle.core_rule.proofs.words.ControlLemmas.{bits_same}
 use Rattle.core_rule.proofs.cycle.CycleFrames.{LeavesCycle, cycle_stays}
@@ -90,6 +91,12 @@ module _ (heap : Heap) (state : State) (book : Book) (number : ℕ) (words : Lis
   graph : graph_of heap later.history ≡ after
   graph = graph_after-more (opening heap) book.history entry
 
+  -- the seat's own data fit together after it
+  fit_after : Fits heap now
+  fit_after =
+      let below : number < length state.seats = rw rule.machine.seated here in
+      subst (Fits heap) (get_or-set_same state.seats number now absent_seat below) (machine.fit number (rw (length-set state.seats number now) below))
+
   -- a reply is told, and what the seat has, names and is told of stands
   pub told_keeps : IsLegal heap false later.history → SameUnkept heap book.owner state.words words → GraphReplies heap words book before after number
       → OwnStands heap words book.owner number now → NamesStand after book.made book.owner book.fragments number now
@@ -109,11 +116,11 @@ module _ (heap : Heap) (state : State) (book : Book) (number : ℕ) (words : Lis
         cycle = heap_cycle_more heap words book.owner book.colour book.history entry refl book.fragments heap_cycle;
         legal = legal;
       }
-      record { fits = fit_after heap state book number rule here machine; own = own; names = rw graph names; told = rw graph told; cycle = cycle }
+      record { own = own; names = rw graph names; told = rw graph told; cycle = cycle }
       (λ r below apart other. seat_stays heap state.words words book entry r (seat_at state r) (of_other number r apart)
       (rw graph (grows.others r apart))
       (rw graph grows.lengths)
-      (stored_stays heap book.owner state.words words r (seat_at state r) same other.own.holding (stored_within heap (seat_at state r) (seat_at state r).place other.fits.at_place) other.own.stored)
+      (stored_stays heap book.owner state.words words r (seat_at state r) same other.own.holding (stored_within heap (seat_at state r) (seat_at state r).place (seat_fits rule r below).at_place) other.own.stored)
       (cycle_other heap words book.owner book.colour book.history entry refl r (seat_at state r)
       (cycle_stays heap state.words words book.owner book.owner book.colour book.colour (phase book.history) (last_answer r book.history) (has_left r book.history) r (seat_at state r)
       (leaves r below apart) (watched_born heap state book rule r below) other.cycle) (of_other number r apart))
@@ -128,8 +135,7 @@ module _ (heap : Heap) (state : State) (book : Book) (number : ℕ) (words : Lis
       → Keeps heap (record state { words = words; seats = slice_set state.seats number now }) book book.begun (entry ∷ [])
   reply_keeps none rest told legal same grows replies heap_cycle cycle leaves =
       let stands = rule.seats_stand number here in
-      let fits : Fits heap now = fit_after heap state book number rule here machine in
-      let idle : IsAtRest now = rw replies.idle at fits.at_place in
+      let idle : IsAtRest now = rw replies.idle at fit_after.at_place in
       let own : length seat.reserve + spent_of number book.history ≡ taken_of number book.history
       = bare_hand seat.reserve seat.hand seat.body (spent_of number book.history) (taken_of number book.history) rest.empty_hand rest.no_body stands.told.counts.unborn in
       told_keeps legal same grows

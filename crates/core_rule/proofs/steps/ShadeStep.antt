@@ -23,7 +23,7 @@ use Rattle.core_rule.specs.Registers.{Registers}
 use Rattle.core_rule.specs.Rule.{Rule}
 use Rattle.core_rule.specs.Ways.{WayStands}
 use Rattle.core_rule.proofs.words.Addresses.{at-put_apart}
-use Rattle.core_rule.proofs.steps.Assemble.{Keeps, seat_steps, fit_after}
+use Rattle.core_rule.proofs.steps.Assemble.{Keeps, seat_steps}
 use Rattle.core_rule.proofs.cycle.CycleFrames.{LeavesCycle, cycle_stays}
 use Rattle.core_rule.proofs.cycle.FieldFrames.{watched_born}
 use Rattle.core_rule.proofs.entries.InFlight.{began_on}
@@ -99,7 +99,6 @@ module _ (heap : Heap) (state : State) (book : Book) (number : ℕ) (rule : Rule
         legal = old.legal;
       }
       record {
-        fits = fit_after heap state book number rule here machine;
         own = record { holding = stands.own.holding; stored = stored_control heap state.words number seat (f / 16) _ group_below stands.own.stored; together = stands.own.together };
         names = record { registers = held; way = way };
         told = record {
@@ -111,7 +110,6 @@ module _ (heap : Heap) (state : State) (book : Book) (number : ℕ) (rule : Rule
         cycle = cycle;
       }
       (λ r less apart other. record {
-        fits = other.fits;
         own = record { holding = other.own.holding; stored = stored_control heap state.words r (seat_at state r) (f / 16) _ group_below other.own.stored; together = other.own.together };
         names = other.names;
         told = other.told;

@@ -22,7 +22,7 @@ use Rattle.core_rule.specs.Phases.{IsNear}
 use Rattle.core_rule.specs.Registers.{HoldsValue, IsAwaited}
 use Rattle.core_rule.specs.Rule.{Rule}
 use Rattle.core_rule.specs.Ways.{OnWay}
-use Rattle.core_rule.proofs.entries.AtRest.{in_flight}
+use Rattle.core_rule.proofs.entries.AtRest.{seat_fits, in_flight}
 
 -- the register holds the object of the graph's register
 held_object : (made : List Id) (owner : ℕ → Owner) (fragments : ℕ → List ℕ) (held : Register) (value : Value) (head : ℕ) (id : Id)
@@ -35,7 +35,7 @@ module _ (heap : Heap) (state : State) (book : Book) (number : ℕ) (rule : Rule
     (reaching : Access) (place : (seat_at state number).place ≡ places.Access reaching) where
   -- the seat hasn't left
   stays : (seat_at state number).left ≡ false
-  stays = in_flight heap (seat_at state number) (rule.seats_stand number here).fits (λ idle. absurd (cc (place, idle)))
+  stays = in_flight rule number here (λ idle. absurd (cc (place, idle)))
 
   pub is_present : IsPresent (graph_of heap book.history) number
   is_present = (rule.seats_stand number here).told.counts.leaves ∙ stays
@@ -46,7 +46,7 @@ module _ (heap : Heap) (state : State) (book : Book) (number : ℕ) (rule : Rule
 
   -- it has nothing at hand
   pub at_rest : IsAtRest (seat_at state number)
-  at_rest = rw place at (rule.seats_stand number here).fits.at_place
+  at_rest = rw place at (seat_fits rule number here).at_place
 
   -- its way's object is that of the graph's register
   pub way_object : ((d r : ℕ) → ¬ IsAwaited (seat_at state number).place d r) → (index : ℕ) → OnWay book.made book.owner book.fragments (seat_at state number) index

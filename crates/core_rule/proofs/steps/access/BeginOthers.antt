@@ -18,11 +18,12 @@ use Rattle.core_rule.specs.Book.{Book}
 use Rattle.core_rule.specs.Objects.{cells_at}
 use Rattle.core_rule.specs.Registers.{HoldsValue}
 use Rattle.core_rule.specs.Rule.{Rule}
-use Rattle.core_rule.proofs.steps.Assemble.{Keeps, seat_steps, fit_after}
-use Rattle.core_rule.proofs.entries.AtRest.{none_awaited}
+use Rattle.core_rule.proofs.steps.Assemble.{Keeps, seat_steps}
+use Rattle.core_rule.proofs.entries.AtRest.{seat_fits, none_awaited}
 use Rattle.core_rule.proofs.entries.Begins.{begins, book_begun, heap_begins, began_now, other_begins}
 use Rattle.core_rule.proofs.hand.EmptyHand.{nothing_together, none_stored, gathers_none, holding_as}
 use Rattle.core_rule.proofs.cycle.FreshCycle.{cycle_fresh}
+use Rattle.core_rule.proofs.entries.OwnEntries.{counts_same}
 use Rattle.core_rule.proofs.entries.SeatLists.{all_told}
 use Rattle.core_rule.proofs.entries.Starting.{Starts, starts_other}
 
@@ -36,7 +37,7 @@ begin_others_keep heap state book number command rule here may other machine =
     let next : Seat = call_start heap seat command in
     let g : Graph = graph_of heap book.history in
     let stands = rule.seats_stand number here in
-    let rest : IsAtRest old = rw may.idle at stands.fits.at_place in
+    let rest : IsAtRest old = rw may.idle at (seat_fits rule number here).at_place in
     let awaits = rw may.idle at stands.told.list.awaits in
     let holds : (r : ℕ) → HoldsValue book.made book.owner book.fragments (register_in old.registers r) (register_value g number r)
     = λ r. stands.names.registers r (none_awaited old.place places.Idle (target_of old.command) r may.idle (λ none. none)) in
@@ -48,7 +49,6 @@ begin_others_keep heap state book number command rule here may other machine =
     rule here machine (sym (append-nil book.history)) refl
     (heap_begins heap state.words book number rule.heap_stands)
     record {
-      fits = fit_after heap state book number rule here machine;
       own = record {
         holding = holding_as book.owner number old.reserve old.hand old.body next.reserve next.hand next.body own.reserve own.hand own.body stands.own.holding;
         stored = none_stored heap state.words number next (same.stored ∙ rest.none_stored);
@@ -61,12 +61,7 @@ begin_others_keep heap state book number command rule here may other machine =
           own = append-nil next.mine ∙ same.mine ∙ all_told old.mine stands.told.list.awaited (filter (is_of number) book.history) stands.told.list.own awaits;
           awaits = start.awaits;
         };
-        counts = record {
-          numbered = same.made ∙ stands.told.counts.numbered;
-          stamped = same.sets ∙ stands.told.counts.stamped;
-          leaves = stands.told.counts.leaves ∙ sym same.left;
-          unborn = rw (own.reserve, own.hand, own.body) stands.told.counts.unborn;
-        };
+        counts = counts_same g book.history number old next same.made same.sets same.left (rw (own.reserve, own.hand, own.body) refl) stands.told.counts;
         began = began_now heap state.words book number next.place;
         gathers = gathers_none heap book.owner number (drop (begins number (length book.history) book.begun number) book.history) next.cursor next.tried next.given (own.tried ∙ rest.none_tried) (own.given ∙ rest.none_given);
       };

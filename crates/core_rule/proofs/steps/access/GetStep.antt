@@ -32,7 +32,7 @@ use Rattle.core_machine.specs.seat.AccessMoves.{get_move, field_part_of, got_add
 use Rattle.core_machine.specs.seat.Registers.{value_of}
 use Rattle.core_machine.specs.seat.Seat.{Seat, with_entries}
 use Rattle.core_machine.specs.machine.Value.{IsMachine}
-use Rattle.core_rule.proofs.entries.AtRest.{spent_own, few_own}
+use Rattle.core_rule.proofs.entries.AtRest.{seat_fits, spent_own, few_own}
 use Rattle.core_rule.specs.Book.{Book, fragment_at, id_at, object_number, object_head}
 use Rattle.core_rule.specs.Gathers.{IsAnswered}
 use Rattle.core_rule.specs.Objects.{NamesKept, cells_at, value_word}
@@ -71,7 +71,7 @@ module _ (heap : Heap) (state : State) (book : Book) (number : ℕ) (rule : Rule
   in_graph = omega (arith, registers_length heap book.history number present, target_within (seat_at state number).command a_get ranges)
 
   in_seat : target_of (seat_at state number).command < length (seat_at state number).registers
-  in_seat = omega (arith, (rule.seats_stand number here).fits.own.registers_whole, target_within (seat_at state number).command a_get ranges)
+  in_seat = omega (arith, (seat_fits rule number here).own.registers_whole, target_within (seat_at state number).command a_get ranges)
 
   -- a number or nil stands in the register
   filled_keeps : (new : Register) (stamp : ℕ) → HoldsValue book.made book.owner book.fragments new (value_of new)
@@ -135,7 +135,7 @@ get_keeps heap state book number rule here place machine =
     let stands = rule.seats_stand number here in
     let heap_stands = rule.heap_stands in
     let bits = heap_stands.control_words in
-    let fits : SeatIsAtGet seat × (seat.loaded ≡ 0) = rw place at stands.fits.way_at_place in
+    let fits : SeatIsAtGet seat × (seat.loaded ≡ 0) = rw place at (seat_fits rule number here).way_at_place in
     let gets = fits.0 in
     let finds : Finds (cells_at g book.made) book.made book.owner book.fragments seat = rw place at stands.names.way in
     let index : ℕ = finds.index in
@@ -161,7 +161,7 @@ get_keeps heap state book number rule here place machine =
     let filled = filled_keeps heap state book number rule here place gets.1 gets.0.in_range (plain_of found) (stamp_of found) in
     let told : List Entry = reply_entries number seat (Got (value_of (plain_of found)) (stamp_of found)) in
     let ends = over_went heap state book number (Word seat.reached (field_part_of seat)) (slice_set seat.registers (target_of seat.command) (plain_of found)) told told
-    (rw place at stands.fits.at_place) (rw place at stands.fits.answer_at_place) in
+    (rw place at (seat_fits rule number here).at_place) (rw place at (seat_fits rule number here).answer_at_place) in
     let by_value : (value : Value) → cell.value ≡ value → goal (named_head head value) = λ value. elim value as (λ v. cell.value ≡ v → goal (named_head head v)) [
       | values.Nil ↦ λ e. let is : plain_of found ≡ registers.Nil = plain ∙ ap register_plain e in
           ends (filled (subst (λ x. HoldsValue book.made book.owner book.fragments x (value_of x)) (sym is) refl)

@@ -23,7 +23,7 @@ use Rattle.core_machine.specs.seat.Seat.{Seat}
 use Rattle.core_rule.specs.Book.{object_number, object_head}
 use Rattle.core_rule.specs.Counts.{IsAwaitingName}
 use Rattle.core_rule.specs.Registers.{Registers, HoldsValue}
-use Rattle.core_rule.proofs.steps.Assemble.{StepKeeps}
+use Rattle.core_rule.proofs.steps.Assemble.{StepKeeps, seat_fits}
 use Rattle.core_rule.proofs.ways.KeptWords.{name_found}
 use Rattle.core_rule.proofs.steps.Loads.{went_cycle, load_goes, over_went}
 use Rattle.core_rule.proofs.graph.Numbering.{id_at-number_of}
@@ -40,7 +40,7 @@ name_keeps heap state book number rule here place machine =
     let found : ℕ = at heap state.words (Word at_name 1) in
     let stands = rule.seats_stand number here in
     let heap_stands = rule.heap_stands in
-    let fits : SeatIsAtGet seat × IsSome (head_of seat.loaded) = rw place at stands.fits.way_at_place in
+    let fits : SeatIsAtGet seat × IsSome (head_of seat.loaded) = rw place at (seat_fits rule number here).way_at_place in
     let gets = fits.0 in
     let awaits : IsAwaitingName g book.made book.owner book.fragments number seat stands.told.list.awaited = rw place at stands.told.list.awaits in
     let id : Id = awaits.id in
@@ -52,10 +52,10 @@ name_keeps heap state book number rule here place machine =
     ∙ id_at-number_of book.made id awaits.kept.0 in
     let holds : HoldsValue book.made book.owner book.fragments (registers.Object at_name (id_of found)) (register_value g number d)
     = subst (λ x. HoldsValue book.made book.owner book.fragments (registers.Object at_name x) (register_value g number d)) (sym name) (awaits.held, awaits.kept, head) in
-    let within : d < length seat.registers = omega (arith, stands.fits.own.registers_whole, target_within seat.command gets.1 gets.0.in_range) in
+    let within : d < length seat.registers = omega (arith, (seat_fits rule number here).own.registers_whole, target_within seat.command gets.1 gets.0.in_range) in
     let added : List Entry = reply_entries number seat (Got (values.Object (id_of found)) (stamp_of seat.loaded)) in
     let told : stands.told.list.awaited ≡ added = awaits.told ∙ ap (λ x. reply_entries number seat (Got (values.Object x) (stamp_of seat.loaded))) (sym name) in
-    over_went heap state book number (Word at_name 1) (slice_set seat.registers d (registers.Object at_name (id_of found))) added [] (rw place at stands.fits.at_place) (rw place at stands.fits.answer_at_place) (λ machine.
+    over_went heap state book number (Word at_name 1) (slice_set seat.registers d (registers.Object at_name (id_of found))) added [] (rw place at (seat_fits rule number here).at_place) (rw place at (seat_fits rule number here).answer_at_place) (λ machine.
     load_goes heap state book number rule here (Word at_name 1) (slice_set seat.registers d (registers.Object at_name (id_of found))) 0 0 0 places.Idle added machine
     (λ r unawaited. registers_with book.made book.owner book.fragments g number d seat.registers (registers.Object at_name (id_of found)) within holds before r)
     (record {

@@ -18,7 +18,7 @@ use Rattle.core_machine.specs.machine.Value.{IsMachine}
 use Rattle.core_rule.specs.Colours.{IsMarked, WordPointsTo}
 use Rattle.core_rule.specs.Objects.{cells_at}
 use Rattle.core_rule.specs.Ways.{Finds}
-use Rattle.core_rule.proofs.steps.Assemble.{Keeps, StepKeeps}
+use Rattle.core_rule.proofs.steps.Assemble.{Keeps, StepKeeps, seat_fits}
 use Rattle.core_rule.proofs.cycle.Barriers.{field_lead}
 use Rattle.core_rule.proofs.steps.BarrierSteps.{new_cases, loads_on}
 use Rattle.core_rule.proofs.ways.LoadedObjects.{loaded_kept}
@@ -32,7 +32,7 @@ old_keeps heap state book number rule here place machine =
     let seat : Seat = seat_at state number in
     let g : Graph = graph_of heap book.history in
     let old = rule.heap_stands in
-    let fits : SeatIsAtSet seat × (has_barrier_of seat ≡ true) × (seat.loaded ≡ 0) = rw place at (rule.seats_stand number here).fits.way_at_place in
+    let fits : SeatIsAtSet seat × (has_barrier_of seat ≡ true) × (seat.loaded ≡ 0) = rw place at (seat_fits rule number here).way_at_place in
     let finds : Finds (cells_at g book.made) book.made book.owner book.fragments seat = rw place at (rule.seats_stand number here).names.way in
     let found : ℕ = at heap state.words (Word seat.reached (field_part_of seat)) in
     let new_head : Option ℕ = register_head (new_register_of seat) in

@@ -24,7 +24,7 @@ use Rattle.core_rule.specs.Objects.{cells_at}
 use Rattle.core_rule.specs.Registers.{IsAwaited}
 use Rattle.core_rule.specs.Rule.{Rule}
 use Rattle.core_rule.specs.Ways.{Finds}
-use Rattle.core_rule.proofs.steps.Assemble.{Keeps, StepKeeps}
+use Rattle.core_rule.proofs.steps.Assemble.{Keeps, StepKeeps, seat_fits}
 use Rattle.core_rule.proofs.entries.InFlight.{began_on}
 use Rattle.core_rule.proofs.steps.Loads.{went_cycle, went, loaded_state, load_goes}
 use Rattle.core_rule.proofs.ways.OnwardWays.{way_unwatched, way_cases, onward_cases, way_stands, finds_at, finds_on}
@@ -79,6 +79,6 @@ pub walk_keeps : StepKeeps (places.Access Walking) (λ heap number. walk_move)
 walk_keeps heap state book number rule here place machine =
     let finds : Finds (cells_at (graph_of heap book.history) book.made) book.made book.owner book.fragments (seat_at state number)
     = rw place at (rule.seats_stand number here).names.way in
-    let walks : SeatIsOnWay (seat_at state number) = rw place at (rule.seats_stand number here).fits.way_at_place in
+    let walks : SeatIsOnWay (seat_at state number) = rw place at (seat_fits rule number here).way_at_place in
     onward_keeps heap state book number rule here (λ answered. subst IsAnswered place answered) (λ d r awaited. subst (λ p. IsAwaited p d r) place awaited)
     walks.none_loaded finds machine

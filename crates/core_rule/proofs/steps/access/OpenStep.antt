@@ -28,7 +28,7 @@ use Rattle.core_machine.specs.seat.Access.{row_of, meta_reply_of, after_meta}
 use Rattle.core_machine.specs.seat.AccessMoves.{open_move, reply_entries, reply_entries_if}
 use Rattle.core_machine.specs.seat.Seat.{Seat, with_entries}
 use Rattle.core_machine.specs.machine.Value.{IsMachine}
-use Rattle.core_rule.proofs.entries.AtRest.{spent_own, few_own}
+use Rattle.core_rule.proofs.entries.AtRest.{seat_fits, spent_own, few_own}
 use Rattle.core_rule.specs.Book.{Book, id_at, fragment_at}
 use Rattle.core_rule.specs.Gathers.{IsAnswered}
 use Rattle.core_rule.specs.Objects.{cells_at}
@@ -95,7 +95,7 @@ open_keeps heap state book number rule here place machine =
     let g : Graph = graph_of heap book.history in
     let stands = rule.seats_stand number here in
     let found : ℕ = at heap state.words (Word seat.reached 0) in
-    let opens : SeatIsAtHead seat = rw place at stands.fits.way_at_place in
+    let opens : SeatIsAtHead seat = rw place at (seat_fits rule number here).way_at_place in
     let out : SetsOut book.made book.owner book.fragments seat = rw place at stands.names.way in
     let index : ℕ = out.index in
     let way = out.way in
@@ -111,7 +111,7 @@ open_keeps heap state book number rule here place machine =
     let enough = spent_own heap state book number rule here (at_rest heap state book number rule here LoadingMeta place) in
     let little = few_own heap state book number rule here (at_rest heap state book number rule here LoadingMeta place) in
     let leaves_none = λ (reply : Reply). no_leave_told number number seat.command reply (λ leaves. subst NamesObject leaves opens.names) in
-    let ends = λ (reply : Reply). over_went heap state book number (Word seat.reached 0) seat.registers (reply_entries number seat reply) (reply_entries number seat reply) (rw place at stands.fits.at_place) (rw place at stands.fits.answer_at_place) in
+    let ends = λ (reply : Reply). over_went heap state book number (Word seat.reached 0) seat.registers (reply_entries number seat reply) (reply_entries number seat reply) (rw place at (seat_fits rule number here).at_place) (rw place at (seat_fits rule number here).answer_at_place) in
     meta_cases (λ reply. IsMachine heap (loaded_state heap state number (Word seat.reached 0) (with_entries (after_meta seat found reply) (reply_entries_if number seat reply)))
     → Keeps heap (loaded_state heap state number (Word seat.reached 0) (with_entries (after_meta seat found reply) (reply_entries_if number seat reply))) book book.begun (reply_entries_if number seat reply))
     seat.command found opens.names

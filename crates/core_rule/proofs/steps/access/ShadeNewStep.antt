@@ -19,7 +19,7 @@ use Rattle.core_rule.specs.Colours.{IsMarked, IsBetween}
 use Rattle.core_rule.specs.Flight.{DeletionBarrier, FieldStands, ShadedStands, WhileAccess}
 use Rattle.core_rule.specs.Objects.{cells_at}
 use Rattle.core_rule.specs.Ways.{Finds, OldKept}
-use Rattle.core_rule.proofs.steps.Assemble.{StepKeeps}
+use Rattle.core_rule.proofs.steps.Assemble.{StepKeeps, seat_fits}
 use Rattle.core_rule.proofs.steps.BarrierSteps.{shades_on, leads_back, holds_all}
 use Rattle.core_rule.proofs.cycle.CycleFrames.{watches_stay}
 use Rattle.core_rule.proofs.ways.LoadedObjects.{held_kept}
@@ -35,7 +35,7 @@ shade_new_keeps heap state book number rule here place machine =
     let g : Graph = graph_of heap book.history in
     let p : ℕ = phase book.history in
     let stands = rule.seats_stand number here in
-    let fits : SeatIsAtSet seat × (has_barrier_of seat ≡ true) × IsSome (register_head (new_register_of seat)) = rw place at stands.fits.way_at_place in
+    let fits : SeatIsAtSet seat × (has_barrier_of seat ≡ true) × IsSome (register_head (new_register_of seat)) = rw place at (seat_fits rule number here).way_at_place in
     let way : Finds (cells_at g book.made) book.made book.owner book.fragments seat × OldKept book.made book.owner book.fragments seat = rw place at stands.names.way in
     let f : ℕ = unwrap_or (register_head (new_register_of seat)) 0 in
     let some : register_head (new_register_of seat) ≡ Some f = whole (register_head (new_register_of seat)) fits.2 in

@@ -19,7 +19,7 @@ use Rattle.core_rule.specs.Colours.{IsMarked, WordPointsTo, IsBetween}
 use Rattle.core_rule.specs.Flight.{DeletionBarrier, FieldStands, WhileAccess}
 use Rattle.core_rule.specs.Objects.{cells_at}
 use Rattle.core_rule.specs.Ways.{Finds, LoadedKept}
-use Rattle.core_rule.proofs.steps.Assemble.{Keeps, StepKeeps}
+use Rattle.core_rule.proofs.steps.Assemble.{Keeps, StepKeeps, seat_fits}
 use Rattle.core_rule.proofs.steps.BarrierSteps.{new_cases, shades_on, leads_back}
 use Rattle.core_rule.proofs.ways.LoadedObjects.{KeptHead}
 use Rattle.core_rule.proofs.ways.OnwardWays.{finds_at, loaded_at}
@@ -34,7 +34,7 @@ shade_old_keeps heap state book number rule here place machine =
     let g : Graph = graph_of heap book.history in
     let p : ℕ = phase book.history in
     let stands = rule.seats_stand number here in
-    let fits : SeatIsAtSet seat × (has_barrier_of seat ≡ true) × IsSome (head_of seat.loaded) = rw place at stands.fits.way_at_place in
+    let fits : SeatIsAtSet seat × (has_barrier_of seat ≡ true) × IsSome (head_of seat.loaded) = rw place at (seat_fits rule number here).way_at_place in
     let way : Finds (cells_at g book.made) book.made book.owner book.fragments seat × LoadedKept book.made book.owner book.fragments seat = rw place at stands.names.way in
     let f : ℕ = loaded_head_of seat in
     let is : f ≡ fragment_at (book.fragments way.1.index) 0 = from_some (head_of seat.loaded) _ way.1.loads in

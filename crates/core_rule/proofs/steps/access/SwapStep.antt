@@ -42,7 +42,7 @@ use Rattle.core_rule.specs.Objects.{AreMade, NamesKept, Objects, cells_in, cells
 use Rattle.core_rule.specs.Registers.{HoldsValue}
 use Rattle.core_rule.specs.Ways.{Finds, OldKept}
 use Rattle.core_rule.proofs.steps.Assemble.{StepKeeps}
-use Rattle.core_rule.proofs.entries.AtRest.{in_flight, spent_own, few_own, none_awaited}
+use Rattle.core_rule.proofs.entries.AtRest.{seat_fits, in_flight, spent_own, few_own, none_awaited}
 use Rattle.core_rule.proofs.graph.CellSet.{Sets, sets_cell}
 use Rattle.core_rule.proofs.objects.CellWords.{stamp_of_value, register_is_value, register_names}
 use Rattle.core_rule.proofs.cycle.CycleHistory.{cycle_own}
@@ -92,15 +92,15 @@ swap_keeps heap state book number rule here place machine =
     let seat : Seat = seat_at state number in
     let g : Graph = graph_of heap book.history in
     let stands = rule.seats_stand number here in
-    let rest : IsAtRest seat = rw place at stands.fits.at_place in
-    let fits : FitsSets seat × (has_barrier_of seat ≡ false → seat.loaded ≡ 0) = rw place at stands.fits.way_at_place in
+    let rest : IsAtRest seat = rw place at (seat_fits rule number here).at_place in
+    let fits : FitsSets seat × (has_barrier_of seat ≡ false → seat.loaded ≡ 0) = rw place at (seat_fits rule number here).way_at_place in
     let a_set : IsSet seat.command = fits.0.1 in
     let way : Finds (cells_at g book.made) book.made book.owner book.fragments seat × OldKept book.made book.owner book.fragments seat = rw place at stands.names.way in
     let finds : Finds (cells_at g book.made) book.made book.owner book.fragments seat = way.0 in
     let busy : seat.place ≢ places.Idle = λ idle. absurd (cc (place, idle)) in
-    let present : (graph_seat g number).left ≡ false = stands.told.counts.leaves ∙ in_flight heap seat stands.fits busy in
+    let present : (graph_seat g number).left ≡ false = stands.told.counts.leaves ∙ in_flight rule number here busy in
     let awaits = rw place at stands.told.list.awaits in
-    let silent : IsSilent seat = rw place at stands.fits.answer_at_place in
+    let silent : IsSilent seat = rw place at (seat_fits rule number here).answer_at_place in
     let holds : (r : ℕ) → HoldsValue book.made book.owner book.fragments (register_in seat.registers r) (register_value g number r)
     = λ r. stands.names.registers r (none_awaited seat.place (places.Access Swapping) (target_of seat.command) r place (λ none. none)) in
     let n : ℕ = finds.index in
@@ -138,7 +138,7 @@ swap_keeps heap state book number rule here place machine =
     let small : cell.stamp < 2 ^ 32 = omega (arith, few, here, rule.machine.limits.seats_fit) in
     let names : NamesKept book.made book.owner book.fragments cell.value × (cell.stamp < 2 ^ 32)
     = (register_names book.made book.owner book.fragments (register_in seat.registers (source_of seat.command)) cell.value (holds (source_of seat.command)), small) in
-    let inside : fragment < 16 * heap.groups = subst (λ f. f < 16 * heap.groups) arrived stands.fits.way.reached_within in
+    let inside : fragment < 16 * heap.groups = subst (λ f. f < 16 * heap.groups) arrived (seat_fits rule number here).way.reached_within in
     reply_keeps heap state book number (put heap state.words (Word seat.reached part) word) (seat_after (swap_move number seat) found) seat.command (replies.Was stamp) rule here machine
     refl rest (all_told seat.mine stands.told.list.awaited (filter (is_of number) book.history) stands.told.list.own awaits)
     (legal_more heap false book.history (entries.Said number seat.command (replies.Was stamp)) rule.heap_stands.legal

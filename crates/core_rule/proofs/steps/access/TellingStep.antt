@@ -15,7 +15,7 @@ use Rattle.core_machine.specs.Moves.{local_move, seat_after}
 use Rattle.core_machine.specs.seat.Seat.{Seat}
 use Rattle.core_machine.specs.seat.Local.{local_reply_of}
 use Rattle.core_rule.proofs.steps.Assemble.{StepKeeps}
-use Rattle.core_rule.proofs.entries.AtRest.{in_flight, none_awaited}
+use Rattle.core_rule.proofs.entries.AtRest.{seat_fits, in_flight, none_awaited}
 use Rattle.core_rule.proofs.graph.GraphRegisters.{registers_length}
 use Rattle.core_rule.proofs.graph.LocalReplies.{local_replies}
 use Rattle.core_rule.proofs.steps.LocalStep.{local_reply_keeps}
@@ -28,14 +28,14 @@ telling_keeps heap state book number rule here place machine =
     let seat : Seat = seat_at state number in
     let g : Graph = graph_of heap book.history in
     let stands = rule.seats_stand number here in
-    let at_place : IsAtRest seat × IsCommand seat.command × IsLocal seat.registers seat.command = rw place at stands.fits.at_place in
+    let at_place : IsAtRest seat × IsCommand seat.command × IsLocal seat.registers seat.command = rw place at (seat_fits rule number here).at_place in
     let busy : seat.place ≢ places.Idle = λ idle. absurd (cc (place, idle)) in
-    let present : (graph_seat g number).left ≡ false = stands.told.counts.leaves ∙ in_flight heap seat stands.fits busy in
+    let present : (graph_seat g number).left ≡ false = stands.told.counts.leaves ∙ in_flight rule number here busy in
     let awaits = rw place at stands.told.list.awaits in
-    let silent : IsSilent seat = rw place at stands.fits.answer_at_place in
+    let silent : IsSilent seat = rw place at (seat_fits rule number here).answer_at_place in
     local_reply_keeps heap state book number Phase (seat_after (local_move number seat) (at heap state.words Phase)) (local_reply_of seat.registers seat.command) rule here machine
     at_place.0 (all_told seat.mine stands.told.list.awaited (filter (is_of number) book.history) stands.told.list.own awaits) present at_place.1
-    (local_replies heap book.history g number book.made book.owner book.fragments seat.registers present stands.fits.own.registers_whole (registers_length heap book.history number present)
+    (local_replies heap book.history g number book.made book.owner book.fragments seat.registers present (seat_fits rule number here).own.registers_whole (registers_length heap book.history number present)
     (λ i. stands.names.registers i (none_awaited seat.place places.Local (target_of seat.command) i place (λ none. none))) seat.command at_place.1 at_place.2)
     (no_leave_told number number seat.command (local_reply_of seat.registers seat.command) (λ leaves. subst (IsLocal seat.registers) leaves at_place.2))
     record { idle = refl; reserve = refl; mine = refl; answered = refl; asked = sym silent.none_asked; made = refl; sets = refl; left = refl }

@@ -21,6 +21,7 @@ use Rattle.core_rule.specs.Colours.{WordPointsTo}
 use Rattle.core_rule.specs.Counts.{is_collectors}
 use Rattle.core_rule.specs.Cycle.{HeapInCycle}
 use Rattle.core_rule.specs.Rule.{Rule, HeapStands, SeatStands}
+use Rattle.core_rule.proofs.entries.AtRest.{seat_fits}
 use Rattle.core_rule.proofs.words.Addresses.{at-put_apart}
 use Rattle.core_rule.proofs.steps.TurnSteps.{StageKeeps, TurnKeeps, turn_steps}
 use Rattle.core_rule.proofs.cycle.CycleFrames.{cycle_told}
@@ -95,7 +96,7 @@ module _ (heap : Heap) (state : State) (book : Book) (rule : Rule heap state boo
       (cycle_told heap words (phase book.history + 1) (phase later.history) (last_answer r book.history) (last_answer r later.history) (has_left r book.history) (has_left r later.history)
       book.owner book.colour r (seat_at state r) grown (answered_stays book.history (Advance next) r refl) (left_stays book.history (Advance next) r refl)
       (cycle_next heap state.words words book.owner book.colour (phase book.history) (last_answer r book.history) (has_left r book.history) r (seat_at state r) early
-      (at-put_apart heap state.words Phase (Answer r) next (λ e. omega (arith, e))) leads_on stands.fits (all_answered r below) stands.cycle)) stands
+      (at-put_apart heap state.words Phase (Answer r) next (λ e. omega (arith, e))) leads_on (seat_fits rule r below) (all_answered r below) stands.cycle)) stands
 
   advance_kept : TurnKeeps heap state book (advance_turn state.collector)
   advance_kept machine =

@@ -16,7 +16,7 @@ use Rattle.core_machine.specs.declared.place.Place.TheVariants as places
 use Rattle.core_machine.specs.declared.place.Polling.TheVariants.{Answering}
 use Rattle.core_machine.specs.seat.HandshakeMoves.{answer_move}
 use Rattle.core_machine.specs.seat.Commands.{target_of}
-use Rattle.core_machine.specs.seat.Fits.{Fits, IsAtRest, SeatIsAnswering as IsAnswering}
+use Rattle.core_machine.specs.seat.Fits.{IsAtRest, SeatIsAnswering as IsAnswering}
 use Rattle.core_machine.specs.table.Layout.{at, put}
 use Rattle.core_machine.specs.machine.Machine.{State, seat_at, state_after_move}
 use Rattle.core_machine.specs.Moves.{seat_after}
@@ -31,8 +31,8 @@ use Rattle.core_rule.specs.Phases.{Asks, answer_word}
 use Rattle.core_rule.specs.Rule.{Rule, HeapStands, SeatStands}
 use Rattle.core_rule.proofs.entries.AnswerEntries.{graph_answer, graph_reply, phase_answer, accepts_reply, has_answered, keeps_answer, keeps_reply}
 use Rattle.core_rule.proofs.cycle.AnswerWords.{fragments_answer, heap_cycle_answer, leaves_answer}
-use Rattle.core_rule.proofs.steps.Assemble.{Keeps, seat_steps, fit_after, StepKeeps}
-use Rattle.core_rule.proofs.entries.AtRest.{in_flight, none_awaited, spent_own, few_own}
+use Rattle.core_rule.proofs.steps.Assemble.{Keeps, seat_steps, StepKeeps}
+use Rattle.core_rule.proofs.entries.AtRest.{seat_fits, in_flight, none_awaited, spent_own, few_own}
 use Rattle.core_rule.proofs.cycle.CycleFrames.{cycle_stays}
 use Rattle.core_rule.proofs.cycle.FieldFrames.{watched_born}
 use Rattle.core_rule.proofs.cycle.CycleHistory.{heap_cycle_more, cycle_other}
@@ -85,21 +85,18 @@ module _ (heap : Heap) (state : State) (book : Book) (number : ℕ) (rule : Rule
   stands = rule.seats_stand number here
 
   rest : IsAtRest seat
-  rest = rw place at stands.fits.at_place
-
-  fits : Fits heap now
-  fits = fit_after heap state book number rule here machine
+  rest = rw place at (seat_fits rule number here).at_place
 
   polls : seat.command ≡ commands.Poll
   polls =
-      let answers : IsAnswering seat × (seat.shaded ≡ length (roots seat)) = rw place at stands.fits.answer_at_place in
+      let answers : IsAnswering seat × (seat.shaded ≡ length (roots seat)) = rw place at (seat_fits rule number here).answer_at_place in
       answers.0.polls
 
   asks : Asks (phase book.history) seat.answered p
   asks = rw place at stands.cycle.answer
 
   stays : seat.left ≡ false
-  stays = in_flight heap seat stands.fits (λ idle. absurd (cc (place, idle)))
+  stays = in_flight rule number here (λ idle. absurd (cc (place, idle)))
 
   present : (graph_seat g number).left ≡ false
   present = stands.told.counts.leaves ∙ stays
@@ -167,7 +164,6 @@ module _ (heap : Heap) (state : State) (book : Book) (number : ℕ) (rule : Rule
       = counts_own g (graph_of heap middle.history) book.history number seat seat stands.told.counts first own
       (rw graph stands.told.counts.numbered) (rw graph stands.told.counts.stamped) (rw graph stands.told.counts.leaves) (omega arith) in
       record {
-        fits = fits;
         own = record {
           holding = holding_as book.owner number seat.reserve seat.hand seat.body seat.reserve [] [] refl (sym rest.empty_hand) (sym rest.no_body) stands.own.holding;
           stored = none_stored heap words number now refl;

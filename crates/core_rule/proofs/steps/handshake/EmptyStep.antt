@@ -24,8 +24,8 @@ use Rattle.core_machine.specs.seat.Seat.{Seat}
 use Rattle.core_rule.specs.Book.{Book}
 use Rattle.core_rule.specs.Gathers.{IsAnswered}
 use Rattle.core_rule.proofs.frames.SeatFrames.{registers_owners}
-use Rattle.core_rule.proofs.steps.Assemble.{seat_steps, fit_after, StepKeeps}
-use Rattle.core_rule.proofs.entries.AtRest.{in_flight, own_reserve, none_awaited}
+use Rattle.core_rule.proofs.steps.Assemble.{seat_steps, StepKeeps}
+use Rattle.core_rule.proofs.entries.AtRest.{seat_fits, in_flight, own_reserve, none_awaited}
 use Rattle.core_rule.proofs.hand.EmptyHand.{nothing_together, gathers_none}
 use Rattle.core_rule.proofs.frames.GivingBack.{words_given, book_given, graph_given, kept_given, heap_given, cycle_given, other_given}
 use Rattle.core_rule.proofs.entries.InFlight.{began_past}
@@ -44,13 +44,13 @@ empty_keeps heap state book number rule here place machine =
     let now : Seat = seat_after (empty_move number seat) (at heap state.words (Control seat.cursor)) in
     let entry : Entry = entries.GivesBack number (length fs) in
     let g : Graph = graph_of heap book.history in
-    let at_place : IsAtRest seat × (seat.command ≡ commands.Leave) × (0 < length seat.reserve) = rw place at stands.fits.at_place in
+    let at_place : IsAtRest seat × (seat.command ≡ commands.Leave) × (0 < length seat.reserve) = rw place at (seat_fits rule number here).at_place in
     let rest : IsAtRest seat = at_place.0 in
     let busy : seat.place ≢ places.Idle = λ idle. absurd (cc (place, idle)) in
-    let present : (graph_seat g number).left ≡ false = stands.told.counts.leaves ∙ in_flight heap seat stands.fits busy in
+    let present : (graph_seat g number).left ≡ false = stands.told.counts.leaves ∙ in_flight rule number here busy in
     let awaits = rw place at stands.told.list.awaits in
     let told : seat.mine ≡ filter (is_of number) book.history = all_told seat.mine stands.told.list.awaited (filter (is_of number) book.history) stands.told.list.own awaits in
-    let below : seat.cursor < heap.groups = stands.fits.own.cursor_within in
+    let below : seat.cursor < heap.groups = (seat_fits rule number here).own.cursor_within in
     let held = reserve_held book.owner number fs seat.hand seat.body stands.own.holding in
     let once = reserve_once book.owner number fs seat.hand seat.body stands.own.holding in
     let graph = graph_given heap state book number rule here seat.cursor fs below held once in
@@ -59,10 +59,9 @@ empty_keeps heap state book number rule here place machine =
     let own : length fs + spent_of number book.history ≡ taken_of number book.history = own_reserve heap state book number rule here rest in
     seat_steps heap state book number (words_given heap state book number rule here seat.cursor fs below held once) now later (entry ∷ []) rule here machine refl refl
     (heap_given heap state book number rule here seat.cursor fs below held once
-    (emptied_bits book.owner number fs seat.hand seat.body stands.own.holding heap state.words seat.cursor rule.machine.table below stands.fits.own.reserve_of_cursor rule.heap_stands.control_words)
+    (emptied_bits book.owner number fs seat.hand seat.body stands.own.holding heap state.words seat.cursor rule.machine.table below (seat_fits rule number here).own.reserve_of_cursor rule.heap_stands.control_words)
     present at_place.2 (omega (arith, own)))
     record {
-      fits = fit_after heap state book number rule here machine;
       own = record {
         holding = holding_emptied book.owner number fs seat.hand seat.body stands.own.holding;
         stored = stored_control heap state.words number seat seat.cursor _ below stands.own.stored;

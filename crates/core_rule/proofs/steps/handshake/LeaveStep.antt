@@ -33,7 +33,7 @@ use Rattle.core_rule.specs.Objects.{Objects}
 use Rattle.core_rule.specs.Registers as regs
 use Rattle.core_rule.proofs.cycle.AnswerWords.{fragments_answer, heap_cycle_answer, leaves_answer}
 use Rattle.core_rule.proofs.steps.Assemble.{StepKeeps}
-use Rattle.core_rule.proofs.entries.AtRest.{in_flight, own_reserve, spent_own}
+use Rattle.core_rule.proofs.entries.AtRest.{seat_fits, in_flight, own_reserve, spent_own}
 use Rattle.core_rule.proofs.frames.EntryFrames.{SameFragments}
 use Rattle.core_rule.proofs.graph.GraphSeats.{SeatChanges, party_is, one_changes}
 use Rattle.core_rule.proofs.entries.Legality.{legal_more, keeps_said}
@@ -59,9 +59,9 @@ leave_keeps heap state book number rule here place machine =
     let g : Graph = graph_of heap book.history in
     let words : List ℕ = put heap state.words (Answer number) LEFT in
     let stands = rule.seats_stand number here in
-    let at_place : IsAtRest seat × (seat.command ≡ commands.Leave) × (seat.reserve ≡ []) = rw place at stands.fits.at_place in
+    let at_place : IsAtRest seat × (seat.command ≡ commands.Leave) × (seat.reserve ≡ []) = rw place at (seat_fits rule number here).at_place in
     let busy : seat.place ≢ places.Idle = λ idle. absurd (cc (place, idle)) in
-    let present : (graph_seat g number).left ≡ false = stands.told.counts.leaves ∙ in_flight heap seat stands.fits busy in
+    let present : (graph_seat g number).left ≡ false = stands.told.counts.leaves ∙ in_flight rule number here busy in
     let awaits = rw place at stands.told.list.awaits in
     let small : number < 16 = omega (arith, here, rule.machine.limits.seats_fit) in
     let now : Graph = after_reply g number seat.command replies.Done in

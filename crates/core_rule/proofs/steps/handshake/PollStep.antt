@@ -28,9 +28,9 @@ use Rattle.core_rule.specs.Book.{Book}
 use Rattle.core_rule.specs.Cycle.{SeatInCycle}
 use Rattle.core_rule.specs.Phases.{Asks, PollingStands}
 use Rattle.core_rule.specs.Rule.{Rule, SeatStands}
-use Rattle.core_rule.proofs.steps.Assemble.{Keeps, seat_steps, fit_after, StepKeeps}
+use Rattle.core_rule.proofs.steps.Assemble.{Keeps, seat_steps, StepKeeps}
 use Rattle.core_rule.proofs.cycle.Roots.{roots_marked}
-use Rattle.core_rule.proofs.entries.AtRest.{in_flight, none_awaited}
+use Rattle.core_rule.proofs.entries.AtRest.{seat_fits, in_flight, none_awaited}
 use Rattle.core_rule.proofs.entries.InFlight.{began_on}
 use Rattle.core_rule.proofs.graph.LocalReplies.{IsLocalReply, HoldAll}
 use Rattle.core_rule.proofs.steps.LocalStep.{local_reply_keeps}
@@ -69,13 +69,13 @@ module _ (heap : Heap) (state : State) (book : Book) (number : ℕ) (rule : Rule
   stands = rule.seats_stand number here
 
   rest : IsAtRest seat
-  rest = rw place at stands.fits.at_place
+  rest = rw place at (seat_fits rule number here).at_place
 
   asks : IsSilent seat × (seat.command ≡ commands.Poll)
-  asks = rw place at stands.fits.answer_at_place
+  asks = rw place at (seat_fits rule number here).answer_at_place
 
   stays : seat.left ≡ false
-  stays = in_flight heap seat stands.fits (λ idle. absurd (cc (place, idle)))
+  stays = in_flight rule number here (λ idle. absurd (cc (place, idle)))
 
   is_phase : found ≡ phase book.history
   is_phase = rule.heap_stands.cycle.word
@@ -129,7 +129,6 @@ module _ (heap : Heap) (state : State) (book : Book) (number : ℕ) (rule : Rule
       → Keeps heap (record state { words = words; seats = slice_set state.seats number next }) book book.begun []) (sym (put-at heap state.words Phase))
       (λ same. seat_steps heap state book number state.words next book [] rule here same (sym (append-nil book.history)) refl rule.heap_stands
       record {
-        fits = fit_after heap state book number rule here same;
         own = record { holding = stands.own.holding; stored = stands.own.stored; together = stands.own.together };
         names = record { registers = λ i awake. holds i; way = tt };
         told = record {

@@ -20,7 +20,7 @@ use Rattle.core_rule.specs.Flight.{RootsStand, WhilePolling}
 use Rattle.core_rule.specs.Gathers.{IsAnswered}
 use Rattle.core_rule.specs.Phases.{Asks, PollingStands, AnswerStands}
 use Rattle.core_rule.specs.Registers.{IsAwaited, HoldsValue}
-use Rattle.core_rule.proofs.steps.Assemble.{StepKeeps}
+use Rattle.core_rule.proofs.steps.Assemble.{StepKeeps, seat_fits}
 use Rattle.core_rule.proofs.cycle.CycleFrames.{cycle_by_flight}
 use Rattle.core_rule.proofs.colours.Births.{births_stay}
 use Rattle.core_rule.proofs.cycle.Roots.{FrontMarked, front_more, roots_all, roots_marked}
@@ -45,7 +45,7 @@ root_keeps heap state book number rule here place machine =
     let g : Graph = graph_of heap book.history in
     let p : ℕ = phase book.history in
     let stands = rule.seats_stand number here in
-    let fits : FitsAnswers seat × (seat.shaded < length (roots seat)) = rw place at stands.fits.answer_at_place in
+    let fits : FitsAnswers seat × (seat.shaded < length (roots seat)) = rw place at (seat_fits rule number here).answer_at_place in
     let asks : Asks p seat.answered seat.asked = subst (λ x. AnswerStands p seat.answered seat.asked x) place stands.cycle.answer in
     let third : (seat.asked % 7 == 3) ≡ true = roots_third (seat.asked % 7 == 3) (heads_of seat.registers) seat.shaded fits.1 in
     let is_third : seat.asked % 7 ≡ 3 = eqb-true (seat.asked % 7) 3 third in

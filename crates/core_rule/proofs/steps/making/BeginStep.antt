@@ -16,13 +16,14 @@ use Rattle.core_rule.specs.Book.{Book}
 use Rattle.core_rule.specs.Gathers.{GathersRight}
 use Rattle.core_rule.specs.Registers.{IsAwaited}
 use Rattle.core_rule.specs.Rule.{Rule}
-use Rattle.core_rule.proofs.steps.Assemble.{fit_after, Keeps, seat_steps}
+use Rattle.core_rule.proofs.steps.Assemble.{Keeps, seat_steps, seat_fits}
 use Rattle.core_rule.proofs.entries.Begins.{begins, book_begun, heap_begins, began_now, other_begins}
 use Rattle.core_rule.proofs.hand.ClaimOrder.{together_goes_on}
 use Rattle.core_rule.proofs.hand.EmptyHand.{nothing_together}
 use Rattle.core_rule.proofs.gather.GatherMoves.{nothing_tried}
 use Rattle.core_rule.proofs.hand.GoesOn.{holding_goes_on, length_goes_on, gathers_goes_on, same_goes_on}
 use Rattle.core_rule.proofs.cycle.MakingCycle.{cycle_goes_on}
+use Rattle.core_rule.proofs.entries.OwnEntries.{counts_same}
 use Rattle.core_rule.proofs.entries.SeatLists.{list_of_making, idle_list}
 
 -- the begin of a call keeps the rule
@@ -33,18 +34,17 @@ begin_keeps heap state book number command rule here may a_record machine =
     let seat : Seat = record (seat_at state number) { command = command } in
     let next : Seat = gather_next heap seat in
     let stands = rule.seats_stand number here in
-    let rest : IsAtRest (seat_at state number) = rw may.idle at stands.fits.at_place in
+    let rest : IsAtRest (seat_at state number) = rw may.idle at (seat_fits rule number here).at_place in
     let stays = same_goes_on heap seat in
     let same = stays.same in
     seat_steps heap state book number state.words next (book_begun heap state.words book number) []
     rule here machine (sym (append-nil book.history)) refl
     (heap_begins heap state.words book number rule.heap_stands)
     record {
-      fits = fit_after heap state book number rule here machine;
       own = record {
         holding = holding_goes_on heap book.owner number seat rest.no_body stands.own.holding;
         stored = λ u below. absurd (none_below u next.stored (same.stored ∙ rest.none_stored) below);
-        together = together_goes_on heap seat rest.no_body stands.fits.own.cursor_within stands.fits.own.reserve_of_cursor
+        together = together_goes_on heap seat rest.no_body (seat_fits rule number here).own.cursor_within (seat_fits rule number here).own.reserve_of_cursor
             (nothing_together heap seat.cursor seat.tried seat.hand seat.body rest.empty_hand rest.no_body);
       };
       names = record {
@@ -54,12 +54,7 @@ begin_keeps heap state book number command rule here may a_record machine =
       told = record {
         list = list_of_making (graph_of heap book.history) book.history book.made book.owner book.fragments number next stays.making stays.placed
             (same.mine ∙ idle_list (graph_of heap book.history) book.history book.made book.owner book.fragments number (seat_at state number) may.idle stands.told.list);
-        counts = record {
-          numbered = same.made ∙ stands.told.counts.numbered;
-          stamped = same.sets ∙ stands.told.counts.stamped;
-          leaves = stands.told.counts.leaves ∙ sym same.left;
-          unborn = omega (arith, length_goes_on heap seat rest.no_body, stands.told.counts.unborn);
-        };
+        counts = counts_same (graph_of heap book.history) book.history number (seat_at state number) next same.made same.sets same.left (length_goes_on heap seat rest.no_body) stands.told.counts;
         began = began_now heap state.words book number next.place;
         gathers = gathers_goes_on heap book.owner number (drop (begins number (length book.history) book.begun number) book.history) seat rest.none_given
             (started (seat_at state number).tried (seat_at state number).given rest.none_tried rest.none_given

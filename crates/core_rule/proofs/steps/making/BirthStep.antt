@@ -21,7 +21,7 @@ use Rattle.core_rule.specs.Owners.{Owner, Borne, born_bit, owner_after}
 use Rattle.core_rule.specs.Rule.{Rule}
 use Rattle.core_rule.proofs.cycle.FieldFrames.{watched_born}
 use Rattle.core_rule.proofs.frames.SeatFrames.{same_party, told_nothing, kept_owners, seat_left, registers_owners}
-use Rattle.core_rule.proofs.steps.Assemble.{fit_after, seat_steps, MoveKeeps}
+use Rattle.core_rule.proofs.steps.Assemble.{seat_steps, MoveKeeps, seat_fits}
 use Rattle.core_rule.proofs.colours.Births.{birth_colour, births_are, are_births}
 use Rattle.core_rule.proofs.colours.BirthColours.{painted_cases}
 use Rattle.core_rule.proofs.cycle.BirthCycle.{words_born, colours_born, group_born, some_born, marks_born, heap_born}
@@ -80,11 +80,10 @@ birth_keeps heap state book number rule here place more machine =
           (λ away marked. marks _ (heap_stands.cycle.coloured.first marking f i k (kept.was f i k keeps) marked)));
     }
     record {
-      fits = fit_after heap state book number rule here machine;
       own = record {
         holding = holding_bears book.owner number seat.reserve seat.hand seat.body stands.own.holding g some;
         stored = stored_control heap state.words number seat g word below stands.own.stored;
-        together = together_bears heap seat.cursor seat.tried seat.hand seat.body stands.fits.hand.hand_within some stands.own.together;
+        together = together_bears heap seat.cursor seat.tried seat.hand seat.body (seat_fits rule number here).hand.hand_within some stands.own.together;
       };
       names = record {
         registers = registers_owners book.owner owner kept book.made book.fragments (graph_of heap book.history) number seat.registers seat.place (target_of seat.command) stands.names.registers;

@@ -30,7 +30,7 @@ use Rattle.core_rule.specs.Owners.{Owner, Free, Taken, Borne, Kept as KeepsPart,
 use Rattle.core_rule.specs.Together.{AreTogether}
 use Rattle.core_rule.proofs.cycle.FieldFrames.{watched_born}
 use Rattle.core_rule.proofs.frames.SeatFrames.{same_party, kept_owners, seat_left, registers_owners}
-use Rattle.core_rule.proofs.steps.Assemble.{fit_after, present_at, seat_steps, StepKeeps}
+use Rattle.core_rule.proofs.steps.Assemble.{present_at, seat_steps, StepKeeps, seat_fits}
 use Rattle.core_rule.proofs.colours.BirthColours.{marks_claim}
 use Rattle.core_rule.proofs.hand.Bodies.{whole_empty}
 use Rattle.core_rule.proofs.hand.ClaimOrder.{together_goes_on, together_claims}
@@ -98,8 +98,8 @@ claim_keeps heap state book number rule here place machine =
     let g_of : Graph = graph_of heap book.history in
     let mid : Seat = record seat { hand = seat.hand ++ fs; tried = seat.tried + 1 } in
     let next : Seat = seat_after (claim_move heap number seat) found in
-    let gathers : SeatIsGathering heap seat = rw place at stands.fits.at_place in
-    let below = next_within heap seat stands.fits.own.cursor_within in
+    let gathers : SeatIsGathering heap seat = rw place at (seat_fits rule number here).at_place in
+    let below = next_within heap seat (seat_fits rule number here).own.cursor_within in
     let once : (f : ℕ) → tally f fs ≤ 1 = λ f. clear_once g found f in
     let inside = clear_within heap state.words book.owner g rule.machine.table below heap_stands.control_words in
     let free = clear_is_free heap state.words book.owner g rule.machine.table below heap_stands.control_words in
@@ -124,14 +124,13 @@ claim_keeps heap state book number rule here place machine =
           refl (λ f there. ap born_bit (free f there)) kept (marks_claim heap state.words book.colour g rule.machine.table below heap_stands.cycle.marks) heap_stands.cycle);
     }
     record {
-      fits = fit_after heap state book number rule here machine;
       own = record {
         holding = holding_goes_on heap owner number mid gathers.no_body
             (holding_claims book.owner number seat.reserve seat.hand seat.body stands.own.holding fs once free gathers.no_body);
         stored = λ u less. absurd (none_below u next.stored seat.stored same.stored gathers.none_stored less);
-        together = together_goes_on heap mid gathers.no_body stands.fits.own.cursor_within stands.fits.own.reserve_of_cursor
+        together = together_goes_on heap mid gathers.no_body (seat_fits rule number here).own.cursor_within (seat_fits rule number here).own.reserve_of_cursor
             (subst (λ b. AreTogether heap seat.cursor (seat.tried + 1) (seat.hand ++ fs) b) (sym gathers.no_body)
-            (together_claims heap seat.cursor seat.tried seat.hand fs stands.fits.own.cursor_within gathers.groups_left (clear_in-group g found)
+            (together_claims heap seat.cursor seat.tried seat.hand fs (seat_fits rule number here).own.cursor_within gathers.groups_left (clear_in-group g found)
             (subst (λ b. AreTogether heap seat.cursor seat.tried seat.hand b) gathers.no_body stands.own.together)));
       };
       names = record {

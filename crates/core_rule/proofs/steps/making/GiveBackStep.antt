@@ -20,7 +20,7 @@ use Rattle.core_machine.specs.seat.Seat.{Seat}
 use Rattle.core_rule.specs.Book.{Book}
 use Rattle.core_rule.specs.Holding.{fragments_in_hand}
 use Rattle.core_rule.proofs.frames.SeatFrames.{registers_owners}
-use Rattle.core_rule.proofs.steps.Assemble.{fit_after, present_at, seat_steps, StepKeeps}
+use Rattle.core_rule.proofs.steps.Assemble.{present_at, seat_steps, StepKeeps, seat_fits}
 use Rattle.core_rule.proofs.hand.Bodies.{whole_empty}
 use Rattle.core_rule.proofs.hand.ClaimOrder.{together_gives}
 use Rattle.core_rule.proofs.words.ControlSteps.{give_back_bits}
@@ -53,9 +53,9 @@ give_back_keeps heap state book number rule here place machine =
     let now : Seat = seat_after (give_back_move number seat) (at heap state.words (Control g)) in
     let entry : Entry = entries.GivesBack number (length part) in
     let before : Graph = graph_of heap book.history in
-    let at_place : SeatIsRefusing heap seat × (0 < length seat.hand) = rw place at stands.fits.at_place in
+    let at_place : SeatIsRefusing heap seat × (0 < length seat.hand) = rw place at (seat_fits rule number here).at_place in
     let refuses = at_place.0 in
-    let below = first_within heap seat stands.fits at_place.1 in
+    let below = first_within heap seat (seat_fits rule number here) at_place.1 in
     let some = first_some seat.hand at_place.1 in
     let held = part_held book.owner number seat.reserve seat.hand seat.body stands.own.holding g in
     let once = part_once book.owner number seat.reserve seat.hand seat.body stands.own.holding g in
@@ -70,7 +70,6 @@ give_back_keeps heap state book number rule here place machine =
     (hand_once book.owner number seat.reserve seat.hand seat.body stands.own.holding) (hand_held book.owner number seat.reserve seat.hand seat.body stands.own.holding))
     present some (gives_own seat.reserve seat.hand seat.body g (spent_of number book.history) (taken_of number book.history) refuses.no_body stands.told.counts.unborn))
     record {
-      fits = fit_after heap state book number rule here machine;
       own = record {
         holding = holding_gives book.owner number seat.reserve seat.hand seat.body stands.own.holding g refuses.no_body;
         stored = stored_control heap state.words number seat g _ below stands.own.stored;
@@ -88,7 +87,7 @@ give_back_keeps heap state book number rule here place machine =
         began = began_past book.history entry number (book.begun number) seat.place (places.Making (refusal_place (part_out g seat.hand))) refl (λ still. is_busy Returning seat.place place) stands.told.began;
         gathers = own_gives heap book.owner book.history number part once (held_within heap state.words book.owner rule.heap_stands.control_words number part held) rule.heap_stands.used
             (book.begun number) stands.told.began.earlier seat.cursor seat.tried seat.given held
-            stands.fits.own.cursor_within (tried_within heap seat seat.place stands.fits.at_place) stands.told.gathers;
+            (seat_fits rule number here).own.cursor_within (tried_within heap seat seat.place (seat_fits rule number here).at_place) stands.told.gathers;
       };
       cycle = cycle_given heap state book number rule here g part below held once now record { answered = refl; left = refl; asked = refl } tt;
     }

@@ -24,7 +24,7 @@ use Rattle.core_rule.specs.Book.{Book}
 use Rattle.core_rule.specs.Objects.{AreMade}
 use Rattle.core_rule.specs.Rule.{Rule}
 use Rattle.core_rule.proofs.cycle.FieldFrames.{watched_born}
-use Rattle.core_rule.proofs.steps.Assemble.{fit_after, present_at, seat_steps, MoveKeeps}
+use Rattle.core_rule.proofs.steps.Assemble.{present_at, seat_steps, MoveKeeps, seat_fits}
 use Rattle.core_rule.proofs.colours.Births.{birth_colour, AreBorne, births_are, are_births}
 use Rattle.core_rule.proofs.colours.BirthColours.{painted}
 use Rattle.core_rule.proofs.cycle.BirthCycle.{words_born, group_born, some_born, marks_born, heap_born}
@@ -83,9 +83,9 @@ last_birth_keeps heap state book number rule here place last machine =
     let stands = rule.seats_stand number here in
     let present = present_at heap state book number Bearing rule here place in
     let list = making_list (graph_of heap book.history) book.history book.made book.owner book.fragments number seat Bearing place stands.told.list in
-    let at_place : HasBody seat × (0 < length seat.hand) × (length seat.hand ≤ length body) × (seat.stored ≡ 4 * length body) = rw place at stands.fits.at_place in
+    let at_place : HasBody seat × (0 < length seat.hand) × (length seat.hand ≤ length body) × (seat.stored ≡ 4 * length body) = rw place at (seat_fits rule number here).at_place in
     let has = at_place.0 in
-    let silent : IsSilent seat = rw place at stands.fits.answer_at_place in
+    let silent : IsSilent seat = rw place at (seat_fits rule number here).answer_at_place in
     let below = group_born heap state book number rule here place in
     let some = some_born heap state book number rule here place in
     let d : ℕ = target_of seat.command in
@@ -119,7 +119,7 @@ last_birth_keeps heap state book number rule here place last machine =
           (objects_grown heap state.words g grown book.made id book.owner book.fragments fields body ids more new rule.heap_stands.objects));
       used = used_made heap now.owner book.history number seat (used_same heap book.owner now.owner book.history
           (kept_taken book.owner number seat.reserve seat.hand body stands.own.holding some (length book.made)) rule.heap_stands.used);
-      legal = made_legal g book.history number seat stands.told.counts has.whole some present heap refl has.makes.a_record has.makes.in_range stands.fits.own.small_reserve rule.heap_stands.legal;
+      legal = made_legal g book.history number seat stands.told.counts has.whole some present heap refl has.makes.a_record has.makes.in_range (seat_fits rule number here).own.small_reserve rule.heap_stands.legal;
       cycle = heap_cycle_more heap words now.owner now.colour book.history entry refl now.fragments
           (heap_born heap state book number rule here place now.owner now.fragments
           (kept_bears book.owner book.colour number seat.reserve seat.hand body stands.own.holding some group (length book.made) last black births)
@@ -127,7 +127,6 @@ last_birth_keeps heap state book number rule here place last machine =
           heap state.words book.fragments (phase book.history) rule.heap_stands.cycle.coloured marks (λ f i k keeps. old_apart book.made i (rule.heap_stands.objects.back f i k keeps).0)));
     }
     record {
-      fits = fit_after heap state book number rule here machine;
       own = record {
         holding = kept_holding book.owner number seat.reserve seat.hand body stands.own.holding some (length book.made);
         stored = λ u none. absurd (omega (arith, none));
@@ -135,7 +134,7 @@ last_birth_keeps heap state book number rule here place last machine =
       };
       names = record {
         registers = rw graph (λ r still. registers_own g number d (fresh false fields) present book.made id book.owner book.fragments body unkept once some
-            (number_new g grown book.made id (fresh false fields) ids more) seat.registers (omega (arith, stands.fits.own.registers_whole, ranges.1))
+            (number_new g grown book.made id (fresh false fields) ids more) seat.registers (omega (arith, (seat_fits rule number here).own.registers_whole, ranges.1))
             (omega (arith, registers_length heap book.history number present, ranges.1)) (ap (Made number) stands.told.counts.numbered)
             (λ i. stands.names.registers i (awaits_none Bearing seat.place d i place)) r);
         way = tt;

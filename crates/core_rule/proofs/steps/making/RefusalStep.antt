@@ -21,7 +21,7 @@ use Rattle.core_machine.specs.seat.Seat.{Seat, need}
 use Rattle.core_machine.specs.machine.Value.{IsMachine}
 use Rattle.core_machine.proofs.table_lemmas.Addresses.{put-at}
 use Rattle.core_rule.specs.Gathers.{GathersRight}
-use Rattle.core_rule.proofs.steps.Assemble.{fit_after, present_at, Keeps, seat_steps, StepKeeps}
+use Rattle.core_rule.proofs.steps.Assemble.{present_at, Keeps, seat_steps, StepKeeps, seat_fits}
 use Rattle.core_rule.proofs.hand.Bodies.{bare_hand}
 use Rattle.core_rule.proofs.cycle.CycleHistory.{heap_cycle_more, cycle_own, cycle_other}
 use Rattle.core_rule.proofs.hand.EmptyHand.{nothing_together, none_stored, holding_as}
@@ -44,7 +44,7 @@ refusal_keeps heap state book number rule here place machine =
     let seat : Seat = seat_at state number in
     let entry : Entry = full_entry number seat in
     let stands = rule.seats_stand number here in
-    let fits = stands.fits in
+    let fits = seat_fits rule number here in
     let at_place : SeatIsRefusing heap seat × (seat.hand ≡ []) = rw place at fits.at_place in
     let refuses = at_place.0 in
     let silent : IsSilent seat = rw place at fits.answer_at_place in
@@ -74,7 +74,6 @@ refusal_keeps heap state book number rule here place machine =
     (heap_past heap state.words state.words (fragments_same heap state.words) book entry nodes record { taken = refl; given = refl; freed = refl } legal
     (heap_cycle_more heap state.words book.owner book.colour book.history entry refl book.fragments rule.heap_stands.cycle) rule.heap_stands)
     record {
-      fits = fit_after heap state book number rule here whole;
       own = record {
         holding = holding_as book.owner number seat.reserve seat.hand seat.body seat.reserve [] [] refl (sym at_place.1) (sym refuses.no_body) stands.own.holding;
         stored = none_stored heap state.words number (seat_after (refusal_move number seat) (at heap state.words Phase)) refl;

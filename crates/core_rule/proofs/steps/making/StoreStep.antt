@@ -17,7 +17,7 @@ use Rattle.core_machine.specs.seat.Seat.{Seat}
 use Rattle.core_rule.specs.Book.{fragment_at}
 use Rattle.core_rule.specs.Owners.{born_bit}
 use Rattle.core_rule.proofs.words.Addresses.{at-put_apart}
-use Rattle.core_rule.proofs.steps.Assemble.{fit_after, seat_steps, StepKeeps}
+use Rattle.core_rule.proofs.steps.Assemble.{seat_steps, StepKeeps, seat_fits}
 use Rattle.core_rule.proofs.hand.Bodies.{body_once, body_at-own}
 use Rattle.core_rule.proofs.cycle.CycleFrames.{cycle_stays}
 use Rattle.core_rule.proofs.cycle.FieldFrames.{leaves_store, watched_born, heap_store}
@@ -42,7 +42,7 @@ store_keeps heap state book number rule here place machine =
     let found : ℕ = at heap state.words (Word f part) in
     let words : List ℕ = put heap state.words (Word f part) word in
     let stands = rule.seats_stand number here in
-    let at_place : HasBody seat × (seat.hand ≡ seat.body) × (seat.stored < 4 * length seat.body) = rw place at stands.fits.at_place in
+    let at_place : HasBody seat × (seat.hand ≡ seat.body) × (seat.stored < 4 * length seat.body) = rw place at (seat_fits rule number here).at_place in
     let row : seat.stored / 4 < length seat.body = omega (arith, at_place.2) in
     let fits_part : part < 4 = omega arith in
     let own : IsOwn number (book.owner f) = body_at-own book.owner number seat.reserve seat.hand seat.body stands.own.holding (seat.stored / 4) row in
@@ -61,10 +61,9 @@ store_keeps heap state book number rule here place machine =
       cycle = heap_store heap state.words book.owner book.colour (phase book.history) f part word fits_part unborn book.fragments rule.heap_stands.cycle;
     }
     record {
-      fits = fit_after heap state book number rule here machine;
       own = record {
         holding = stands.own.holding;
-        stored = store_next heap seat.body (newborn_word_of number seat) state.words seat.stored once stands.fits.hand.body_within at_place.2 rule.machine.table stands.own.stored;
+        stored = store_next heap seat.body (newborn_word_of number seat) state.words seat.stored once (seat_fits rule number here).hand.body_within at_place.2 rule.machine.table stands.own.stored;
         together = stands.own.together;
       };
       names = record { registers = λ r fresh. stands.names.registers r (awaits_none Storing seat.place (target_of seat.command) r place); way = tt };
@@ -80,11 +79,10 @@ store_keeps heap state book number rule here place machine =
           (at-put_apart heap state.words (Word f part) (Answer number) word (λ e. omega (arith, e, here, rule.machine.limits.seats_fit))) (λ x borne. borne) stands.cycle;
     }
     (λ r below apart other. record {
-      fits = other.fits;
       own = record {
         holding = other.own.holding;
         stored = stored_store heap state.words book.owner r (seat_at state r) f part word other.own.holding
-            (stored_within heap (seat_at state r) (seat_at state r).place other.fits.at_place) fits_part (λ o. apart (own_not_others r number (book.owner f) o own)) other.own.stored;
+            (stored_within heap (seat_at state r) (seat_at state r).place (seat_fits rule r below).at_place) fits_part (λ o. apart (own_not_others r number (book.owner f) o own)) other.own.stored;
         together = other.own.together;
       };
       names = other.names;
