@@ -8,13 +8,14 @@ use Rattle.heap_model.specs.declared.heap.Heap.{Heap}
 use Rattle.heap_model.specs.declared.id.Id.{Id}
 use Rattle.heap_model.specs.declared.reply.Reply.{Reply}
 use Rattle.heap_model.specs.declared.reply.Reply.TheVariants as replies
-use Rattle.heap_model.specs.account.Account.{KeepsSpace, IsLegal, most_kept}
-use Rattle.heap_model.specs.account.Cycles.{graph_of}
+use Rattle.heap_model.specs.account.Account.{KeepsSpace, IsLegal, most_kept, TakesAndGives, MakesOfOwn}
+use Rattle.heap_model.specs.account.Cycles.{graph_of, EndsCycle}
 use Rattle.heap_model.specs.graph.Legal.{Accepts}
 use Rattle.heap_model.specs.Needs.{record_fragments, made_by}
-use Rattle.heap_model.specs.account.Phases.{AnswersPhase, BeginsPhase, ShowsPhases}
-use Rattle.heap_model.specs.account.Refusals.{FindsSpace, ShowsSpace, ShowsSpine}
+use Rattle.heap_model.specs.account.Phases.{AnswersPhase, BeginsPhase, ShowsPhases, ShowsRightly}
+use Rattle.heap_model.specs.account.Refusals.{FindsSpace, RefusesRightly, RefusesSpine, ShowsSpace, ShowsSpine}
 use Rattle.heap_model.specs.account.Space.{fragments_gained, fragments_lost, taken_of, spent_of}
+use Rattle.heap_model.specs.account.Sweep.{Sweeps}
 use Rattle.heap_model.specs.graph.Graph.{opening}
 use Rattle.heap_model.proofs.Histories.{AcceptsAll-more, KeepsSpaceAfter-more}
 
@@ -26,94 +27,52 @@ legal_more heap play history entry legal accepts keeps = record {
   space = KeepsSpaceAfter-more heap {play = play} [] history entry legal.space keeps;
 }
 
+-- an entry keeps the rules where it keeps each: of what is taken and made, of what is told, and of phases
+keeps_rules : (heap : Heap) (play : Bool) (before : List Entry) (entry : Entry) → TakesAndGives heap before entry → MakesOfOwn before entry
+    → RefusesRightly heap play before entry × RefusesSpine heap play before entry × ShowsRightly heap play before entry → AnswersPhase before entry → BeginsPhase heap before entry
+    → Sweeps heap before entry × EndsCycle heap before entry → KeepsSpace heap play before entry
+keeps_rules heap play before entry takes makes tells answers begins ends = record {
+  takes = takes;
+  makes = makes;
+  refuses = tells.0;
+  refuses_spine = tells.1;
+  answers = answers;
+  begins = begins;
+  sweeps = ends.0;
+  ends = ends.1;
+  shows = tells.2;
+}
+
 -- the next phase begins
 pub keeps_begins : (heap : Heap) (play : Bool) (before : List Entry) (p : ℕ) → BeginsPhase heap before (entries.Advance p) → KeepsSpace heap play before (entries.Advance p)
-keeps_begins heap play before p next = record {
-  takes = tt;
-  makes = tt;
-  refuses = tt;
-  refuses_spine = tt;
-  answers = tt;
-  begins = next;
-  sweeps = tt;
-  ends = tt;
-  shows = tt;
-}
+keeps_begins heap play before p next = keeps_rules heap play before (entries.Advance p) tt tt (tt, tt, tt) tt next (tt, tt)
 
 module _ (heap : Heap) (play : Bool) (before : List Entry) (number : ℕ) where
   -- a seat takes what is in no use
   pub keeps_takes : (count : ℕ) → 1 ≤ count → fragments_gained before + count ≤ 16 * heap.groups + fragments_lost before → KeepsSpace heap play before (entries.Takes number count)
-  keeps_takes count some room = record {
-    takes = (some, room);
-    makes = tt;
-    refuses = tt;
-    refuses_spine = tt;
-    answers = tt;
-    begins = tt;
-    sweeps = tt;
-    ends = tt;
-    shows = tt;
-  }
+  keeps_takes count some room = keeps_rules heap play before (entries.Takes number count) (some, room) tt (tt, tt, tt) tt tt (tt, tt)
 
   -- it gives back what it has
   pub keeps_gives : (count : ℕ) → 1 ≤ count → spent_of number before + count ≤ taken_of number before → KeepsSpace heap play before (entries.GivesBack number count)
-  keeps_gives count some own = record {
-    takes = (some, own);
-    makes = tt;
-    refuses = tt;
-    refuses_spine = tt;
-    answers = tt;
-    begins = tt;
-    sweeps = tt;
-    ends = tt;
-    shows = tt;
-  }
+  keeps_gives count some own = keeps_rules heap play before (entries.GivesBack number count) (some, own) tt (tt, tt, tt) tt tt (tt, tt)
 
   -- it answers the phase that comes after its last answer
   pub keeps_answers : (p : ℕ) → AnswersPhase before (entries.Answers number p) → KeepsSpace heap play before (entries.Answers number p)
-  keeps_answers p next = record {
-    takes = tt;
-    makes = tt;
-    refuses = tt;
-    refuses_spine = tt;
-    answers = next;
-    begins = tt;
-    sweeps = tt;
-    ends = tt;
-    shows = tt;
-  }
+  keeps_answers p next = keeps_rules heap play before (entries.Answers number p) tt tt (tt, tt, tt) next tt (tt, tt)
 
   -- it makes a record of what it has, and keeps little
   pub keeps_made : (d fields : ℕ) (id : Id) → spent_of number before + record_fragments fields ≤ taken_of number before
       → taken_of number before ≤ spent_of number before + record_fragments fields + 15
       → KeepsSpace heap play before (entries.Said number (commands.New d fields) (replies.Made id))
-  keeps_made d fields id enough little = record {
-    takes = tt;
-    makes = (enough, little);
-    refuses = tt;
-    refuses_spine = tt;
-    answers = tt;
-    begins = tt;
-    sweeps = tt;
-    ends = tt;
-    shows = tt;
-  }
+  keeps_made d fields id enough little =
+      keeps_rules heap play before (entries.Said number (commands.New d fields) (replies.Made id)) tt (enough, little) (tt, tt, tt) tt tt (tt, tt)
 
   -- it tells a reply that makes nothing, where it keeps little
   pub keeps_said : (command : Command) (reply : Reply) → made_by command reply ≡ 0 → ShowsSpace heap play before number command reply → ShowsSpine heap play before number command reply
       → ShowsPhases heap play before number command reply → spent_of number before ≤ taken_of number before → taken_of number before ≤ spent_of number before + most_kept command
       → KeepsSpace heap play before (entries.Said number command reply)
-  keeps_said command reply none space spine phases own little = record {
-    takes = tt;
-    makes = (omega (arith, none, own), omega (arith, none, little));
-    refuses = space;
-    refuses_spine = spine;
-    answers = tt;
-    begins = tt;
-    sweeps = tt;
-    ends = tt;
-    shows = phases;
-  }
+  keeps_said command reply none space spine phases own little =
+      keeps_rules heap play before (entries.Said number command reply) tt (omega (arith, none, own), omega (arith, none, little)) (space, spine, phases) tt tt (tt, tt)
 
   -- it is refused, where it shows what was found
   pub keeps_full : (d fields found : ℕ) → spent_of number before ≤ taken_of number before → taken_of number before ≤ spent_of number before + 15

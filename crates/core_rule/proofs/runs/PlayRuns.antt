@@ -24,6 +24,7 @@ use Rattle.core_rule.specs.Book.{Book}
 use Rattle.core_rule.specs.Laws.{IsAlone, AllIdle, OneCallAtATime, WholeCallsPlay, HappensAlone}
 use Rattle.core_rule.specs.Rule.{Rule}
 use Rattle.core_rule.proofs.entries.Begins.{begins}
+use Rattle.core_rule.proofs.steps.Assemble.{Keeps}
 use Rattle.core_rule.proofs.runs.PlayEntries.{AddsPlay, adds_play}
 use Rattle.core_rule.proofs.runs.Plays.{MayPlay, play_more, advancing, plain_keeps}
 use Rattle.core_rule.proofs.runs.Runs.{MachineStays, OpeningStands, EachStepKeeps, EachBeginKeeps, EachTurnKeeps, seat_of_step}
@@ -64,6 +65,17 @@ own_alone heap state new now number alone all stay own r below active =
       | inr apart ↦ absurd (active (ap (λ s. s.place) (stay r apart.1) ∙ alone r (rw all below) apart.1))
     ]
 
+-- so it is after the rule is kept, where what is added may stand in a play
+plays_next : {heap : Heap} {new : State} {book : Book} {begun : ℕ → ℕ} {added : List Entry} (keeps : Keeps heap new book begun added) → MayPlay heap book.history added → IsLegal heap true book.history
+    → ((r : ℕ) → r < heap.seats → (seat_at new r).place ≢ places.Idle → list_all (is_of r) (drop (keeps.now.begun r) keeps.now.history) ≡ true) → PlaysNext heap new book.history added
+plays_next {heap} {new} {book} {begun} {added} keeps may legal own =
+    let run : IsLegal heap false (book.history ++ added) = subst (IsLegal heap false) keeps.grown keeps.rule.heap_stands.legal in
+    record {
+      now = keeps.now;
+      grown = keeps.grown;
+      plays = record { rule = keeps.rule; legal = subst (IsLegal heap true) (sym keeps.grown) (play_more heap book.history added may legal run); own = own };
+    }
+
 step_plays : MachineStays → EachStepKeeps → (heap : Heap) (state : State) (book : Book) (number : ℕ) → PlaysOn heap state book → IsAlone state number → Can heap state (Steps number)
     → PlaysNext heap (state_after heap state (Steps number)) book.history (entries heap state (Steps number))
 step_plays stays steps heap state book number plays alone can =
@@ -75,17 +87,8 @@ step_plays stays steps heap state book number plays alone can =
     let earlier : book.begun number ≤ length book.history = (plays.rule.seats_stand number here).told.began.earlier in
     let own_now : list_all (is_of number) (drop (keeps.now.begun number) keeps.now.history) ≡ true
     = rw (keeps.calls, keeps.grown) (own_more number (book.begun number) book.history (entries heap state (Steps number)) earlier (plays.own number here active) adds.own) in
-    record {
-      now = keeps.now;
-      grown = keeps.grown;
-      plays = record {
-        rule = keeps.rule;
-        legal = subst (IsLegal heap true) (sym keeps.grown)
-            (play_more heap book.history (entries heap state (Steps number)) adds.may plays.legal (subst (IsLegal heap false) keeps.grown keeps.rule.heap_stands.legal));
-        own = own_alone heap state (state_after heap state (Steps number)) keeps.now number alone plays.rule.machine.seated
-            (λ r apart. moved_other heap state number r (next_move heap number (seat_at state number)) apart) own_now;
-      };
-    }
+    plays_next keeps adds.may plays.legal (own_alone heap state (state_after heap state (Steps number)) keeps.now number alone plays.rule.machine.seated
+    (λ r apart. moved_other heap state number r (next_move heap number (seat_at state number)) apart) own_now)
 
 nothing_since : (number : ℕ) (history : List Entry) → list_all (is_of number) (drop (length history) history) ≡ true
 nothing_since number [] = refl
@@ -99,16 +102,8 @@ begin_plays stays begin heap state book number command plays alone can =
     let first : begins number (length book.history) book.begun number ≡ length book.history = rw (eq-eqb number number refl) refl in
     let own_now : list_all (is_of number) (drop (keeps.now.begun number) keeps.now.history) ≡ true
     = rw (keeps.calls, same, first) (nothing_since number book.history) in
-    record {
-      now = keeps.now;
-      grown = keeps.grown;
-      plays = record {
-        rule = keeps.rule;
-        legal = subst (IsLegal heap true) (sym same) plays.legal;
-        own = own_alone heap state (state_after heap state (Begins number command)) keeps.now number alone plays.rule.machine.seated
-            (λ r apart. get_or-set_other state.seats number r _ absent_seat apart) own_now;
-      };
-    }
+    plays_next keeps tt plays.legal (own_alone heap state (state_after heap state (Begins number command)) keeps.now number alone plays.rule.machine.seated
+    (λ r apart. get_or-set_other state.seats number r _ absent_seat apart) own_now)
 
 -- what a turn of the collector adds may stand in a play
 turn_may : (heap : Heap) (before : List Entry) (collector : Collector) (stage : Stage) → MayPlay heap before (turn_at heap collector stage).adds
@@ -119,17 +114,7 @@ turn_plays : MachineStays → EachTurnKeeps → (heap : Heap) (state : State) (b
     → PlaysNext heap (state_after heap state Turns) book.history (entries heap state Turns)
 turn_plays stays turn heap state book plays idle can =
     let keeps = turn heap state book plays.rule can (stays heap state Turns plays.rule.machine can) in
-    record {
-      now = keeps.now;
-      grown = keeps.grown;
-      plays = record {
-        rule = keeps.rule;
-        legal = subst (IsLegal heap true) (sym keeps.grown)
-            (play_more heap book.history (entries heap state Turns) (turn_may heap book.history state.collector state.collector.stage) plays.legal
-            (subst (IsLegal heap false) keeps.grown keeps.rule.heap_stands.legal));
-        own = λ r below active. absurd (active (idle r (rw plays.rule.machine.seated below)));
-      };
-    }
+    plays_next keeps (turn_may heap book.history state.collector state.collector.stage) plays.legal (λ r below active. absurd (active (idle r (rw plays.rule.machine.seated below))))
 
 module _ (stays : MachineStays) (steps : EachStepKeeps) (begin : EachBeginKeeps) (turn : EachTurnKeeps) where
   event_plays : (heap : Heap) (state : State) (book : Book) (event : Event) → PlaysOn heap state book → HappensAlone state event → Can heap state event

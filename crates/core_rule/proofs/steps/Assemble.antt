@@ -64,6 +64,12 @@ pub record Keeps (heap : Heap) (state : State) (book : Book) (begun : ℕ → �
   pub calls : now.begun ≡ begun
   pub rule : Rule heap state now
 
+-- a book that has grown by them keeps it where each part stands for it
+pub parts_keep : {heap : Heap} {state : State} {book : Book} {added : List Entry} (now : Book) → now.history ≡ book.history ++ added → IsMachine heap state → HeapStands heap state.words now
+    → ((r : ℕ) → r < heap.seats → SeatStands heap state.words now r (seat_at state r)) → CollectorAgrees heap state.collector now.history → Keeps heap state book now.begun added
+parts_keep now grown machine heap_stands seats collector =
+    record { now = now; grown = grown; calls = refl; rule = record { machine = machine; heap_stands = heap_stands; seats_stand = seats; collector_stands = collector } }
+
 -- a seat's move keeps the rule
 abbrev pub MoveKeeps : Heap → State → Book → ℕ → Move → Type 0
 MoveKeeps heap state book number move = IsMachine heap (state_after_move heap state number move)
@@ -100,15 +106,5 @@ seat_steps heap state book number words seat now added rule here machine grown n
     let stand : (r : ℕ) → r < heap.seats → SeatStands heap words now r (slice_index_or (slice_set state.seats number seat) r absent_seat)
     = λ r below. each_seat (λ n s. SeatStands heap words now n s) state.seats number seat (subst (λ n. number < n) (sym rule.machine.seated) here) self r
     (λ apart. others r below apart (rule.seats_stand r below)) in
-    record {
-      now = now;
-      grown = grown;
-      calls = refl;
-      rule = record {
-        machine = machine;
-        heap_stands = heap_after;
-        seats_stand = stand;
-        collector_stands = collector_stays heap state.collector book.history added now.history grown none
-            (λ r below present. few_answers heap words now r (slice_index_or (slice_set state.seats number seat) r absent_seat) (stand r below) present) rule.collector_stands;
-      };
-    }
+    parts_keep now grown machine heap_after stand (collector_stays heap state.collector book.history added now.history grown none
+    (λ r below present. few_answers heap words now r (slice_index_or (slice_set state.seats number seat) r absent_seat) (stand r below) present) rule.collector_stands)

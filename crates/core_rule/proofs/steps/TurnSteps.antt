@@ -1,5 +1,5 @@
 -- A turn of the collector keeps the rule, where the heap, each seat and the collector stand after it.
-use Rattle.std.proofs.Common.{◌≡◌, ℕ, ◌<◌, List, [], ◌++◌, refl, sym, subst}
+use Rattle.std.proofs.Common.{◌≡◌, ℕ, ◌<◌, List, [], ◌++◌, sym, subst}
 use Rattle.std.proofs.lemmas.List.{append-nil}
 use Rattle.heap_model.specs.declared.entry.Entry.{Entry}
 use Rattle.heap_model.specs.declared.heap.Heap.{Heap}
@@ -13,7 +13,7 @@ use Rattle.core_machine.proofs.table_lemmas.Addresses.{put-at}
 use Rattle.core_rule.specs.Book.{Book}
 use Rattle.core_rule.specs.Phases.{CollectorAgrees}
 use Rattle.core_rule.specs.Rule.{Rule, HeapStands, SeatStands}
-use Rattle.core_rule.proofs.steps.Assemble.{Keeps}
+use Rattle.core_rule.proofs.steps.Assemble.{Keeps, parts_keep}
 
 -- a turn of the collector keeps the rule
 abbrev pub TurnKeeps : Heap → State → Book → Turn → Type 0
@@ -34,17 +34,7 @@ pub turn_steps : (heap : Heap) (state : State) (book : Book) (words : List ℕ) 
     → ((r : ℕ) → r < heap.seats → SeatStands heap state.words book r (seat_at state r) → SeatStands heap words now r (seat_at state r))
     → CollectorAgrees heap collector now.history
     → Keeps heap (after_turn state words collector) book now.begun added
-turn_steps heap state book words collector now added rule machine grown heap_after seats collector_after = record {
-  now = now;
-  grown = grown;
-  calls = refl;
-  rule = record {
-    machine = machine;
-    heap_stands = heap_after;
-    seats_stand = λ r below. seats r below (rule.seats_stand r below);
-    collector_stands = collector_after;
-  };
-}
+turn_steps heap state book words collector now added rule machine grown heap_after seats collector_after = parts_keep now grown machine heap_after (λ r below. seats r below (rule.seats_stand r below)) collector_after
 
 -- the collector with no entry added
 abbrev pub quiet : Collector → Collector

@@ -29,7 +29,6 @@ use Rattle.core_rule.proofs.entries.AtRest.{seat_fits, in_flight, own_reserve, n
 use Rattle.core_rule.proofs.hand.EmptyHand.{nothing_together, gathers_none}
 use Rattle.core_rule.proofs.frames.GivingBack.{words_given, book_given, graph_given, kept_given, heap_given, cycle_given, other_given}
 use Rattle.core_rule.proofs.entries.InFlight.{began_past}
-use Rattle.core_rule.proofs.objects.ObjectFrames.{}
 use Rattle.core_rule.proofs.entries.OwnEntries.{counts_own, own_grows}
 use Rattle.core_rule.proofs.hand.ReserveGiven.{reserve_held, reserve_once, holding_emptied, emptied_bits}
 use Rattle.core_rule.proofs.entries.SeatLists.{whole_list, all_told}

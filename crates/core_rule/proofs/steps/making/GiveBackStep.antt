@@ -29,7 +29,6 @@ use Rattle.core_rule.proofs.frames.GivingBack.{words_given, book_given, graph_gi
 use Rattle.core_rule.proofs.hand.HandMoves.{hand_held, hand_once, part_held, part_once, held_within, holding_gives}
 use Rattle.core_rule.proofs.entries.InFlight.{awaits_none, tried_within, began_past, is_busy}
 use Rattle.core_rule.proofs.hand.MakingSeats.{first_within}
-use Rattle.core_rule.proofs.objects.ObjectFrames.{}
 use Rattle.core_rule.proofs.entries.OwnEntries.{own_grows, counts_own}
 use Rattle.core_rule.proofs.lists.Parts.{parts_length, first_some}
 use Rattle.core_rule.proofs.entries.SeatLists.{making_list, whole_list}
