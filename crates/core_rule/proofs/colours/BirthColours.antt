@@ -9,6 +9,7 @@ use Rattle.core_machine.specs.table.Layout.{at, put, table_length}
 use Rattle.core_machine.specs.seat.MakingMoves.{bears_black_of}
 use Rattle.core_machine.specs.table.Operation.{all_taken, word_without_taken, birth_bits_of}
 use Rattle.core_machine.specs.seat.Seat.{Seat}
+use Rattle.core_machine.proofs.table_lemmas.Masks.{mask-lt}
 use Rattle.core_rule.specs.Book.{Colour, White, Grey, Black, fragment_at}
 use Rattle.core_rule.specs.Colours.{Marks, WordPointsTo, IsMarked, IsBetween, Coloured, marked_bit, scanned_bit}
 use Rattle.core_rule.specs.Owners.{Owner, Kept, born_bit}
@@ -17,7 +18,7 @@ use Rattle.core_rule.proofs.owners.Handed.{none_or_some}
 use Rattle.core_rule.proofs.words.MarkBits.{claim_past, untaken_past, birth_marked, birth_scanned}
 use Rattle.core_rule.proofs.colours.Births.{birth_colour}
 use Rattle.core_rule.proofs.colours.MarkWords.{marks_after, found_marked, found_scanned}
-use Rattle.core_rule.proofs.words.MaskLemmas.{mask_bit, mask-lt}
+use Rattle.core_rule.proofs.words.MaskLemmas.{mask_bit}
 use Rattle.core_rule.proofs.owners.OwnerLemmas.{born_once}
 use Rattle.core_rule.proofs.lists.Parts.{part_in-here, part_in-away, parts_tally}
 

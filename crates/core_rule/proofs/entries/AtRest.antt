@@ -1,5 +1,6 @@
 -- A seat with a call in flight and nothing at hand: it hasn't left, and what it has of its own is little.
-use Rattle.std.proofs.Common.{◌≡◌, ◌≢◌, ℕ, ◌+◌, ◌<◌, ◌≤◌, Bool, true, false, length, refl, subst, arith}
+use Rattle.std.proofs.Common.{◌≡◌, ◌≢◌, ℕ, ◌+◌, ◌<◌, ◌≤◌, false, length, subst, arith}
+use Rattle.std.proofs.lemmas.Bool.{false_from_ne_true}
 use Rattle.heap_model.specs.declared.heap.Heap.{Heap}
 use Rattle.heap_model.specs.account.Space.{taken_of, spent_of}
 use Rattle.core_machine.specs.declared.place.Place.{Place}
@@ -18,11 +19,7 @@ seat_fits rule number here = rule.machine.fit number (rw rule.machine.seated her
 
 -- a seat with a call in flight hasn't left
 pub in_flight : {heap : Heap} {state : State} {book : Book} → Rule heap state book → (number : ℕ) → number < heap.seats → (seat_at state number).place ≢ places.Idle → (seat_at state number).left ≡ false
-in_flight {heap} {state} rule number here busy = by (seat_at state number).left (λ left. busy ((seat_fits rule number here).gone left).idle)
-  where
-    by : (left : Bool) → (left ≡ true → ⊥) → left ≡ false
-    by true none = absurd (none refl)
-    by false none = refl
+in_flight {heap} {state} rule number here busy = false_from_ne_true (seat_at state number).left (λ left. busy ((seat_fits rule number here).gone left).idle)
 
 -- a place at which no name is awaited
 pub none_awaited : (place now : Place) (d r : ℕ) → place ≡ now → ¬ IsAwaited now d r → ¬ IsAwaited place d r

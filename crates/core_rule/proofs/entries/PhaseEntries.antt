@@ -1,5 +1,6 @@
 -- The phase, the answers and the leaves of a history that grows.
 use Rattle.std.proofs.Common.{◌||◌, if◌then◌else◌, ◌≡◌, ℕ, ◌+◌, ◌≤◌, List, [], ◌∷◌, ◌++◌, filter, false, true, Bool, refl, sym, ap, ◌∙◌, arith, ◌≢◌}
+use Rattle.std.proofs.Math.Bool.{or-false, or-true}
 use Rattle.std.proofs.lemmas.List.{append-nil, append_assoc}
 use Rattle.heap_model.specs.declared.command.Command.{Command}
 use Rattle.heap_model.specs.declared.command.Command.TheVariants as commands
@@ -44,18 +45,10 @@ module _ (history : List Entry) (entry : Entry) where
     answered_grows = omega (arith, total_of-more number (λ e. e.answers) history entry)
 
     pub left_stays : is_leave_of number entry ≡ false → has_left number (history ++ entry ∷ []) ≡ has_left number history
-    left_stays none = any-more (is_leave_of number) history entry ∙ rw none (or_false (has_left number history))
-      where
-        or_false : (b : Bool) → (b || false) ≡ b
-        or_false true = refl
-        or_false false = refl
+    left_stays none = any-more (is_leave_of number) history entry ∙ rw none (or-false (has_left number history))
 
     pub left_once : is_leave_of number entry ≡ true → has_left number (history ++ entry ∷ []) ≡ true
-    left_once leave = any-more (is_leave_of number) history entry ∙ rw leave (or_true (has_left number history))
-      where
-        or_true : (b : Bool) → (b || true) ≡ true
-        or_true true = refl
-        or_true false = refl
+    left_once leave = any-more (is_leave_of number) history entry ∙ rw leave (or-true (has_left number history))
 
     present_before : has_left number (history ++ entry ∷ []) ≡ false → has_left number history ≡ false
     present_before none = front (has_left number history) (is_leave_of number entry) (sym (any-more (is_leave_of number) history entry) ∙ none)

@@ -1,13 +1,12 @@
 -- A reserve that is given back whole: it is of one group, and then the seat has nothing.
 use Rattle.std.specs.List.{All}
-use Rattle.std.proofs.Common.{◌≡◌, ℕ, ◌+◌, ◌/◌, ◌≤◌, ◌<◌, List, [], ◌∷◌, length, refl, sym, ap, ◌∙◌, subst, arith}
-use Rattle.std.proofs.lemmas.Bool.{eq-eqb}
-use Rattle.std.proofs.lemmas.List.Elements.{All-head, All-tail}
+use Rattle.std.proofs.Common.{◌≡◌, ℕ, ◌+◌, ◌/◌, ◌≤◌, ◌<◌, List, [], length, refl, sym, ap, ◌∙◌, subst, arith}
 use Rattle.heap_model.specs.declared.heap.Heap.{Heap}
 use Rattle.core_machine.specs.declared.table.address.Address.TheVariants.{Control}
-use Rattle.core_machine.specs.table.Fragments.{part_in, mask_of, tally}
+use Rattle.core_machine.specs.table.Fragments.{mask_of, tally}
 use Rattle.core_machine.specs.table.Layout.{at, put, table_length}
 use Rattle.core_machine.specs.table.Operation.{word_without_taken}
+use Rattle.core_machine.proofs.call_lemmas.Restoring.{part_all}
 use Rattle.core_rule.specs.ControlWords.{Bits}
 use Rattle.core_rule.specs.Holding.{Holding}
 use Rattle.core_rule.specs.Owners.{Owner, Free, Taken, holds_bit, bears_bit, owner_after}
@@ -15,11 +14,6 @@ use Rattle.core_rule.proofs.words.ControlSteps.{give_back_bits}
 use Rattle.core_rule.proofs.owners.Handed.{loses, stays}
 use Rattle.core_rule.proofs.owners.OwnerLemmas.{is_held, holds_once}
 use Rattle.core_rule.proofs.lists.Tallies.{one_at_same}
-
--- a list of one group's fragments is that group's part of it
-part_all : (g : ℕ) (fs : List ℕ) → All (λ f. f / 16 ≡ g) fs → part_in g fs ≡ fs
-part_all g [] all = refl
-part_all g (f ∷ fs) all = rw (eq-eqb (f / 16) g (All-head (λ f. f / 16 ≡ g) f fs all)) (ap (λ rest. f ∷ rest) (part_all g fs (All-tail (λ f. f / 16 ≡ g) f fs all)))
 
 module _ (owner : ℕ → Owner) (number : ℕ) (reserve hand body : List ℕ) (holding : Holding owner number reserve hand body) where
   -- what is in the reserve is the seat's, each fragment once

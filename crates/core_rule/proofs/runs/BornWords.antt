@@ -25,6 +25,7 @@ use Rattle.core_machine.specs.table.Fragments.{mask_of}
 use Rattle.core_machine.specs.table.Layout.{at, put}
 use Rattle.core_machine.specs.table.Operation.{birth_bits_of}
 use Rattle.core_machine.proofs.table_lemmas.Addresses.{put-at}
+use Rattle.core_machine.proofs.table_lemmas.Masks.{mask-lt}
 use Rattle.core_rule.specs.Book.{Book, Colour, White, Grey, Black}
 use Rattle.core_rule.specs.Colours.{IsBetween, HasColour, HasBirthColour, marked_bit, scanned_bit}
 use Rattle.core_rule.specs.ControlWords.{IsBorn, control_of}
@@ -38,7 +39,6 @@ use Rattle.core_rule.proofs.cycle.Barriers.{black_window, window_black}
 use Rattle.core_rule.proofs.runs.Runs.{seat_of_step}
 use Rattle.core_rule.proofs.words.Addresses.{at-put_apart, control_same, control_other, control_after_word}
 use Rattle.core_rule.proofs.words.MarkBits.{birth_marked, birth_scanned}
-use Rattle.core_rule.proofs.words.MaskLemmas.{mask-lt}
 use Rattle.core_rule.proofs.words.WordBits.{claim_born, untaken_born, birth_born}
 
 -- a bit of a birth: it is that of the colour

@@ -1,5 +1,6 @@
 -- A turn that waits found a seat that is there, hasn't left, and is one phase behind.
 use Rattle.std.proofs.Common.{◌≡◌, ◌≢◌, ℕ, ◌+◌, ◌<◌, Bool, true, false, if◌then◌else◌, List, refl, sym, ap, ◌∙◌, subst, inl, inr, arith}
+use Rattle.std.proofs.lemmas.Bool.{false_from_ne_true}
 use Rattle.std.proofs.lemmas.Bool.Decides.{eqb_tells}
 use Rattle.heap_words.specs.declared.phase.TheConstants.{LEFT}
 use Rattle.heap_model.specs.declared.calls.collector_calls.Turn.TheVariants.{Stepped, Waits}
@@ -51,16 +52,12 @@ module _ (heap : Heap) (state : State) (book : Book) (rule : Rule heap state boo
       let told = (rule.seats_stand number below).cycle.answers_told in
       let here = rule.collector_stands.phase_told in
       let neither = unanswered collector.phase word none in
-      let present : seat.left ≡ false = stays seat.left (λ gone. neither.1 (told.word ∙ ap (λ left. answer_word left seat.answered) gone)) in
+      let present : seat.left ≡ false = false_from_ne_true seat.left (λ gone. neither.1 (told.word ∙ ap (λ left. answer_word left seat.answered) gone)) in
       let is : word ≡ seat.answered = told.word ∙ ap (λ left. answer_word left seat.answered) present in
       elim (told.near present) [
         | inl same ↦ absurd (neither.0 (is ∙ same ∙ sym here))
         | inr before ↦ (below, record { present = told.leaves ∙ present; answered = told.told ∙ sym is; here = sym here }, omega (arith, is, before, here))
       ]
-    where
-      stays : (left : Bool) → (left ≡ true → ⊥) → left ≡ false
-      stays true none = absurd (none refl)
-      stays false none = refl
 
   -- so the one that a turn waits for is
   waits_behind : (seat answer p : ℕ) (stage : Stage) → collector.stage ≡ stage

@@ -22,6 +22,7 @@ use Rattle.core_rule.specs.Laws.{StandsFor}
 use Rattle.core_rule.specs.Phases.{CollectorAgrees}
 use Rattle.core_rule.specs.Rule.{Rule, HeapStands, SeatStands}
 pub use Rattle.core_rule.proofs.entries.AtRest.{seat_fits, in_flight}
+use Rattle.core_rule.proofs.entries.Begins.{begins, book_begun, heap_begins, other_begins}
 use Rattle.core_rule.proofs.entries.PhaseEntries.{seats_phase, answers_grow, was_present}
 
 -- a seat's new data leave the other seats'
@@ -90,10 +91,7 @@ pub present_at : (heap : Heap) (state : State) (book : Book) (number : ℕ) (mak
     → (seat_at state number).place ≡ places.Making making → (graph_seat (graph_of heap book.history) number).left ≡ false
 present_at heap state book number making rule here placed =
     let stands = rule.seats_stand number here in
-    stands.told.counts.leaves ∙ in_flight rule number here (λ idle. busy (sym placed ∙ idle))
-  where
-    busy : places.Making making ≡ places.Idle → ⊥
-    busy e = cc
+    stands.told.counts.leaves ∙ in_flight rule number here (λ idle. absurd (cc (placed, idle)))
 
 -- the rule after a seat's step
 pub seat_steps : (heap : Heap) (state : State) (book : Book) (number : ℕ) (words : List ℕ) (seat : Seat) (now : Book) (added : List Entry)
@@ -108,3 +106,10 @@ seat_steps heap state book number words seat now added rule here machine grown n
     (λ apart. others r below apart (rule.seats_stand r below)) in
     parts_keep now grown machine heap_after stand (collector_stays heap state.collector book.history added now.history grown none
     (λ r below present. few_answers heap words now r (slice_index_or (slice_set state.seats number seat) r absent_seat) (stand r below) present) rule.collector_stands)
+
+-- the rule after a begin, which leaves the words and the others
+pub seat_begins : (heap : Heap) (state : State) (book : Book) (number : ℕ) (seat : Seat) → Rule heap state book → number < heap.seats → IsMachine heap (record state { seats = slice_set state.seats number seat })
+    → SeatStands heap state.words (book_begun heap state.words book number) number seat → Keeps heap (record state { seats = slice_set state.seats number seat }) book (begins number (length book.history) book.begun) []
+seat_begins heap state book number seat rule here machine self =
+    seat_steps heap state book number state.words seat (book_begun heap state.words book number) [] rule here machine (sym (append-nil book.history)) refl
+    (heap_begins heap state.words book number rule.heap_stands) self (λ r below apart other. other_begins heap state.words book number r (seat_at state r) apart other)

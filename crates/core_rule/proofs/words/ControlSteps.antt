@@ -7,12 +7,13 @@ use Rattle.core_machine.specs.declared.table.address.Address.TheVariants.{Contro
 use Rattle.core_machine.specs.table.Fragments.{part_in, mask_of, clear_in, tally}
 use Rattle.core_machine.specs.table.Layout.{at, put, table_length}
 use Rattle.core_machine.specs.table.Operation.{all_taken, word_without_taken, birth_bits_of}
+use Rattle.core_machine.proofs.table_lemmas.Masks.{mask-lt}
 use Rattle.core_rule.specs.ControlWords.{Bits}
 use Rattle.core_rule.specs.Owners.{Owner, Free, Taken, Borne, taken_bit, born_bit, owner_after}
 use Rattle.core_rule.proofs.words.ClearLemmas.{clear_here, clear_away, clear_once, clear_group}
 use Rattle.core_rule.proofs.words.ControlLemmas.{bits_after, found_taken, found_born}
 use Rattle.core_rule.proofs.owners.Handed.{handed_out, gains, loses, stays}
-use Rattle.core_rule.proofs.words.MaskLemmas.{mask_bit, mask-lt}
+use Rattle.core_rule.proofs.words.MaskLemmas.{mask_bit}
 use Rattle.core_rule.proofs.owners.OwnerLemmas.{is_free, born_once, one_owner}
 use Rattle.core_rule.proofs.lists.Parts.{part_in-here, part_in-away, parts_tally, not_there}
 use Rattle.core_rule.proofs.words.WordBits.{claim_taken, claim_born, untaken_taken, untaken_born, birth_taken, birth_born}

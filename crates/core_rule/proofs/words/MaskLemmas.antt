@@ -2,7 +2,6 @@
 use Rattle.std.specs.Int.{bit_at}
 use Rattle.std.proofs.Common.{◌≡◌, ◌≢◌, ℕ, ◌+◌, ◌*◌, ◌/◌, ◌%◌, ◌^◌, ◌<◌, ◌≤◌, inl, inr, min, max, List, [], ◌∷◌, fold, bit_or, refl, arith}
 use Rattle.std.proofs.lemmas.Bool.Decides.{eqb_tells}
-use Rattle.std.proofs.lemmas.Nat.{or_lt, pow_below}
 use Rattle.std.proofs.lemmas.Nat.Bits.{bit_at_or, bit_at-pow_same, bit_at-pow_other, bit_at-zero, bit_at-lt}
 use Rattle.core_machine.specs.table.Fragments.{part_in, mask_of, tally}
 use Rattle.core_rule.specs.Owners.{one_at}
@@ -41,12 +40,3 @@ bits_grow g j (x ∷ xs) bits below = elim (eqb_tells (x / 16) g) as (λ _. bit_
 pub mask_bit : (g j : ℕ) (fs : List ℕ) → j < 16 → tally (16 * g + j) fs ≤ 1 → bit_at (mask_of (part_in g fs)) j ≡ tally (16 * g + j) fs
 unfolding mask_of
 mask_bit g j fs below once = omega (arith, bits_grow g j fs 0 below, bit_at-zero j)
-
-mask_within : (fs : List ℕ) (bits : ℕ) → bits < 2 ^ 16 → fold with_bit bits fs < 2 ^ 16
-mask_within [] bits small = small
-mask_within (x ∷ xs) bits small = mask_within xs (with_bit bits x) (or_lt 16 bits (2 ^ (x % 16)) small (pow_below (x % 16) 16 (omega arith)))
-
--- it has no other bits
-pub mask-lt : (fs : List ℕ) → mask_of fs < 2 ^ 16
-unfolding mask_of
-mask-lt fs = mask_within fs 0 (omega arith)

@@ -1,5 +1,5 @@
 -- The begin of a call that makes no object keeps the rule.
-use Rattle.std.proofs.Common.{ℕ, ◌<◌, [], length, filter, drop, refl, sym, ◌∙◌, append-nil}
+use Rattle.std.proofs.Common.{ℕ, ◌<◌, [], length, filter, drop, refl, ◌∙◌, append-nil}
 use Rattle.heap_model.specs.declared.command.Command.{Command}
 use Rattle.heap_model.specs.declared.heap.Heap.{Heap}
 use Rattle.heap_model.specs.account.Cycles.{graph_of}
@@ -18,9 +18,9 @@ use Rattle.core_rule.specs.Book.{Book}
 use Rattle.core_rule.specs.Objects.{cells_at}
 use Rattle.core_rule.specs.Registers.{HoldsValue}
 use Rattle.core_rule.specs.Rule.{Rule}
-use Rattle.core_rule.proofs.steps.Assemble.{Keeps, seat_steps}
+use Rattle.core_rule.proofs.steps.Assemble.{Keeps, seat_begins}
 use Rattle.core_rule.proofs.entries.AtRest.{seat_fits, none_awaited}
-use Rattle.core_rule.proofs.entries.Begins.{begins, book_begun, heap_begins, began_now, other_begins}
+use Rattle.core_rule.proofs.entries.Begins.{begins, began_now}
 use Rattle.core_rule.proofs.hand.EmptyHand.{nothing_together, none_stored, gathers_none, holding_as}
 use Rattle.core_rule.proofs.cycle.FreshCycle.{cycle_fresh}
 use Rattle.core_rule.proofs.entries.OwnEntries.{counts_same}
@@ -45,10 +45,7 @@ begin_others_keep heap state book number command rule here may other machine =
     = starts_other g (cells_at g book.made) book.made book.owner book.fragments number heap seat command other may.served refl (λ r. (register_value g number r, holds r)) in
     let own = start.own in
     let same = own.same in
-    seat_steps heap state book number state.words next (book_begun heap state.words book number) []
-    rule here machine (sym (append-nil book.history)) refl
-    (heap_begins heap state.words book number rule.heap_stands)
-    record {
+    seat_begins heap state book number next rule here machine record {
       own = record {
         holding = holding_as book.owner number old.reserve old.hand old.body next.reserve next.hand next.body own.reserve own.hand own.body stands.own.holding;
         stored = none_stored heap state.words number next (same.stored ∙ rest.none_stored);
@@ -68,4 +65,3 @@ begin_others_keep heap state book number command rule here may other machine =
       cycle = cycle_fresh heap state.words book.owner book.colour (phase book.history) (last_answer number book.history) (has_left number book.history) number old next
           record { answered = same.answered; left = same.left; asked = same.asked } start.fresh stands.cycle;
     }
-    (λ r below apart other. other_begins heap state.words book number r (seat_at state r) apart other)

@@ -7,12 +7,10 @@ use Rattle.heap_model.specs.declared.entry.Entry.TheVariants as entries
 use Rattle.heap_model.specs.account.Cycles.{graph_of}
 use Rattle.heap_model.specs.account.Effects.{is_of}
 use Rattle.heap_model.specs.graph.Objects.{graph_seat}
-use Rattle.heap_model.specs.account.PhaseCounts.{last_answer}
 use Rattle.heap_model.specs.account.Space.{taken_of, spent_of}
 use Rattle.heap_model.specs.graph.Graph.{Graph}
 use Rattle.core_machine.specs.declared.table.address.Address.TheVariants.{Control}
 use Rattle.core_machine.specs.declared.place.Leaving.TheVariants.{Emptying, Parting}
-use Rattle.core_machine.specs.declared.place.Place.{Place}
 use Rattle.core_machine.specs.declared.place.Place.TheVariants as places
 use Rattle.core_machine.specs.seat.HandshakeMoves.{empty_move}
 use Rattle.core_machine.specs.seat.Commands.{target_of}
@@ -75,12 +73,9 @@ empty_keeps heap state book number rule here place machine =
         list = whole_list (graph_of heap later.history) later.history book.made later.owner book.fragments number now refl (own_grows number book.history seat.mine entry (eq-eqb number number refl) told);
         counts = rw graph (counts_own g g book.history number seat now stands.told.counts entry (eq-eqb number number refl)
             stands.told.counts.numbered stands.told.counts.stamped stands.told.counts.leaves (omega arith));
-        began = began_past book.history entry number (book.begun number) seat.place (places.Leaving Parting) refl (λ still. unanswered seat.place place) stands.told.began;
+        began = began_past book.history entry number (book.begun number) seat.place (places.Leaving Parting) refl (λ still answered. subst IsAnswered place answered) stands.told.began;
         gathers = gathers_none heap later.owner number (drop (book.begun number) later.history) seat.cursor seat.tried seat.given rest.none_tried rest.none_given;
       };
       cycle = cycle_given heap state book number rule here seat.cursor fs below held once now record { answered = refl; left = refl; asked = refl } tt;
     }
     (other_given heap state book number rule here seat.cursor fs below held once)
-  where
-    unanswered : (p : Place) → p ≡ places.Leaving Emptying → ¬ IsAnswered p
-    unanswered p is last_answer = subst IsAnswered is last_answer

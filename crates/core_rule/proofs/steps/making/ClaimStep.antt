@@ -39,6 +39,7 @@ use Rattle.core_rule.proofs.words.ClearLemmas.{clear_here, clear_group, clear_on
 use Rattle.core_rule.proofs.words.ControlLemmas.{found_taken}
 use Rattle.core_rule.proofs.words.ControlSteps.{claim_bits, clear_is_free}
 use Rattle.core_rule.proofs.counts.CountMoves.{claim_frees}
+use Rattle.core_rule.proofs.hand.EmptyHand.{none_stored}
 use Rattle.core_rule.proofs.hand.GoesOn.{holding_goes_on, length_goes_on, gathers_goes_on, same_goes_on}
 use Rattle.core_rule.proofs.hand.HandMoves.{holding_claims, hand_claimed}
 use Rattle.core_rule.proofs.entries.InFlight.{awaits_none, is_busy}
@@ -74,9 +75,6 @@ free_kept owner f i k free kept = let both : Free ≡ KeepsPart i k = sym free �
 
 more_in_hand : (reserve hand body fs : List ℕ) → body ≡ [] → length reserve + length (fragments_in_hand (hand ++ fs) body) ≡ length reserve + length (fragments_in_hand hand body) + length fs
 more_in_hand reserve hand body fs none = rw (whole_empty (hand ++ fs) body none, whole_empty hand body none, length-append hand fs) (omega arith)
-
-none_below : (u stored was : ℕ) → stored ≡ was → was ≡ 0 → u < stored → ⊥
-none_below u stored was same none below = omega (arith, none, same, below)
 
 holds_bears_none : {number r : ℕ} → Taken number ≢ Borne r
 holds_bears_none e = cc
@@ -127,7 +125,7 @@ claim_keeps heap state book number rule here place machine =
       own = record {
         holding = holding_goes_on heap owner number mid gathers.no_body
             (holding_claims book.owner number seat.reserve seat.hand seat.body stands.own.holding fs once free gathers.no_body);
-        stored = λ u less. absurd (none_below u next.stored seat.stored same.stored gathers.none_stored less);
+        stored = none_stored heap words number next (same.stored ∙ gathers.none_stored);
         together = together_goes_on heap mid gathers.no_body (seat_fits rule number here).own.cursor_within (seat_fits rule number here).own.reserve_of_cursor
             (subst (λ b. AreTogether heap seat.cursor (seat.tried + 1) (seat.hand ++ fs) b) (sym gathers.no_body)
             (together_claims heap seat.cursor seat.tried seat.hand fs (seat_fits rule number here).own.cursor_within gathers.groups_left (clear_in-group g found)
