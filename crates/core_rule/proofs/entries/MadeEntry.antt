@@ -1,5 +1,5 @@
 -- What the entry of a made record adds to the counts, and that it may stand.
-use Rattle.std.proofs.Common.{◌≡◌, ℕ, ◌+◌, ◌≤◌, false, true, List, [], ◌∷◌, ◌++◌, length, refl, sym, ap, ◌∙◌, arith}
+use Rattle.std.proofs.Common.{◌≡◌, ℕ, ◌+◌, ◌≤◌, false, List, [], ◌∷◌, ◌++◌, length, refl, sym, ap, ◌∙◌, arith}
 use Rattle.std.proofs.lemmas.Bool.{eq-eqb}
 use Rattle.heap_model.specs.declared.entry.Entry.{Entry}
 use Rattle.heap_model.specs.declared.heap.Heap.{Heap}
@@ -8,7 +8,6 @@ use Rattle.heap_model.specs.account.Account.{IsLegal}
 use Rattle.heap_model.specs.graph.Changes.{add}
 use Rattle.heap_model.specs.Command.{IsCommand}
 use Rattle.heap_model.specs.account.Cycles.{graph_of}
-use Rattle.heap_model.specs.account.Effects.{is_of}
 use Rattle.heap_model.specs.graph.Objects.{graph_seat}
 use Rattle.heap_model.specs.account.Space.{taken_of, spent_of}
 use Rattle.heap_model.specs.graph.Graph.{Graph, Node, fresh, opening}
@@ -26,9 +25,6 @@ use Rattle.core_rule.proofs.entries.OwnEntries.{counts_own}
 use Rattle.core_rule.proofs.entries.RecordCommands.{graph_made, accepts_made, made_keeps}
 
 -- the entry is its seat's
-made_own : (number : ℕ) (seat : Seat) → is_of number (made_entry number seat) ≡ true
-made_own number seat = eq-eqb number number refl
-
 -- the graph after it
 pub graph_grown : (heap : Heap) (history : List Entry) (number : ℕ) (seat : Seat) → IsRecord seat.command
     → graph_of heap (history ++ made_entry number seat ∷ []) ≡ add (graph_of heap history) number (target_of seat.command) (fresh false (fields_of seat.command))
@@ -51,7 +47,7 @@ module _ (g : Graph) (history : List Entry) (number : ℕ) (seat : Seat) (counts
   -- the seat's counts after it
   pub counts_made : (d : ℕ) (object : Node) (found : ℕ) → CountsAgree (add g number d object) (history ++ made_entry number seat ∷ []) number (seat_after (last_birth_move number seat) found)
   counts_made d object found =
-      counts_own g (add g number d object) history number seat (seat_after (last_birth_move number seat) found) counts (made_entry number seat) (made_own number seat)
+      counts_own g (add g number d object) history number seat (seat_after (last_birth_move number seat) found) counts (made_entry number seat) (eq-eqb number number refl)
       (ap (λ n. n + 1) counts.numbered ∙ sym (objects_more g number d object present)) (counts.stamped ∙ sym (sets_same g number d object present))
       (left_same g number d object present ∙ sym present ∙ counts.leaves)
       (omega (arith, ap length (whole_body seat.hand seat.body some), whole))

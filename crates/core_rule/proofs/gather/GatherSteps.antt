@@ -19,9 +19,6 @@ use Rattle.core_rule.proofs.entries.Others.{of_other}
 pub no_more : (n m k : ℕ) → n ≡ m + k → k ≡ 0 → n ≡ m
 no_more n m k e none = omega arith
 
-less_free : (n m k : ℕ) → n ≡ m + k → m ≤ n
-less_free n m k e = omega arith
-
 module _ (heap : Heap) (owner : ℕ → Owner) (history : List Entry) (s : ℕ) (fs : List ℕ) (once : (f : ℕ) → tally f fs ≤ 1) (below : (f : ℕ) → 1 ≤ tally f fs → f < 16 * heap.groups)
     (used : AreUsed heap owner history) (begun : ℕ) (earlier : begun ≤ length history) (cursor tried given : ℕ) where
   -- s gives back what it holds
@@ -51,7 +48,7 @@ module _ (heap : Heap) (owner : ℕ → Owner) (history : List Entry) (s : ℕ) 
   -- s claims what is free
   module _ (free : (f : ℕ) → 1 ≤ tally f fs → owner f ≡ Free) where
     less_for : (f : ℕ) → free_bit (owner_after (Taken s) owner fs f) ≤ free_bit (owner f)
-    less_for f = less_free (free_bit (owner f)) (free_bit (owner_after (Taken s) owner fs f)) (tally f fs) (claim_frees heap owner history s fs once below used free f)
+    less_for f = omega (arith, claim_frees heap owner history s fs once below used free f)
 
     module _ (none : (f : ℕ) → f / 16 ≡ (cursor + tried) % heap.groups → free_bit (owner_after (Taken s) owner fs f) ≡ 0) where
       -- its own gather has passed one group more

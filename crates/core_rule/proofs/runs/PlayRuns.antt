@@ -2,7 +2,7 @@
 use Rattle.std.specs.List.{list_all}
 use Rattle.std.specs.Prelude.{Option, None, Some, IsSome}
 use Rattle.std.proofs.Common.{◌≡◌, ◌≢◌, ℕ, zero, suc, ◌+◌, ◌<◌, ◌≤◌, true, false, inl, inr, List, [], ◌∷◌, ◌++◌, length, drop, refl, sym, ap, ◌∙◌, subst, append_assoc}
-use Rattle.std.proofs.lemmas.Bool.{eq-eqb}
+use Rattle.std.proofs.lemmas.Bool.{false≢true, eq-eqb}
 use Rattle.std.proofs.lemmas.Bool.Decides.{eqb_tells}
 use Rattle.std.proofs.lemmas.List.{append-nil, get_or-set_other, drop-append-le}
 use Rattle.std.proofs.lemmas.List.Folds.{list_all-append}
@@ -44,10 +44,7 @@ moved_other heap state number r None apart = refl
 moved_other heap state number r (Some move) apart = get_or-set_other state.seats number r _ absent_seat apart
 
 busy : (heap : Heap) (number : ℕ) (seat : Seat) → IsSome (next_move heap number seat) → seat.place ≢ places.Idle
-busy heap number seat due idle = nothing_due (subst (λ place. IsSome (move_at heap number seat place)) idle due)
-  where
-    nothing_due : IsSome (move_at heap number seat places.Idle) → ⊥
-    nothing_due none = cc
+busy heap number seat due idle = false≢true (subst (λ place. IsSome (move_at heap number seat place)) idle due)
 
 -- some book stands for the state with this history, which plays on
 pub record PlaysNext (heap : Heap) (state : State) (before added : List Entry) : Type 0 where

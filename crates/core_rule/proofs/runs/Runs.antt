@@ -1,14 +1,15 @@
 -- The laws over runs, from what each step keeps.
-use Rattle.std.specs.Prelude.{IsSome, None}
+use Rattle.std.specs.Prelude.{IsSome}
 use Rattle.std.proofs.Common.{◌≡◌, ℕ, ◌<◌, inl, inr, List, [], ◌∷◌, ◌++◌, length, sym, ap, ◌∙◌, subst, append_assoc}
 use Rattle.std.proofs.lemmas.Bool.Decides.{leb_tells}
 use Rattle.std.proofs.lemmas.List.{append-nil}
 use Rattle.std.proofs.Math.ListN.{get_or-eq_default}
+use Rattle.std.proofs.lemmas.Bool.{false≢true}
 use Rattle.heap_model.specs.declared.command.Command.{Command}
 use Rattle.heap_model.specs.declared.heap.Heap.{Heap}
 use Rattle.heap_model.specs.Heap.{IsHeap}
 use Rattle.core_machine.specs.machine.Machine.{State, seat_at, Event, Begins, Steps, Turns, Can, state_after, entries, Run, state_after_all, history}
-use Rattle.core_machine.specs.Moves.{Move, next_move}
+use Rattle.core_machine.specs.Moves.{next_move}
 use Rattle.core_machine.specs.machine.Opening.{IsOpening}
 use Rattle.core_machine.specs.seat.Seat.{Seat, absent_seat}
 use Rattle.core_machine.specs.machine.Value.{IsMachine}
@@ -33,9 +34,6 @@ abbrev pub EachTurnKeeps : Type 0
 EachTurnKeeps = (heap : Heap) (state : State) (book : Book) → Rule heap state book → Can heap state Turns
     → IsMachine heap (state_after heap state Turns) → Keeps heap (state_after heap state Turns) book book.begun (entries heap state Turns)
 
-no_move : IsSome {T = Move} None → ⊥
-no_move none = cc
-
 -- who makes a step is a seat
 pub seat_of_step : (heap : Heap) (state : State) (book : Book) (number : ℕ) → Rule heap state book → Can heap state (Steps number) → number < heap.seats
 seat_of_step heap state book number rule can = elim (leb_tells heap.seats number) as (λ _. number < heap.seats) [
@@ -44,7 +42,7 @@ seat_of_step heap state book number rule can = elim (leb_tells heap.seats number
 ]
   where
     nothing_due : (seat : Seat) → seat ≡ absent_seat → IsSome (next_move heap number seat) → ⊥
-    nothing_due seat none due = no_move (subst (λ s. IsSome (next_move heap number s)) none due)
+    nothing_due seat none due = false≢true (subst (λ s. IsSome (next_move heap number s)) none due)
 
 -- the machine's own facts are kept by each event
 abbrev pub MachineStays : Type 0

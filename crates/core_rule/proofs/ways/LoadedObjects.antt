@@ -51,10 +51,7 @@ module _ (made : List Id) (owner : ℕ → Owner) (fragments : ℕ → List ℕ)
   pub held_kept : (held : Register) (value : Value) → HoldsValue made owner fragments held value → (f : ℕ) → head_of_register held ≡ Some f → KeptHead made owner fragments f
   held_kept registers.Nil value holds f is = cc
   held_kept (registers.Number n) value holds f is = cc
-  held_kept (registers.Object head id) value holds f is = record { index = object_number made id; below = holds.1.0; kept = holds.1.1; is = same is ∙ holds.2 }
-    where
-      same : Some head ≡ Some f → f ≡ head
-      same both = cc
+  held_kept (registers.Object head id) value holds f is = record { index = object_number made id; below = holds.1.0; kept = holds.1.1; is = cc (is, holds.2) }
 
   -- each head of some registers is one's
   pub heads_kept : (held : List Register) (value : ℕ → Value) → ((r : ℕ) → HoldsValue made owner fragments (get_or held r registers.Nil) (value r))

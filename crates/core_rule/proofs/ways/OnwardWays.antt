@@ -1,6 +1,6 @@
 -- The way after a fragment's first word was found.
 use Rattle.std.proofs.Common.{◌≡◌, ℕ, ◌+◌, ◌-◌, ◌<◌, false, eqb, inl, inr, List, None, IsSome, sym, ap, ◌∙◌, subst, arith, true}
-use Rattle.std.proofs.lemmas.Bool.{cond_both, eqb-true, eqb-false}
+use Rattle.std.proofs.lemmas.Bool.{false≢true, cond_both, eqb-true, eqb-false}
 use Rattle.std.proofs.lemmas.Bool.Decides.{eqb_tells}
 use Rattle.heap_model.specs.declared.graph.cell.Cell.{Cell}
 use Rattle.heap_model.specs.declared.entry.Entry.{Entry}
@@ -49,10 +49,7 @@ onward_cases P seat found arrived more =
 module _ (made : List Id) (owner : ℕ → Owner) (fragments : ℕ → List ℕ) (seat : Seat) where
   -- where nothing is loaded that refers to an object, there is no old value
   pub none_old : head_of seat.loaded ≡ None → OldKept made owner fragments seat
-  none_old none some = absurd (no_object (subst (λ o. IsSome o) none some))
-    where
-      no_object : IsSome {T = ℕ} None → ⊥
-      no_object some = cc
+  none_old none some = absurd (false≢true (subst IsSome none some))
 
   -- what is loaded is so wherever the call stands
   pub loaded_at : (place : Access) (mine : List Entry) → LoadedKept made owner fragments seat

@@ -45,15 +45,12 @@ old_keeps heap state book number rule here place machine =
     let by_head : (o : Option ℕ) → head_of found ≡ o → goal o = λ o. elim o as (λ x. head_of found ≡ x → goal x) [
       | None ↦ λ none. new_cases (λ next. IsMachine heap (loaded_state heap state number (Word seat.reached (field_part_of seat)) (went seat seat.registers seat.reached seat.links found (places.Access next) []))
           → Keeps heap (loaded_state heap state number (Word seat.reached (field_part_of seat)) (went seat seat.registers seat.reached seat.links found (places.Access next) [])) book book.begun []) new_head
-          (λ no_new. on Swapping (λ s. refl) (at_next Swapping, unloaded Swapping none) (λ making x lead. absurd (unnamed (sym none ∙ leads x lead)))
+          (λ no_new. on Swapping (λ s. refl) (at_next Swapping, unloaded Swapping none) (λ making x lead. absurd (cc (none, leads x lead)))
           (λ is_on. (none_holds (IsMarked book.colour) (head_of found) none, none_holds (IsMarked book.colour) new_head no_new)))
-          (λ f some. on ShadingNew (λ s. refl) (at_next ShadingNew, unloaded ShadingNew none) (λ making x lead. absurd (unnamed (sym none ∙ leads x lead))) (none_holds (IsMarked book.colour) (head_of found) none))
+          (λ f some. on ShadingNew (λ s. refl) (at_next ShadingNew, unloaded ShadingNew none) (λ making x lead. absurd (cc (none, leads x lead))) (none_holds (IsMarked book.colour) (head_of found) none))
       | Some f ↦ λ some.
           let head = loaded_kept heap state.words g book.made book.owner book.fragments rule.machine.limits old.control_words old.ids old.objects seat fits.0.2 finds f some in
           on ShadingOld (λ s. refl) (at_next ShadingOld, record { index = head.index; below = head.below; kept = head.kept; loads = some ∙ ap Some head.is })
           (λ making x lead. inl (leads x lead)) tt
     ] in
     by_head (head_of found) refl machine
-  where
-    unnamed : {x : ℕ} → None ≡ Some x → ⊥
-    unnamed both = cc

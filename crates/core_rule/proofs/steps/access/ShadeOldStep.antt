@@ -51,7 +51,7 @@ shade_old_keeps heap state book number rule here place machine =
     let field : IsBetween 2 5 p → IsBetween 2 5 seat.answered → (x : ℕ)
     → WordPointsTo heap (words_shaded heap state book number rule here f head.index head.kept head.is) seat.reached (field_part_of seat) x → (None ≡ Some x) ⊎ IsMarked coloured x
     = λ making snapped x lead. elim (watched making snapped x (back x lead)) [
-      | inl same ↦ inr (subst (IsMarked coloured) (one f x (sym loads ∙ same)) (mark_marks book.colour f))
+      | inl same ↦ let as_loaded : f ≡ x = cc (loads, same) in inr (subst (IsMarked coloured) as_loaded (mark_marks book.colour f))
       | inr was ↦ inr (mark_keeps book.colour f x was)
     ] in
     new_cases (λ next. IsMachine heap (record state { words = words_shaded heap state book number rule here f head.index head.kept head.is; seats = slice_set state.seats number (shading seat seat.shaded (places.Access next)) })
@@ -61,6 +61,3 @@ shade_old_keeps heap state book number rule here place machine =
     (λ making is_on. (marked, none_holds (IsMarked coloured) (register_head (new_register_of seat)) no_new)))
     (λ x some. on ShadingNew (λ s. refl) (at_next ShadingNew, kept_at ShadingNew) field (λ making. marked))
     machine
-  where
-    one : (f x : ℕ) → Some f ≡ Some x → f ≡ x
-    one f x both = cc

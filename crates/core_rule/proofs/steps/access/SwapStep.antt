@@ -114,7 +114,8 @@ swap_keeps heap state book number rule here place machine =
     let old_there : slice_get cells i ≡ Some old = slice_get-get_or cells i unset finds.within in
     let part : ℕ = field_part_of seat in
     let fragment : ℕ = fragment_at (book.fragments n) (row_of i) in
-    let arrived : seat.reached ≡ fragment = finds.way.here ∙ ap (fragment_at (book.fragments n)) (no_links (row_of i) seat.links fits.0.2) in
+    let at_row : row_of i - seat.links ≡ row_of i = omega (arith, fits.0.2) in
+    let arrived : seat.reached ≡ fragment = finds.way.here ∙ ap (fragment_at (book.fragments n)) at_row in
     let word : ℕ = new_word_of number seat in
     let found : ℕ = at heap state.words (Word seat.reached part) in
     let stamp : ℕ = stamp_of found in
@@ -172,6 +173,3 @@ swap_keeps heap state book number rule here place machine =
     (answer_swapped heap state book number rule here place cell.value cell.stamp (holds (source_of seat.command)) names.0 small word is_word number here) stands.cycle.births stands.cycle)
     refl (no_leave_told number number seat.command (replies.Was stamp) (λ leaves. subst IsSet leaves a_set)))
     (leaves_swapped heap state book number rule here place cell.value cell.stamp (holds (source_of seat.command)) names.0 small word is_word)
-  where
-    no_links : (row links : ℕ) → links ≡ 0 → row - links ≡ row
-    no_links row links none = omega (arith, none)

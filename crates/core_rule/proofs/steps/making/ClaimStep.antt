@@ -64,10 +64,7 @@ module _ (heap : Heap) (words : List ℕ) (owner : ℕ → Owner) (g : ℕ) (who
       = claim_frees heap owner history number clear (λ x. clear_once g (at heap words (Control g)) x) clear_within used (clear_is_free heap words owner g whole below bits) f in
       let free : tally f clear ≡ free_bit (owner f)
       = clear_here g (at heap words (Control g)) f here ∙ free_by_bit (owner f) (bit_at (at heap words (Control g)) (f % 16)) (found_taken heap words owner g whole below bits f here) in
-      all_gone (free_bit (owner f)) (free_bit (owner_after (Taken number) owner clear f)) (tally f clear) less free
-    where
-      all_gone : (was now gone : ℕ) → was ≡ now + gone → gone ≡ was → now ≡ 0
-      all_gone was now gone less all = omega arith
+      omega (arith, less, free)
 
 -- what was free is no object's
 free_kept : (owner : ℕ → Owner) (f i k : ℕ) → owner f ≡ Free → owner f ≢ KeepsPart i k

@@ -1,10 +1,9 @@
 -- A give back keeps the rule.
-use Rattle.std.proofs.Common.{◌≡◌, ℕ, ◌+◌, ◌<◌, ◌≤◌, List, [], ◌∷◌, length, refl, arith}
+use Rattle.std.proofs.Common.{◌≡◌, ℕ, ◌+◌, ◌<◌, List, [], ◌∷◌, length, refl, arith}
 use Rattle.std.proofs.lemmas.Bool.{eq-eqb}
 use Rattle.heap_model.specs.declared.entry.Entry.{Entry}
 use Rattle.heap_model.specs.declared.entry.Entry.TheVariants as entries
 use Rattle.heap_model.specs.account.Cycles.{graph_of}
-use Rattle.heap_model.specs.account.Space.{taken_of, spent_of}
 use Rattle.heap_model.specs.graph.Graph.{Graph}
 use Rattle.core_machine.specs.declared.table.address.Address.TheVariants.{Control}
 use Rattle.core_machine.specs.declared.place.Making.TheVariants.{Returning}
@@ -38,10 +37,6 @@ use Rattle.core_rule.proofs.hand.StoredFrames.{stored_control}
 left_of_hand : (reserve hand body : List ℕ) (g : ℕ) → body ≡ [] → length reserve + length (fragments_in_hand (part_out g hand) body) + length (part_in g hand) ≡ length reserve + length (fragments_in_hand hand body)
 left_of_hand reserve hand body g none = rw (whole_empty (part_out g hand) body none, whole_empty hand body none) (omega (arith, parts_length g hand))
 
--- a seat may give back what is in its hand
-gives_own : (reserve hand body : List ℕ) (g spent taken : ℕ) → body ≡ [] → length reserve + length (fragments_in_hand hand body) + spent ≡ taken → spent + length (part_in g hand) ≤ taken
-gives_own reserve hand body g spent taken none own = omega (arith, own, left_of_hand reserve hand body g none)
-
 -- a give back keeps the rule
 pub give_back_keeps : StepKeeps (places.Making Returning) (λ heap. give_back_move)
 give_back_keeps heap state book number rule here place machine =
@@ -67,7 +62,7 @@ give_back_keeps heap state book number rule here place machine =
     (heap_given heap state book number rule here g part below held once
     (give_back_bits heap state.words book.owner g rule.machine.table below rule.heap_stands.control_words seat.hand number
     (hand_once book.owner number seat.reserve seat.hand seat.body stands.own.holding) (hand_held book.owner number seat.reserve seat.hand seat.body stands.own.holding))
-    present some (gives_own seat.reserve seat.hand seat.body g (spent_of number book.history) (taken_of number book.history) refuses.no_body stands.told.counts.unborn))
+    present some (omega (arith, stands.told.counts.unborn, left_of_hand seat.reserve seat.hand seat.body g refuses.no_body)))
     record {
       own = record {
         holding = holding_gives book.owner number seat.reserve seat.hand seat.body stands.own.holding g refuses.no_body;
