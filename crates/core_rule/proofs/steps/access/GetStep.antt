@@ -55,9 +55,6 @@ use Rattle.core_rule.proofs.ways.Told.{HasRoom, named_head, register_plain, stam
 module _ (heap : Heap) (state : State) (book : Book) (number : ℕ) (rule : Rule heap state book) (here : number < heap.seats)
     (place : (seat_at state number).place ≡ places.Access Getting)
     (a_get : IsGet (seat_at state number).command) (ranges : IsCommand (seat_at state number).command) where
-  busy : ¬ IsAnswered (seat_at state number).place
-  busy answered = subst IsAnswered place answered
-
   free : (d r : ℕ) → ¬ IsAwaited (seat_at state number).place d r
   free d r awaited = subst (λ p. IsAwaited p d r) place awaited
 
@@ -92,7 +89,7 @@ module _ (heap : Heap) (state : State) (book : Book) (number : ℕ) (rule : Rule
       (put_only g number (target_of seat.command) (value_of new) present) accepts
       (keeps_got heap false book.history number (spent_own heap state book number rule here (at_rest heap state book number rule here Getting place)) (few_own heap state book number rule here (at_rest heap state book number rule here Getting place)) (value_of new) stamp seat.command a_get)
       (λ r unawaited. registers_filled book.made book.owner book.fragments g number (target_of seat.command) (value_of new) seat.registers new present in_seat in_graph holds (λ x apart. held x) r)
-      (list_more g book.made book.owner book.fragments number seat book.history busy stands.told.list (with_register g number (target_of seat.command) (value_of new)) _ _ (entry ∷ []) [] (entry ∷ []) refl refl
+      (list_more g book.made book.owner book.fragments number seat book.history (subst IsAnswered place) stands.told.list (with_register g number (target_of seat.command) (value_of new)) _ _ (entry ∷ []) [] (entry ∷ []) refl refl
       (own_entries number book.history entry (eq-eqb number number refl)) refl)
       tt tt (no_leave_told number number seat.command reply (λ leaves. subst IsGet leaves a_get))
       (went_cycle heap state book number rule here (Word seat.reached (field_part_of seat)) (slice_set seat.registers (target_of seat.command) new) 0 0 0 places.Idle (entry ∷ []) machine tt)
@@ -117,7 +114,7 @@ module _ (heap : Heap) (state : State) (book : Book) (number : ℕ) (rule : Rule
       seat.command reply refl (with_register g number d value) (graph_got g number value (stamp_of found) seat.command a_get) (put_only g number d value present) accepts
       (keeps_got heap false book.history number (spent_own heap state book number rule here (at_rest heap state book number rule here Getting place)) (few_own heap state book number rule here (at_rest heap state book number rule here Getting place)) value (stamp_of found) seat.command a_get)
       (λ r unawaited. subst (λ x. HoldsValue book.made book.owner book.fragments (slice_index_or seat.registers r registers.Nil) x) (sym (put_rest g number d value present r unawaited)) (held r))
-      (list_more g book.made book.owner book.fragments number seat book.history busy stands.told.list (with_register g number d value) _ _ [] (entry ∷ []) (entry ∷ []) refl refl
+      (list_more g book.made book.owner book.fragments number seat book.history (subst IsAnswered place) stands.told.list (with_register g number d value) _ _ [] (entry ∷ []) (entry ∷ []) refl refl
       (own_entries number book.history entry (eq-eqb number number refl))
       (record { id = id; kept = kept; loads = loads; held = put_target g number d value present in_graph; told = refl }))
       tt tt (no_leave_told number number seat.command reply (λ leaves. subst IsGet leaves a_get))

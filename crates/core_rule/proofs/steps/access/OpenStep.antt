@@ -59,9 +59,6 @@ meta_cases P _ found is len more past = absurd is
 
 module _ (heap : Heap) (state : State) (book : Book) (number : ℕ) (rule : Rule heap state book) (here : number < heap.seats)
     (place : (seat_at state number).place ≡ places.Access LoadingMeta) where
-  busy : ¬ IsAnswered (seat_at state number).place
-  busy answered = subst IsAnswered place answered
-
   free : (d r : ℕ) → ¬ IsAwaited (seat_at state number).place d r
   free d r awaited = subst (λ p. IsAwaited p d r) place awaited
 
@@ -83,7 +80,7 @@ module _ (heap : Heap) (state : State) (book : Book) (number : ℕ) (rule : Rule
       load_tells heap state book number rule here (Word seat.reached 0) seat.registers 0 0 0 places.Idle (entry ∷ []) machine seat.command reply nothing g stays (only_none g number)
       accepts keeps
       (λ r unawaited. stands.names.registers r (free (target_of seat.command) r))
-      (list_more g book.made book.owner book.fragments number seat book.history busy stands.told.list g _ _ (entry ∷ []) [] (entry ∷ []) refl refl
+      (list_more g book.made book.owner book.fragments number seat book.history (subst IsAnswered place) stands.told.list g _ _ (entry ∷ []) [] (entry ∷ []) refl refl
       (own_entries number book.history entry (eq-eqb number number refl)) refl)
       tt tt stays_here
       (went_cycle heap state book number rule here (Word seat.reached 0) seat.registers 0 0 0 places.Idle (entry ∷ []) machine tt)
@@ -118,7 +115,7 @@ open_keeps heap state book number rule here place machine =
     (λ len. ends (replies.Length (length_of found)) (met_keeps heap state book number rule here place (replies.Length (length_of found)) refl (graph_length g number (length_of found) seat.command len)
     (subst (λ n. Accepts g (Said number seat.command (replies.Length n))) (sym size) (accepts_length g number id seat.command opens.works.in_range present made held len))
     (keeps_length heap false book.history number enough little (length_of found) seat.command len) (leaves_none (replies.Length (length_of found)))))
-    (λ field more. onward_keeps heap state book number rule here (busy heap state book number rule here place) (free heap state book number rule here place)
+    (λ field more. onward_keeps heap state book number rule here (subst IsAnswered place) (free heap state book number rule here place)
     opens.none_loaded (record { index = index; way = way; within = omega (arith, more, size) }))
     (λ field past. ends replies.NoField (met_keeps heap state book number rule here place replies.NoField refl (graph_no_field g number seat.command field)
     (accepts_no_field g number id seat.command opens.works.in_range present made held field (omega (arith, past, size)))

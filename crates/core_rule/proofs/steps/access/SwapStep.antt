@@ -1,5 +1,5 @@
 -- The swap of a set keeps the rule.
-use Rattle.std.proofs.Common.{◌≡◌, ◌≢◌, ℕ, ◌+◌, ◌-◌, ◌*◌, ◌^◌, ◌<◌, false, List, filter, get_or, slice_get, Option, Some, Result, Ok, refl, sym, ap, ◌∙◌, subst, arith}
+use Rattle.std.proofs.Common.{◌≡◌, ℕ, ◌+◌, ◌-◌, ◌*◌, ◌^◌, ◌<◌, false, List, filter, get_or, slice_get, Option, Some, Result, Ok, refl, sym, ap, ◌∙◌, subst, arith}
 use Rattle.std.proofs.lemmas.Option.{slice_get-get_or}
 use Rattle.heap_model.specs.declared.graph.cell.Cell.{Cell}
 use Rattle.heap_model.specs.declared.command.Command.{Command}
@@ -97,8 +97,7 @@ swap_keeps heap state book number rule here place machine =
     let a_set : IsSet seat.command = fits.0.1 in
     let way : Finds (cells_at g book.made) book.made book.owner book.fragments seat × OldKept book.made book.owner book.fragments seat = rw place at stands.names.way in
     let finds : Finds (cells_at g book.made) book.made book.owner book.fragments seat = way.0 in
-    let busy : seat.place ≢ places.Idle = λ idle. absurd (cc (place, idle)) in
-    let present : (graph_seat g number).left ≡ false = stands.told.counts.leaves ∙ in_flight rule number here busy in
+    let present : (graph_seat g number).left ≡ false = stands.told.counts.leaves ∙ in_flight rule number here (λ idle. absurd (cc (place, idle))) in
     let awaits = rw place at stands.told.list.awaits in
     let silent : IsSilent seat = rw place at (seat_fits rule number here).answer_at_place in
     let holds : (r : ℕ) → HoldsValue book.made book.owner book.fragments (register_in seat.registers r) (register_value g number r)

@@ -1,5 +1,5 @@
 -- Local the reply of a call that looks at no word keeps the rule.
-use Rattle.std.proofs.Common.{◌≡◌, ◌≢◌, false, filter, refl, ◌∙◌, subst, sym}
+use Rattle.std.proofs.Common.{◌≡◌, false, filter, refl, ◌∙◌, subst, sym}
 use Rattle.heap_model.specs.Command.{IsCommand}
 use Rattle.heap_model.specs.account.Cycles.{graph_of}
 use Rattle.heap_model.specs.account.Effects.{is_of}
@@ -29,8 +29,7 @@ telling_keeps heap state book number rule here place machine =
     let g : Graph = graph_of heap book.history in
     let stands = rule.seats_stand number here in
     let at_place : IsAtRest seat × IsCommand seat.command × IsLocal seat.registers seat.command = rw place at (seat_fits rule number here).at_place in
-    let busy : seat.place ≢ places.Idle = λ idle. absurd (cc (place, idle)) in
-    let present : (graph_seat g number).left ≡ false = stands.told.counts.leaves ∙ in_flight rule number here busy in
+    let present : (graph_seat g number).left ≡ false = stands.told.counts.leaves ∙ in_flight rule number here (λ idle. absurd (cc (place, idle))) in
     let awaits = rw place at stands.told.list.awaits in
     let silent : IsSilent seat = rw place at (seat_fits rule number here).answer_at_place in
     local_reply_keeps heap state book number Phase (seat_after (local_move number seat) (at heap state.words Phase)) (local_reply_of seat.registers seat.command) rule here machine

@@ -1,5 +1,5 @@
 -- The give back of a seat's whole reserve before it leaves keeps the rule.
-use Rattle.std.proofs.Common.{◌≡◌, ◌≢◌, ℕ, ◌+◌, ◌<◌, false, List, [], ◌∷◌, length, filter, drop, refl, ◌∙◌, subst, arith}
+use Rattle.std.proofs.Common.{◌≡◌, ℕ, ◌+◌, ◌<◌, false, List, [], ◌∷◌, length, filter, drop, refl, ◌∙◌, subst, arith}
 use Rattle.std.proofs.lemmas.Bool.{eq-eqb}
 use Rattle.heap_model.specs.declared.command.Command.TheVariants as commands
 use Rattle.heap_model.specs.declared.entry.Entry.{Entry}
@@ -43,8 +43,7 @@ empty_keeps heap state book number rule here place machine =
     let g : Graph = graph_of heap book.history in
     let at_place : IsAtRest seat × (seat.command ≡ commands.Leave) × (0 < length seat.reserve) = rw place at (seat_fits rule number here).at_place in
     let rest : IsAtRest seat = at_place.0 in
-    let busy : seat.place ≢ places.Idle = λ idle. absurd (cc (place, idle)) in
-    let present : (graph_seat g number).left ≡ false = stands.told.counts.leaves ∙ in_flight rule number here busy in
+    let present : (graph_seat g number).left ≡ false = stands.told.counts.leaves ∙ in_flight rule number here (λ idle. absurd (cc (place, idle))) in
     let awaits = rw place at stands.told.list.awaits in
     let told : seat.mine ≡ filter (is_of number) book.history = all_told seat.mine stands.told.list.awaited (filter (is_of number) book.history) stands.told.list.own awaits in
     let below : seat.cursor < heap.groups = (seat_fits rule number here).own.cursor_within in
@@ -73,7 +72,7 @@ empty_keeps heap state book number rule here place machine =
         list = whole_list (graph_of heap later.history) later.history book.made later.owner book.fragments number now refl (own_grows number book.history seat.mine entry (eq-eqb number number refl) told);
         counts = rw graph (counts_own g g book.history number seat now stands.told.counts entry (eq-eqb number number refl)
             stands.told.counts.numbered stands.told.counts.stamped stands.told.counts.leaves (omega arith));
-        began = began_past book.history entry number (book.begun number) seat.place (places.Leaving Parting) refl (λ still answered. subst IsAnswered place answered) stands.told.began;
+        began = began_past book.history entry number (book.begun number) seat.place (places.Leaving Parting) refl (λ still. subst IsAnswered place) stands.told.began;
         gathers = gathers_none heap later.owner number (drop (book.begun number) later.history) seat.cursor seat.tried seat.given rest.none_tried rest.none_given;
       };
       cycle = cycle_given heap state book number rule here seat.cursor fs below held once now record { answered = refl; left = refl; asked = refl } tt;

@@ -1,5 +1,5 @@
 -- A seat's leave keeps the rule.
-use Rattle.std.proofs.Common.{◌≡◌, ◌≢◌, ℕ, zero, suc, ◌<◌, true, false, List, [], length, filter, get_or, replicate, refl, sym, ap, ◌∙◌, subst, arith}
+use Rattle.std.proofs.Common.{◌≡◌, ℕ, zero, suc, ◌<◌, true, false, List, [], length, filter, get_or, replicate, refl, sym, ap, ◌∙◌, subst, arith}
 use Rattle.std.proofs.lemmas.Bool.{eq-eqb}
 use Rattle.heap_words.specs.declared.phase.TheConstants.{LEFT}
 use Rattle.heap_model.specs.declared.command.Command.TheVariants as commands
@@ -60,8 +60,7 @@ leave_keeps heap state book number rule here place machine =
     let words : List ℕ = put heap state.words (Answer number) LEFT in
     let stands = rule.seats_stand number here in
     let at_place : IsAtRest seat × (seat.command ≡ commands.Leave) × (seat.reserve ≡ []) = rw place at (seat_fits rule number here).at_place in
-    let busy : seat.place ≢ places.Idle = λ idle. absurd (cc (place, idle)) in
-    let present : (graph_seat g number).left ≡ false = stands.told.counts.leaves ∙ in_flight rule number here busy in
+    let present : (graph_seat g number).left ≡ false = stands.told.counts.leaves ∙ in_flight rule number here (λ idle. absurd (cc (place, idle))) in
     let awaits = rw place at stands.told.list.awaits in
     let small : number < 16 = omega (arith, here, rule.machine.limits.seats_fit) in
     let now : Graph = after_reply g number seat.command replies.Done in
