@@ -55,11 +55,8 @@ use Rattle.core_rule.proofs.ways.Told.{HasRoom, named_head, register_plain, stam
 module _ (heap : Heap) (state : State) (book : Book) (number : ℕ) (rule : Rule heap state book) (here : number < heap.seats)
     (place : (seat_at state number).place ≡ places.Access Getting)
     (a_get : IsGet (seat_at state number).command) (ranges : IsCommand (seat_at state number).command) where
-  free : (d r : ℕ) → ¬ IsAwaited (seat_at state number).place d r
-  free d r awaited = subst (λ p. IsAwaited p d r) place awaited
-
   held : (r : ℕ) → HoldsValue book.made book.owner book.fragments (slice_index_or (seat_at state number).registers r registers.Nil) (register_value (graph_of heap book.history) number r)
-  held r = (rule.seats_stand number here).names.registers r (free (target_of (seat_at state number).command) r)
+  held r = (rule.seats_stand number here).names.registers r (subst (λ p. IsAwaited p (target_of (seat_at state number).command) r) place)
 
   present : (graph_seat (graph_of heap book.history) number).left ≡ false
   present = is_present heap state book number rule here Getting place
@@ -151,7 +148,7 @@ get_keeps heap state book number rule here place machine =
     let accepted : Accepts g (Said number seat.command (Got cell.value (stamp_of found)))
     = subst (λ s. Accepts g (Said number seat.command (Got cell.value s))) (sym stamp)
     (accepts_got g number (id_at book.made index) seat.command gets.0.in_range (is_present heap state book number rule here Getting place)
-    (heap_stands.ids.in_graph index way.below) (way_object heap state book number rule here Getting place (free heap state book number rule here place gets.1 gets.0.in_range) index way)
+    (heap_stands.ids.in_graph index way.below) (way_object heap state book number rule here Getting place (λ d r. subst (λ p. IsAwaited p d r) place) index way)
     gets.1 cell there) in
     let goal = λ (o : Option ℕ). IsMachine heap (loaded_state heap state number (Word seat.reached (field_part_of seat)) (with_entries (after_get seat found o) (got_adds number seat found o)))
     → Keeps heap (loaded_state heap state number (Word seat.reached (field_part_of seat)) (with_entries (after_get seat found o) (got_adds number seat found o))) book book.begun (got_shows heap number seat words found o) in

@@ -80,5 +80,5 @@ walk_keeps heap state book number rule here place machine =
     let finds : Finds (cells_at (graph_of heap book.history) book.made) book.made book.owner book.fragments (seat_at state number)
     = rw place at (rule.seats_stand number here).names.way in
     let walks : SeatIsOnWay (seat_at state number) = rw place at (seat_fits rule number here).way_at_place in
-    onward_keeps heap state book number rule here (subst IsAnswered place) (λ d r awaited. subst (λ p. IsAwaited p d r) place awaited)
+    onward_keeps heap state book number rule here (subst IsAnswered place) (λ d r. subst (λ p. IsAwaited p d r) place)
     walks.none_loaded finds machine

@@ -59,9 +59,6 @@ meta_cases P _ found is len more past = absurd is
 
 module _ (heap : Heap) (state : State) (book : Book) (number : ℕ) (rule : Rule heap state book) (here : number < heap.seats)
     (place : (seat_at state number).place ≡ places.Access LoadingMeta) where
-  free : (d r : ℕ) → ¬ IsAwaited (seat_at state number).place d r
-  free d r awaited = subst (λ p. IsAwaited p d r) place awaited
-
   -- a reply at the meta, which changes nothing of the graph
   met_keeps : (reply : Reply) → effect_of (Said number (seat_at state number).command reply) ≡ no_effect
       → after_reply (graph_of heap book.history) number (seat_at state number).command reply ≡ graph_of heap book.history
@@ -79,7 +76,7 @@ module _ (heap : Heap) (state : State) (book : Book) (number : ℕ) (rule : Rule
       let entry : Entry = Said number seat.command reply in
       load_tells heap state book number rule here (Word seat.reached 0) seat.registers 0 0 0 places.Idle (entry ∷ []) machine seat.command reply nothing g stays (only_none g number)
       accepts keeps
-      (λ r unawaited. stands.names.registers r (free (target_of seat.command) r))
+      (λ r unawaited. stands.names.registers r (subst (λ p. IsAwaited p (target_of seat.command) r) place))
       (list_more g book.made book.owner book.fragments number seat book.history (subst IsAnswered place) stands.told.list g _ _ (entry ∷ []) [] (entry ∷ []) refl refl
       (own_entries number book.history entry (eq-eqb number number refl)) refl)
       tt tt stays_here
@@ -104,7 +101,7 @@ open_keeps heap state book number rule here place machine =
     ∙ length_found heap state.words g book.made book.owner book.fragments rule.machine.limits rule.heap_stands.control_words rule.heap_stands.ids rule.heap_stands.objects index way.below way.kept in
     let present = is_present heap state book number rule here LoadingMeta place in
     let made = rule.heap_stands.ids.in_graph index way.below in
-    let held = way_object heap state book number rule here LoadingMeta place (free heap state book number rule here place) index way in
+    let held = way_object heap state book number rule here LoadingMeta place (λ d r. subst (λ p. IsAwaited p d r) place) index way in
     let enough = spent_own heap state book number rule here (at_rest heap state book number rule here LoadingMeta place) in
     let little = few_own heap state book number rule here (at_rest heap state book number rule here LoadingMeta place) in
     let leaves_none = λ (reply : Reply). no_leave_told number number seat.command reply (λ leaves. subst NamesObject leaves opens.names) in
@@ -115,7 +112,7 @@ open_keeps heap state book number rule here place machine =
     (λ len. ends (replies.Length (length_of found)) (met_keeps heap state book number rule here place (replies.Length (length_of found)) refl (graph_length g number (length_of found) seat.command len)
     (subst (λ n. Accepts g (Said number seat.command (replies.Length n))) (sym size) (accepts_length g number id seat.command opens.works.in_range present made held len))
     (keeps_length heap false book.history number enough little (length_of found) seat.command len) (leaves_none (replies.Length (length_of found)))))
-    (λ field more. onward_keeps heap state book number rule here (subst IsAnswered place) (free heap state book number rule here place)
+    (λ field more. onward_keeps heap state book number rule here (subst IsAnswered place) (λ d r. subst (λ p. IsAwaited p d r) place)
     opens.none_loaded (record { index = index; way = way; within = omega (arith, more, size) }))
     (λ field past. ends replies.NoField (met_keeps heap state book number rule here place replies.NoField refl (graph_no_field g number seat.command field)
     (accepts_no_field g number id seat.command opens.works.in_range present made held field (omega (arith, past, size)))
