@@ -57,19 +57,18 @@ module _ (g now : Graph) (made now_made : List Id) (owner now_owner : ℕ → Ow
   }
 
 -- where nothing is awaited, a seat's own list has all of its entries
-pub all_told : (mine awaited own : List Entry) → mine ++ awaited ≡ own → awaited ≡ [] → mine ≡ own
-all_told mine awaited own both none = sym (append-nil mine) ∙ (rw none at both)
+pub all_told : {g : Graph} {history : List Entry} {made : List Id} {owner : ℕ → Owner} {fragments : ℕ → List ℕ} {number : ℕ} {seat : Seat} (list : OwnList g history made owner fragments number seat)
+    → list.awaited ≡ [] → seat.mine ≡ filter (is_of number) history
+all_told {g} {history} {made} {owner} {fragments} {number} {seat} list none = sym (append-nil seat.mine) ∙ (rw none at list.own)
 
 module _ (g : Graph) (history : List Entry) (made : List Id) (owner : ℕ → Owner) (fragments : ℕ → List ℕ) (number : ℕ) (seat : Seat) where
   -- a seat that makes an object awaits nothing
   pub making_list : (making : Making) → seat.place ≡ places.Making making → OwnList g history made owner fragments number seat → seat.mine ≡ filter (is_of number) history
-  making_list making placed list =
-      all_told seat.mine list.awaited (filter (is_of number) history) list.own (subst (λ p. Awaits g made owner fragments number seat p list.awaited) placed list.awaits)
+  making_list making placed list = all_told list (subst (λ p. Awaits g made owner fragments number seat p list.awaited) placed list.awaits)
 
   -- an idle seat awaits nothing
   pub idle_list : seat.place ≡ places.Idle → OwnList g history made owner fragments number seat → seat.mine ≡ filter (is_of number) history
-  idle_list idle list =
-      all_told seat.mine list.awaited (filter (is_of number) history) list.own (subst (λ p. Awaits g made owner fragments number seat p list.awaited) idle list.awaits)
+  idle_list idle list = all_told list (subst (λ p. Awaits g made owner fragments number seat p list.awaited) idle list.awaits)
 
   -- a list that awaits nothing
   pub whole_list : Awaits g made owner fragments number seat seat.place [] → seat.mine ≡ filter (is_of number) history → OwnList g history made owner fragments number seat
@@ -88,8 +87,7 @@ module _ (g : Graph) (made : List Id) (owner : ℕ → Owner) (fragments : ℕ �
   module _ (history : List Entry) (busy : ¬ IsAnswered seat.place) (list : OwnList g history made owner fragments number seat) where
     -- so its own list has all of its entries
     has_all : seat.mine ≡ filter (is_of number) history
-    has_all =
-        all_told seat.mine list.awaited (filter (is_of number) history) list.own (nothing_awaited seat.place list.awaited busy list.awaits)
+    has_all = all_told list (nothing_awaited seat.place list.awaited busy list.awaits)
 
     -- what is shown then is told at once, or awaited
     pub list_more : (now : Graph) (later : List Entry) (new : Seat) (added awaited shown : List Entry) → new.mine ≡ seat.mine ++ added

@@ -1,5 +1,5 @@
 -- A reply that makes no object keeps the rule, where the words that it changes are none but a seat's answer or a kept object's.
-use Rattle.std.proofs.Common.{subst, ◌≡◌, ◌≢◌, ℕ, ◌+◌, ◌<◌, false, List, [], ◌∷◌, ◌++◌, length, filter, drop, slice_set, refl, sym, ◌∙◌, arith, append-nil, ap}
+use Rattle.std.proofs.Common.{subst, ◌≡◌, ◌≢◌, ℕ, ◌<◌, false, List, [], ◌∷◌, ◌++◌, length, filter, drop, slice_set, refl, sym, ◌∙◌, arith, append-nil, ap}
 use Rattle.std.proofs.lemmas.List.{get_or-set_same, length-set}
 use Rattle.heap_model.specs.declared.graph.cell.Cell.{Cell}
 use Rattle.heap_model.specs.declared.command.Command.{Command}
@@ -29,7 +29,7 @@ use Rattle.core_rule.specs.Objects.{AreMade, Objects, cells_at}
 use Rattle.core_rule.specs.Registers as regs
 use Rattle.core_rule.specs.Rule.{Rule, OwnStands, NamesStand, ToldStands}
 use Rattle.core_rule.proofs.steps.Assemble.{Keeps, seat_fits, seat_steps}
-use Rattle.core_rule.proofs.hand.Bodies.{bare_hand}
+use Rattle.core_rule.proofs.entries.AtRest.{own_reserve}
 use Rattle.core_rule.proofs.words.ControlLemmas.{bits_same}
 use Rattle.core_rule.proofs.cycle.CycleFrames.{LeavesCycle, cycle_stays}
 use Rattle.core_rule.proofs.cycle.FieldFrames.{watched_born}
@@ -136,8 +136,7 @@ module _ (heap : Heap) (state : State) (book : Book) (number : ℕ) (words : Lis
   reply_keeps none rest told legal same grows replies heap_cycle cycle leaves =
       let stands = rule.seats_stand number here in
       let idle : IsAtRest now = rw replies.idle at fit_after.at_place in
-      let own : length seat.reserve + spent_of number book.history ≡ taken_of number book.history
-      = bare_hand seat.reserve seat.hand seat.body (spent_of number book.history) (taken_of number book.history) rest.empty_hand rest.no_body stands.told.counts.unborn in
+      let own = own_reserve heap state book number rule here rest in
       told_keeps legal same grows
       record {
         holding = holding_as book.owner number seat.reserve seat.hand seat.body now.reserve now.hand now.body replies.reserve

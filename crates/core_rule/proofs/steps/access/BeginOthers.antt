@@ -1,9 +1,8 @@
 -- The begin of a call that makes no object keeps the rule.
-use Rattle.std.proofs.Common.{ℕ, ◌<◌, [], length, filter, drop, refl, ◌∙◌, append-nil}
+use Rattle.std.proofs.Common.{ℕ, ◌<◌, [], length, drop, refl, ◌∙◌, append-nil}
 use Rattle.heap_model.specs.declared.command.Command.{Command}
 use Rattle.heap_model.specs.declared.heap.Heap.{Heap}
 use Rattle.heap_model.specs.account.Cycles.{graph_of}
-use Rattle.heap_model.specs.account.Effects.{is_of}
 use Rattle.heap_model.specs.graph.Objects.{register_value}
 use Rattle.heap_model.specs.account.PhaseCounts.{phase, last_answer, has_left}
 use Rattle.heap_model.specs.graph.Graph.{Graph}
@@ -38,7 +37,6 @@ begin_others_keep heap state book number command rule here may other machine =
     let g : Graph = graph_of heap book.history in
     let stands = rule.seats_stand number here in
     let rest : IsAtRest old = rw may.idle at (seat_fits rule number here).at_place in
-    let awaits = rw may.idle at stands.told.list.awaits in
     let holds : (r : ℕ) → HoldsValue book.made book.owner book.fragments (register_in old.registers r) (register_value g number r)
     = λ r. stands.names.registers r (none_awaited old.place places.Idle (target_of old.command) r may.idle (λ none. none)) in
     let start : Starts g (cells_at g book.made) book.made book.owner book.fragments number seat next
@@ -55,7 +53,7 @@ begin_others_keep heap state book number command rule here may other machine =
       told = record {
         list = record {
           awaited = [];
-          own = append-nil next.mine ∙ same.mine ∙ all_told old.mine stands.told.list.awaited (filter (is_of number) book.history) stands.told.list.own awaits;
+          own = append-nil next.mine ∙ same.mine ∙ all_told stands.told.list (rw may.idle at stands.told.list.awaits);
           awaits = start.awaits;
         };
         counts = counts_same g book.history number old next same.made same.sets same.left (rw (own.reserve, own.hand, own.body) refl) stands.told.counts;

@@ -1,5 +1,5 @@
 -- The swap of a set keeps the rule.
-use Rattle.std.proofs.Common.{◌≡◌, ℕ, ◌+◌, ◌-◌, ◌*◌, ◌^◌, ◌<◌, false, List, filter, get_or, slice_get, Option, Some, Result, Ok, refl, sym, ap, ◌∙◌, subst, arith}
+use Rattle.std.proofs.Common.{◌≡◌, ℕ, ◌+◌, ◌-◌, ◌*◌, ◌^◌, ◌<◌, false, List, get_or, slice_get, Option, Some, Result, Ok, refl, sym, ap, ◌∙◌, subst, arith}
 use Rattle.std.proofs.lemmas.Option.{slice_get-get_or}
 use Rattle.heap_model.specs.declared.graph.cell.Cell.{Cell}
 use Rattle.heap_model.specs.declared.command.Command.{Command}
@@ -15,7 +15,6 @@ use Rattle.heap_model.specs.declared.reply.Reply.TheVariants as replies
 use Rattle.heap_model.specs.account.Account.{most_kept}
 use Rattle.heap_model.specs.graph.Changes.{count_set, set_cell, set_stamp, write}
 use Rattle.heap_model.specs.account.Cycles.{graph_of}
-use Rattle.heap_model.specs.account.Effects.{is_of}
 use Rattle.heap_model.specs.graph.Growth.{after_reply}
 use Rattle.heap_model.specs.graph.Objects.{graph_seat, register_value, node, target_node, cell_or_refusal, cell_at, or_no_field}
 use Rattle.heap_model.specs.account.PhaseCounts.{phase, last_answer, has_left}
@@ -98,7 +97,6 @@ swap_keeps heap state book number rule here place machine =
     let way : Finds (cells_at g book.made) book.made book.owner book.fragments seat × OldKept book.made book.owner book.fragments seat = rw place at stands.names.way in
     let finds : Finds (cells_at g book.made) book.made book.owner book.fragments seat = way.0 in
     let present : (graph_seat g number).left ≡ false = stands.told.counts.leaves ∙ in_flight rule number here (λ idle. absurd (cc (place, idle))) in
-    let awaits = rw place at stands.told.list.awaits in
     let silent : IsSilent seat = rw place at (seat_fits rule number here).answer_at_place in
     let holds : (r : ℕ) → HoldsValue book.made book.owner book.fragments (register_in seat.registers r) (register_value g number r)
     = λ r. stands.names.registers r (none_awaited seat.place (places.Access Swapping) (target_of seat.command) r place (λ none. none)) in
@@ -140,7 +138,7 @@ swap_keeps heap state book number rule here place machine =
     = (register_names book.made book.owner book.fragments (register_in seat.registers (source_of seat.command)) cell.value (holds (source_of seat.command)), small) in
     let inside : fragment < 16 * heap.groups = subst (λ f. f < 16 * heap.groups) arrived (seat_fits rule number here).way.reached_within in
     reply_keeps heap state book number (put heap state.words (Word seat.reached part) word) (seat_after (swap_move number seat) found) seat.command (replies.Was stamp) rule here machine
-    refl rest (all_told seat.mine stands.told.list.awaited (filter (is_of number) book.history) stands.told.list.own awaits)
+    refl rest (all_told stands.told.list (rw place at stands.told.list.awaits))
     (legal_more heap false book.history (entries.Said number seat.command (replies.Was stamp)) rule.heap_stands.legal
     (present, fits.0.0.in_range, set_says seat.command a_set g number id there.0 old stamp refers there.1 cells_there old_stamp few)
     (keeps_said heap false book.history number seat.command (replies.Was stamp) refl tt tt (set_shows seat.command a_set heap book.history number stamp)

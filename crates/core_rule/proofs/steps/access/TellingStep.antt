@@ -1,8 +1,7 @@
 -- Local the reply of a call that looks at no word keeps the rule.
-use Rattle.std.proofs.Common.{◌≡◌, false, filter, refl, ◌∙◌, subst, sym}
+use Rattle.std.proofs.Common.{◌≡◌, false, refl, ◌∙◌, subst, sym}
 use Rattle.heap_model.specs.Command.{IsCommand}
 use Rattle.heap_model.specs.account.Cycles.{graph_of}
-use Rattle.heap_model.specs.account.Effects.{is_of}
 use Rattle.heap_model.specs.graph.Objects.{graph_seat}
 use Rattle.heap_model.specs.graph.Graph.{Graph}
 use Rattle.core_machine.specs.declared.table.address.Address.TheVariants.{Phase}
@@ -30,10 +29,9 @@ telling_keeps heap state book number rule here place machine =
     let stands = rule.seats_stand number here in
     let at_place : IsAtRest seat × IsCommand seat.command × IsLocal seat.registers seat.command = rw place at (seat_fits rule number here).at_place in
     let present : (graph_seat g number).left ≡ false = stands.told.counts.leaves ∙ in_flight rule number here (λ idle. absurd (cc (place, idle))) in
-    let awaits = rw place at stands.told.list.awaits in
     let silent : IsSilent seat = rw place at (seat_fits rule number here).answer_at_place in
     local_reply_keeps heap state book number Phase (seat_after (local_move number seat) (at heap state.words Phase)) (local_reply_of seat.registers seat.command) rule here machine
-    at_place.0 (all_told seat.mine stands.told.list.awaited (filter (is_of number) book.history) stands.told.list.own awaits) present at_place.1
+    at_place.0 (all_told stands.told.list (rw place at stands.told.list.awaits)) present at_place.1
     (local_replies heap book.history g number book.made book.owner book.fragments seat.registers present (seat_fits rule number here).own.registers_whole (registers_length heap book.history number present)
     (λ i. stands.names.registers i (none_awaited seat.place places.Local (target_of seat.command) i place (λ none. none))) seat.command at_place.1 at_place.2)
     (no_leave_told number number seat.command (local_reply_of seat.registers seat.command) (λ leaves. subst (IsLocal seat.registers) leaves at_place.2))

@@ -1,5 +1,5 @@
 -- The answer to a phase keeps the rule: it stands in the history, and so does the reply to the poll.
-use Rattle.std.proofs.Common.{◌≡◌, ◌≢◌, ℕ, ◌+◌, ◌<◌, true, false, List, [], ◌∷◌, ◌++◌, length, filter, drop, inl, refl, sym, ap, ◌∙◌, arith, append_assoc, append-nil}
+use Rattle.std.proofs.Common.{◌≡◌, ◌≢◌, ℕ, ◌+◌, ◌<◌, true, false, List, [], ◌∷◌, ◌++◌, length, drop, inl, refl, sym, ap, ◌∙◌, arith, append_assoc, append-nil}
 use Rattle.std.proofs.lemmas.Bool.{eq-eqb}
 use Rattle.heap_model.specs.declared.command.Command.TheVariants as commands
 use Rattle.heap_model.specs.declared.entry.Entry.{Entry}
@@ -178,7 +178,7 @@ module _ (heap : Heap) (state : State) (book : Book) (number : ℕ) (rule : Rule
             awaited = [];
             own = append-nil now.mine ∙ sym (append_assoc seat.mine (first ∷ []) (second ∷ []))
                 ∙ own_grows number middle.history (seat.mine ++ first ∷ []) second own
-                (own_grows number book.history seat.mine first own (all_told seat.mine stands.told.list.awaited (filter (is_of number) book.history) stands.told.list.own (rw place at stands.told.list.awaits)));
+                (own_grows number book.history seat.mine first own (all_told stands.told.list (rw place at stands.told.list.awaits)));
             awaits = refl;
           };
           counts = counts_own (graph_of heap middle.history) (graph_of heap later.history) middle.history number seat now counts_middle second own

@@ -1,5 +1,5 @@
 -- A seat's leave keeps the rule.
-use Rattle.std.proofs.Common.{◌≡◌, ℕ, zero, suc, ◌<◌, true, false, List, [], length, filter, get_or, replicate, refl, sym, ap, ◌∙◌, subst, arith}
+use Rattle.std.proofs.Common.{◌≡◌, ℕ, zero, suc, ◌<◌, true, false, List, [], length, get_or, replicate, refl, sym, ap, ◌∙◌, subst, arith}
 use Rattle.std.proofs.lemmas.Bool.{eq-eqb}
 use Rattle.heap_words.specs.declared.phase.TheConstants.{LEFT}
 use Rattle.heap_model.specs.declared.command.Command.TheVariants as commands
@@ -11,7 +11,6 @@ use Rattle.heap_model.specs.declared.reply.Reply.TheVariants as replies
 use Rattle.heap_model.specs.graph.Changes.{leave}
 use Rattle.heap_model.specs.Command.{IsCommand}
 use Rattle.heap_model.specs.account.Cycles.{graph_of}
-use Rattle.heap_model.specs.account.Effects.{is_of}
 use Rattle.heap_model.specs.graph.Growth.{after_reply}
 use Rattle.heap_model.specs.graph.Objects.{graph_seat}
 use Rattle.heap_model.specs.account.PhaseCounts.{phase, is_leave_of}
@@ -61,7 +60,6 @@ leave_keeps heap state book number rule here place machine =
     let stands = rule.seats_stand number here in
     let at_place : IsAtRest seat × (seat.command ≡ commands.Leave) × (seat.reserve ≡ []) = rw place at (seat_fits rule number here).at_place in
     let present : (graph_seat g number).left ≡ false = stands.told.counts.leaves ∙ in_flight rule number here (λ idle. absurd (cc (place, idle))) in
-    let awaits = rw place at stands.told.list.awaits in
     let small : number < 16 = omega (arith, here, rule.machine.limits.seats_fit) in
     let now : Graph = after_reply g number seat.command replies.Done in
     let grown : now ≡ leave g number = ap (λ c. after_reply g number c replies.Done) at_place.1 in
@@ -75,7 +73,7 @@ leave_keeps heap state book number rule here place machine =
     let leaves : is_leave_of number left ≡ true = ap (λ c. is_leave_of number (entries.Said number c replies.Done)) at_place.1 ∙ eq-eqb number number refl in
     let told = stands.cycle.answers_told in
     reply_keeps heap state book number words (seat_after (leave_move number seat) (at heap state.words (Answer number))) seat.command replies.Done rule here machine
-    refl at_place.0 (all_told seat.mine stands.told.list.awaited (filter (is_of number) book.history) stands.told.list.own awaits)
+    refl at_place.0 (all_told stands.told.list (rw place at stands.told.list.awaits))
     (legal_more heap false book.history (entries.Said number seat.command replies.Done) rule.heap_stands.legal
     (present, subst IsCommand (sym at_place.1) tt, subst (λ c. Says g number c replies.Done) (sym at_place.1) refl)
     (keeps_said heap false book.history number seat.command replies.Done refl tt tt (subst (λ c. ShowsPhases heap false book.history number c replies.Done) (sym at_place.1) tt)

@@ -81,7 +81,7 @@ module _ (heap : Heap) (state : State) (book : Book) (number : ℕ) (rule : Rule
   is_phase = rule.heap_stands.cycle.word
 
   mine_told : seat.mine ≡ filter (is_of number) book.history
-  mine_told = all_told seat.mine stands.told.list.awaited (filter (is_of number) book.history) stands.told.list.own (rw place at stands.told.list.awaits)
+  mine_told = all_told stands.told.list (rw place at stands.told.list.awaits)
 
   holds : HoldAll heap book.history g number book.made book.owner book.fragments g seat.registers
   holds i = stands.names.registers i (none_awaited seat.place (places.Polling Asking) (target_of seat.command) i place (λ none. none))
