@@ -8,8 +8,10 @@ pub mod Counts
 pub mod Gathers
 pub mod Ways
 pub mod Colours
+pub mod Paths
 pub mod Phases
 pub mod Flight
+pub mod Marking
 pub mod Together
 pub mod Cycle
 pub mod Rule

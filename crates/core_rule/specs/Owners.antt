@@ -65,7 +65,13 @@ IsSeated seats (Taken number) = number < seats
 IsSeated seats (Borne number) = number < seats
 IsSeated seats _ = Unit {0}
 
+-- it is the first part of the board, which is kept or is to be freed
+abbrev pub IsBoards : Owner → Type 0
+IsBoards (Kept i k) = (i ≡ 0) × (k ≡ 0)
+IsBoards (Dead i k) = (i ≡ 0) × (k ≡ 0)
+IsBoards _ = ⊥
+
 -- what a seat has is one of so many seats', and fragment 0 is the board's first one
 pub record OwnersStand (seats : ℕ) (owner : ℕ → Owner) : Type 0 where
   pub seated : (f : ℕ) → IsSeated seats (owner f)
-  pub board : owner 0 ≡ Kept 0 0
+  pub board : IsBoards (owner 0)

@@ -10,7 +10,7 @@ use Rattle.core_machine.specs.seat.Commands.{target_of}
 use Rattle.core_machine.specs.machine.Machine.{State, seat_at}
 use Rattle.core_machine.specs.seat.Seat.{Seat}
 use Rattle.core_machine.specs.machine.Value.{IsMachine}
-use Rattle.core_rule.specs.Book.{Book}
+use Rattle.core_rule.specs.Book.{Book, Colour}
 use Rattle.core_rule.specs.ControlWords.{Bits}
 use Rattle.core_rule.specs.Objects.{AreMade, Objects, cells_at}
 use Rattle.core_rule.specs.Owners.{Owner, OwnersStand}
@@ -23,6 +23,7 @@ use Rattle.core_rule.specs.Cycle.{HeapInCycle, SeatInCycle}
 use Rattle.core_rule.specs.Together.{AreTogether}
 use Rattle.core_rule.specs.Ways.{WayStands}
 use Rattle.core_rule.specs.Gathers.{GathersRight, Began}
+use Rattle.core_rule.specs.Marking.{MarkingStands, RootsAreReached}
 
 -- what is true of the heap
 pub record HeapStands (heap : Heap) (words : List ℕ) (book : Book) : Type 0 where
@@ -59,9 +60,15 @@ pub record SeatStands (heap : Heap) (words : List ℕ) (book : Book) (number : �
   pub told : ToldStands heap (graph_of heap book.history) book.history book.made book.owner book.fragments (book.begun number) number seat
   pub cycle : SeatInCycle heap words (phase book.history) (last_answer number book.history) (has_left number book.history) book.owner book.colour number seat
 
+-- what is true of the collector's marking, and of the roots that it begins with
+pub record MarksStand (heap : Heap) (state : State) (owner : ℕ → Owner) (colour : ℕ → Colour) (fragments : ℕ → List ℕ) : Type 0 where
+  pub heap_marks : MarkingStands heap state.words owner colour fragments state.collector.stage
+  pub roots : (number : ℕ) → number < heap.seats → RootsAreReached heap state.words owner colour state.collector (seat_at state number)
+
 -- the book stands for the state
 pub record Rule (heap : Heap) (state : State) (book : Book) : Type 0 where
   pub machine : IsMachine heap state
   pub heap_stands : HeapStands heap state.words book
   pub seats_stand : (number : ℕ) → number < heap.seats → SeatStands heap state.words book number (seat_at state number)
   pub collector_stands : CollectorAgrees heap state.collector book.history
+  pub marks_stand : MarksStand heap state book.owner book.colour book.fragments

@@ -48,7 +48,7 @@ scanned_same Grey = refl
 scanned_same Black = refl
 
 module _ (colour : ℕ → Colour) (f : ℕ) where
-  mark_here : with_mark colour f f ≡ marked (colour f)
+  pub mark_here : with_mark colour f f ≡ marked (colour f)
   mark_here = rw (eq-eqb f f refl) refl
 
   pub mark_away : (x : ℕ) → x ≢ f → with_mark colour f x ≡ colour x

@@ -12,7 +12,7 @@ use Rattle.core_machine.specs.machine.Value.{IsMachine}
 use Rattle.core_machine.proofs.table_lemmas.Addresses.{put-at}
 use Rattle.core_rule.specs.Book.{Book}
 use Rattle.core_rule.specs.Phases.{CollectorAgrees}
-use Rattle.core_rule.specs.Rule.{Rule, HeapStands, SeatStands}
+use Rattle.core_rule.specs.Rule.{Rule, HeapStands, SeatStands, MarksStand}
 use Rattle.core_rule.proofs.steps.Assemble.{Keeps, parts_keep}
 
 -- a turn of the collector keeps the rule
@@ -32,9 +32,10 @@ pub turn_steps : (heap : Heap) (state : State) (book : Book) (words : List ℕ) 
     → Rule heap state book → IsMachine heap (after_turn state words collector) → now.history ≡ book.history ++ added
     → HeapStands heap words now
     → ((r : ℕ) → r < heap.seats → SeatStands heap state.words book r (seat_at state r) → SeatStands heap words now r (seat_at state r))
-    → CollectorAgrees heap collector now.history
+    → CollectorAgrees heap collector now.history → MarksStand heap (after_turn state words collector) now.owner now.colour now.fragments
     → Keeps heap (after_turn state words collector) book now.begun added
-turn_steps heap state book words collector now added rule machine grown heap_after seats collector_after = parts_keep now grown machine heap_after (λ r below. seats r below (rule.seats_stand r below)) collector_after
+turn_steps heap state book words collector now added rule machine grown heap_after seats collector_after marks =
+    parts_keep now grown machine heap_after (λ r below. seats r below (rule.seats_stand r below)) collector_after marks
 
 -- the collector with no entry added
 abbrev pub quiet : Collector → Collector
@@ -43,9 +44,9 @@ quiet collector = record collector { log = collector.log ++ [] }
 -- the rule after a load of the collector that leaves the book
 pub load_turns : (heap : Heap) (state : State) (book : Book) (a : Address) (collector : Collector) → Rule heap state book
     → IsMachine heap (after_turn state (put heap state.words a (at heap state.words a)) (quiet collector))
-    → CollectorAgrees heap collector book.history
+    → CollectorAgrees heap collector book.history → MarksStand heap (after_turn state state.words collector) book.owner book.colour book.fragments
     → Keeps heap (after_turn state (put heap state.words a (at heap state.words a)) (quiet collector)) book book.begun []
-load_turns heap state book a collector rule machine stands =
+load_turns heap state book a collector rule machine stands marks =
     subst (λ words. IsMachine heap (after_turn state words (quiet collector)) → Keeps heap (after_turn state words (quiet collector)) book book.begun []) (sym (put-at heap state.words a))
     (λ same. turn_steps heap state book state.words (quiet collector) book [] rule same (sym (append-nil book.history)) rule.heap_stands (λ r below seat_stands. seat_stands)
-    (subst (λ log. CollectorAgrees heap (record collector { log = log }) book.history) (sym (append-nil collector.log)) stands)) machine
+    (subst (λ log. CollectorAgrees heap (record collector { log = log }) book.history) (sym (append-nil collector.log)) stands) record { heap_marks = marks.heap_marks; roots = marks.roots }) machine

@@ -1,0 +1,4 @@
+-- Marking: paths, roots, the pass, the scan, and what is true after it.
+pub mod Paths
+pub mod MarkingFrames
+pub mod Marks

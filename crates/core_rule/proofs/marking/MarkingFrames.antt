@@ -1,0 +1,152 @@
+-- What a step leaves of marking that marks no fragment of an object.
+use Rattle.std.proofs.Common.{◌⊎◌, ◌×◌, ◌≡◌, ◌≢◌, ℕ, ◌≤◌, ◌+◌, List, Option, Some, true, false, inl, inr, refl, sym, ap, ◌∙◌, subst, arith}
+use Rattle.heap_model.specs.declared.heap.Heap.{Heap}
+use Rattle.core_machine.specs.declared.collector.stage.Stage.{Stage}
+use Rattle.core_machine.specs.declared.collector.stage.Stage.TheVariants as stages
+use Rattle.core_rule.specs.Book.{Colour, White, Grey, Black, fragment_at}
+use Rattle.core_rule.specs.Colours.{IsMarked, WordPointsTo}
+use Rattle.core_rule.specs.Flight.{DeletionBarrier}
+use Rattle.core_rule.specs.Marking.{IsPart, MayMark, IsSeen, ComesAfter, ScanStands, PassStands, AfterMarking, MarkingStands}
+use Rattle.core_rule.specs.Owners.{Owner, Kept, Dead, born_bit}
+use Rattle.core_rule.specs.Paths.{IsWhite, Edge, IsReached}
+use Rattle.core_rule.proofs.marking.Paths.{path_stays}
+use Rattle.core_rule.proofs.owners.OwnerLemmas.{born_once}
+
+-- the born fragments have their colours, and stay born; what is kept stays so, and nothing more is to be freed; none that wasn't born is grey; and in
+-- the phase of marking what is born now is black, and the words of born fragments lead where they led but for what is marked
+pub record LeavesMarking (heap : Heap) (words now : List ℕ) (owner later : ℕ → Owner) (colour coloured : ℕ → Colour) (fragments bodies : ℕ → List ℕ) (marks : Type 0) : Type 0 where
+  pub born : (f : ℕ) → born_bit (owner f) ≡ 1 → (born_bit (later f) ≡ 1) × (coloured f ≡ colour f)
+  pub kept : (f i k : ℕ) → owner f ≡ Kept i k → (later f ≡ Kept i k) × (bodies i ≡ fragments i)
+  pub dead : (f i k : ℕ) → owner f ≡ Dead i k → later f ≡ Dead i k
+  pub was_dead : (f i k : ℕ) → later f ≡ Dead i k → owner f ≡ Dead i k
+  pub fresh : (f : ℕ) → born_bit (owner f) ≡ 0 → coloured f ≢ Grey
+  pub dark : marks → (f : ℕ) → born_bit (owner f) ≡ 0 → born_bit (later f) ≡ 1 → coloured f ≡ Black
+  pub back : marks → (f part g : ℕ) → born_bit (owner f) ≡ 1 → WordPointsTo heap now f part g → WordPointsTo heap words f part g ⊎ IsMarked coloured g
+  pub on : marks → (f part g : ℕ) → born_bit (owner f) ≡ 1 → WordPointsTo heap words f part g → WordPointsTo heap now f part g ⊎ IsMarked colour g
+
+-- this is so at each stage of marking
+abbrev pub OnlyMarks : Type 0 → Stage → Type 0
+OnlyMarks marks stages.Looking = Unit {0}
+OnlyMarks marks stages.Advancing = Unit {0}
+OnlyMarks marks _ = marks
+
+-- a fragment is born or not
+pub born_or_not : (o : Owner) → (born_bit o ≡ 0) ⊎ (born_bit o ≡ 1)
+born_or_not o = by (born_bit o) (born_once o)
+  where
+    by : (n : ℕ) → n ≤ 1 → (n ≡ 0) ⊎ (n ≡ 1)
+    by n few = grind (arith, few)
+
+module _ (heap : Heap) (words now : List ℕ) (owner later : ℕ → Owner) (colour coloured : ℕ → Colour) (fragments bodies : ℕ → List ℕ) (marks : Type 0)
+    (leaves : LeavesMarking heap words now owner later colour coloured fragments bodies marks)
+    (marked_born : (f : ℕ) → IsMarked colour f → born_bit (owner f) ≡ 1) where
+  same_colour : (f : ℕ) → born_bit (owner f) ≡ 1 → coloured f ≡ colour f
+  same_colour f born = (leaves.born f born).1
+
+  not_white : (c : Colour) → c ≢ White → (f : ℕ) → colour f ≡ c → IsMarked colour f
+  not_white c some f is white = some (sym is ∙ white)
+
+  grey_born : (f : ℕ) → colour f ≡ Grey → born_bit (owner f) ≡ 1
+  grey_born f grey = marked_born f (λ white. absurd (cc (grey, white)))
+
+  -- what was marked stays so
+  pub marks_on : (f : ℕ) → IsMarked colour f → IsMarked coloured f
+  marks_on f marked white = marked (sym (same_colour f (marked_born f marked)) ∙ white)
+
+  -- and what is grey was
+  grey_was : (f : ℕ) → coloured f ≡ Grey → colour f ≡ Grey
+  grey_was f grey = elim (born_or_not (owner f)) as (λ _. colour f ≡ Grey) [
+    | inl unborn ↦ absurd (leaves.fresh f unborn grey)
+    | inr born ↦ sym (same_colour f born) ∙ grey
+  ]
+
+  grey_on : (f : ℕ) → colour f ≡ Grey → coloured f ≡ Grey
+  grey_on f grey = same_colour f (grey_born f grey) ∙ grey
+
+  part_on : (f : ℕ) → IsPart owner f → IsPart later f
+  part_on f part = record { index = part.index; place = part.place; kept = (leaves.kept f part.index part.place part.kept).0 }
+
+  may_on : (f : ℕ) → MayMark owner colour fragments f → MayMark later coloured bodies f
+  may_on f may = record {
+    part = part_on f may.part;
+    first = elim may.first as (λ _. (may.part.place ≡ 0) ⊎ IsMarked coloured (fragment_at (bodies may.part.index) 0)) [
+      | inl head ↦ inl head
+      | inr marked ↦ inr (subst (λ fs. IsMarked coloured (fragment_at fs 0)) (sym (leaves.kept f may.part.index may.part.place may.part.kept).1) (marks_on _ marked))
+    ];
+  }
+
+  module _ (is_marking : marks) where
+    seen_on : (f part : ℕ) → IsSeen heap words colour f part → IsSeen heap now coloured f part
+    seen_on f part seen = record {
+      grey = grey_on f seen.grey;
+      seen = λ p g below leads. elim (leaves.back is_marking f p g (grey_born f seen.grey) leads) as (λ _. IsMarked coloured g) [
+        | inl before ↦ marks_on g (seen.seen p g below before)
+        | inr marked ↦ marked
+      ];
+    }
+
+    finds_on : (f part : ℕ) (old : Option ℕ) → colour f ≡ Grey → DeletionBarrier heap words colour f part old → DeletionBarrier heap now coloured f part old
+    finds_on f part old grey finds g leads = elim (leaves.back is_marking f part g (grey_born f grey) leads) as (λ _. (old ≡ Some g) ⊎ IsMarked coloured g) [
+      | inl before ↦ elim (finds g before) as (λ _. (old ≡ Some g) ⊎ IsMarked coloured g) [
+        | inl same ↦ inl same
+        | inr marked ↦ inr (marks_on g marked)
+      ]
+      | inr marked ↦ inr marked
+    ]
+
+    after_on : (f part next : ℕ) → ComesAfter owner f part next → ComesAfter later f part next
+    after_on f part next comes = elim comes as (λ _. ComesAfter later f part next) [
+      | inl on ↦ inl on
+      | inr past ↦ inr (past.0, past.1, past.2.0, (leaves.kept f past.2.0 0 past.2.1).0)
+    ]
+
+    white_on : (f : ℕ) → IsWhite owner colour f → IsWhite later coloured f
+    white_on f white = record { unmarked = same_colour f white.born ∙ white.unmarked; born = (leaves.born f white.born).0 }
+
+    edge_on : (f g : ℕ) → IsWhite owner colour f ⊎ (colour f ≡ Grey) → Edge heap words f g → IsWhite owner colour g → Edge heap now f g
+    edge_on f g from leads white =
+        let born : born_bit (owner f) ≡ 1 = elim from as (λ _. born_bit (owner f) ≡ 1) [ inl w ↦ w.born | inr grey ↦ grey_born f grey ] in
+        elim (leaves.on is_marking f leads.part g born leads.points) as (λ _. Edge heap now f g) [
+          | inl points ↦ record { part = leads.part; points = points }
+          | inr marked ↦ absurd (marked white.unmarked)
+        ]
+
+    -- marking comes to all that it came to
+    pub reached_stays : (f : ℕ) → IsReached heap words owner colour f → IsReached heap now later coloured f
+    reached_stays f reached = elim reached as (λ _. IsReached heap now later coloured f) [
+      | inl marked ↦ inl (marks_on f marked)
+      | inr path ↦ inr (path_stays (Edge heap words) (Edge heap now) (IsWhite owner colour) (IsWhite later coloured) (λ x. colour x ≡ Grey) (λ x. coloured x ≡ Grey)
+          white_on (λ x g grey leads white. grey_on x grey) edge_on f path)
+    ]
+
+    after_stays : AfterMarking owner colour → AfterMarking later coloured
+    after_stays after = record {
+      no_grey = λ f grey. after.no_grey f (grey_was f grey);
+      white_dead = λ f white. elim (born_or_not (owner f)) as (λ _. (i : ℕ) × (k : ℕ) × (later f ≡ Dead i k)) [
+        | inl unborn ↦ absurd (let dark = leaves.dark is_marking f unborn white.born in let light = white.unmarked in cc)
+        | inr born ↦ let was = after.white_dead f record { unmarked = sym (same_colour f born) ∙ white.unmarked; born = born } in
+            (was.0, was.1, leaves.dead f was.0 was.1 was.2)
+      ];
+      dead_white = λ f i k is. let was = leaves.was_dead f i k is in same_colour f (ap born_bit was) ∙ after.dead_white f i k was;
+    }
+
+  scan_stays : (stage : Stage) → OnlyMarks marks stage → ScanStands heap words owner colour fragments stage → ScanStands heap now later coloured bodies stage
+  scan_stays (stages.Scanning scan) is stands = seen_on is scan.fragment scan.part stands
+  scan_stays (stages.Shading scan target next) is stands =
+      (seen_on is scan.fragment scan.part stands.0, finds_on is scan.fragment scan.part (Some target) stands.0.grey stands.1, may_on target stands.2, after_on is scan.fragment scan.part next stands.3)
+  scan_stays (stages.Blackening scan) is stands = seen_on is scan.fragment 4 stands
+  scan_stays _ is stands = tt
+
+  pass_stays : (stage : Stage) → PassStands colour stage → PassStands coloured stage
+  pass_stays (stages.Passing group false) stands = λ f grey. let found = stands f (grey_was f grey) in (found.0, grey_on found.0 found.1, found.2)
+  pass_stays _ stands = tt
+
+  -- all of it stands as before
+  pub marking_stays : (stage : Stage) → OnlyMarks marks stage → MarkingStands heap words owner colour fragments stage → MarkingStands heap now later coloured bodies stage
+  marking_stays stage is stands = record {
+    grey = λ f grey. part_on f (stands.grey f (grey_was f grey));
+    scan = scan_stays stage is stands.scan;
+    pass = pass_stays stage stands.pass;
+    alive = λ goes_on f i k is_dead. stands.alive goes_on f i k (leaves.was_dead f i k is_dead);
+    after = λ ended. after_stays (subst (OnlyMarks marks) ended is) (stands.after ended);
+  }

@@ -1,0 +1,141 @@
+-- What a seat's step has to leave of marking.
+use Rattle.std.proofs.Common.{◌≡◌, ◌≢◌, ℕ, ◌<◌, ◌%◌, List, inl, refl, sym, ◌∙◌, arith}
+use Rattle.heap_model.specs.declared.heap.Heap.{Heap}
+use Rattle.heap_model.specs.account.PhaseCounts.{phase}
+use Rattle.core_machine.specs.declared.collector.stage.Stage.{Stage}
+use Rattle.core_machine.specs.declared.collector.stage.Stage.TheVariants as stages
+use Rattle.core_machine.specs.collector.FitsTurns.{FitsStage}
+use Rattle.core_machine.specs.declared.place.Access.{Access}
+use Rattle.core_machine.specs.declared.place.Access.TheVariants.{LoadingMeta, Walking, Getting, Naming, LoadingOld, ShadingOld, ShadingNew, Swapping}
+use Rattle.core_machine.specs.declared.place.Place.{Place}
+use Rattle.core_machine.specs.declared.place.Place.TheVariants as places
+use Rattle.core_machine.specs.machine.Machine.{State, seat_at}
+use Rattle.core_machine.specs.seat.Registers.{register_in, register_head}
+use Rattle.core_machine.specs.seat.Seat.{Seat}
+use Rattle.core_machine.specs.table.Decode.{head_of}
+use Rattle.core_rule.specs.Book.{Book, Grey}
+use Rattle.core_rule.specs.Colours.{WordPointsTo, IsBetween}
+use Rattle.core_rule.specs.Flight.{WhileAccess}
+use Rattle.core_rule.specs.Marking.{MarkingStands, IsInMarking, AtCall, OfRoots, RootsAreReached}
+use Rattle.core_rule.specs.Owners.{born_bit}
+use Rattle.core_rule.specs.Paths.{IsReached}
+use Rattle.core_rule.specs.Rule.{Rule}
+use Rattle.core_rule.proofs.cycle.CycleFrames.{while_access}
+use Rattle.core_rule.proofs.lists.Options.{if_some}
+use Rattle.core_rule.proofs.marking.Paths.{reached_on}
+use Rattle.core_rule.proofs.marking.MarkingFrames.{LeavesMarking, OnlyMarks, marking_stays, reached_stays}
+
+-- what is true of each root goes on to be
+pub roots_more : (P Q : ℕ → Type 0) → ((f : ℕ) → P f → Q f) → (seat : Seat) → OfRoots P seat → OfRoots Q seat
+roots_more P Q more seat roots = record {
+  registers = λ r. if_some P Q more (register_head (register_in seat.registers r)) (roots.registers r);
+  call = while_access (AtCall P seat) (AtCall Q seat) each seat.place roots.call;
+}
+  where
+    each : (place : Access) → AtCall P seat place → AtCall Q seat place
+    each LoadingMeta holds = more seat.reached holds
+    each Walking holds = more seat.reached holds
+    each Getting holds = more seat.reached holds
+    each Naming holds = if_some P Q more (head_of seat.loaded) holds
+    each LoadingOld holds = more seat.reached holds
+    each ShadingOld holds = (more seat.reached holds.0, if_some P Q more (head_of seat.loaded) holds.1)
+    each ShadingNew holds = more seat.reached holds
+    each Swapping holds = more seat.reached holds
+
+-- the call isn't on a way to a field
+abbrev pub IsOffWay : Place → Type 0
+IsOffWay (places.Access place) = ⊥
+IsOffWay _ = Unit {0}
+
+-- then its registers' objects are all its roots
+pub roots_off_way : (P : ℕ → Type 0) (seat next : Seat) → next.registers ≡ seat.registers → IsOffWay next.place → OfRoots P seat → OfRoots P next
+roots_off_way P seat next same off roots = record {
+  registers = λ r. rw same (roots.registers r);
+  call = nowhere next.place off;
+}
+  where
+    nowhere : (place : Place) → IsOffWay place → WhileAccess (AtCall P next) place
+    nowhere (places.Access place) off = absurd off
+    nowhere _ off = tt
+
+-- a seat's step leaves what is true of marking, and each root that it comes to; and it comes to the seat's own roots
+pub record MarksGoOn (heap : Heap) (state : State) (book now : Book) (words : List ℕ) (next : Seat) : Type 0 where
+  pub heap_on : MarkingStands heap words now.owner now.colour now.fragments state.collector.stage
+  pub reached_on : IsInMarking state.collector → (f : ℕ) → IsReached heap state.words book.owner book.colour f → IsReached heap words now.owner now.colour f
+  pub own_on : RootsAreReached heap words now.owner now.colour state.collector next
+
+module _ (heap : Heap) (state : State) (book : Book) (rule : Rule heap state book) where
+  -- what is true at a stage of marking is true in its phase alone
+  only_marks : (stage : Stage) → FitsStage heap state.collector.phase state.collector.looked stage → OnlyMarks (state.collector.phase % 7 ≡ 3) stage
+  only_marks stages.Looking fits = tt
+  only_marks stages.Advancing fits = tt
+  only_marks (stages.Passing group found) fits = fits.marks.for_marking
+  only_marks (stages.Scanning scan) fits = fits.marks.for_marking
+  only_marks (stages.Shading scan target next) fits = fits.marks.for_marking
+  only_marks (stages.Blackening scan) fits = fits.marks.for_marking
+  only_marks stages.Marked fits = fits.for_marking
+
+  -- marking comes to what a fragment leads to that it comes to
+  pub comes_further : IsInMarking state.collector → (f part g : ℕ) → born_bit (book.owner g) ≡ 1 → IsReached heap state.words book.owner book.colour f
+      → WordPointsTo heap state.words f part g → IsReached heap state.words book.owner book.colour g
+  comes_further marks f part g born reached leads =
+      reached_on heap state.words book.owner book.colour
+      (λ x p y dark points. rule.heap_stands.cycle.coloured.black (between marks) x p y dark points) f part g born reached leads
+    where
+      between : IsInMarking state.collector → IsBetween 2 5 (phase book.history)
+      between marks = let same = rule.collector_stands.phase_told in let third = marks.phase in record { from = omega (arith, same, third); upto = omega (arith, same, third) }
+
+  -- what a step leaves of marking that marks no object's fragment
+  abbrev pub Leaves : List ℕ → Book → Type 0
+  Leaves words now = LeavesMarking heap state.words words book.owner now.owner book.colour now.colour book.fragments now.fragments (state.collector.phase % 7 ≡ 3)
+
+  -- all that is born is as it was, and each word leads where it led
+  pub leaves_words : (words : List ℕ) → ((f part g : ℕ) → WordPointsTo heap words f part g → WordPointsTo heap state.words f part g)
+      → ((f part g : ℕ) → WordPointsTo heap state.words f part g → WordPointsTo heap words f part g) → Leaves words book
+  leaves_words words back on = record {
+    born = λ f born. (born, refl);
+    kept = λ f i k kept. (kept, refl);
+    dead = λ f i k dead. dead;
+    was_dead = λ f i k dead. dead;
+    fresh = λ f unborn grey. unborn_grey f unborn grey;
+    dark = λ marks f unborn born. absurd (omega (arith, unborn, born));
+    back = λ marks f part g born leads. inl (back f part g leads);
+    on = λ marks f part g born leads. inl (on f part g leads);
+  }
+    where
+      unborn_grey : (f : ℕ) → born_bit (book.owner f) ≡ 0 → book.colour f ≢ Grey
+      unborn_grey f unborn grey = let born = rule.heap_stands.cycle.coloured.born f (λ white. absurd (cc (grey, white))) in omega (arith, unborn, born)
+
+  module _ (words : List ℕ) (now : Book) (leaves : Leaves words now) where
+    -- so the heap's part of marking stands
+    pub heap_marks_on : MarkingStands heap words now.owner now.colour now.fragments state.collector.stage
+    heap_marks_on =
+        marking_stays heap state.words words book.owner now.owner book.colour now.colour book.fragments now.fragments (state.collector.phase % 7 ≡ 3) leaves
+        rule.heap_stands.cycle.coloured.born state.collector.stage (only_marks state.collector.stage rule.machine.collector_fit.at_stage) rule.marks_stand.heap_marks
+
+    -- and marking comes to what it came to
+    pub comes_on : IsInMarking state.collector → (f : ℕ) → IsReached heap state.words book.owner book.colour f → IsReached heap words now.owner now.colour f
+    comes_on marks =
+        reached_stays heap state.words words book.owner now.owner book.colour now.colour book.fragments now.fragments (state.collector.phase % 7 ≡ 3) leaves
+        rule.heap_stands.cycle.coloured.born marks.phase
+
+  module _ (number : ℕ) (here : number < heap.seats) where
+    -- the roots of a seat that goes on are among those that marking came to
+    abbrev pub RootsGoOn : Seat → Type 0
+    RootsGoOn next = IsInMarking state.collector → OfRoots (IsReached heap state.words book.owner book.colour) (seat_at state number)
+        → OfRoots (IsReached heap state.words book.owner book.colour) next
+
+    -- so its step leaves marking
+    pub marks_go_on : (words : List ℕ) (now : Book) (next : Seat) → Leaves words now → next.answered ≡ (seat_at state number).answered → RootsGoOn next → MarksGoOn heap state book now words next
+    marks_go_on words now next leaves same roots = record {
+      heap_on = heap_marks_on words now leaves;
+      reached_on = comes_on words now leaves;
+      own_on = λ marks answered. roots_more (IsReached heap state.words book.owner book.colour) (IsReached heap words now.owner now.colour) (comes_on words now leaves marks) next
+          (roots marks (rule.marks_stand.roots number here marks (sym same ∙ answered)));
+    }
+
+    -- and where its registers stay, and its call is on no way
+    pub marks_off_way : (words : List ℕ) (now : Book) (next : Seat) → Leaves words now → next.answered ≡ (seat_at state number).answered
+        → next.registers ≡ (seat_at state number).registers → IsOffWay next.place → MarksGoOn heap state book now words next
+    marks_off_way words now next leaves same registers off =
+        marks_go_on words now next leaves same (λ marks. roots_off_way (IsReached heap state.words book.owner book.colour) (seat_at state number) next registers off)
