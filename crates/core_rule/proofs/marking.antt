@@ -3,3 +3,7 @@ pub mod Paths
 pub mod MarkingFrames
 pub mod Marks
 pub mod ShadeMarks
+pub mod SeatShades
+pub mod MakingMarks
+pub mod RegisterRoots
+pub mod LastBirthMarks
