@@ -2,3 +2,5 @@
 pub mod Paths
 pub mod MarkingFrames
 pub mod Marks
+pub mod Settled
+pub mod GreyPlaces
