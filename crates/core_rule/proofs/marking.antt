@@ -2,5 +2,6 @@
 pub mod Paths
 pub mod MarkingFrames
 pub mod Marks
+pub mod ShadeMarks
 pub mod Settled
 pub mod GreyPlaces
