@@ -7,5 +7,7 @@ pub mod SeatShades
 pub mod MakingMarks
 pub mod RegisterRoots
 pub mod LastBirthMarks
+pub mod GoneRoots
+pub mod ObjectEdges
 pub mod Settled
 pub mod GreyPlaces

@@ -119,6 +119,16 @@ opening_rule heap state fits machine opens = record {
       (opens.words_open (Answer number) (omega (arith, below, fits.seats_fit)) ∙ opening_answer heap number below));
   collector_stands = subst (λ (c : Collector). CollectorAgrees heap c []) (sym opens.nothing_done)
       record { log = refl; phase_told = refl; looked = λ number less. absurd (omega (arith, less)) };
+  marks_stand = record {
+    heap_marks = subst (λ (c : Collector). MarkingStands heap state.words opening_owner (λ f. White) opening_fragments c.stage) (sym opens.nothing_done) record {
+      grey = λ f grey. absurd (cc);
+      scan = tt;
+      pass = tt;
+      alive = λ goes_on f i k. opening_cases (λ o. o ≢ Dead i k) f (λ less is. cc) (λ past is. cc);
+      after = λ ended. absurd (cc);
+    };
+    roots = λ number below marks. absurd (subst (λ (c : Collector). c.phase % 7 ≢ 3) (sym opens.nothing_done) (λ e. omega (arith, e)) marks.phase);
+  };
 }
 
 pub opening_stands : (heap : Heap) (state : State) → IsHeap heap → IsOpening heap state → StandsFor heap state [] []
