@@ -1,6 +1,11 @@
 -- The collector's own data go on fitting together, a file for each turn, and a turn leaves a machine.
 pub mod AdvanceTurn
+pub mod BlackenTurn
 pub mod LookTurn
+pub mod MarkedTurn
+pub mod PassTurn
+pub mod ScanTurn
+pub mod ShadeTurn
 pub mod Turning
 pub mod Standing
 use Rattle.std.proofs.Common.{refl}
@@ -15,6 +20,11 @@ use Rattle.core_machine.proofs.collector_lemmas.Standing.{StageStands, TurnStand
 -- each turn stands, by its stage
 stands_at : (stage : Stage) → StageStands stage
 stands_at stages.Looking = LookTurn.look_stands
+stands_at (stages.Passing group found) = PassTurn.pass_stands group found
+stands_at (stages.Scanning scan) = ScanTurn.scan_stands scan
+stands_at (stages.Shading scan target next) = ShadeTurn.shade_stands scan target next
+stands_at (stages.Blackening scan) = BlackenTurn.blacken_stands scan
+stands_at stages.Marked = MarkedTurn.marked_stands
 stands_at stages.Advancing = AdvanceTurn.advance_stands
 
 -- the turn that is due

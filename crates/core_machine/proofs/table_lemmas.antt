@@ -6,6 +6,7 @@ pub mod Clear
 pub mod Counting
 pub mod Filters
 pub mod Free
+pub mod Grey
 pub mod Leading
 pub mod Masks
 pub mod Owned

@@ -1,3 +1,4 @@
 -- The collector's turns.
 pub mod Collector
 pub mod FitsTurns
+pub mod Marking

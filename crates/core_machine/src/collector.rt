@@ -2,16 +2,22 @@ ghost use Rattle.std.specs.Prelude.{◌≡◌, ◌+◌, ◌-◌, ◌<◌, ◌≤
 ghost use Rattle.core_machine.specs.declared.step.Step.TheVariants.{Turning as Turns};
 ghost use Rattle.core_machine.specs.collector.Collector.{opening_collector, next_turn, collector_after, has_answered_of, advance_turn, look_answer, after_look, after_counted_look};
 ghost use Rattle.core_machine.specs.seat.Fits.{CollectorFits};
+ghost use Rattle.core_machine.specs.table.Decode.{FoundPointsWithin};
+ghost use Rattle.core_machine.specs.table.Operation.{address_of};
+ghost use Rattle.heap_model.specs.Heap.{IsHeap};
 
-use crate::collector::stage::Stage;
+use crate::collector::marking::pass_on;
+use crate::collector::stage::{Scan, Stage};
 use crate::log::Log;
 use crate::step::TurningStep;
+use heap_model::limits::GROUP_FRAGMENTS;
 use heap_model::phase_plan::{CYCLE_PHASES, MARKING};
 use heap_model::{Entry, Heap, Memory, Turn};
 use heap_words::LEFT;
 use std::alloc::Global;
 use std::marker::Model;
 
+pub(crate) mod marking;
 pub(crate) mod stage;
 
 /// What is kept of the collector: the phase, how far its turns are in it, and its entries.
@@ -69,6 +75,13 @@ impl CollectorParty {
     {
         match self.stage {
             Stage::Looking => TurningStep::LookLoad { seat: self.looked },
+            Stage::Passing { group, .. } => TurningStep::GroupLoad { group },
+            Stage::Scanning(Scan { fragment, part, .. }) => {
+                TurningStep::ScanLoad { fragment, part }
+            }
+            Stage::Shading { target, .. } => TurningStep::MarkShade { fragment: target },
+            Stage::Blackening(Scan { fragment, .. }) => TurningStep::Blacken { fragment },
+            Stage::Marked => TurningStep::GroupLoad { group: 0 },
             Stage::Advancing => TurningStep::AdvanceStore {
                 phase: self.phase + 1,
             },
@@ -112,7 +125,10 @@ impl CollectorParty {
             return;
         }
         if self.phase % CYCLE_PHASES == MARKING {
-            self.looked = 0;
+            self.stage = Stage::Passing {
+                group: 0,
+                found: false,
+            };
         } else {
             self.stage = Stage::Advancing;
         }
@@ -133,7 +149,9 @@ impl CollectorParty {
 
     /// Learns the word that its turn found. Each phase has an entry, so there is always a number left for the next one.
     pub fn learn(&mut self, heap: &Heap, found: u64) -> Turn
+        requires limits { IsHeap heap.now }
         requires fits { CollectorFits heap.now self.old.collector }
+        requires found { FoundPointsWithin heap.now (address_of (next_turn heap.now self.old.collector).step) found }
         requires spare { 1 < self.old.spare }
         ensures may { (next_turn heap.now self.old.collector).may }
         ensures collector { self.new.collector ≡ collector_after (next_turn heap.now self.old.collector) found }
@@ -143,6 +161,18 @@ impl CollectorParty {
         let _all = self.log.spare();
         match self.stage {
             Stage::Looking => return self.look(heap, found),
+            Stage::Passing { group, found: some } => {
+                self.stage = pass_on(heap, group, some, found);
+            }
+            Stage::Scanning(scan) => self.stage = scan.seen(found),
+            Stage::Shading { scan, next, .. } => self.stage = scan.shaded(next),
+            Stage::Blackening(Scan { fragment, .. }) => {
+                self.stage = Stage::Passing {
+                    group: fragment / GROUP_FRAGMENTS,
+                    found: true,
+                };
+            }
+            Stage::Marked => (),
             Stage::Advancing => self.advance(),
         }
         Turn::Stepped

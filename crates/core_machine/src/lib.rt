@@ -10,7 +10,7 @@ mod step;
 mod table;
 
 pub use collector::CollectorParty;
-pub use collector::stage::Stage;
+pub use collector::stage::{Scan, Stage};
 pub use machine::Machine;
 pub use place::{Access, Leaving, Making, Place, Polling};
 pub use seat::SeatParty;

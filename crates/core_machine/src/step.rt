@@ -4,7 +4,7 @@ ghost use Rattle.core_machine.specs.table.Operation.{address_of, operation_of, m
 use crate::step::operation::Operation;
 use crate::table::address::Address;
 use heap_model::limits::GROUP_FRAGMENTS;
-use heap_words::{ALL_TAKEN, LEFT, all_but, birth_bits, shade_bit};
+use heap_words::{ALL_TAKEN, LEFT, all_but, birth_bits, blacken_bit, shade_bit};
 
 pub(crate) mod operation;
 
@@ -71,6 +71,14 @@ pub enum TurningStep {
     LookLoad { seat: u8 },
     /// The phase begins.
     AdvanceStore { phase: u64 },
+    /// A group's control word is loaded.
+    GroupLoad { group: u16 },
+    /// A word of a fragment is loaded to see where it leads.
+    ScanLoad { fragment: u16, part: u8 },
+    /// A fragment to which a scanned one leads is marked.
+    MarkShade { fragment: u16 },
+    /// A fragment is told to be scanned.
+    Blacken { fragment: u16 },
 }
 
 impl Step {
@@ -187,6 +195,11 @@ impl TurningStep {
         match *self {
             TurningStep::LookLoad { seat } => Address::Answer(seat),
             TurningStep::AdvanceStore { .. } => Address::Phase,
+            TurningStep::GroupLoad { group } => Address::Control(group),
+            TurningStep::ScanLoad { fragment, part } => Address::Word { fragment, part },
+            TurningStep::MarkShade { fragment } | TurningStep::Blacken { fragment } => {
+                Address::Control(fragment / GROUP_FRAGMENTS)
+            }
         }
     }
 
@@ -194,8 +207,12 @@ impl TurningStep {
         ensures { result ≡ turning_operation self.now }
     {
         match *self {
-            TurningStep::LookLoad { .. } => Operation::Load,
+            TurningStep::LookLoad { .. }
+            | TurningStep::GroupLoad { .. }
+            | TurningStep::ScanLoad { .. } => Operation::Load,
             TurningStep::AdvanceStore { phase } => Operation::Store(phase),
+            TurningStep::MarkShade { fragment } => Operation::Or(shade_bit(fragment)),
+            TurningStep::Blacken { fragment } => Operation::Or(blacken_bit(fragment)),
         }
     }
 }

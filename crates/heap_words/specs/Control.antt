@@ -1,5 +1,6 @@
-use Rattle.std.specs.Prelude.{ℕ, ◌+◌, ◌-◌, ◌*◌, ◌%◌, ◌^◌, ◌==◌, Bool, true, false, bit_and}
+use Rattle.std.specs.Prelude.{ℕ, ◌+◌, ◌-◌, ◌*◌, ◌%◌, ◌^◌, ◌==◌, Bool, true, false, if◌then◌else◌, Option, bit_and}
 use Rattle.std.specs.Int.{bit_at}
+use Rattle.std.specs.List.{find, range_with_len}
 
 -- a fragment's bit among the sixteen of its group
 abbrev pub place_bit_of : ℕ → ℕ
@@ -29,3 +30,15 @@ birth_bits_of true bits = bits * 2 ^ 16 + bits * 2 ^ 32 + bits * 2 ^ 48
 -- the bit that a shade sets: the fragment is marked
 abbrev pub shade_bit_of : ℕ → ℕ
 shade_bit_of fragment = 2 ^ (32 + fragment % 16)
+
+-- the bit that a blacken sets: the fragment is scanned
+abbrev pub blacken_bit_of : ℕ → ℕ
+blacken_bit_of fragment = 2 ^ (48 + fragment % 16)
+
+-- the fragment is marked and not scanned in its group's control word
+abbrev pub is_grey : ℕ → ℕ → Bool
+is_grey word fragment = if bit_at word (32 + fragment % 16) == 1 then bit_at word (48 + fragment % 16) == 0 else false
+
+-- the lowest of a group's sixteen places whose fragment is grey, if one is
+abbrev pub lowest_grey_of : ℕ → Option ℕ
+lowest_grey_of word = find (is_grey word) (range_with_len 0 16)

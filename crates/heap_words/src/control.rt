@@ -1,5 +1,7 @@
 ghost use Rattle.std.specs.Prelude.{◌≡◌};
-ghost use Rattle.heap_words.specs.Control.{place_bit_of, is_clear as is_clear_in, all_but_of, birth_bits_of, shade_bit_of};
+ghost use Rattle.heap_words.specs.Control.{place_bit_of, is_clear as is_clear_in, all_but_of, birth_bits_of, shade_bit_of, blacken_bit_of, lowest_grey_of};
+
+use crate::group::Group;
 
 /// The taken bits of all sixteen fragments of a group.
 pub const ALL_TAKEN: u64 = 0xffff;
@@ -44,4 +46,23 @@ pub fn shade_bit(fragment: u16) -> u64
     ensures { result ≡ shade_bit_of fragment }
 {
     1 << (32 + fragment % 16)
+}
+
+/// The bit that a blacken sets: the fragment is scanned.
+pub fn blacken_bit(fragment: u16) -> u64
+    ensures { result ≡ blacken_bit_of fragment }
+{
+    1 << (48 + fragment % 16)
+}
+
+/// The lowest of a group's sixteen places whose fragment is marked and not scanned.
+pub fn lowest_grey(word: u64) -> Option<u16>
+    ensures { result ≡ lowest_grey_of word }
+{
+    let group = Group::read(word);
+    let grey = group.marked & !group.scanned;
+    if grey == 0 {
+        return None;
+    }
+    Some(grey.trailing_zeros() as u16)
 }

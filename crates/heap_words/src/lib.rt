@@ -14,7 +14,9 @@ mod spot;
 mod tests;
 
 pub use cell::Cell;
-pub use control::{ALL_TAKEN, all_but, birth_bits, is_clear, place_bit, shade_bit};
+pub use control::{
+    ALL_TAKEN, all_but, birth_bits, blacken_bit, is_clear, lowest_grey, place_bit, shade_bit,
+};
 pub use group::Group;
 pub use kind::Kind;
 pub use laws::word_laws;

@@ -2,6 +2,7 @@
 use Rattle.std.proofs.Common.{suc, ◌≡◌, ℕ, ◌+◌, ◌%◌, ◌<◌, inl, inr, refl, arith}
 use Rattle.std.proofs.lemmas.Bool.Decides.{eqb_tells, leb_tells}
 use Rattle.heap_model.specs.declared.heap.Heap.{Heap}
+use Rattle.heap_model.specs.Heap.{IsHeap}
 use Rattle.core_machine.specs.declared.collector.stage.Stage.TheVariants as stages
 use Rattle.core_machine.specs.declared.step.Step.TheVariants.{Turning}
 use Rattle.core_machine.specs.declared.step.TurningStep.TheVariants as turning
@@ -11,14 +12,14 @@ use Rattle.core_machine.proofs.collector_lemmas.Standing.{StageStands, quiet_sta
 use Rattle.core_machine.proofs.table_lemmas.Bits.{bool_tells}
 use Rattle.core_machine.proofs.table_lemmas.StepStands.{load_stands}
 
-module _ (heap : Heap) (collector : Collector) (fits : CollectorFits heap collector) (looking : collector.stage ≡ stages.Looking) (within : collector.looked < heap.seats) where
+module _ (heap : Heap) (collector : Collector) (limits : IsHeap heap) (fits : CollectorFits heap collector) (looking : collector.stage ≡ stages.Looking) (within : collector.looked < heap.seats) where
   -- it stands before a seat of the heap
   fits_looking : (looked : ℕ) → looked < heap.seats → CollectorFits heap (record collector { looked = looked })
   fits_looking looked below = record { phase_within = fits.phase_within; phase_told = fits.phase_told; at_stage = rw looking below }
 
   fits_looked_all : CollectorFits heap (after_last_look heap collector)
   fits_looked_all = elim (eqb_tells (collector.phase % 7) 3) as (λ _. CollectorFits heap (after_last_look heap collector)) [
-    | inl third ↦ rw third.0 (fits_looking 0 (omega (arith, within)))
+    | inl third ↦ rw third.0 (record { phase_within = fits.phase_within; phase_told = fits.phase_told; at_stage = record { marks = record { all = refl; for_marking = third.1 }; group_within = limits.some_group } })
     | inr other ↦ rw other.0 (record { phase_within = fits.phase_within; phase_told = fits.phase_told; at_stage = record { all = refl; goes_on = other.1 } })
   ]
 
@@ -37,4 +38,4 @@ module _ (heap : Heap) (collector : Collector) (fits : CollectorFits heap collec
 pub look_stands : StageStands stages.Looking
 look_stands heap collector limits fits looking within =
     quiet_stands heap (turning.LookLoad collector.looked) (after_look heap collector) (look_answer collector)
-    (load_stands heap (Turning (turning.LookLoad collector.looked)) refl (omega (arith, within, limits.seats_fit))) (fits_looked_at heap collector fits looking within)
+    (load_stands heap (Turning (turning.LookLoad collector.looked)) refl (omega (arith, within, limits.seats_fit))) (λ found led. fits_looked_at heap collector limits fits looking within found)

@@ -3,10 +3,12 @@ use Rattle.std.proofs.Common.{◌≡◌, ℕ, List, refl, subst, sym}
 use Rattle.heap_model.specs.declared.heap.Heap.{Heap}
 use Rattle.core_machine.specs.declared.step.Step.{Step}
 use Rattle.core_machine.specs.collector.Collector.{Collector, next_turn, collector_after}
-use Rattle.core_machine.specs.table.Layout.{put}
+use Rattle.core_machine.specs.table.Decode.{FoundPointsWithin}
+use Rattle.core_machine.specs.table.Layout.{put, InTable}
 use Rattle.core_machine.specs.table.Operation.{address_of, word_after}
 use Rattle.core_machine.specs.machine.Machine.{found_by, state_after, Turns}
 use Rattle.core_machine.specs.machine.Value.{SeatWithRoom, MachineValue, IsMachine}
+use Rattle.core_machine.proofs.collector_lemmas.{turn_stands}
 use Rattle.core_machine.proofs.machine_lemmas.Parties.{state_of, value_of}
 use Rattle.core_machine.proofs.machine_lemmas.Runs.{machine_after}
 
@@ -14,6 +16,17 @@ module _ (heap : Heap) (words : List ℕ) (parties : List SeatWithRoom) (collect
     (view : value_of heap words parties collector room ≡ value) (by_value : (next_turn value.heap value.state.collector).step ≡ step) where
   due : (next_turn heap collector).step ≡ step
   due = subst (λ (v : MachineValue). (next_turn v.heap v.state.collector).step ≡ step) (sym view) by_value
+
+  -- it touches a word of the table
+  pub turn_in_table : IsMachine heap (state_of words parties collector) → InTable heap (address_of step)
+  turn_in_table machine = subst (λ (s : Step). InTable heap (address_of s)) due (turn_stands heap collector machine.limits machine.collector_fit).step.in_table
+
+  -- and finds one that leads within the heap
+  pub turn_finds : (found : ℕ) → found ≡ found_by heap (state_of words parties collector) step → IsMachine heap (state_of words parties collector)
+      → FoundPointsWithin heap (address_of (next_turn heap collector).step) found
+  turn_finds found is machine =
+      subst (λ (s : Step). FoundPointsWithin heap (address_of s) found) (sym due)
+      (subst (FoundPointsWithin heap (address_of step)) (sym is) (machine.leads (address_of step) (turn_in_table machine)))
 
   -- the word found, the words after and the collector after are told by equations
   turn_leaves : (found : ℕ) (now : List ℕ) (next : Collector) → found ≡ found_by heap (state_of words parties collector) step

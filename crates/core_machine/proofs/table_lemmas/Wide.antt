@@ -17,7 +17,7 @@ use Rattle.core_machine.specs.seat.Registers.{register_word}
 use Rattle.core_machine.specs.seat.FitsAccess.{IsSet}
 use Rattle.core_machine.specs.seat.Commands.{IsRecord, fields_of}
 use Rattle.core_machine.specs.table.Newborn.{link_after, head_word_of, record_word_of}
-use Rattle.core_machine.specs.table.Operation.{birth_bits_of, shade_bit_of}
+use Rattle.core_machine.specs.table.Operation.{birth_bits_of, shade_bit_of, blacken_bit_of}
 use Rattle.core_machine.specs.seat.Seat.{HasNumberLeft}
 use Rattle.core_machine.specs.seat.Fits.{AreFragments, FitsRegister}
 use Rattle.core_machine.specs.seat.Access.{after_name}
@@ -70,6 +70,12 @@ pub shade_wide : (fragment word : ℕ) → word < 2 ^ 64 → bit_or word (shade_
 shade_wide fragment word wide =
     let below : 2 ^ (32 + fragment % 16) ≤ 2 ^ 63 = pow-le-pow_right {n = 2} (omega arith) {i = 32 + fragment % 16} {j = 63} (omega arith) in
     or_lt 64 word (2 ^ (32 + fragment % 16)) wide (omega arith)
+
+-- so is the bit of a blacken
+pub blacken_wide : (fragment word : ℕ) → word < 2 ^ 64 → bit_or word (blacken_bit_of fragment) < 2 ^ 64
+blacken_wide fragment word wide =
+    let below : 2 ^ (48 + fragment % 16) ≤ 2 ^ 63 = pow-le-pow_right {n = 2} (omega arith) {i = 48 + fragment % 16} {j = 63} (omega arith) in
+    or_lt 64 word (2 ^ (48 + fragment % 16)) wide (omega arith)
 
 pub register_wide : (heap : Heap) (register : Register) (stamp : ℕ) → 16 * heap.groups ≤ 2 ^ 16 → FitsRegister heap register → stamp < 2 ^ 32 → register_word register stamp < 2 ^ 64
 register_wide heap Nil stamp few fit small = omega arith

@@ -1,18 +1,22 @@
 -- The collector, and how it goes on from turn to turn.
-use Rattle.std.specs.Prelude.{ℕ, ◌+◌, ◌-◌, ◌%◌, ◌<◌, ◌^◌, ◌==◌, nat_lt, Bool, true, if◌then◌else◌, List, [], ◌∷◌, ◌++◌}
+use Rattle.std.specs.Prelude.{ℕ, ◌+◌, ◌-◌, ◌/◌, ◌%◌, ◌<◌, ◌^◌, ◌==◌, nat_lt, Bool, true, false, if◌then◌else◌, List, [], ◌∷◌, ◌++◌}
 use Rattle.heap_words.specs.declared.phase.TheConstants.{LEFT}
 use Rattle.heap_model.specs.declared.heap.Heap.{Heap}
 use Rattle.heap_model.specs.declared.calls.collector_calls.Turn.{Turn as TurnAnswer}
 use Rattle.heap_model.specs.declared.calls.collector_calls.Turn.TheVariants.{Stepped, Waits}
 use Rattle.heap_model.specs.declared.entry.Entry.{Entry}
 use Rattle.heap_model.specs.declared.entry.Entry.TheVariants.{Advance}
+use Rattle.heap_model.specs.Limits.{group_fragments}
 use Rattle.heap_model.specs.PhasePlan.{cycle_phases, marking}
+use Rattle.core_machine.specs.declared.collector.stage.Scan.{Scan}
 use Rattle.core_machine.specs.declared.collector.stage.Stage.{Stage}
 use Rattle.core_machine.specs.declared.collector.stage.Stage.TheVariants as stages
 use Rattle.core_machine.specs.declared.step.Step.{Step}
 use Rattle.core_machine.specs.declared.step.Step.TheVariants.{Turning}
 use Rattle.core_machine.specs.declared.step.TurningStep.{TurningStep}
 use Rattle.core_machine.specs.declared.step.TurningStep.TheVariants as turning
+use Rattle.core_machine.specs.table.Decode.{pointer_in}
+pub use Rattle.core_machine.specs.collector.Marking.{lowest_grey_of, after_last_group, after_group, after_pass, part_after, scan_step, scan_at, after_scan_load}
 
 -- what the machine keeps of the collector
 pub record Collector : Type 0 where
@@ -33,10 +37,11 @@ opening_collector = record { phase = 0; stage = stages.Looking; looked = 0; log 
 abbrev pub has_answered_of : ℕ → ℕ → Bool
 has_answered_of phase word = if word == phase then true else word == LEFT
 
--- every seat has answered. Where marking begins the work is still to come: the collector looks from seat 0 again
+-- every seat has answered. Where that begins marking its first pass comes, else the next phase
 abbrev pub after_last_look : Heap → Collector → Collector
 after_last_look heap collector =
-    if collector.phase % cycle_phases == marking then record collector { looked = 0 } else record collector { looked = heap.seats; stage = stages.Advancing }
+    if collector.phase % cycle_phases == marking then record collector { looked = heap.seats; stage = stages.Passing 0 false }
+    else record collector { looked = heap.seats; stage = stages.Advancing }
 
 -- one more seat has answered
 abbrev pub after_counted_look : Heap → Collector → Collector
@@ -78,6 +83,35 @@ abbrev pub look_turn : Heap → Collector → Turn
 look_turn heap collector =
     quiet_turn (turning.LookLoad collector.looked) (after_look heap collector) (look_answer collector)
 
+-- a turn of marking: it has made a step whatever it found
+abbrev pub marking_turn : TurningStep → (ℕ → Collector) → Turn
+marking_turn step told = quiet_turn step told (λ found. Stepped)
+
+-- a group's control word is loaded
+abbrev pub pass_turn : Heap → Collector → ℕ → Bool → Turn
+pass_turn heap collector group found =
+    marking_turn (turning.GroupLoad group) (λ word. record collector { stage = after_pass heap group found (lowest_grey_of word) })
+
+-- a word of the fragment is loaded
+abbrev pub scan_turn : Collector → Scan → Turn
+scan_turn collector scan =
+    marking_turn (turning.ScanLoad scan.fragment scan.part)
+    (λ word. record collector { stage = after_scan_load scan (part_after scan.part word) (pointer_in scan.part word) })
+
+-- what that word led to is marked
+abbrev pub shade_turn : Collector → Scan → ℕ → ℕ → Turn
+shade_turn collector scan target next =
+    marking_turn (turning.MarkShade target) (λ word. record collector { stage = scan_at (scan_step scan) next })
+
+-- the fragment is told to be scanned, and its group's turn comes again
+abbrev pub blacken_turn : Collector → Scan → Turn
+blacken_turn collector scan =
+    marking_turn (turning.Blacken scan.fragment) (λ word. record collector { stage = stages.Passing (scan.fragment / group_fragments) true })
+
+-- nothing is left to do: a control word is loaded
+abbrev pub marked_turn : Collector → Turn
+marked_turn collector = marking_turn (turning.GroupLoad 0) (λ word. collector)
+
 -- below the last two numbers of a word there is one left for the next phase
 abbrev pub advance_turn : Collector → Turn
 advance_turn collector = record {
@@ -91,6 +125,11 @@ advance_turn collector = record {
 -- the turn at each stage
 abbrev pub turn_at : Heap → Collector → Stage → Turn
 turn_at heap collector stages.Looking = look_turn heap collector
+turn_at heap collector (stages.Passing group found) = pass_turn heap collector group found
+turn_at heap collector (stages.Scanning scan) = scan_turn collector scan
+turn_at heap collector (stages.Shading scan target next) = shade_turn collector scan target next
+turn_at heap collector (stages.Blackening scan) = blacken_turn collector scan
+turn_at heap collector stages.Marked = marked_turn collector
 turn_at heap collector stages.Advancing = advance_turn collector
 
 -- the collector's next turn

@@ -1,23 +1,63 @@
 -- What is true of the collector's own data.
-use Rattle.std.specs.Prelude.{ℕ, ◌≡◌, ◌≢◌, ◌-◌, ◌%◌, ◌<◌, ◌≤◌, ◌^◌, length}
+use Rattle.std.specs.Prelude.{ℕ, ◌≡◌, ◌≢◌, ◌+◌, ◌-◌, ◌*◌, ◌%◌, ◌<◌, ◌≤◌, ◌^◌, length}
 use Rattle.heap_model.specs.declared.heap.Heap.{Heap}
+use Rattle.heap_model.specs.Limits.{group_fragments}
 use Rattle.heap_model.specs.PhasePlan.{cycle_phases, marking}
 use Rattle.core_machine.specs.collector.Collector.{Collector}
+use Rattle.core_machine.specs.declared.collector.stage.Scan.{Scan}
 use Rattle.core_machine.specs.declared.collector.stage.Stage.{Stage}
 use Rattle.core_machine.specs.declared.collector.stage.Stage.TheVariants as stages
 
--- every seat has answered, and the phase isn't one where marking begins, from which the collector doesn't go on yet
+-- every seat has answered, and the phase isn't one in which marking is to be done
 pub record HasLooked (seats phase looked : ℕ) : Type 0 where
   pub all : looked ≡ seats
   pub goes_on : phase % cycle_phases ≢ marking
 
+-- every seat has answered, and marking is what this phase is for
+pub record IsMarking (seats phase looked : ℕ) : Type 0 where
+  pub all : looked ≡ seats
+  pub for_marking : phase % cycle_phases ≡ marking
+
+-- a pass stands before a group of the heap
+pub record IsPassing (heap : Heap) (phase looked group : ℕ) : Type 0 where
+  pub marks : IsMarking heap.seats phase looked
+  pub group_within : group < heap.groups
+
+-- a scan stands before a word of a fragment of the heap, and has made at most two steps for each of those before it
+pub record IsScanning (heap : Heap) (phase looked : ℕ) (scan : Scan) : Type 0 where
+  pub marks : IsMarking heap.seats phase looked
+  pub fragment_within : scan.fragment < group_fragments * heap.groups
+  pub part_within : scan.part < 4
+  pub few_steps : scan.steps ≤ 2 * scan.part
+
+-- a scan has loaded a word that leads to a fragment of the heap, and goes on behind it
+pub record IsShading (heap : Heap) (phase looked : ℕ) (scan : Scan) (target next : ℕ) : Type 0 where
+  pub marks : IsMarking heap.seats phase looked
+  pub fragment_within : scan.fragment < group_fragments * heap.groups
+  pub part_within : scan.part < 4
+  pub target_within : target < group_fragments * heap.groups
+  pub part_before : scan.part < next
+  pub next_within : next ≤ 4
+  pub few_steps : scan.steps ≤ 2 * scan.part + 1
+
+-- a scan of a fragment of the heap has seen to its four words
+pub record IsBlackening (heap : Heap) (phase looked : ℕ) (scan : Scan) : Type 0 where
+  pub marks : IsMarking heap.seats phase looked
+  pub fragment_within : scan.fragment < group_fragments * heap.groups
+  pub few_steps : scan.steps ≤ 8
+
 -- while it looks it stands before a seat of the heap; at every other stage it has looked
-abbrev pub FitsStage : ℕ → ℕ → ℕ → Stage → Type 0
-FitsStage seats phase looked stages.Looking = looked < seats
-FitsStage seats phase looked _ = HasLooked seats phase looked
+abbrev pub FitsStage : Heap → ℕ → ℕ → Stage → Type 0
+FitsStage heap phase looked stages.Looking = looked < heap.seats
+FitsStage heap phase looked (stages.Passing group found) = IsPassing heap phase looked group
+FitsStage heap phase looked (stages.Scanning scan) = IsScanning heap phase looked scan
+FitsStage heap phase looked (stages.Shading scan target next) = IsShading heap phase looked scan target next
+FitsStage heap phase looked (stages.Blackening scan) = IsBlackening heap phase looked scan
+FitsStage heap phase looked stages.Marked = IsMarking heap.seats phase looked
+FitsStage heap phase looked stages.Advancing = HasLooked heap.seats phase looked
 
 -- the collector's own data fit together
 pub record CollectorFits (heap : Heap) (collector : Collector) : Type 0 where
   pub phase_within : collector.phase < 2 ^ 64 - 1
   pub phase_told : collector.phase ≤ length collector.log
-  pub at_stage : FitsStage heap.seats collector.phase collector.looked collector.stage
+  pub at_stage : FitsStage heap collector.phase collector.looked collector.stage

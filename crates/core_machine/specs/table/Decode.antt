@@ -1,5 +1,5 @@
 -- What a word that was loaded tells.
-use Rattle.std.specs.Prelude.{ℕ, ◌-◌, ◌*◌, ◌<◌, ◌==◌, if◌then◌else◌, List, Option, Some, None, IfSome, unwrap_or}
+use Rattle.std.specs.Prelude.{ℕ, ◌-◌, ◌*◌, ◌<◌, ◌==◌, Bool, true, false, if◌then◌else◌, List, Option, Some, None, IfSome, unwrap_or}
 use Rattle.heap_words.specs.declared.cell.Cell.{Cell}
 use Rattle.heap_words.specs.declared.kind.Kind.{Kind}
 use Rattle.heap_words.specs.declared.kind.Kind.TheVariants as kinds
@@ -37,6 +37,17 @@ first_pointer kinds.Number cell = None
 -- where word `part` of a fragment leads: the first one by a link or a record's meta, each by a reference
 abbrev pub pointer_in : ℕ → ℕ → Option ℕ
 pointer_in part word = if part == 0 then first_pointer (cell_of word).kind (cell_of word) else head_of word
+
+-- a cell of this kind is fixed
+abbrev pub is_fixed : Kind → Bool
+is_fixed kinds.Fixed = true
+is_fixed kinds.Nil = false
+is_fixed kinds.Number = false
+is_fixed kinds.Reference = false
+
+-- the word is an object's meta, where it is a fragment's first
+abbrev pub is_meta : ℕ → Bool
+is_meta word = is_fixed (cell_of word).kind
 
 -- the fragment after the one whose first word this is; 0 where it leads nowhere
 abbrev pub link_of : ℕ → ℕ

@@ -1,7 +1,7 @@
 -- Which word each step touches, and what it does with it.
 use Rattle.std.specs.Prelude.{ℕ, ◌/◌, bit_and, bit_or}
 use Rattle.heap_words.specs.declared.phase.TheConstants.{LEFT}
-pub use Rattle.heap_words.specs.Control.{all_taken, all_but_of, word_without_taken, birth_bits_of, shade_bit_of}
+pub use Rattle.heap_words.specs.Control.{all_taken, all_but_of, word_without_taken, birth_bits_of, shade_bit_of, blacken_bit_of}
 use Rattle.heap_model.specs.Limits.{group_fragments}
 use Rattle.core_machine.specs.declared.table.address.Address.{Address}
 use Rattle.core_machine.specs.declared.table.address.Address.TheVariants as addresses
@@ -44,6 +44,10 @@ handshake_address (LeaveStore seat) = addresses.Answer seat
 abbrev pub turning_address : TurningStep → Address
 turning_address (turning.LookLoad seat) = addresses.Answer seat
 turning_address (turning.AdvanceStore phase) = addresses.Phase
+turning_address (turning.GroupLoad group) = addresses.Control group
+turning_address (turning.ScanLoad fragment part) = addresses.Word fragment part
+turning_address (turning.MarkShade fragment) = addresses.Control (fragment / group_fragments)
+turning_address (turning.Blacken fragment) = addresses.Control (fragment / group_fragments)
 
 -- the word that a step touches
 abbrev pub address_of : Step → Address
@@ -79,6 +83,10 @@ handshake_operation (LeaveStore seat) = Store LEFT
 abbrev pub turning_operation : TurningStep → Operation
 turning_operation (turning.LookLoad seat) = Load
 turning_operation (turning.AdvanceStore phase) = Store phase
+turning_operation (turning.GroupLoad group) = Load
+turning_operation (turning.ScanLoad fragment part) = Load
+turning_operation (turning.MarkShade fragment) = Or (shade_bit_of fragment)
+turning_operation (turning.Blacken fragment) = Or (blacken_bit_of fragment)
 
 -- what a step does with its word
 abbrev pub operation_of : Step → Operation

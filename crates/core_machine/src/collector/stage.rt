@@ -1,8 +1,29 @@
+/// The scan of a grey fragment: its words are looked at one after another.
+#[derive(Clone, Copy)]
+pub struct Scan {
+    /// The fragment that is scanned.
+    pub fragment: u16,
+    /// The word whose turn it is; those before it are seen to.
+    pub part: u8,
+    /// How many steps the scan has made.
+    pub steps: u16,
+}
+
 /// Where the collector stands in a phase.
 #[derive(Clone, Copy)]
 pub enum Stage {
     /// It looks whether a seat has answered.
     Looking,
+    /// A group's control word is loaded, in a pass that has found a grey fragment so far or hasn't.
+    Passing { group: u16, found: bool },
+    /// A word of a grey fragment is loaded.
+    Scanning(Scan),
+    /// The fragment to which that word led is marked; the word `next` comes after it.
+    Shading { scan: Scan, target: u16, next: u8 },
+    /// All words of the fragment are seen to: it is told to be scanned.
+    Blackening(Scan),
+    /// Marking has ended: nothing is left to do.
+    Marked,
     /// Every seat has answered, and the phase's work is done: the next phase begins.
     Advancing,
 }

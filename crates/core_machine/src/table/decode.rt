@@ -1,5 +1,5 @@
 ghost use Rattle.std.specs.Prelude.{◌≡◌, ◌<◌, ◌^◌, IfSome};
-ghost use Rattle.core_machine.specs.table.Decode.{head_of, pointer_in, link_of, id_of, stamp_of, plain_of};
+ghost use Rattle.core_machine.specs.table.Decode.{head_of, pointer_in, is_meta as is_meta_of, link_of, id_of, stamp_of, plain_of};
 
 use crate::seat::register::Register;
 use heap_model::Id;
@@ -25,6 +25,27 @@ fn first_lead(word: u64) -> Option<u32>
         Kind::Reference => Some(cell.value),
         Kind::Fixed => Meta::lead(&cell),
         Kind::Nil | Kind::Number => None,
+    }
+}
+
+/// Where a word of a fragment leads: the first one by a link or a record's meta, each by a reference.
+pub fn lead_in(part: u8, word: u64) -> Option<u32>
+    ensures { result ≡ pointer_in part word }
+{
+    if part == 0 {
+        first_lead(word)
+    } else {
+        head_in(word)
+    }
+}
+
+/// Whether the word is an object's meta, where it is a fragment's first.
+pub fn is_meta(word: u64) -> bool
+    ensures { result ≡ is_meta_of word }
+{
+    match Cell::read(word).kind {
+        Kind::Fixed => true,
+        Kind::Nil | Kind::Number | Kind::Reference => false,
     }
 }
 

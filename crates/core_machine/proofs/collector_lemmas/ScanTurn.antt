@@ -1,0 +1,55 @@
+-- A word of a grey fragment is loaded.
+use Rattle.std.proofs.Common.{zero, suc, ℕ, ◌+◌, ◌*◌, ◌<◌, ◌≤◌, Option, Some, None, refl, inl, inr, arith}
+use Rattle.std.proofs.lemmas.Bool.Decides.{eqb_tells, leb_tells}
+use Rattle.heap_model.specs.declared.heap.Heap.{Heap}
+use Rattle.core_machine.specs.declared.collector.stage.Scan.{Scan}
+use Rattle.core_machine.specs.declared.collector.stage.Stage.TheVariants as stages
+use Rattle.core_machine.specs.declared.step.Step.TheVariants.{Turning}
+use Rattle.core_machine.specs.declared.step.TurningStep.TheVariants as turning
+use Rattle.core_machine.specs.collector.Collector.{Collector}
+use Rattle.core_machine.specs.collector.Marking.{part_after, scan_step, scan_at, after_scan_load}
+use Rattle.core_machine.specs.collector.FitsTurns.{FitsStage, IsMarking, IsScanning}
+use Rattle.core_machine.specs.table.Decode.{is_meta, pointer_in, IsWithinHeap}
+use Rattle.core_machine.proofs.collector_lemmas.Standing.{StageStands, marking_stands, stage_fits}
+use Rattle.core_machine.proofs.table_lemmas.Bits.{bool_tells}
+use Rattle.core_machine.proofs.table_lemmas.StepStands.{load_stands}
+
+-- each word comes after the one before it, and none after the fourth
+after_part : (part word : ℕ) → part < 4 → (part < part_after part word) × (part_after part word ≤ 4)
+after_part part word within = elim (eqb_tells part 0) as (λ _. (part < part_after part word) × (part_after part word ≤ 4)) [
+  | inl first ↦ elim (bool_tells (is_meta word)) as (λ _. (part < part_after part word) × (part_after part word ≤ 4)) [
+    | inl meta ↦ rw (first.0, meta) (omega (arith, first.1), omega arith)
+    | inr link ↦ rw (first.0, link) (omega (arith, first.1), omega arith)
+  ]
+  | inr later ↦ rw later.0 (omega arith, omega (arith, within))
+]
+
+module _ (heap : Heap) (phase looked : ℕ) (marks : IsMarking heap.seats phase looked) (scan : Scan) (within : scan.fragment < 16 * heap.groups) where
+  -- the scan comes to a word by few steps
+  pub fits_at : (part : ℕ) → part ≤ 4 → scan.steps ≤ 2 * part → FitsStage heap phase looked (scan_at scan part)
+  fits_at part below few = elim (leb_tells (suc part) 4) as (λ _. FitsStage heap phase looked (scan_at scan part)) [
+    | inl more ↦ rw more.0 (record { marks = marks; fragment_within = within; part_within = more.1; few_steps = few })
+    | inr all ↦ rw all.0 (record { marks = marks; fragment_within = within; few_steps = omega (arith, below, few) })
+  ]
+
+fits_scan : (heap : Heap) (phase looked : ℕ) (scan : Scan) (next : ℕ) (target : Option ℕ) → IsScanning heap phase looked scan → scan.part < next → next ≤ 4
+    → IsWithinHeap heap target → FitsStage heap phase looked (after_scan_load scan next target)
+fits_scan heap phase looked scan next None here before below led =
+    fits_at heap phase looked here.marks (scan_step scan) here.fragment_within next below (omega (arith, here.few_steps))
+fits_scan heap phase looked scan next (Some target) here before below led = record {
+  marks = here.marks;
+  fragment_within = here.fragment_within;
+  part_within = here.part_within;
+  target_within = led;
+  part_before = before;
+  next_within = below;
+  few_steps = omega (arith, here.few_steps);
+}
+
+pub scan_stands : (scan : Scan) → StageStands (stages.Scanning scan)
+scan_stands scan heap collector limits fits scanning here =
+    marking_stands heap (turning.ScanLoad scan.fragment scan.part) (λ word. record collector { stage = after_scan_load scan (part_after scan.part word) (pointer_in scan.part word) })
+    (load_stands heap (Turning (turning.ScanLoad scan.fragment scan.part)) refl (here.fragment_within, here.part_within))
+    (λ word led. let after = after_part scan.part word here.part_within in
+    stage_fits heap collector (after_scan_load scan (part_after scan.part word) (pointer_in scan.part word)) fits
+    (fits_scan heap collector.phase collector.looked scan (part_after scan.part word) (pointer_in scan.part word) here after.0 after.1 led))

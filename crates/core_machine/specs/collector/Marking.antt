@@ -1,0 +1,40 @@
+-- How marking goes on: its passes over the groups, and the scans of what they find.
+use Rattle.std.specs.Prelude.{ℕ, ◌+◌, ◌*◌, ◌==◌, nat_lt, Bool, true, false, if◌then◌else◌, Option, Some, None}
+use Rattle.heap_model.specs.declared.heap.Heap.{Heap}
+use Rattle.heap_model.specs.Limits.{group_fragments}
+use Rattle.core_machine.specs.declared.collector.stage.Scan.{Scan}
+use Rattle.core_machine.specs.declared.collector.stage.Stage.{Stage}
+use Rattle.core_machine.specs.declared.collector.stage.Stage.TheVariants as stages
+use Rattle.core_machine.specs.table.Decode.{is_meta}
+pub use Rattle.heap_words.specs.Control.{lowest_grey_of}
+
+-- how a pass that has seen the last group goes on: where it found something another one begins, else marking has ended
+abbrev pub after_last_group : Bool → Stage
+after_last_group true = stages.Passing 0 false
+after_last_group false = stages.Marked
+
+-- the next group's turn comes
+abbrev pub after_group : Heap → ℕ → Bool → Stage
+after_group heap group found = if nat_lt (group + 1) heap.groups then stages.Passing (group + 1) found else after_last_group found
+
+-- where the group has a grey fragment that one is scanned
+abbrev pub after_pass : Heap → ℕ → Bool → Option ℕ → Stage
+after_pass heap group found None = after_group heap group found
+after_pass heap group found (Some place) = stages.Scanning (record { fragment = group_fragments * group + place; part = 0; steps = 0 })
+
+-- the word after this one, where that was found: the name behind a meta is passed over
+abbrev pub part_after : ℕ → ℕ → ℕ
+part_after part word = if part == 0 then (if is_meta word then 2 else 1) else part + 1
+
+-- one more step of the scan is made
+abbrev pub scan_step : Scan → Scan
+scan_step scan = record scan { steps = scan.steps + 1 }
+
+-- the scan comes to this word; behind the fourth one all are seen to
+abbrev pub scan_at : Scan → ℕ → Stage
+scan_at scan part = if nat_lt part 4 then stages.Scanning (record scan { part = part }) else stages.Blackening (record scan { part = part })
+
+-- what the word leads to is marked first
+abbrev pub after_scan_load : Scan → ℕ → Option ℕ → Stage
+after_scan_load scan next None = scan_at (scan_step scan) next
+after_scan_load scan next (Some target) = stages.Shading (scan_step scan) target next

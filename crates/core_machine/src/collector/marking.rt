@@ -1,0 +1,120 @@
+ghost use Rattle.std.specs.Prelude.{◌≡◌, ◌+◌, ◌*◌, ◌<◌, ◌≤◌, ◌^◌, IfSome};
+ghost use Rattle.heap_model.specs.Heap.{IsHeap};
+ghost use Rattle.core_machine.specs.collector.Marking.{lowest_grey_of, after_last_group, after_group, after_pass, part_after, scan_step, scan_at, after_scan_load};
+ghost use Rattle.core_machine.specs.table.Decode.{pointer_in};
+
+use crate::collector::stage::{Scan, Stage};
+use crate::table::decode::{is_meta, lead_in};
+use heap_model::Heap;
+use heap_model::limits::GROUP_FRAGMENTS;
+use heap_words::lowest_grey;
+
+/// A pass has seen the last group: another one begins where it found something.
+fn next_pass(found: bool) -> Stage
+    ensures { result ≡ after_last_group found }
+{
+    if found {
+        Stage::Passing {
+            group: 0,
+            found: false,
+        }
+    } else {
+        Stage::Marked
+    }
+}
+
+/// The group has no grey fragment: the next group's turn comes.
+fn next_group(heap: &Heap, group: u16, found: bool) -> Stage
+    requires { group < heap.now.groups }
+    ensures { result ≡ after_group heap.now group found }
+{
+    let groups = heap.groups;
+    if group + 1 < groups {
+        Stage::Passing {
+            group: group + 1,
+            found,
+        }
+    } else {
+        next_pass(found)
+    }
+}
+
+/// The group has this control word: its lowest grey fragment is scanned.
+pub fn pass_on(heap: &Heap, group: u16, found: bool, word: u64) -> Stage
+    requires limits { IsHeap heap.now }
+    requires group { group < heap.now.groups }
+    ensures { result ≡ after_pass heap.now group found (lowest_grey_of word) }
+{
+    let Some(place) = lowest_grey(word) else {
+        return next_group(heap, group, found);
+    };
+    Stage::Scanning(Scan {
+        fragment: GROUP_FRAGMENTS * group + place,
+        part: 0,
+        steps: 0,
+    })
+}
+
+impl Scan {
+    /// The word after the one that was found: the name behind a meta is passed over.
+    fn next_part(&self, word: u64) -> u8
+        requires { self.now.part < 4 }
+        ensures { result ≡ part_after self.now.part word }
+    {
+        if self.part == 0 && is_meta(word) {
+            2
+        } else {
+            self.part + 1
+        }
+    }
+
+    /// One step more was made.
+    fn stepped(&self) -> Scan
+        requires { self.now.steps < 8 }
+        ensures { result ≡ scan_step self.now }
+    {
+        Scan {
+            steps: self.steps + 1,
+            ..*self
+        }
+    }
+
+    /// It comes to this word.
+    fn at(&self, part: u8) -> Stage
+        ensures { result ≡ scan_at self.now part }
+    {
+        let scan = Scan { part, ..*self };
+        if part < 4 {
+            Stage::Scanning(scan)
+        } else {
+            Stage::Blackening(scan)
+        }
+    }
+
+    /// Its word was found: what that leads to is marked before the next word's turn comes.
+    pub fn seen(&self, word: u64) -> Stage
+        requires part { self.now.part < 4 }
+        requires steps { self.now.steps ≤ 2 * self.now.part }
+        requires leads { IfSome (pointer_in self.now.part word) (λ target. target < 2 ^ 16) }
+        ensures { result ≡ after_scan_load self.now (part_after self.now.part word) (pointer_in self.now.part word) }
+    {
+        let next = self.next_part(word);
+        let scan = self.stepped();
+        let Some(target) = lead_in(self.part, word) else {
+            return scan.at(next);
+        };
+        Stage::Shading {
+            scan,
+            target: target as u16,
+            next,
+        }
+    }
+
+    /// What its word led to was marked: the word `next` comes.
+    pub fn shaded(&self, next: u8) -> Stage
+        requires { self.now.steps < 8 }
+        ensures { result ≡ scan_at (scan_step self.now) next }
+    {
+        self.stepped().at(next)
+    }
+}

@@ -1,0 +1,72 @@
+-- The lowest grey fragment of a group.
+use Rattle.std.proofs.Common.{zero, suc, ◌≡◌, ℕ, ◌+◌, ◌-◌, ◌*◌, ◌/◌, ◌%◌, ◌^◌, ◌<◌, ◌≤◌, Bool, true, false, cond, eqb, min, Some, None, refl, sym, ap, subst, ◌∙◌, inl, inr, bit_and, w16, arith}
+use Rattle.std.specs.Int.{bit_at, trailing_zeros}
+use Rattle.std.specs.List.{find, range_with_len}
+use Rattle.std.proofs.lemmas.Bool.Decides.{eqb_tells}
+use Rattle.std.proofs.lemmas.Nat.{shr-shr, and_le_l}
+use Rattle.std.proofs.lemmas.Nat.Bits.{bit_at_and, bit_at_not, bit_at-lt, bit_at-zero, bit_at_above, bit_at_cat_low, bit_at-trailing_zeros}
+use Rattle.heap_words.specs.Control.{is_grey, lowest_grey_of}
+
+-- the first number from a on that passes
+find_first : (p : ℕ → Bool) (a n t : ℕ) → a ≤ t → t < a + n → p t ≡ true → ((i : ℕ) → a ≤ i → i < t → p i ≡ false) → find p (range_with_len a n) ≡ Some t
+find_first p a zero t from below passes none = absurd (omega arith)
+find_first p a (suc n) t from below passes none =
+    elim (eqb_tells a t) as (λ _. find p (range_with_len a (suc n)) ≡ Some t) [
+      | inl here ↦ let yes_ : p a ≡ true = subst (λ i. p i ≡ true) (sym here.1) passes in rw yes_ (ap (λ i. Some i) here.1)
+      | inr there ↦
+          let no_ : p a ≡ false = none a (omega arith) (omega (arith, there.1)) in
+          rw no_ (find_first p (a + 1) n t (omega (arith, there.1)) (omega arith) passes (λ i l. none i (omega arith)))
+    ]
+
+-- none of the numbers passes
+find_none : (p : ℕ → Bool) (a n : ℕ) → ((i : ℕ) → a ≤ i → i < a + n → p i ≡ false) → find p (range_with_len a n) ≡ None
+find_none p a zero none = refl
+find_none p a (suc n) none = let no_ : p a ≡ false = none a (omega arith) (omega arith) in rw no_ (find_none p (a + 1) n (λ i l u. none i (omega arith) (omega arith)))
+
+-- a bit of a word's part
+part_bit : (word from i : ℕ) → i < 16 → bit_at (word / 2 ^ from % 2 ^ 16) i ≡ bit_at word (from + i)
+part_bit word from i within =
+    let whole : word / 2 ^ from ≡ word / 2 ^ from / 2 ^ 16 * 2 ^ 16 + word / 2 ^ from % 2 ^ 16 = omega arith in
+    sym (bit_at_cat_low (word / 2 ^ from / 2 ^ 16) 16 (word / 2 ^ from % 2 ^ 16) i within)
+    ∙ ap (λ x. bit_at x i) (sym whole) ∙ ap (λ x. x % 2) (shr-shr word from i)
+
+-- a bit of what is marked and not scanned
+both : (m s : ℕ) → m < 2 → s < 2 → cond (eqb m 1) (eqb s 0) false ≡ eqb (min m (1 - s)) 1
+both zero s small low = let none : min 0 (1 - s) ≡ 0 = omega arith in rw none refl
+both (suc zero) zero small low = refl
+both (suc zero) (suc zero) small low = refl
+both (suc zero) (suc (suc s)) small low = absurd (omega arith)
+both (suc (suc m)) s small low = absurd (omega arith)
+
+-- what is marked and not scanned
+abbrev pub grey_of : ℕ → ℕ
+grey_of word = bit_and (word / 2 ^ 32 % 2 ^ 16) (2 ^ 16 - 1 - word / 2 ^ 48)
+
+module _ (word : ℕ) (wide : word < 2 ^ 64) where
+  scanned_bit : (i : ℕ) → i < 16 → bit_at (word / 2 ^ 48) i ≡ bit_at word (48 + i)
+  scanned_bit i within = let same : word / 2 ^ 48 % 2 ^ 16 ≡ word / 2 ^ 48 = omega arith in ap (λ x. bit_at x i) (sym same) ∙ part_bit word 48 i within
+
+  grey_bit : (i : ℕ) → i < 16 → bit_at (grey_of word) i ≡ min (bit_at word (32 + i)) (1 - bit_at word (48 + i))
+  grey_bit i within =
+      let and_ = bit_at_and (word / 2 ^ 32 % 2 ^ 16) (2 ^ 16 - 1 - word / 2 ^ 48) i in
+      let not_ = bit_at_not w16 (word / 2 ^ 48) i (omega arith) within in
+      omega (arith, part_bit word 32 i within, scanned_bit i within)
+
+  grey_tells : (i : ℕ) → i < 16 → is_grey word i ≡ eqb (bit_at (grey_of word) i) 1
+  grey_tells i within =
+      let place : i % 16 ≡ i = omega arith in
+      let bit = grey_bit i within in
+      rw (place, bit) (both (bit_at word (32 + i)) (bit_at word (48 + i)) (bit_at-lt word (32 + i)) (bit_at-lt word (48 + i)))
+
+  -- where no bit is left none is grey
+  pub none_grey : grey_of word ≡ 0 → lowest_grey_of word ≡ None
+  none_grey none = find_none (is_grey word) 0 16 (λ i _ within. grey_tells i within ∙ ap (λ n. eqb (bit_at n i) 1) none ∙ ap (λ b. eqb b 1) (bit_at-zero i))
+
+  -- else the lowest bit that is left is that of the lowest grey fragment
+  pub lowest_grey : (grey_of word ≡ 0 → ⊥) → lowest_grey_of word ≡ Some (trailing_zeros w16 (grey_of word))
+  lowest_grey some =
+      let few = and_le_l (word / 2 ^ 32 % 2 ^ 16) (2 ^ 16 - 1 - word / 2 ^ 48) in
+      let lowest = bit_at-trailing_zeros w16 (grey_of word) (omega (arith, some)) (omega arith) in
+      find_first (is_grey word) 0 16 (trailing_zeros w16 (grey_of word)) (omega arith) lowest.0
+      (grey_tells _ lowest.0 ∙ ap (λ b. eqb b 1) lowest.1)
+      (λ i _ below. grey_tells i (omega (arith, lowest.0)) ∙ ap (λ b. eqb b 1) (lowest.2 i below))
