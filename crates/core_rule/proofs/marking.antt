@@ -2,3 +2,4 @@
 pub mod Paths
 pub mod MarkingFrames
 pub mod Marks
+pub mod ShadeMarks

@@ -69,7 +69,7 @@ module _ (colour : ℕ → Colour) (f : ℕ) where
   ]
 
   -- no other is
-  mark_was : (x : ℕ) → IsMarked (with_mark colour f) x → (x ≡ f) ⊎ IsMarked colour x
+  pub mark_was : (x : ℕ) → IsMarked (with_mark colour f) x → (x ≡ f) ⊎ IsMarked colour x
   mark_was x now = elim (eqb_tells x f) [
     | inl same ↦ inl same.1
     | inr other ↦ inr (λ white. now (mark_away x other.1 ∙ white))

@@ -56,6 +56,23 @@ module _ (heap : Heap) (words : List ℕ) (owner : ℕ → Owner) (colour : ℕ 
         | inr dark ↦ inl (black f part g dark leads)
       ]
 
+module _ (colour : ℕ → Colour) (m : ℕ) where
+  -- a marked fragment has the colour that it had
+  pub same_marked : (f : ℕ) → IsMarked colour f → with_mark colour m f ≡ colour f
+  same_marked f is_marked = elim (eqb_tells f m) as (λ _. with_mark colour m f ≡ colour f) [
+    | inl same ↦ subst (λ x. with_mark colour m x ≡ colour x) (sym same.1) (mark_here colour m ∙ as_it_was (colour m) (subst (IsMarked colour) same.1 is_marked))
+    | inr other ↦ mark_away colour m f other.1
+  ]
+    where
+      as_it_was : (c : Colour) → c ≢ White → marked c ≡ c
+      as_it_was White some = absurd (some refl)
+      as_it_was Grey some = refl
+      as_it_was Black some = refl
+
+  -- so a grey one stays grey
+  pub grey_on : (f : ℕ) → colour f ≡ Grey → with_mark colour m f ≡ Grey
+  grey_on f grey = same_marked f (λ white. absurd (cc (grey, white))) ∙ grey
+
 module _ (heap : Heap) (words now : List ℕ) (owner : ℕ → Owner) (colour : ℕ → Colour) (m : ℕ)
     (leads_on : (f part g : ℕ) → WordPointsTo heap words f part g → WordPointsTo heap now f part g) where
   abbrev shaded : ℕ → Colour
@@ -63,13 +80,6 @@ module _ (heap : Heap) (words now : List ℕ) (owner : ℕ → Owner) (colour : 
 
   edge_on : (f g : ℕ) → Edge heap words f g → Edge heap now f g
   edge_on f g leads = record { part = leads.part; points = leads_on f leads.part g leads.points }
-
-  -- a grey fragment stays grey
-  grey_on : (f : ℕ) → colour f ≡ Grey → shaded f ≡ Grey
-  grey_on f grey = elim (eqb_tells f m) as (λ _. shaded f ≡ Grey) [
-    | inl same ↦ subst (λ x. shaded x ≡ Grey) (sym same.1) (mark_here colour m ∙ subst (λ x. marked (colour x) ≡ Grey) same.1 (rw grey refl))
-    | inr other ↦ mark_away colour m f other.1 ∙ grey
-  ]
 
   -- what gets marked is the fragment, which is grey then
   newly_grey : (f : ℕ) → colour f ≡ White → (f ≡ m) → shaded m ≡ Grey
@@ -83,7 +93,7 @@ module _ (heap : Heap) (words now : List ℕ) (owner : ℕ → Owner) (colour : 
   path_shades : (f : ℕ) → IsGuarded heap words owner colour f → (f ≡ m) ⊎ IsGuarded heap now owner shaded f
   path_shades f (from_grey e _ grey leads white) = elim (eqb_tells f m) as (λ _. (f ≡ m) ⊎ IsGuarded heap now owner shaded f) [
     | inl same ↦ inl same.1
-    | inr other ↦ inr (from_grey e f (grey_on e grey) (edge_on e f leads) (white_on f other.1 white))
+    | inr other ↦ inr (from_grey e f (grey_on colour m e grey) (edge_on e f leads) (white_on f other.1 white))
   ]
   path_shades f (from_white e _ path leads white) = elim (eqb_tells f m) as (λ _. (f ≡ m) ⊎ IsGuarded heap now owner shaded f) [
     | inl same ↦ inl same.1

@@ -1,0 +1,106 @@
+-- A fragment of a kept object is marked: what stays of marking.
+use Rattle.std.proofs.Common.{◌⊎◌, ◌×◌, ◌≡◌, ◌≢◌, ℕ, ◌≤◌, ◌/◌, List, Option, Some, true, false, inl, inr, refl, sym, ap, ◌∙◌, subst}
+use Rattle.std.proofs.lemmas.Bool.Decides.{eqb_tells}
+use Rattle.heap_model.specs.declared.heap.Heap.{Heap}
+use Rattle.core_machine.specs.declared.collector.stage.Stage.{Stage}
+use Rattle.core_machine.specs.declared.collector.stage.Stage.TheVariants as stages
+use Rattle.core_rule.specs.Book.{Colour, White, Grey, Black, fragment_at}
+use Rattle.core_rule.specs.Colours.{IsMarked, WordPointsTo}
+use Rattle.core_rule.specs.Marking.{IsPart, MayMark, IsSeen, ScanStands, PassStands, AfterMarking, MarkingStands}
+use Rattle.core_rule.specs.Owners.{Owner, Kept, Dead, born_bit}
+use Rattle.core_rule.specs.Paths.{IsWhite, Guarded, from_grey, from_white, IsReached}
+use Rattle.core_rule.proofs.colours.ShadeColours.{with_mark, mark_away, mark_keeps, mark_marks}
+use Rattle.core_rule.proofs.cycle.CycleFrames.{watches_stay}
+use Rattle.core_rule.proofs.marking.Paths.{white_or_marked, grey_on, same_marked}
+
+-- a path begins at a grey fragment
+pub path_grey : (edge : ℕ → ℕ → Type 0) (white grey : ℕ → Type 0) (x : ℕ) → Guarded edge white grey x → (f : ℕ) × grey f
+path_grey edge white grey x (from_grey f _ is leads whites) = (f, is)
+path_grey edge white grey x (from_white f _ path leads whites) = path_grey edge white grey f path
+
+module _ (heap : Heap) (words now : List ℕ) (owner : ℕ → Owner) (colour : ℕ → Colour) (fragments : ℕ → List ℕ) (m : ℕ) (kept : IsPart owner m)
+    (back : (f part g : ℕ) → WordPointsTo heap now f part g → WordPointsTo heap words f part g) where
+  abbrev shaded : ℕ → Colour
+  shaded = with_mark colour m
+
+  seen_on : (f part : ℕ) → IsSeen heap words colour f part → IsSeen heap now shaded f part
+  seen_on f part seen = record {
+    grey = grey_on colour m f seen.grey;
+    seen = λ p g below leads. mark_keeps colour m g (seen.seen p g below (back f p g leads));
+  }
+
+  may_on : (f : ℕ) → MayMark owner colour fragments f → MayMark owner shaded fragments f
+  may_on f may = record {
+    part = may.part;
+    first = elim may.first as (λ _. (may.part.place ≡ 0) ⊎ IsMarked shaded (fragment_at (fragments may.part.index) 0)) [
+      | inl head ↦ inl head
+      | inr marked ↦ inr (mark_keeps colour m _ marked)
+    ];
+  }
+
+  -- a fragment that is grey now was so, or is the one that was marked
+  grey_was : (f : ℕ) → shaded f ≡ Grey → (colour f ≡ Grey) ⊎ ((f ≡ m) × (colour f ≡ White))
+  grey_was f grey = elim (eqb_tells f m) as (λ _. (colour f ≡ Grey) ⊎ ((f ≡ m) × (colour f ≡ White))) [
+    | inr other ↦ inl (sym (mark_away colour m f other.1) ∙ grey)
+    | inl same ↦ elim (white_or_marked colour f) as (λ _. (colour f ≡ Grey) ⊎ ((f ≡ m) × (colour f ≡ White))) [
+      | inl white ↦ inr (same.1, white)
+      | inr marked ↦ inl (sym (same_marked colour m f marked) ∙ grey)
+    ]
+  ]
+
+  pub scan_shaded : (stage : Stage) → ScanStands heap words owner colour fragments stage → ScanStands heap now owner shaded fragments stage
+  scan_shaded (stages.Scanning scan) stands = seen_on scan.fragment scan.part stands
+  scan_shaded (stages.Shading scan target next) stands =
+      (seen_on scan.fragment scan.part stands.0,
+      watches_stay heap words now colour shaded (mark_keeps colour m) scan.fragment scan.part (λ g leads. inl (back scan.fragment scan.part g leads)) (Some target) stands.1,
+      may_on target stands.2, stands.3)
+  scan_shaded (stages.Blackening scan) stands = seen_on scan.fragment 4 stands
+  scan_shaded _ stands = tt
+
+  -- a pass has its grey fragment, where marking comes to the one that is marked
+  pass_shaded : (stage : Stage) → ((group : ℕ) → stage ≡ stages.Passing group false → IsReached heap words owner colour m) → PassStands colour stage → PassStands shaded stage
+  pass_shaded (stages.Passing group false) comes stands = λ f grey. elim (grey_was f grey) as (λ _. (x : ℕ) × (shaded x ≡ Grey) × (group ≤ x / 16)) [
+    | inl was ↦ found (stands f was)
+    | inr new ↦ elim (comes group refl) as (λ _. (x : ℕ) × (shaded x ≡ Grey) × (group ≤ x / 16)) [
+      | inl marked ↦ absurd (marked (subst (λ x. colour x ≡ White) new.0 new.1))
+      | inr path ↦ let first = path_grey _ _ _ m path in found (stands first.0 first.1)
+    ]
+  ]
+    where
+      found : ((x : ℕ) × (colour x ≡ Grey) × (group ≤ x / 16)) → (x : ℕ) × (shaded x ≡ Grey) × (group ≤ x / 16)
+      found it = (it.0, grey_on colour m it.0 it.1, it.2)
+  pass_shaded _ comes stands = tt
+
+  -- after marking it was marked already
+  after_shaded : AfterMarking owner colour → AfterMarking owner shaded
+  after_shaded after = record {
+    no_grey = λ f grey. elim (grey_was f grey) [
+      | inl was ↦ after.no_grey f was
+      | inr new ↦ was_marked (subst (λ x. colour x ≡ White) new.0 new.1)
+    ];
+    white_dead = λ f white. after.white_dead f record { unmarked = still f white.unmarked; born = white.born };
+    dead_white = λ f i k dead. mark_away colour m f (λ same. let both : Kept kept.index kept.place ≡ Dead i k = sym kept.kept ∙ ap owner (sym same) ∙ dead in absurd (cc)) ∙ after.dead_white f i k dead;
+  }
+    where
+      was_marked : IsMarked colour m
+      was_marked white = let dead = after.white_dead m record { unmarked = white; born = ap born_bit kept.kept } in
+          let both : Kept kept.index kept.place ≡ Dead dead.0 dead.1 = sym kept.kept ∙ dead.2 in absurd (cc)
+      still : (f : ℕ) → shaded f ≡ White → colour f ≡ White
+      still f white = elim (white_or_marked colour f) as (λ _. colour f ≡ White) [
+        | inl was ↦ was
+        | inr marked ↦ absurd (mark_keeps colour m f marked white)
+      ]
+
+  -- all of it stands
+  pub marking_shaded : (stage : Stage) → ((group : ℕ) → stage ≡ stages.Passing group false → IsReached heap words owner colour m)
+      → MarkingStands heap words owner colour fragments stage → MarkingStands heap now owner shaded fragments stage
+  marking_shaded stage comes stands = record {
+    grey = λ f grey. elim (grey_was f grey) as (λ _. IsPart owner f) [
+      | inl was ↦ stands.grey f was
+      | inr new ↦ subst (IsPart owner) (sym new.0) kept
+    ];
+    scan = scan_shaded stage stands.scan;
+    pass = pass_shaded stage comes stands.pass;
+    alive = stands.alive;
+    after = λ ended. after_shaded (stands.after ended);
+  }
