@@ -5,3 +5,7 @@ pub mod SwapMarks
 pub mod MarkingFrames
 pub mod Marks
 pub mod ShadeMarks
+pub mod SeatShades
+pub mod MakingMarks
+pub mod RegisterRoots
+pub mod LastBirthMarks

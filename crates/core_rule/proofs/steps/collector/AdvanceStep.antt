@@ -49,7 +49,7 @@ module _ (heap : Heap) (state : State) (book : Book) (rule : Rule heap state boo
   later = begun_phase book next
 
   has_looked : HasLooked heap.seats state.collector.phase state.collector.looked
-  has_looked = subst (FitsStage heap.seats state.collector.phase state.collector.looked) advancing rule.machine.collector_fit.at_stage
+  has_looked = subst (FitsStage heap state.collector.phase state.collector.looked) advancing rule.machine.collector_fit.at_stage
 
   early : phase book.history < 3
   early = omega (arith, has_looked.goes_on, rule.collector_stands.phase_told, rule.heap_stands.cycle.so_far)

@@ -35,10 +35,10 @@ module _ (heap : Heap) (collector : Collector) (history : List Entry) (stands : 
   stands_seen : (stage : Stage) (looked : ℕ) → HasSeen looked → CollectorAgrees heap (record collector { stage = stage; looked = looked }) history
   stands_seen stage looked seen = record { log = stands.log; phase_told = stands.phase_told; looked = seen }
 
-  -- it looks from seat 0 again, or goes on to the next phase
+  -- it begins to mark, or goes on to the next phase
   all_seen : HasSeen heap.seats → CollectorAgrees heap (after_last_look heap collector) history
   all_seen all = elim (eqb_tells (collector.phase % 7) 3) as (λ _. CollectorAgrees heap (after_last_look heap collector) history) [
-    | inl third ↦ rw third.0 (stands_seen collector.stage 0 (λ number none below present. absurd (omega (arith, none))))
+    | inl third ↦ rw third.0 (stands_seen _ heap.seats all)
     | inr other ↦ rw other.0 (stands_seen _ heap.seats all)
   ]
 
@@ -72,7 +72,7 @@ look_keeps heap state book rule looking machine =
     let collector : Collector = state.collector in
     let number : ℕ = collector.looked in
     let found : ℕ = at heap state.words (Answer number) in
-    let below : number < heap.seats = subst (FitsStage heap.seats collector.phase number) looking rule.machine.collector_fit.at_stage in
+    let below : number < heap.seats = subst (FitsStage heap collector.phase number) looking rule.machine.collector_fit.at_stage in
     let stands = rule.seats_stand number below in
     let told = stands.cycle.answers_told in
     let early : phase book.history ≤ 3 = rule.heap_stands.cycle.so_far in

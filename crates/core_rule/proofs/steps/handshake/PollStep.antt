@@ -28,6 +28,7 @@ use Rattle.core_rule.specs.Book.{Book}
 use Rattle.core_rule.specs.Cycle.{SeatInCycle}
 use Rattle.core_rule.specs.Phases.{Asks, PollingStands}
 use Rattle.core_rule.specs.Rule.{Rule, SeatStands}
+use Rattle.core_rule.proofs.marking.Marks.{leaves_words, marks_off_way}
 use Rattle.core_rule.proofs.steps.Assemble.{Keeps, seat_steps, StepKeeps}
 use Rattle.core_rule.proofs.cycle.Roots.{roots_marked}
 use Rattle.core_rule.proofs.entries.AtRest.{seat_fits, in_flight, none_awaited}
@@ -139,7 +140,8 @@ module _ (heap : Heap) (state : State) (book : Book) (number : ℕ) (rule : Rule
         };
         cycle = own_cycle apart;
       }
-      (λ r below apart other. other)) machine
+      (λ r below apart other. other)
+      (marks_off_way heap state book rule number here state.words book next (leaves_words heap state book rule state.words (λ f part x leads. leads) (λ f part x leads. leads)) refl refl tt)) machine
 
 -- a poll's load keeps the rule
 pub poll_keeps : StepKeeps (places.Polling Asking) (λ heap. poll_move)
