@@ -9,3 +9,5 @@ pub mod SeatShades
 pub mod MakingMarks
 pub mod RegisterRoots
 pub mod LastBirthMarks
+pub mod Settled
+pub mod GreyPlaces

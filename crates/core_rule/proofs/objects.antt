@@ -3,7 +3,6 @@ pub mod CellWords
 pub mod ObjectsSet
 pub mod ObjectFrames
 pub mod BoardFragment
-pub mod BoardRegister
 pub mod Newborn
 pub mod NamesGrowth
 pub mod ObjectsGrowth

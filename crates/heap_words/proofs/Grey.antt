@@ -4,7 +4,7 @@ use Rattle.std.specs.Int.{bit_at, trailing_zeros}
 use Rattle.std.specs.List.{find, range_with_len}
 use Rattle.std.proofs.lemmas.Bool.Decides.{eqb_tells}
 use Rattle.std.proofs.lemmas.Nat.{shr-shr, and_le_l}
-use Rattle.std.proofs.lemmas.Nat.Bits.{bit_at_and, bit_at_not, bit_at-lt, bit_at-zero, bit_at_above, bit_at_cat_low, bit_at-trailing_zeros}
+use Rattle.std.proofs.lemmas.Nat.Bits.{bit_at_and, bit_at_not, bit_at-lt, bit_at-zero, bit_at_cat_low, bit_at-trailing_zeros}
 use Rattle.heap_words.specs.Control.{is_grey, lowest_grey_of}
 
 -- the first number from a on that passes

@@ -1,9 +1,8 @@
 -- A fragment is told to be scanned.
-use Rattle.std.proofs.Common.{ℕ, ◌/◌, true, arith}
+use Rattle.std.proofs.Common.{◌/◌, true, arith}
 use Rattle.core_machine.specs.declared.collector.stage.Scan.{Scan}
 use Rattle.core_machine.specs.declared.collector.stage.Stage.TheVariants as stages
 use Rattle.core_machine.specs.declared.step.TurningStep.TheVariants as turning
-use Rattle.core_machine.specs.collector.Collector.{Collector}
 use Rattle.core_machine.proofs.collector_lemmas.Standing.{StageStands, marking_stands, stage_fits}
 use Rattle.core_machine.proofs.table_lemmas.Wide.{blacken_wide}
 

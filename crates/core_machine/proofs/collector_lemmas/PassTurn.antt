@@ -7,9 +7,8 @@ use Rattle.heap_model.specs.Heap.{IsHeap}
 use Rattle.core_machine.specs.declared.collector.stage.Stage.TheVariants as stages
 use Rattle.core_machine.specs.declared.step.Step.TheVariants.{Turning}
 use Rattle.core_machine.specs.declared.step.TurningStep.TheVariants as turning
-use Rattle.core_machine.specs.collector.Collector.{Collector}
 use Rattle.core_machine.specs.collector.Marking.{lowest_grey_of, after_last_group, after_group, after_pass}
-use Rattle.core_machine.specs.collector.FitsTurns.{FitsStage, IsMarking, IsPassing}
+use Rattle.core_machine.specs.collector.FitsTurns.{FitsStage, IsMarking}
 use Rattle.core_machine.proofs.collector_lemmas.Standing.{StageStands, marking_stands, stage_fits}
 use Rattle.core_machine.proofs.table_lemmas.Grey.{grey_place}
 use Rattle.core_machine.proofs.table_lemmas.StepStands.{load_stands}

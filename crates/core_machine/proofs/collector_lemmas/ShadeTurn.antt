@@ -3,7 +3,6 @@ use Rattle.std.proofs.Common.{ℕ, arith}
 use Rattle.core_machine.specs.declared.collector.stage.Scan.{Scan}
 use Rattle.core_machine.specs.declared.collector.stage.Stage.TheVariants as stages
 use Rattle.core_machine.specs.declared.step.TurningStep.TheVariants as turning
-use Rattle.core_machine.specs.collector.Collector.{Collector}
 use Rattle.core_machine.specs.collector.Marking.{scan_step, scan_at}
 use Rattle.core_machine.proofs.collector_lemmas.ScanTurn.{fits_at}
 use Rattle.core_machine.proofs.collector_lemmas.Standing.{StageStands, marking_stands, stage_fits}

@@ -80,7 +80,7 @@ module _ (heap : Heap) (state : State) (book : Book) (number : ℕ) (rule : Rule
       let stands = rule.heap_stands in
       record {
         control_words = bits;
-        owners = owners_handed heap.seats book.owner stands.owners Free fs tt kept_given;
+        owners = owners_handed heap.seats book.owner stands.owners Free fs tt (λ f there. rw (held f there) (λ none. none));
         ids = rw graph_given stands.ids;
         objects = rw graph_given (objects_owners book.owner owner kept_given book.made book.fragments heap words_given before
             (objects_control heap state.words before book.made book.owner book.fragments g word below stands.objects));

@@ -35,7 +35,7 @@ use Rattle.core_rule.proofs.owners.Keeping.{kept_by, with_object}
 use Rattle.core_rule.proofs.owners.OwnerLemmas.{IsOwn, own_keeps_none}
 
 -- the book after it: the object keeps its fragments, and has a number
-abbrev book_born : Book → ℕ → Seat → Book
+abbrev pub book_born : Book → ℕ → Seat → Book
 book_born book number seat = record book {
   history = book.history ++ made_entry number seat ∷ [];
   made = book.made ++ next_object_id number seat ∷ [];

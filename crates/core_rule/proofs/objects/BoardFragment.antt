@@ -1,32 +1,30 @@
 -- Fragment 0 is the board's first one, and nothing else.
 use Rattle.std.proofs.Common.{◌≡◌, ◌≢◌, ℕ, ◌<◌, inl, inr, List, length, refl, sym, ap, ◌∙◌, subst, arith}
-use Rattle.std.proofs.lemmas.Option.{slice_get_within, get_or_from_slice_get}
 use Rattle.heap_model.specs.declared.heap.Heap.{Heap}
 use Rattle.heap_model.specs.declared.id.Id.{Id}
-use Rattle.heap_model.specs.declared.id.Id.TheVariants.{Board}
 use Rattle.heap_model.specs.graph.Graph.{Graph}
 use Rattle.core_machine.specs.table.Fragments.{tally}
-use Rattle.core_rule.specs.Book.{fragment_at, object_number, object_head}
+use Rattle.core_rule.specs.Book.{fragment_at}
 use Rattle.core_rule.specs.Holding.{Holding}
-use Rattle.core_rule.specs.Objects.{AreMade, Objects, IsKept}
-use Rattle.core_rule.specs.Owners.{Owner, Kept, OwnersStand, holds_bit}
+use Rattle.core_rule.specs.Objects.{Objects, IsKept}
+use Rattle.core_rule.specs.Owners.{Owner, Kept, IsBoards, OwnersStand}
 use Rattle.core_rule.proofs.hand.Bodies.{body_own}
 use Rattle.core_rule.proofs.owners.Handed.{none_or_some}
-use Rattle.core_rule.proofs.owners.OwnerLemmas.{IsOwn, own_keeps_none}
+use Rattle.core_rule.proofs.owners.OwnerLemmas.{IsOwn, boards_not_held, own_not_boards}
 
 module _ (seats : ℕ) (owner : ℕ → Owner) (owners : OwnersStand seats owner) where
   -- a fragment that is part k of object number i is 0 where both are
   pub board_alone : (f i k : ℕ) → owner f ≡ Kept i k → f ≡ 0 → (i ≡ 0) × (k ≡ 0)
-  board_alone f i k is first = let same : Kept i k ≡ Kept 0 0 = sym is ∙ ap owner first ∙ owners.board in (cc, cc)
+  board_alone f i k is first = subst IsBoards (sym (ap owner first) ∙ is) owners.board
 
   -- what a seat has isn't fragment 0
   pub own_not_zero : (number f : ℕ) → IsOwn number (owner f) → f ≢ 0
-  own_not_zero number f own first = own_keeps_none number 0 0 (owner f) own (ap owner first ∙ owners.board)
+  own_not_zero number f own first = own_not_boards number (owner f) own (subst IsBoards (sym (ap owner first)) owners.board)
 
   -- which is in no reserve, no hand and no body
   pub none_at_hand : (number : ℕ) (reserve hand body : List ℕ) → Holding owner number reserve hand body → (tally 0 reserve ≡ 0) × (tally 0 hand ≡ 0) × (tally 0 body ≡ 0)
   none_at_hand number reserve hand body holding =
-      let none : holds_bit number (owner 0) ≡ 0 = ap (holds_bit number) owners.board in (
+      let none = boards_not_held number (owner 0) owners.board in (
         omega (arith, holding.held 0, none),
         omega (arith, holding.held 0, none),
         elim (none_or_some (tally 0 body)) [
@@ -36,21 +34,7 @@ module _ (seats : ℕ) (owner : ℕ → Owner) (owners : OwnersStand seats owner
       )
 
   module _ (heap : Heap) (words : List ℕ) (g : Graph) (made : List Id) (fragments : ℕ → List ℕ) (objects : Objects heap words g made owner fragments) where
-    -- the board is kept, always
-    pub board_kept : IsKept owner fragments 0
-    board_kept = (objects.back 0 0 0 owners.board).1
-
-    -- its first fragment is 0
-    pub board_first : fragment_at (fragments 0) 0 ≡ 0
-    board_first = sym (objects.back 0 0 0 owners.board).3
-
-    pub board_head : AreMade g made → object_head made fragments Board ≡ 0
-    board_head ids =
-        let some : 0 < length made = slice_get_within made 0 Board ids.board in
-        let index : object_number made Board ≡ 0 = subst (λ id. object_number made id ≡ 0) (get_or_from_slice_get made 0 Board Board ids.board) (ids.distinct 0 some) in
-        ap (λ i. fragment_at (fragments i) 0) index ∙ board_first
-
-    -- no other one of a kept object is
+    -- no fragment of a kept object behind its first is 0
     pub chain_not_zero : (i k : ℕ) → i < length made → IsKept owner fragments i → k < length (fragments i) → 0 < k → fragment_at (fragments i) k ≢ 0
     chain_not_zero i k below kept within later first =
         let both = board_alone (fragment_at (fragments i) k) i k ((objects.kept i below kept).owned k within) first in

@@ -1,6 +1,6 @@
 -- What the bits of an owner tell.
 use Rattle.std.proofs.Common.{◌≡◌, ◌≢◌, ℕ, zero, suc, ◌+◌, ◌-◌, ◌≤◌, refl, sym, ap, ◌∙◌, arith}
-use Rattle.core_rule.specs.Owners.{Owner, Free, Taken, Borne, Kept, Dead, taken_bit, free_bit, born_bit, holds_bit, bears_bit}
+use Rattle.core_rule.specs.Owners.{Owner, Free, Taken, Borne, Kept, Dead, IsBoards, taken_bit, free_bit, born_bit, holds_bit, bears_bit}
 use Rattle.core_rule.proofs.lists.Tallies.{one_at_some, one_at_bit}
 
 -- what isn't taken is nobody's
@@ -52,6 +52,17 @@ own_once number _ = omega arith
 
 pub own_keeps_none : (number i k : ℕ) (o : Owner) → IsOwn number o → o ≢ Kept i k
 own_keeps_none number i k o own e = let none : holds_bit number o + bears_bit number o ≡ 0 = ap (λ x. holds_bit number x + bears_bit number x) e in omega arith
+
+-- the board's first part is no seat's
+pub boards_not_held : (number : ℕ) (o : Owner) → IsBoards o → holds_bit number o ≡ 0
+boards_not_held number (Kept i k) boards = refl
+boards_not_held number (Dead i k) boards = refl
+boards_not_held number _ boards = absurd boards
+
+pub own_not_boards : (number : ℕ) (o : Owner) → IsOwn number o → ¬ IsBoards o
+own_not_boards number (Kept i k) own boards = omega (arith, own)
+own_not_boards number (Dead i k) own boards = omega (arith, own)
+own_not_boards number _ own boards = boards
 
 -- it is one seat's alone
 pub own_not_others : (number r : ℕ) (o : Owner) → IsOwn number o → IsOwn r o → number ≡ r

@@ -31,7 +31,7 @@ opening_cases P f kept free = elim (cases_lt f 11) [
 
 -- no seat has a fragment, and the first is the board's first
 pub opening_seated : (seats : ℕ) → OwnersStand seats opening_owner
-opening_seated seats = record { seated = λ f. opening_cases (IsSeated seats) f (λ below. tt) (λ past. tt); board = refl }
+opening_seated seats = record { seated = λ f. opening_cases (IsSeated seats) f (λ below. tt) (λ past. tt); board = (refl, refl) }
 
 -- one more below the bound
 below_more : (P : ℕ → Type 0) (n : ℕ) → ((f : ℕ) → f < n → P f) → P n → (f : ℕ) → f < suc n → P f

@@ -1,6 +1,7 @@
 mod calls;
 mod fields;
 mod making;
+mod marking;
 mod texts;
 mod trial;
 mod turns;

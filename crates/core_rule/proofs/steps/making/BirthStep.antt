@@ -70,7 +70,7 @@ birth_keeps heap state book number rule here place more machine =
     record {
       control_words = birth_bits_after heap state.words book.owner g rule.machine.table below heap_stands.control_words seat.hand number
           (hand_once book.owner number seat.reserve seat.hand seat.body stands.own.holding) (hand_held book.owner number seat.reserve seat.hand seat.body stands.own.holding) (bears_black_of seat);
-      owners = owners_handed heap.seats book.owner heap_stands.owners (Borne number) part here kept;
+      owners = owners_handed heap.seats book.owner heap_stands.owners (Borne number) part here (λ f there. rw (held f there) (λ none. none));
       ids = heap_stands.ids;
       objects = objects_owners book.owner owner kept book.made book.fragments heap (put heap state.words (Control g) word) (graph_of heap book.history)
           (objects_control heap state.words (graph_of heap book.history) book.made book.owner book.fragments g word below heap_stands.objects);

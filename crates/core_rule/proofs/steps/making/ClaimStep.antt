@@ -111,7 +111,7 @@ claim_keeps heap state book number rule here place machine =
     rule here machine refl tells.log
     record {
       control_words = claim_bits heap state.words book.owner g rule.machine.table below heap_stands.control_words number;
-      owners = owners_handed heap.seats book.owner heap_stands.owners (Taken number) fs here kept;
+      owners = owners_handed heap.seats book.owner heap_stands.owners (Taken number) fs here (λ f there. rw (free f there) (λ none. none));
       ids = rw tells.graph heap_stands.ids;
       objects = rw tells.graph (objects_owners book.owner owner kept book.made book.fragments heap words g_of
           (objects_control heap state.words g_of book.made book.owner book.fragments g word below heap_stands.objects));

@@ -50,7 +50,7 @@ use Rattle.core_rule.proofs.objects.ObjectsGrowth.{NewBody, objects_grown}
 use Rattle.core_rule.proofs.entries.Others.{gathers_stay, of_other}
 use Rattle.core_rule.proofs.entries.OwnEntries.{own_grows}
 use Rattle.core_rule.proofs.owners.OwnerFrames.{owners_kept}
-use Rattle.core_rule.proofs.owners.OwnerLemmas.{own_keeps_none}
+use Rattle.core_rule.proofs.owners.OwnerLemmas.{own_keeps_none, own_not_boards}
 use Rattle.core_rule.proofs.entries.PhaseEntries.{no_leave_told}
 use Rattle.core_rule.proofs.entries.RecordCommands.{need_made, ranges_made}
 use Rattle.core_rule.proofs.frames.SeatFrames.{same_party, told_other, seat_left}
@@ -104,7 +104,8 @@ last_birth_keeps heap state book number rule here place last machine =
     record {
       control_words = kept_bits heap state.words book.owner number seat.reserve seat.hand body group (length book.made) (bears_black_of seat) rule.machine.table below
           rule.heap_stands.control_words stands.own.holding some last;
-      owners = owners_kept heap.seats book.owner rule.heap_stands.owners (length book.made) body unkept;
+      owners = owners_kept heap.seats book.owner rule.heap_stands.owners (length book.made) body
+          (λ f there. own_not_boards number (book.owner f) (body_own book.owner number seat.reserve seat.hand body stands.own.holding f there));
       ids = rw graph (ids_grown g grown book.made id (fresh false fields) ids more (omega (arith, here, rule.machine.limits.seats_fit), omega (arith, has.makes.numbered)));
       objects = rw graph (objects_control heap state.words grown now.made now.owner now.fragments group word below
           (objects_grown heap state.words g grown book.made id book.owner book.fragments fields body ids more new rule.heap_stands.objects));

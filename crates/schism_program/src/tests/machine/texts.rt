@@ -62,6 +62,10 @@ fn turning_text(alloc: Global, step: TurningStep) -> Result<String, AllocError> 
     match step {
         TurningStep::LookLoad { seat } => format!(in alloc; "look {seat}"),
         TurningStep::AdvanceStore { phase } => format!(in alloc; "advance {phase}"),
+        TurningStep::GroupLoad { group } => format!(in alloc; "group {group}"),
+        TurningStep::ScanLoad { fragment, part } => format!(in alloc; "scan {fragment}.{part}"),
+        TurningStep::MarkShade { fragment } => format!(in alloc; "mark {fragment}"),
+        TurningStep::Blacken { fragment } => format!(in alloc; "blacken {fragment}"),
     }
 }
 

@@ -14,7 +14,7 @@ use std::test::Fail;
 /// Each line of a trial is "DEED => FOUND". A deed is one of these:
 ///
 /// - `SEAT COMMAND`, a whole call, and `SEAT begin COMMAND`, where nothing more is done;
-/// - `PARTY step`, its due step; the collector is the party `c`;
+/// - `PARTY step`, its due step; the collector is the party `c`; `PARTY steps N`, so many of them, of which the last is told;
 /// - `SEAT stores`, four due steps that store a fragment's words in their order, each where 0 was found: the fragment and
 ///   the words;
 /// - `c turn`, a turn of the collector;
@@ -75,6 +75,9 @@ fn done(alloc: Global, machine: &mut Machine, party: u8, words: &str) -> Result<
         let (step, found) = step(machine, party)?;
         return Ok(step_text(alloc, &step, found)?);
     }
+    if let Some(count) = words.strip_prefix("steps ") {
+        return last_of(alloc, machine, party, number(count)?);
+    }
     if words == "stores" {
         return stored(alloc, machine, party);
     }
@@ -97,6 +100,16 @@ fn done(alloc: Global, machine: &mut Machine, party: u8, words: &str) -> Result<
     } else {
         Err("the last entry is another".into())
     }
+}
+
+/// The last of the next steps, and the word that it found.
+fn last_of(alloc: Global, machine: &mut Machine, party: u8, count: u8) -> Result<String, Fail> {
+    let mut text = String::new(alloc);
+    for _ in 0..count {
+        let (step, found) = step(machine, party)?;
+        text = step_text(alloc, &step, found)?;
+    }
+    Ok(text)
 }
 
 /// The fragment whose four words are stored by the next steps, and the words.
@@ -168,5 +181,5 @@ fn numbered(kind: &str, first: u16, second: u8) -> Option<Address> {
 }
 
 fn number(word: &str) -> Result<u8, Fail> {
-    Ok(word.parse::<u8>().ok().ok_or("a number of a seat")?)
+    Ok(word.parse::<u8>().ok().ok_or("a small number")?)
 }

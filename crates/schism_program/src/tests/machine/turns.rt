@@ -1,8 +1,8 @@
 use super::trial::tries;
 use std::test::Fail;
 
-/// Three rounds of a look, an advance and a poll: the seat answered 3, the board's head is marked and not scanned. So far
-/// nothing comes after: the collector looks again.
+/// Three rounds of a look, an advance and a poll: the seat answered 3, the board's head is marked and not scanned. Then
+/// the collector marks, and the phase stays.
 const THREE_PHASES: &[&str] = &[
     "c turn => stepped",
     "c turn => stepped; c phase 1",
