@@ -1,5 +1,7 @@
 -- Marking: paths, roots, the pass, the scan, and what is true after it.
 pub mod Paths
+pub mod CallRoots
+pub mod SwapMarks
 pub mod MarkingFrames
 pub mod Marks
 pub mod ShadeMarks
