@@ -1,4 +1,4 @@
--- The taken and the born bits of the control words are those of the fragments' owners.
+-- A fragment's bits in its group's control word. The taken and the born ones are those of its owner.
 use Rattle.std.specs.Prelude.{◌≡◌, ℕ, ◌+◌, ◌*◌, ◌/◌, ◌%◌, ◌<◌, ◌≤◌, List}
 use Rattle.std.specs.Int.{bit_at}
 use Rattle.heap_model.specs.declared.heap.Heap.{Heap}
@@ -10,9 +10,17 @@ use Rattle.core_rule.specs.Owners.{Owner, Free, taken_bit, born_bit}
 abbrev pub control_of : Heap → List ℕ → ℕ → ℕ
 control_of heap words f = at heap words (Control (f / 16))
 
+-- the fragment's taken bit is set
+abbrev pub IsTaken : Heap → List ℕ → ℕ → Type 0
+IsTaken heap words f = bit_at (control_of heap words f) (f % 16) ≡ 1
+
 -- the fragment's born bit is set
 abbrev pub IsBorn : Heap → List ℕ → ℕ → Type 0
 IsBorn heap words f = bit_at (control_of heap words f) (16 + f % 16) ≡ 1
+
+-- the fragment's marked bit is set
+abbrev pub IsMarkedIn : Heap → List ℕ → ℕ → Type 0
+IsMarkedIn heap words f = bit_at (control_of heap words f) (32 + f % 16) ≡ 1
 
 -- the taken and the born bits are those of the owners
 pub record Bits (heap : Heap) (words : List ℕ) (owner : ℕ → Owner) : Type 0 where

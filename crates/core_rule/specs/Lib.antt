@@ -16,3 +16,5 @@ pub mod Together
 pub mod Cycle
 pub mod Rule
 pub mod Laws
+pub mod Held
+pub mod HeldLaws

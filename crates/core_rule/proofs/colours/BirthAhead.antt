@@ -31,21 +31,21 @@ is_borne number (Borne r) some = ap Borne (one_at_some r number some)
 is_borne number _ some = absurd (omega (arith, some))
 
 -- a body's words are stored, its fragments those of the heap, and its hand is the front of it
-module _ (heap : Heap) (words : List ℕ) (owner : ℕ → Owner) (colour : ℕ → Colour) (number : ℕ) (seat : Seat) (limits : IsHeap heap) (here : number < heap.seats)
+module _ (heap : Heap) (words : List ℕ) (owner : ℕ → Owner) (number : ℕ) (seat : Seat) (limits : IsHeap heap) (here : number < heap.seats)
     (numbered : seat.made + 1 < 2 ^ 32) (few : fields_of seat.command ≤ 47) (some : 1 ≤ length seat.body) (within : AreFragments heap seat.body)
-    (holding : Holding owner number seat.reserve seat.hand seat.body) (births : AreBorne owner colour number true)
+    (holding : Holding owner number seat.reserve seat.hand seat.body)
     (stored : (k part : ℕ) → k < length seat.body → part < 4 → at heap words (Word (fragment_at seat.body k) part) ≡ newborn_word_of number seat k part) where
   once : (f : ℕ) → tally f seat.body ≤ 1
   once f = body_once owner number seat.reserve seat.hand seat.body holding some f
 
   -- a word of the body leads to the body's next fragment
-  body_leads : (k part g : ℕ) → k < length seat.body → WordPointsTo heap words (fragment_at seat.body k) part g → (k + 1 < length seat.body) × (g ≡ get_or seat.body (k + 1) 0)
+  pub body_leads : (k part g : ℕ) → k < length seat.body → WordPointsTo heap words (fragment_at seat.body k) part g → (k + 1 < length seat.body) × (g ≡ get_or seat.body (k + 1) 0)
   body_leads k part g below leads =
       newborn_leads seat.body (λ i less. let inside : get_or seat.body i 0 < 16 * heap.groups = within i 0 less in omega (arith, inside, limits.groups_fit))
       (next_name number seat) (fields_of seat.command) k part g (omega (arith, here, limits.seats_fit)) (omega (arith, numbered)) (omega (arith, few))
       (ap (pointer_in part) (sym (stored k part below leads.below)) ∙ leads.to)
 
-  module _ (g : ℕ) (order : IsInOrder heap (part_out g seat.hand) seat.body) where
+  module _ (colour : ℕ → Colour) (births : AreBorne owner colour number true) (g : ℕ) (order : IsInOrder heap (part_out g seat.hand) seat.body) where
     -- what the body has behind a fragment of the group is of the group, or borne
     behind : (k : ℕ) → k + 1 < length seat.body → 1 ≤ tally (fragment_at seat.body k) (part_in g seat.hand)
         → (1 ≤ tally (fragment_at seat.body (k + 1)) (part_in g seat.hand)) ⊎ (1 ≤ bears_bit number (owner (fragment_at seat.body (k + 1))))

@@ -78,9 +78,9 @@ module _ (heap : Heap) (state : State) (book : Book) (number : ℕ) (rule : Rule
         coloured = birth_coloured heap state.words words_born book.owner later book.colour (last_part seat) black unborn cycle.coloured.born book.fragments fragments (phase book.history)
             (bears_late heap state book number Bearing rule here place) bears
             (λ f k x leads. leads_control heap state.words g _ group_born f k x leads)
-            (λ dark. born_ahead heap state.words book.owner book.colour number seat rule.machine.limits here at_place.0.makes.numbered (few_fields seat at_place.0) some_born (seat_fits rule number here).hand.body_within stands.own.holding
-            (subst (AreBorne book.owner book.colour number) dark (births_are book.owner book.colour number seat stands.cycle.births))
+            (λ dark. born_ahead heap state.words book.owner number seat rule.machine.limits here at_place.0.makes.numbered (few_fields seat at_place.0) some_born (seat_fits rule number here).hand.body_within stands.own.holding
             (all_stored heap state.words seat.body (newborn_word_of number seat) seat.stored at_place.3 stands.own.stored)
+            book.colour (subst (AreBorne book.owner book.colour number) dark (births_are book.owner book.colour number seat stands.cycle.births))
             g (born_in_order heap seat.cursor seat.tried seat.hand seat.body (seat_fits rule number here).hand.hand_within some_born stands.own.together))
             first cycle.coloured;
       }

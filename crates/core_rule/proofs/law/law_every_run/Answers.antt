@@ -1,5 +1,6 @@
 use Rattle.core_machine.proofs.machine_lemmas.Runs.{machine_after}
 use Rattle.core_rule.proofs.counts.FreeSums.{free_is_unused}
+use Rattle.core_rule.proofs.held.HeldFragments.{each_held_is_taken, no_claim_takes_held, each_held_is_marked}
 use Rattle.core_rule.proofs.runs.BornWords.{each_birth_has_its_colour}
 use Rattle.core_rule.proofs.runs.MarkedAnswers.{each_answer_is_marked}
 use Rattle.core_rule.proofs.runs.Waits.{each_wait_is_behind}
@@ -29,3 +30,12 @@ returns-clause-answers c = each_answer_is_marked
 
 pub returns-clause-waits : goal.returns-clause-waits
 returns-clause-waits c = each_wait_is_behind
+
+pub returns-clause-held : goal.returns-clause-held
+returns-clause-held c = each_held_is_taken
+
+pub returns-clause-claims : goal.returns-clause-claims
+returns-clause-claims c = no_claim_takes_held
+
+pub returns-clause-marked : goal.returns-clause-marked
+returns-clause-marked c = each_held_is_marked

@@ -1,0 +1,5 @@
+-- What is held is alive: a seat's, or a part of a kept object.
+pub mod Alive
+pub mod Holders
+pub mod BodyWords
+pub mod HeldFragments

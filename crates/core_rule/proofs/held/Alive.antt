@@ -1,0 +1,51 @@
+-- Fragments that are a seat's or a kept object's.
+use Rattle.std.proofs.Common.{◌≡◌, ◌≢◌, ℕ, ◌*◌, ◌<◌, inl, inr, List, refl, ap, ◌∙◌, subst, arith}
+use Rattle.std.proofs.lemmas.Bool.{cases_lt}
+use Rattle.heap_model.specs.declared.heap.Heap.{Heap}
+use Rattle.heap_model.specs.declared.id.Id.{Id}
+use Rattle.core_rule.specs.ControlWords.{Bits}
+use Rattle.core_rule.specs.Owners.{Owner, Free, Taken, Borne, Kept, Dead, taken_bit}
+use Rattle.core_rule.proofs.owners.OwnerLemmas.{IsOwn}
+use Rattle.core_rule.proofs.ways.LoadedObjects.{KeptHead}
+
+-- the fragment is a seat's, or a part of a kept object
+abbrev pub IsAlive : Owner → Type 0
+IsAlive Free = ⊥
+IsAlive (Taken number) = Unit {0}
+IsAlive (Borne number) = Unit {0}
+IsAlive (Kept i k) = Unit {0}
+IsAlive (Dead i k) = ⊥
+
+-- what a seat has is
+pub own_alive : (number : ℕ) (o : Owner) → IsOwn number o → IsAlive o
+own_alive number (Taken r) own = tt
+own_alive number (Borne r) own = tt
+own_alive number (Kept i k) own = tt
+own_alive number Free own = absurd (omega (arith, own))
+own_alive number (Dead i k) own = absurd (omega (arith, own))
+
+-- so is what an object keeps
+pub kept_alive : (o : Owner) (i k : ℕ) → o ≡ Kept i k → IsAlive o
+kept_alive o i k is = rw is tt
+
+pub head_alive : (made : List Id) (owner : ℕ → Owner) (fragments : ℕ → List ℕ) (f : ℕ) → KeptHead made owner fragments f → IsAlive (owner f)
+head_alive made owner fragments f head = kept_alive (owner f) head.index 0 (ap owner head.is ∙ head.kept)
+
+-- it isn't to be freed
+pub alive_not_dead : (o : Owner) (i k : ℕ) → IsAlive o → o ≢ Dead i k
+alive_not_dead o i k alive dead = subst IsAlive dead alive
+
+-- it is taken
+pub alive_taken : (o : Owner) → IsAlive o → taken_bit o ≡ 1
+alive_taken (Taken number) alive = refl
+alive_taken (Borne number) alive = refl
+alive_taken (Kept i k) alive = refl
+alive_taken Free alive = absurd alive
+alive_taken (Dead i k) alive = absurd alive
+
+-- and one of the heap's
+pub alive_within : (heap : Heap) (words : List ℕ) (owner : ℕ → Owner) (f : ℕ) → Bits heap words owner → IsAlive (owner f) → f < 16 * heap.groups
+alive_within heap words owner f bits alive = elim (cases_lt f (16 * heap.groups)) as (λ _. f < 16 * heap.groups) [
+  | inl below ↦ below
+  | inr past ↦ absurd (subst IsAlive (bits.outside f past) alive)
+]

@@ -1,0 +1,74 @@
+-- Where the words of what a seat has borne lead: to its own new object.
+use Rattle.std.proofs.Common.{◌≡◌, ◌≢◌, ℕ, ◌+◌, ◌*◌, ◌<◌, ◌≤◌, [], length, sym, subst, arith}
+use Rattle.heap_model.specs.declared.heap.Heap.{Heap}
+use Rattle.core_machine.specs.declared.place.Making.TheVariants.{Gathering, Returning, Refusing, Storing, Bearing}
+use Rattle.core_machine.specs.declared.place.Place.{Place}
+use Rattle.core_machine.specs.declared.place.Place.TheVariants as places
+use Rattle.core_machine.specs.machine.Machine.{State, seat_at}
+use Rattle.core_machine.specs.seat.Fits.{FitsPlace, HasBody}
+use Rattle.core_machine.specs.seat.Making.{newborn_word_of}
+use Rattle.core_machine.specs.seat.Seat.{Seat}
+use Rattle.core_machine.specs.table.Fragments.{tally}
+use Rattle.core_rule.specs.Book.{Book}
+use Rattle.core_rule.specs.Colours.{WordPointsTo}
+use Rattle.core_rule.specs.Owners.{Taken, Borne}
+use Rattle.core_rule.specs.Rule.{Rule, SeatStands}
+use Rattle.core_rule.proofs.colours.BirthAhead.{body_leads}
+use Rattle.core_rule.proofs.entries.AtRest.{seat_fits}
+use Rattle.core_rule.proofs.hand.Bodies.{body_at-own}
+use Rattle.core_rule.proofs.hand.HandMoves.{bears_nothing, hand_held}
+use Rattle.core_rule.proofs.hand.MakingSeats.{few_fields}
+use Rattle.core_rule.proofs.held.Alive.{IsAlive, own_alive}
+use Rattle.core_rule.proofs.lists.Members.{place_of, place_within}
+use Rattle.core_rule.proofs.objects.LastBirth.{all_stored}
+use Rattle.core_rule.proofs.owners.OwnerLemmas.{IsOwn}
+use Rattle.core_rule.proofs.owners.Seated.{borne_by_seat}
+
+module _ (heap : Heap) (state : State) (book : Book) (rule : Rule heap state book) (number f : ℕ) (bears : book.owner f ≡ Borne number) where
+  abbrev seat : Seat
+  seat = seat_at state number
+
+  here : number < heap.seats
+  here = (borne_by_seat heap state book rule number f bears).0
+
+  in_body : 1 ≤ tally f seat.body
+  in_body = (borne_by_seat heap state book rule number f bears).1
+
+  stands : SeatStands heap state.words book number seat
+  stands = rule.seats_stand number here
+
+  some_body : seat.body ≢ []
+  some_body none = bears_nothing book.owner number seat.reserve seat.hand seat.body none stands.own.holding f bears
+
+  -- what is in the hand isn't borne
+  some_borne : seat.hand ≢ seat.body
+  some_borne all =
+      let held : book.owner f ≡ Taken number
+      = hand_held book.owner number seat.reserve seat.hand seat.body stands.own.holding f (subst (λ fs. 1 ≤ tally f fs) (sym all) in_body) in
+      cc (held, bears)
+
+  -- so the seat stands at a birth, and has stored each word
+  bearing : (place : Place) → FitsPlace heap seat place → HasBody seat × (seat.stored ≡ 4 * length seat.body)
+  bearing (places.Making Gathering) fits = absurd (some_body fits.no_body)
+  bearing (places.Making Returning) fits = absurd (some_body fits.0.no_body)
+  bearing (places.Making Refusing) fits = absurd (some_body fits.0.no_body)
+  bearing (places.Making Storing) fits = absurd (some_borne fits.1)
+  bearing (places.Making Bearing) fits = (fits.0, fits.3)
+  bearing places.Idle fits = absurd (some_body fits.no_body)
+  bearing places.Local fits = absurd (some_body fits.0.no_body)
+  bearing (places.Access place) fits = absurd (some_body fits.no_body)
+  bearing (places.Polling place) fits = absurd (some_body fits.no_body)
+  bearing (places.Leaving place) fits = absurd (some_body fits.0.no_body)
+
+  -- a word of the fragment leads to one of the seat's
+  pub borne_leads : (part x : ℕ) → WordPointsTo heap state.words f part x → IsAlive (book.owner x)
+  borne_leads part x leads =
+      let fits = seat_fits rule number here in
+      let has = bearing seat.place fits.at_place in
+      let place = place_within f seat.body in_body in
+      let k : ℕ = place_of f seat.body in
+      let next = body_leads heap state.words book.owner number seat rule.machine.limits here has.0.makes.numbered (few_fields seat has.0) (omega (arith, place.0)) fits.hand.body_within stands.own.holding
+      (all_stored heap state.words seat.body (newborn_word_of number seat) seat.stored has.1 stands.own.stored)
+      k part x place.0 (subst (λ y. WordPointsTo heap state.words y part x) (sym place.1) leads) in
+      let own = body_at-own book.owner number seat.reserve seat.hand seat.body stands.own.holding (k + 1) next.0 in
+      own_alive number (book.owner x) (subst (λ y. IsOwn number (book.owner y)) (sym next.1) own)

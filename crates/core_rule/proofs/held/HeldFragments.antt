@@ -1,0 +1,79 @@
+-- What is held is alive: so it is taken, no claim takes it, and once marking has ended it is marked.
+use Rattle.std.proofs.Common.{◌≡◌, ◌≢◌, ℕ, ◌+◌, ◌*◌, ◌<◌, inl, inr, refl, sym, ap, ◌∙◌, subst, arith}
+use Rattle.heap_model.specs.declared.heap.Heap.{Heap}
+use Rattle.heap_model.specs.account.Cycles.{graph_of}
+use Rattle.core_machine.specs.machine.Machine.{State}
+use Rattle.core_rule.specs.Book.{Book, Colour, White, Grey, Black}
+use Rattle.core_rule.specs.Colours.{WordPointsTo, marked_bit}
+use Rattle.core_rule.specs.ControlWords.{IsBorn}
+use Rattle.core_rule.specs.Held.{IsHeld, by_seat, by_word}
+use Rattle.core_rule.specs.HeldLaws.{EachHeldIsTaken, NoClaimTakesHeld, EachHeldIsMarked}
+use Rattle.core_rule.specs.Owners.{Owner, Free, Taken, Borne, Kept, Dead, born_bit}
+use Rattle.core_rule.specs.Rule.{Rule}
+use Rattle.core_rule.proofs.held.Alive.{IsAlive, kept_alive, head_alive, alive_not_dead, alive_taken, alive_within}
+use Rattle.core_rule.proofs.held.BodyWords.{borne_leads}
+use Rattle.core_rule.proofs.held.Holders.{holds_alive}
+use Rattle.core_rule.proofs.marking.ObjectEdges.{object_leads}
+use Rattle.core_rule.proofs.marking.Paths.{white_or_marked}
+
+module _ (heap : Heap) (state : State) (book : Book) (rule : Rule heap state book) where
+  -- a born fragment's bit is its owner's
+  born_owner : (f : ℕ) → f < 16 * heap.groups → IsBorn heap state.words f → born_bit (book.owner f) ≡ 1
+  born_owner f within born = sym (rule.heap_stands.control_words.born f within) ∙ born
+
+  -- the words of a kept object lead to what is alive
+  kept_leads : (f i k part x : ℕ) → book.owner f ≡ Kept i k → WordPointsTo heap state.words f part x → IsAlive (book.owner x)
+  kept_leads f i k part x is leads =
+      let stands = rule.heap_stands in
+      let back = stands.objects.back f i k is in
+      let object = stands.objects.kept i back.0 back.1 in
+      elim (object_leads heap state.words (graph_of heap book.history) book.made book.owner book.fragments rule.machine.limits stands.control_words stands.ids stands.objects
+      i back.0 back.1 k part x back.2 (subst (λ y. WordPointsTo heap state.words y part x) back.3 leads)) as (λ _. IsAlive (book.owner x)) [
+        | inl next ↦ kept_alive (book.owner x) i (k + 1) (ap book.owner next.1 ∙ object.owned (k + 1) next.0)
+        | inr head ↦ head_alive book.made book.owner book.fragments x head
+      ]
+
+  -- so do those of all that is alive and born
+  word_alive : (f part x : ℕ) → IsAlive (book.owner f) → IsBorn heap state.words f → WordPointsTo heap state.words f part x → IsAlive (book.owner x)
+  word_alive f part x alive born leads = by (book.owner f) refl alive
+    where
+      by : (o : Owner) → book.owner f ≡ o → IsAlive o → IsAlive (book.owner x)
+      by Free is alive = absurd alive
+      by (Taken number) is alive = absurd (omega (arith, born_owner f leads.within born, ap born_bit is))
+      by (Borne number) is alive = borne_leads heap state book rule number f is part x leads
+      by (Kept i k) is alive = kept_leads f i k part x is leads
+      by (Dead i k) is alive = absurd alive
+
+  held_alive : (f : ℕ) → IsHeld heap state f → IsAlive (book.owner f)
+  held_alive f (by_seat number _ here holds) = holds_alive heap state book rule number here f holds
+  held_alive g (by_word f _ held born edge) = word_alive f edge.part g (held_alive f held) born edge.points
+
+  held_within_heap : (f : ℕ) → IsHeld heap state f → f < 16 * heap.groups
+  held_within_heap f held = alive_within heap state.words book.owner f rule.heap_stands.control_words (held_alive f held)
+
+pub each_held_is_taken : EachHeldIsTaken
+each_held_is_taken heap state book f rule held =
+    let within = held_within_heap heap state book rule f held in
+    (within, rule.heap_stands.control_words.taken f within ∙ alive_taken (book.owner f) (held_alive heap state book rule f held))
+
+-- what isn't taken isn't held
+pub no_claim_takes_held : NoClaimTakesHeld
+no_claim_takes_held heap state book event f rule can untaken taken held = untaken (each_held_is_taken heap state book f rule held).1
+
+pub each_held_is_marked : EachHeldIsMarked
+each_held_is_marked heap state book f rule ended held born =
+    let within = held_within_heap heap state book rule f held in
+    elim (white_or_marked book.colour f) [
+      | inl white ↦ absurd (dead white within)
+      | inr some ↦ rule.heap_stands.cycle.marks.marked f within ∙ marks (book.colour f) some
+    ]
+  where
+    dead : book.colour f ≡ White → f < 16 * heap.groups → ⊥
+    dead white within =
+        let freed = (rule.marks_stand.heap_marks.after ended).white_dead f (record { unmarked = white; born = born_owner heap state book rule f within born }) in
+        alive_not_dead (book.owner f) freed.0 freed.1 (held_alive heap state book rule f held) freed.2
+
+    marks : (c : Colour) → c ≢ White → marked_bit c ≡ 1
+    marks White some = absurd (some refl)
+    marks Grey some = refl
+    marks Black some = refl

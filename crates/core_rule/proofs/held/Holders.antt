@@ -1,0 +1,123 @@
+-- What a seat holds is alive.
+use Rattle.std.specs.Prelude.{IsSome}
+use Rattle.std.proofs.Common.{◌≡◌, ℕ, ◌-◌, ◌<◌, ◌⊎◌, inl, inr, List, Some, None, refl, sym, ap, ◌∙◌, subst, arith}
+use Rattle.heap_model.specs.declared.graph.cell.Cell.{Cell}
+use Rattle.heap_model.specs.declared.heap.Heap.{Heap}
+use Rattle.heap_model.specs.account.Cycles.{graph_of}
+use Rattle.heap_model.specs.graph.Graph.{Graph}
+use Rattle.heap_model.specs.graph.Objects.{register_value}
+use Rattle.core_machine.specs.declared.place.Place.{Place}
+use Rattle.core_machine.specs.declared.place.Place.TheVariants as places
+use Rattle.core_machine.specs.declared.place.Access.{Access}
+use Rattle.core_machine.specs.declared.place.Access.TheVariants.{LoadingMeta, Walking, Getting, Naming, LoadingOld, ShadingOld, ShadingNew, Swapping}
+use Rattle.core_machine.specs.machine.Machine.{State, seat_at}
+use Rattle.core_machine.specs.seat.Access.{row_of}
+use Rattle.core_machine.specs.seat.Commands.{field_of}
+use Rattle.core_machine.specs.seat.Fits.{FitsWay}
+use Rattle.core_machine.specs.seat.Registers.{register_in}
+use Rattle.core_machine.specs.seat.Seat.{Seat}
+use Rattle.core_machine.specs.table.Decode.{head_of}
+use Rattle.core_machine.specs.table.Fragments.{tally}
+use Rattle.core_rule.specs.Book.{Book, fragment_at, object_number, object_head}
+use Rattle.core_rule.specs.Counts.{Awaits}
+use Rattle.core_rule.specs.Held.{OwnsFragment, IsInRegister, AccessHolds, CallHolds, SeatHolds}
+use Rattle.core_rule.specs.Holding.{Holding}
+use Rattle.core_rule.specs.Objects.{cells_at}
+use Rattle.core_rule.specs.Rule.{Rule, SeatStands}
+use Rattle.core_rule.specs.Ways.{SetsOut, Finds, LoadedKept, OldKept, WayStands}
+use Rattle.core_rule.proofs.entries.AtRest.{seat_fits}
+use Rattle.core_rule.proofs.hand.Bodies.{body_own}
+use Rattle.core_rule.proofs.held.Alive.{IsAlive, own_alive, kept_alive, head_alive}
+use Rattle.core_rule.proofs.owners.Handed.{none_or_some}
+use Rattle.core_rule.proofs.owners.OwnerLemmas.{own_once}
+use Rattle.core_rule.proofs.ways.KeptWords.{row_there}
+use Rattle.core_rule.proofs.ways.LoadedObjects.{held_kept}
+
+module _ (heap : Heap) (state : State) (book : Book) (rule : Rule heap state book) (number : ℕ) (here : number < heap.seats) where
+  abbrev seat : Seat
+  seat = seat_at state number
+
+  abbrev g : Graph
+  g = graph_of heap book.history
+
+  abbrev cells : ℕ → List Cell
+  cells = cells_at g book.made
+
+  stands : SeatStands heap state.words book number seat
+  stands = rule.seats_stand number here
+
+  abbrev AliveNow : ℕ → Type 0
+  AliveNow f = IsAlive (book.owner f)
+
+  -- what it has
+  owned_alive : (f : ℕ) → OwnsFragment seat f → AliveNow f
+  owned_alive f has =
+      let holding : Holding book.owner number seat.reserve seat.hand seat.body = stands.own.holding in
+      elim (none_or_some (tally f seat.body)) as (λ _. AliveNow f) [
+        | inr some ↦ own_alive number (book.owner f) (body_own book.owner number seat.reserve seat.hand seat.body holding f some)
+        | inl none ↦ own_alive number (book.owner f) (omega (arith, has, none, holding.held f, own_once number (book.owner f)))
+      ]
+
+  -- what its registers hold
+  register_alive : (f : ℕ) → IsInRegister seat f → AliveNow f
+  register_alive f held =
+      head_alive book.made book.owner book.fragments f
+      (held_kept book.made book.owner book.fragments (register_in seat.registers held.register) (register_value g number held.register) (stands.names.registers held.register held.counts) f held.holds)
+
+  -- what its call has reached
+  start_alive : SetsOut book.made book.owner book.fragments seat → seat.links ≡ row_of (field_of seat.command) → AliveNow seat.reached
+  start_alive start whole =
+      let first : row_of (field_of seat.command) - seat.links ≡ 0 = omega (arith, whole) in
+      kept_alive (book.owner seat.reached) start.index 0 (ap book.owner (start.way.here ∙ ap (fragment_at (book.fragments start.index)) first) ∙ start.way.kept)
+
+  reached_alive : Finds cells book.made book.owner book.fragments seat → AliveNow seat.reached
+  reached_alive finds =
+      let heap_stands = rule.heap_stands in
+      let i : ℕ = finds.index in
+      let k : ℕ = row_of (field_of seat.command) - seat.links in
+      let row = row_there heap state.words g book.made book.owner book.fragments rule.machine.limits heap_stands.control_words heap_stands.ids heap_stands.objects i finds.way.below finds.way.kept
+      (field_of seat.command) finds.within in
+      kept_alive (book.owner seat.reached) i k (ap book.owner finds.way.here ∙ (heap_stands.objects.kept i finds.way.below finds.way.kept).owned k (omega (arith, row)))
+
+  -- and loaded
+  loaded_alive : LoadedKept book.made book.owner book.fragments seat → (f : ℕ) → head_of seat.loaded ≡ Some f → AliveNow f
+  loaded_alive loaded f is =
+      let same : f ≡ fragment_at (book.fragments loaded.index) 0 = cc (is, loaded.loads) in
+      kept_alive (book.owner f) loaded.index 0 (ap book.owner same ∙ loaded.kept)
+
+  old_alive : OldKept book.made book.owner book.fragments seat → (f : ℕ) → head_of seat.loaded ≡ Some f → AliveNow f
+  old_alive old f is = loaded_alive (old (subst (λ o. IsSome o) (sym is) refl)) f is
+
+  nothing_loaded : seat.loaded ≡ 0 → (f : ℕ) → head_of seat.loaded ≡ Some f → AliveNow f
+  nothing_loaded none f is = let nowhere : head_of seat.loaded ≡ None = rw none refl in absurd (cc (nowhere, is))
+
+  named_alive : (f : ℕ) → Awaits g book.made book.owner book.fragments number seat (places.Access Naming) stands.told.list.awaited → head_of seat.loaded ≡ Some f → AliveNow f
+  named_alive f awaits is =
+      let same : f ≡ object_head book.made book.fragments awaits.id = cc (is, awaits.loads) in
+      kept_alive (book.owner f) (object_number book.made awaits.id) 0 (ap book.owner same ∙ awaits.kept.1)
+
+  either : (f : ℕ) → AliveNow seat.reached → ((x : ℕ) → head_of seat.loaded ≡ Some x → AliveNow x) → (f ≡ seat.reached) ⊎ (head_of seat.loaded ≡ Some f) → AliveNow f
+  either f reached loaded (inl is) = rw is reached
+  either f reached loaded (inr is) = loaded f is
+
+  access_alive : (f : ℕ) (place : Access) → FitsWay seat (places.Access place) → WayStands cells book.made book.owner book.fragments seat (places.Access place)
+      → Awaits g book.made book.owner book.fragments number seat (places.Access place) stands.told.list.awaited → AccessHolds seat place f → AliveNow f
+  access_alive f LoadingMeta fits way awaits holds = either f (start_alive way fits.whole_way) (nothing_loaded fits.none_loaded) holds
+  access_alive f Walking fits way awaits holds = either f (reached_alive way) (nothing_loaded fits.none_loaded) holds
+  access_alive f Getting fits way awaits holds = either f (reached_alive way) (nothing_loaded fits.1) holds
+  access_alive f Naming fits way awaits holds = named_alive f awaits holds
+  access_alive f LoadingOld fits way awaits holds = either f (reached_alive way) (nothing_loaded fits.2) holds
+  access_alive f ShadingOld fits way awaits holds = either f (reached_alive way.0) (loaded_alive way.1) holds
+  access_alive f ShadingNew fits way awaits holds = either f (reached_alive way.0) (old_alive way.1) holds
+  access_alive f Swapping fits way awaits holds = either f (reached_alive way.0) (old_alive way.1) holds
+
+  call_alive : (f : ℕ) (place : Place) → FitsWay seat place → WayStands cells book.made book.owner book.fragments seat place
+      → Awaits g book.made book.owner book.fragments number seat place stands.told.list.awaited → CallHolds seat place f → AliveNow f
+  call_alive f (places.Access place) fits way awaits holds = access_alive f place fits way awaits holds
+  call_alive f _ fits way awaits holds = absurd holds
+
+  -- so is all that it holds
+  pub holds_alive : (f : ℕ) → SeatHolds seat f → AliveNow f
+  holds_alive f (inl has) = owned_alive f has
+  holds_alive f (inr (inl held)) = register_alive f held
+  holds_alive f (inr (inr holds)) = call_alive f seat.place (seat_fits rule number here).way_at_place stands.names.way stands.told.list.awaits holds
