@@ -16,7 +16,8 @@ use Rattle.core_rule.specs.ControlWords.{Bits}
 use Rattle.core_rule.specs.Objects.{FitsName, AreMade, Objects, KeptObject, IsKept, name_of, value_word, field_word, is_cell, object_word, cells_at}
 use Rattle.core_rule.specs.Owners.{Owner, Kept}
 use Rattle.core_rule.proofs.colours.NewbornLeads.{IsNext, newborn_leads, zero_leads}
-use Rattle.core_rule.proofs.objects.CellWords.{head_in-value}
+use Rattle.std.proofs.lemmas.Bool.Decides.{nat_tests}
+use Rattle.core_rule.proofs.ways.Told.{head_in-value}
 use Rattle.core_rule.proofs.ways.KeptWords.{kept_within, has_room}
 use Rattle.core_rule.proofs.ways.LoadedObjects.{KeptHead, named_kept}
 
@@ -47,10 +48,10 @@ name_small (Made s count) fits = (omega (arith, fits.0), fits.1)
 module _ (heap : Heap) (words : List ℕ) (g : Graph) (made : List Id) (owner : ℕ → Owner) (fragments : ℕ → List ℕ)
     (limits : IsHeap heap) (bits : Bits heap words owner) (ids : AreMade g made) (objects : Objects heap words g made owner fragments)
     (i : ℕ) (below : i < length made) (kept : IsKept owner fragments i) where
-  the_object : KeptObject heap words owner (object_head made fragments) i (id_at made i) (cells_at g made i) (fragments i)
+  abbrev the_object : KeptObject heap words owner (object_head made fragments) i (id_at made i) (cells_at g made i) (fragments i)
   the_object = objects.kept i below kept
 
-  small : (k : ℕ) → k < length (fragments i) → get_or (fragments i) k 0 < 2 ^ 30
+  pub small : (k : ℕ) → k < length (fragments i) → get_or (fragments i) k 0 < 2 ^ 30
   small k within = omega (arith, limits.groups_fit, kept_within heap words owner _ _ _ bits (the_object.owned k within))
 
   -- a cell leads to the object that it refers to
