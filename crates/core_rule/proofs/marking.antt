@@ -13,3 +13,4 @@ pub mod GoneRoots
 pub mod ObjectEdges
 pub mod Settled
 pub mod GreyPlaces
+pub mod Scans

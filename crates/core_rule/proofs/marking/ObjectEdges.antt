@@ -41,7 +41,7 @@ later_lead : (part word : ℕ) → 0 < part → pointer_in part word ≡ head_of
 later_lead part word some = let later : eqb part 0 ≡ false = grind (arith, some) in rw later refl
 
 -- a name has room for an id's numbers
-name_small : (id : Id) → FitsName id → ((name_of id).owner < 2 ^ 30) × ((name_of id).count < 2 ^ 32)
+pub name_small : (id : Id) → FitsName id → ((name_of id).owner < 2 ^ 30) × ((name_of id).count < 2 ^ 32)
 name_small Board fits = (omega arith, omega arith)
 name_small (Made s count) fits = (omega (arith, fits.0), fits.1)
 
