@@ -10,3 +10,4 @@ pub mod SameValues
 pub mod ObjectReplies
 pub mod LocalReplies
 pub mod CellSet
+pub mod LeftSeats

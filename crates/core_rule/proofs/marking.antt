@@ -5,3 +5,7 @@ pub mod Marks
 pub mod ShadeMarks
 pub mod Settled
 pub mod GreyPlaces
+pub mod Ended
+pub mod SettledObjects
+pub mod SettledSeats
+pub mod SeatRoots

@@ -1,5 +1,5 @@
 -- Whose each fragment is once marking has ended: what is white of a kept object is to be freed.
-use Rattle.std.proofs.Common.{◌≡◌, ◌≢◌, ◌⊎◌, ◌×◌, ℕ, inl, inr, refl, sym, subst}
+use Rattle.std.proofs.Common.{◌≡◌, ◌≢◌, ◌⊎◌, ℕ, inl, inr, refl, sym, subst}
 use Rattle.core_rule.specs.Book.{Book, Colour, White, Grey, Black}
 use Rattle.core_rule.specs.Owners.{Owner, Free, Taken, Borne, Kept, Dead, IsSeated, IsBoards, born_bit}
 

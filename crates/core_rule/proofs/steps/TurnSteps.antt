@@ -49,4 +49,5 @@ pub load_turns : (heap : Heap) (state : State) (book : Book) (a : Address) (coll
 load_turns heap state book a collector rule machine stands marks =
     subst (λ words. IsMachine heap (after_turn state words (quiet collector)) → Keeps heap (after_turn state words (quiet collector)) book book.begun []) (sym (put-at heap state.words a))
     (λ same. turn_steps heap state book state.words (quiet collector) book [] rule same (sym (append-nil book.history)) rule.heap_stands (λ r below seat_stands. seat_stands)
-    (subst (λ log. CollectorAgrees heap (record collector { log = log }) book.history) (sym (append-nil collector.log)) stands) record { heap_marks = marks.heap_marks; roots = marks.roots }) machine
+    (subst (λ log. CollectorAgrees heap (record collector { log = log }) book.history) (sym (append-nil collector.log)) stands)
+    record { heap_marks = marks.heap_marks; roots = λ r below is answered. marks.roots r below (record { phase = is.phase; goes_on = is.goes_on }) answered }) machine
