@@ -9,3 +9,4 @@ pub mod Ended
 pub mod SettledObjects
 pub mod SettledSeats
 pub mod SeatRoots
+pub mod SettledBook
