@@ -7,3 +7,4 @@ pub mod BirthColours
 pub mod BirthAhead
 pub mod LastColours
 pub mod ShadeColours
+pub mod BlackenColours

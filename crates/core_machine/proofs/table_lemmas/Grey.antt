@@ -1,5 +1,6 @@
 -- The lowest grey fragment is one of the group's sixteen.
-use Rattle.std.proofs.Common.{zero, suc, ◌≡◌, ℕ, ◌+◌, ◌<◌, Bool, Option, Some, None, inl, inr, arith}
+use Rattle.std.proofs.Common.{zero, suc, ◌≡◌, ℕ, ◌+◌, ◌<◌, ◌≤◌, Bool, true, false, List, [], ◌∷◌, Option, Some, None, subst, inl, inr, arith}
+use Rattle.std.proofs.lemmas.Bool.Decides.{eqb_tells}
 use Rattle.std.specs.Prelude.{IfSome}
 use Rattle.std.specs.List.{find, range_with_len}
 use Rattle.heap_words.specs.Control.{is_grey, lowest_grey_of}
@@ -18,8 +19,36 @@ find_within p a (suc n) =
     on None within = tt
     on (Some i) within = omega (arith, within)
 
+-- what is found passes
+found_passes : (p : ℕ → Bool) (xs : List ℕ) (x : ℕ) → find p xs ≡ Some x → p x ≡ true
+found_passes p [] x is = cc
+found_passes p (y ∷ ys) x is = elim (bool_tells (p y)) as (λ _. p x ≡ true) [
+  | inl yes_ ↦ let same : y ≡ x = let e : ◌≡◌ {A = Option ℕ} (Some y) (Some x) = rw yes_ at is in cc in subst (λ i. p i ≡ true) same yes_
+  | inr no_ ↦ found_passes p ys x (rw no_ at is)
+]
+
+-- where nothing is found nothing passes
+none_passes : (p : ℕ → Bool) (a n i : ℕ) → find p (range_with_len a n) ≡ None → a ≤ i → i < a + n → p i ≡ false
+none_passes p a zero i none from below = absurd (omega arith)
+none_passes p a (suc n) i none from below = elim (bool_tells (p a)) as (λ _. p i ≡ false) [
+  | inl yes_ ↦ let e = rw yes_ at none in cc
+  | inr no_ ↦ elim (eqb_tells a i) as (λ _. p i ≡ false) [
+    | inl here ↦ subst (λ k. p k ≡ false) here.1 no_
+    | inr there ↦ none_passes p (a + 1) n i (rw no_ at none) (omega (arith, there.1)) (omega arith)
+  ]
+]
+
+-- the place that is found
 pub grey_place : (word : ℕ) → IfSome (lowest_grey_of word) (λ place. place < 16)
 grey_place word = find_within (is_grey word) 0 16
 
 pub grey_within : (word place : ℕ) → lowest_grey_of word ≡ Some place → place < 16
 grey_within word place is = rw is at (grey_place word)
+
+-- the one that is found is grey
+pub grey_found : (word place : ℕ) → lowest_grey_of word ≡ Some place → is_grey word place ≡ true
+grey_found word place is = found_passes (is_grey word) (range_with_len 0 16) place is
+
+-- where none is found none of the sixteen is grey
+pub grey_none : (word place : ℕ) → lowest_grey_of word ≡ None → place < 16 → is_grey word place ≡ false
+grey_none word place none within = none_passes (is_grey word) 0 16 place none (omega arith) within

@@ -38,7 +38,7 @@ module _ (owner : ℕ → Owner) (colour : ℕ → Colour) (number : ℕ) (reser
   kept_bears f = omega (arith, kept_born owner number reserve hand body holding some n f, whole_part f)
 
   -- and each of the body has the colour of the births
-  body_coloured : (f : ℕ) → 1 ≤ tally f body → borne f ≡ birth_colour black
+  pub body_coloured : (f : ℕ) → 1 ≤ tally f body → borne f ≡ birth_colour black
   body_coloured f there = elim (none_or_some (tally f part)) as (λ _. borne f ≡ birth_colour black) [
     | inl none ↦
         let before : owner f ≡ Borne number = is_borne number (owner f) (omega (arith, there, none, whole_part f, body_borne owner number reserve hand body holding some f)) in

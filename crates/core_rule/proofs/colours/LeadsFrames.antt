@@ -37,3 +37,12 @@ leads_put heap words a b n whole below f part g leads = elim (cases_eq f a) [
     )
   ]
 ]
+
+-- and what led leads on, where another word was written
+pub apart_leads : (heap : Heap) (words : List ℕ) (a : Address) (n : ℕ) (f part g : ℕ) → index_of heap (Word f part) ≢ index_of heap a
+    → WordPointsTo heap words f part g → WordPointsTo heap (put heap words a n) f part g
+apart_leads heap words a n f part g apart leads = leads_same heap (put heap words a n) words f part g (sym (at-put_apart heap words a (Word f part) n apart)) leads
+
+-- or a control word
+pub control_leads : (heap : Heap) (words : List ℕ) (group n : ℕ) → group < heap.groups → (f part g : ℕ) → WordPointsTo heap words f part g → WordPointsTo heap (put heap words (Control group) n) f part g
+control_leads heap words group n below f part g leads = leads_same heap (put heap words (Control group) n) words f part g (sym (word_after_control heap words n group f part below)) leads

@@ -12,7 +12,7 @@ use Rattle.core_machine.specs.table.Newborn.{record_meta, link_after, record_wor
 use Rattle.core_machine.proofs.table_lemmas.CellWords.{cell_of-cell_word}
 
 -- a word of 0 leads nowhere
-zero_leads : (part : ℕ) → pointer_in part 0 ≡ None
+pub zero_leads : (part : ℕ) → pointer_in part 0 ≡ None
 zero_leads zero = refl
 zero_leads (suc part) = let later : eqb (suc part) 0 ≡ false = grind arith in rw later refl
 

@@ -139,10 +139,10 @@ module _ (heap : Heap) (words : List ℕ) (owner : ℕ → Owner) (colour : ℕ 
       (λ x here. shade_scanned (at heap words (Control (f / 16))) f x ∙ found_scanned heap words colour colour (f / 16) 0 whole below marks x here ∙ sym (scanned_now x))
       (λ x apart. mark_away colour f x (λ e. apart (ap (λ y. y / 16) e)))
 
-  -- which are right where a kept object's first fragment was shaded, and the heap doesn't rest
-  pub coloured_shade : (fragments : ℕ → List ℕ) (phase i : ℕ) → owner f ≡ Kept i 0 → f ≡ fragment_at (fragments i) 0
+  -- which are right where it is a kept object's, whose first fragment is marked then, and the heap doesn't rest
+  pub coloured_shade : (fragments : ℕ → List ℕ) (phase i k : ℕ) → owner f ≡ Kept i k → IsMarked (with_mark colour f) (fragment_at (fragments i) 0)
       → phase % 7 ≢ 0 → Coloured heap words owner colour fragments phase → Coloured heap shaded_words owner (with_mark colour f) fragments phase
-  coloured_shade fragments phase i kept first runs stands = record {
+  coloured_shade fragments phase i k kept first runs stands = record {
     rest = λ rests. absurd (runs rests);
     early = λ one x black. stands.early one x (mark_black colour f x black);
     born = λ x now. elim (mark_was colour f x now) [
@@ -151,11 +151,11 @@ module _ (heap : Heap) (words : List ℕ) (owner : ℕ → Owner) (colour : ℕ 
     ];
     black = λ making x part g black leads. mark_keeps colour f g
         (stands.black making x part g (mark_black colour f x black) (leads_control heap words (f / 16) _ below x part g leads));
-    first = λ making x j k keeps now. elim (mark_was colour f x now) [
+    first = λ making x j n keeps now. elim (mark_was colour f x now) [
       | inl same ↦
-          let both : Kept j k ≡ Kept i 0 = sym keeps ∙ ap owner same ∙ kept in
+          let both : Kept j n ≡ Kept i k = sym keeps ∙ ap owner same ∙ kept in
           let index : j ≡ i = cc in
-          subst (λ n. IsMarked (with_mark colour f) (fragment_at (fragments n) 0)) (sym index) (subst (IsMarked (with_mark colour f)) first (mark_marks colour f))
-      | inr was ↦ mark_keeps colour f _ (stands.first making x j k keeps was)
+          subst (λ y. IsMarked (with_mark colour f) (fragment_at (fragments y) 0)) (sym index) first
+      | inr was ↦ mark_keeps colour f _ (stands.first making x j n keeps was)
     ];
   }

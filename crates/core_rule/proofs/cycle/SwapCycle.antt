@@ -41,7 +41,7 @@ module _ (heap : Heap) (state : State) (book : Book) (number : ℕ) (rule : Rule
   abbrev p : ℕ
   p = phase book.history
 
-  abbrev words_swapped : List ℕ
+  abbrev pub words_swapped : List ℕ
   words_swapped = put heap state.words (Word seat.reached (field_part_of seat)) word
 
   -- the new word leads to the register's object
@@ -61,7 +61,7 @@ module _ (heap : Heap) (state : State) (book : Book) (number : ℕ) (rule : Rule
       let on = barrier_making p seat.answered (is_near heap state book number rule here Swapping place) making in
       of_some (IsMarked book.colour) (head_of_register (new_register_of seat)) x (sym new_leads ∙ leads) (shaded on).1
 
-  leads_now : LeadsStay heap state.words words_swapped book.owner book.colour p
+  pub leads_now : LeadsStay heap state.words words_swapped book.owner book.colour p
   leads_now making f part x born leads = elim (leads_put heap state.words seat.reached (field_part_of seat) word rule.machine.table (part_below seat) f part x leads) [
     | inl before ↦ inl before
     | inr new ↦ inr (new_marked making x new.2)

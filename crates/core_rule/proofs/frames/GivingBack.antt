@@ -19,6 +19,8 @@ use Rattle.core_rule.specs.ControlWords.{Bits}
 use Rattle.core_rule.specs.Cycle.{SeatInCycle}
 use Rattle.core_rule.specs.Owners.{Owner, Free, Borne, Taken, born_bit, owner_after}
 use Rattle.core_rule.specs.Rule.{Rule, HeapStands, SeatStands}
+use Rattle.core_rule.proofs.marking.MakingMarks.{leaves_handed}
+use Rattle.core_rule.proofs.marking.Marks.{MarksGoOn, IsOffWay, marks_off_way}
 use Rattle.core_rule.proofs.cycle.FieldFrames.{watched_born}
 use Rattle.core_rule.proofs.colours.BirthColours.{marks_give}
 use Rattle.core_rule.proofs.counts.CountMoves.{give_used}
@@ -97,6 +99,12 @@ module _ (heap : Heap) (state : State) (book : Book) (number : ℕ) (rule : Rule
       cycle_own heap words_given owner book.colour book.history entry refl number now
       (cycle_goes_on heap state.words words_given book.owner owner book.colour (phase book.history) (last_answer number book.history) (has_left number book.history) number (seat_at state number) now same apart
       (answer_after_control heap state.words word g number (omega (arith, here, rule.machine.limits.seats_fit))) (λ f. borne_before Free book.owner fs number f free_bears_none) cycle) refl refl
+
+  -- and marking goes on, where it is on no way
+  pub marks_given : (now : Seat) → now.answered ≡ (seat_at state number).answered → now.registers ≡ (seat_at state number).registers → IsOffWay now.place
+      → MarksGoOn heap state book book_given words_given now
+  marks_given now =
+      marks_off_way heap state book rule number here words_given book_given now (leaves_handed heap state book rule g word below Free fs (λ f there. ap born_bit (held f there)) (λ i k e. cc) refl)
 
   -- each other seat stands
   pub other_given : (r : ℕ) → r < heap.seats → r ≢ number → SeatStands heap state.words book r (seat_at state r) → SeatStands heap words_given book_given r (seat_at state r)

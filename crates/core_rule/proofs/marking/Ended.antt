@@ -25,8 +25,8 @@ module _ (heap : Heap) (words : List ℕ) (owner : ℕ → Owner) (colour : ℕ 
 
 module _ (heap : Heap) (state : State) (book : Book) (rule : Rule heap state book) (third : phase book.history % 7 ≡ 3) (none : (f : ℕ) → book.colour f ≢ Grey) where
   -- what is marked is black
-  marked_black : (f : ℕ) → IsMarked book.colour f → book.colour f ≡ Black
-  marked_black f marked = elim (grey_or_black book.colour f marked) as (λ _. book.colour f ≡ Black) [
+  is_black : (f : ℕ) → IsMarked book.colour f → book.colour f ≡ Black
+  is_black f marked = elim (grey_or_black book.colour f marked) as (λ _. book.colour f ≡ Black) [
     | inl grey ↦ absurd (none f grey)
     | inr black ↦ black
   ]
@@ -34,7 +34,7 @@ module _ (heap : Heap) (state : State) (book : Book) (rule : Rule heap state boo
   -- and leads to what is marked
   pub leads_marked : (f part g : ℕ) → IsMarked book.colour f → WordPointsTo heap state.words f part g → IsMarked book.colour g
   leads_marked f part g marked leads =
-      rule.heap_stands.cycle.coloured.black (record { from = omega (arith, third); upto = omega (arith, third) }) f part g (marked_black f marked) leads
+      rule.heap_stands.cycle.coloured.black (record { from = omega (arith, third); upto = omega (arith, third) }) f part g (is_black f marked) leads
 
   -- a kept object with a marked fragment is marked by its first
   pub first_marked : (f i k : ℕ) → book.owner f ≡ Kept i k → IsMarked book.colour f → IsMarked book.colour (fragment_at (book.fragments i) 0)

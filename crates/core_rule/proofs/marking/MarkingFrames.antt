@@ -1,5 +1,5 @@
 -- What a step leaves of marking that marks no fragment of an object.
-use Rattle.std.proofs.Common.{◌⊎◌, ◌×◌, ◌≡◌, ◌≢◌, ℕ, ◌≤◌, ◌+◌, List, Option, Some, true, false, inl, inr, refl, sym, ap, ◌∙◌, subst, arith}
+use Rattle.std.proofs.Common.{◌⊎◌, ◌≡◌, ◌≢◌, ℕ, ◌≤◌, ◌+◌, List, Option, Some, true, false, inl, inr, refl, sym, ap, ◌∙◌, subst, arith}
 use Rattle.heap_model.specs.declared.heap.Heap.{Heap}
 use Rattle.core_machine.specs.declared.collector.stage.Stage.{Stage}
 use Rattle.core_machine.specs.declared.collector.stage.Stage.TheVariants as stages
@@ -68,7 +68,7 @@ module _ (heap : Heap) (words now : List ℕ) (owner later : ℕ → Owner) (col
 
   may_on : (f : ℕ) → MayMark owner colour fragments f → MayMark later coloured bodies f
   may_on f may = record {
-    part = part_on f may.part;
+    part = record { index = may.part.index; place = may.part.place; kept = (leaves.kept f may.part.index may.part.place may.part.kept).0 };
     first = elim may.first as (λ _. (may.part.place ≡ 0) ⊎ IsMarked coloured (fragment_at (bodies may.part.index) 0)) [
       | inl head ↦ inl head
       | inr marked ↦ inr (subst (λ fs. IsMarked coloured (fragment_at fs 0)) (sym (leaves.kept f may.part.index may.part.place may.part.kept).1) (marks_on _ marked))
@@ -97,7 +97,7 @@ module _ (heap : Heap) (words now : List ℕ) (owner later : ℕ → Owner) (col
     after_on : (f part next : ℕ) → ComesAfter owner f part next → ComesAfter later f part next
     after_on f part next comes = elim comes as (λ _. ComesAfter later f part next) [
       | inl on ↦ inl on
-      | inr past ↦ inr (past.0, past.1, past.2.0, (leaves.kept f past.2.0 0 past.2.1).0)
+      | inr past ↦ inr (past.0, past.1, (past.2.0, (leaves.kept f past.2.0 0 past.2.1).0))
     ]
 
     white_on : (f : ℕ) → IsWhite owner colour f → IsWhite later coloured f

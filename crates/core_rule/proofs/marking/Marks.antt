@@ -1,5 +1,5 @@
 -- What a seat's step has to leave of marking.
-use Rattle.std.proofs.Common.{◌≡◌, ◌≢◌, ℕ, ◌<◌, ◌%◌, List, inl, refl, sym, ◌∙◌, arith}
+use Rattle.std.proofs.Common.{◌≡◌, ◌≢◌, ℕ, ◌<◌, ◌%◌, false, List, inl, refl, sym, ◌∙◌, arith}
 use Rattle.heap_model.specs.declared.heap.Heap.{Heap}
 use Rattle.heap_model.specs.account.PhaseCounts.{phase}
 use Rattle.core_machine.specs.declared.collector.stage.Stage.{Stage}
@@ -84,6 +84,13 @@ module _ (heap : Heap) (state : State) (book : Book) (rule : Rule heap state boo
     where
       between : IsInMarking state.collector → IsBetween 2 5 (phase book.history)
       between marks = let same = rule.collector_stands.phase_told in let third = marks.phase in record { from = omega (arith, same, third); upto = omega (arith, same, third) }
+
+  -- once the collector has looked at all seats each that hasn't left has answered the phase
+  pub all_answered : state.collector.looked ≡ heap.seats → (number : ℕ) → number < heap.seats → (seat_at state number).left ≡ false
+      → (seat_at state number).answered ≡ state.collector.phase
+  all_answered all number here present =
+      let told = (rule.seats_stand number here).cycle.answers_told in
+      sym told.told ∙ rule.collector_stands.looked number (omega (arith, all, here)) here (told.leaves ∙ present) ∙ sym rule.collector_stands.phase_told
 
   -- what a step leaves of marking that marks no object's fragment
   abbrev pub Leaves : List ℕ → Book → Type 0

@@ -22,22 +22,22 @@ use Rattle.core_rule.proofs.entries.AtRest.{seat_fits}
 use Rattle.core_rule.proofs.gather.GatherMoves.{gathers_same}
 use Rattle.core_rule.proofs.hand.HandMoves.{holding_stays}
 use Rattle.core_rule.proofs.owners.Seated.{borne_by_seat}
-use Rattle.core_rule.proofs.marking.SeatRoots.{has_answered, roots_marked, loaded_marked}
-use Rattle.core_rule.proofs.marking.Settled.{settle, settled, settle_same, settle_seated, settle_boards, settle_was, settle_dead, settle_borne, settle_white}
+use Rattle.core_rule.proofs.marking.SeatRoots.{answered_marking, all_roots_marked, loaded_marked}
+use Rattle.core_rule.proofs.marking.Settled.{settled_owner, settled_book, settled_same, settled_seated, settled_boards, settled_was, settled_dead, settled_borne, settled_white}
 use Rattle.core_rule.proofs.marking.SettledObjects.{objects_later}
 use Rattle.core_rule.proofs.marking.SettledSeats.{holds_later, ways_later, awaits_later}
 
 module _ (heap : Heap) (state : State) (book : Book) (rule : Rule heap state book) (marks : IsMarking heap.seats state.collector.phase state.collector.looked)
     (goes_on : state.collector.stage ≢ stages.Marked) (none : (f : ℕ) → book.colour f ≢ Grey) where
   abbrev now : Book
-  now = settled book
+  now = settled_book book
 
   third : phase book.history % 7 ≡ 3
   third = let told = marks.for_marking in let same = rule.collector_stands.phase_told in omega (arith, told, same)
 
   -- a fact that tells no kept fragment from one that is to be freed stays
   same : (bit : Owner → ℕ) → ((i k : ℕ) → bit (Dead i k) ≡ bit (Kept i k)) → (f : ℕ) → bit (now.owner f) ≡ bit (book.owner f)
-  same bit alike f = settle_same bit alike (book.owner f) (book.colour f)
+  same bit alike f = settled_same bit alike (book.owner f) (book.colour f)
 
   -- the heap stands
   pub heap_settles : HeapStands heap state.words now
@@ -47,11 +47,11 @@ module _ (heap : Heap) (state : State) (book : Book) (rule : Rule heap state boo
         control_words = record {
           taken = λ f within. stands.control_words.taken f within ∙ sym (same taken_bit (λ i k. refl) f);
           born = λ f within. stands.control_words.born f within ∙ sym (same born_bit (λ i k. refl) f);
-          outside = λ f past. ap (λ o. settle o (book.colour f)) (stands.control_words.outside f past);
+          outside = λ f past. ap (λ o. settled_owner o (book.colour f)) (stands.control_words.outside f past);
         };
         owners = record {
-          seated = λ f. settle_seated heap.seats (book.owner f) (book.colour f) (stands.owners.seated f);
-          board = settle_boards (book.owner 0) (book.colour 0) stands.owners.board;
+          seated = λ f. settled_seated heap.seats (book.owner f) (book.colour f) (stands.owners.seated f);
+          board = settled_boards (book.owner 0) (book.colour 0) stands.owners.board;
         };
         ids = stands.ids;
         objects = objects_later heap state book rule third none;
@@ -61,7 +61,7 @@ module _ (heap : Heap) (state : State) (book : Book) (rule : Rule heap state boo
           so_far = stands.cycle.so_far;
           marks = stands.cycle.marks;
           coloured = coloured_stays heap state.words state.words book.owner now.owner book.colour book.fragments (phase book.history) (λ making f part g born leads. inl leads)
-              (λ f marked born. same born_bit (λ i k. refl) f ∙ born) (λ f i k is. (settle_was (book.owner f) (book.colour f) i k is).0) stands.cycle.coloured;
+              (λ f marked born. same born_bit (λ i k. refl) f ∙ born) (λ f i k is. (settled_was (book.owner f) (book.colour f) i k is).0) stands.cycle.coloured;
         };
         legal = stands.legal;
       }
@@ -70,7 +70,7 @@ module _ (heap : Heap) (state : State) (book : Book) (rule : Rule heap state boo
   pub seat_settles : (number : ℕ) → number < heap.seats → SeatStands heap state.words book number (seat_at state number) → SeatStands heap state.words now number (seat_at state number)
   seat_settles number here stands =
       let seat : Seat = seat_at state number in
-      let roots = roots_marked heap state book rule marks goes_on none number here in
+      let roots = all_roots_marked heap state book rule marks goes_on none number here in
       let loaded = loaded_marked heap state book rule marks goes_on none number here in
       record {
         own = record {
@@ -97,7 +97,7 @@ module _ (heap : Heap) (state : State) (book : Book) (rule : Rule heap state boo
           answers_told = stands.cycle.answers_told;
           answer = stands.cycle.answer;
           flight = stands.cycle.flight;
-          births = births_stay book.owner now.owner book.colour book.colour number seat.answered (λ f borne. (settle_borne (book.owner f) (book.colour f) number borne, refl)) stands.cycle.births;
+          births = births_stay book.owner now.owner book.colour book.colour number seat.answered (λ f borne. (settled_borne (book.owner f) (book.colour f) number borne, refl)) stands.cycle.births;
         };
       }
 
@@ -115,21 +115,21 @@ module _ (heap : Heap) (state : State) (book : Book) (rule : Rule heap state boo
           let bare : tally f (seat_at state number).body ≡ 0 = ap (tally f) rest.no_body in
           omega (arith, bare, there.1)
       by false present =
-          let answered = has_answered heap state book rule marks goes_on none number there.0 present in
+          let answered = answered_marking heap state book rule marks goes_on none number there.0 present in
           let dark = (rule.seats_stand number there.0).cycle.births.dark (record { from = omega (arith, answered, third); upto = omega (arith, answered, third) }) f borne in
           absurd (cc (dark, white))
 
   white_is_dead : (f : ℕ) → IsWhite now.owner book.colour f → (i : ℕ) × (k : ℕ) × (now.owner f ≡ Dead i k)
   white_is_dead f white =
-      subst (λ c. born_bit (settle (book.owner f) c) ≡ 1 → (i : ℕ) × (k : ℕ) × (settle (book.owner f) c ≡ Dead i k)) (sym white.unmarked)
-      (settle_white (book.owner f) (λ number. borne_dark f number white.unmarked)) white.born
+      subst (λ c. born_bit (settled_owner (book.owner f) c) ≡ 1 → (i : ℕ) × (k : ℕ) × (settled_owner (book.owner f) c ≡ Dead i k)) (sym white.unmarked)
+      (settled_white (book.owner f) (λ number. borne_dark f number white.unmarked)) white.born
 
   -- what is white is to be freed, and nothing else
   after_settles : AfterMarking now.owner book.colour
   after_settles = record {
     no_grey = none;
     white_dead = white_is_dead;
-    dead_white = λ f i k is. elim (settle_dead (book.owner f) (book.colour f) i k is) as (λ _. book.colour f ≡ White) [
+    dead_white = λ f i k is. elim (settled_dead (book.owner f) (book.colour f) i k is) as (λ _. book.colour f ≡ White) [
       | inl before ↦ absurd (rule.marks_stand.heap_marks.alive goes_on f i k before)
       | inr white ↦ white
     ];

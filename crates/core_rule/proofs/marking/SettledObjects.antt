@@ -19,30 +19,26 @@ use Rattle.core_rule.specs.Objects.{Objects, KeptObject, NamesKept, IsKept, cell
 use Rattle.core_rule.specs.Owners.{Owner, Kept}
 use Rattle.core_rule.specs.Rule.{Rule}
 use Rattle.core_rule.proofs.cycle.Barriers.{later_lead}
+use Rattle.core_rule.proofs.lists.Options.{each_some}
 use Rattle.core_rule.proofs.marking.Ended.{leads_marked, first_marked, whole_marked}
-use Rattle.core_rule.proofs.marking.Settled.{settle, settled, settle_was, settle_stays}
+use Rattle.core_rule.proofs.marking.Settled.{settled_owners, settled_book, settled_was, settled_stays}
 use Rattle.core_rule.proofs.ways.KeptWords.{kept_within, has_room, row_there, field_found}
 use Rattle.core_rule.proofs.ways.Rows.{part_within}
 use Rattle.core_rule.proofs.ways.Told.{named_head, head_in-value}
 
--- what holds of whatever an option has
-of_each : (P : ℕ → Type 0) (o : Option ℕ) → ((f : ℕ) → o ≡ Some f → P f) → IfSome o P
-of_each P None each = tt
-of_each P (Some f) each = each f refl
-
 module _ (made : List Id) (owner : ℕ → Owner) (colour : ℕ → Colour) (fragments : ℕ → List ℕ) where
   abbrev later : ℕ → Owner
-  later f = settle (owner f) (colour f)
+  later = settled_owners owner colour
 
   -- a name of a kept object names a kept one where its first fragment is marked
-  pub names_settle : (value : Value) → NamesKept made owner fragments value → IfSome (named_head (object_head made fragments) value) (IsMarked colour) → NamesKept made later fragments value
-  names_settle values.Nil names marked = tt
-  names_settle (values.Number n) names marked = names
-  names_settle (values.Object id) names marked = (names.0, settle_stays (owner (object_head made fragments id)) (colour (object_head made fragments id)) (object_number made id) 0 names.1 marked)
+  pub names_settled : (value : Value) → NamesKept made owner fragments value → IfSome (named_head (object_head made fragments) value) (IsMarked colour) → NamesKept made later fragments value
+  names_settled values.Nil names marked = tt
+  names_settled (values.Number n) names marked = names
+  names_settled (values.Object id) names marked = (names.0, settled_stays (owner (object_head made fragments id)) (colour (object_head made fragments id)) (object_number made id) 0 names.1 marked)
 
 module _ (heap : Heap) (state : State) (book : Book) (rule : Rule heap state book) (third : phase book.history % 7 ≡ 3) (none : (f : ℕ) → book.colour f ≢ Grey) where
   abbrev now : ℕ → Owner
-  now = (settled book).owner
+  now = (settled_book book).owner
 
   abbrev head : Id → ℕ
   head = object_head book.made book.fragments
@@ -51,8 +47,8 @@ module _ (heap : Heap) (state : State) (book : Book) (rule : Rule heap state boo
   cells i = cells_at (graph_of heap book.history) book.made i
 
   -- an object that is kept was, and is marked
-  kept_before : (i : ℕ) → IsKept now book.fragments i → IsKept book.owner book.fragments i × IsMarked book.colour (fragment_at (book.fragments i) 0)
-  kept_before i kept = settle_was (book.owner (fragment_at (book.fragments i) 0)) (book.colour (fragment_at (book.fragments i) 0)) i 0 kept
+  was_kept : (i : ℕ) → IsKept now book.fragments i → IsKept book.owner book.fragments i × IsMarked book.colour (fragment_at (book.fragments i) 0)
+  was_kept i kept = settled_was (book.owner (fragment_at (book.fragments i) 0)) (book.colour (fragment_at (book.fragments i) 0)) i 0 kept
 
   module _ (i : ℕ) (below : i < length book.made) (kept : IsKept book.owner book.fragments i) where
     -- a field that refers to an object leads to its first fragment
@@ -78,8 +74,8 @@ module _ (heap : Heap) (state : State) (book : Book) (rule : Rule heap state boo
         let stands = rule.heap_stands in
         let within = slice_get_within (cells i) j cell there in
         let row = row_there heap state.words (graph_of heap book.history) book.made book.owner book.fragments rule.machine.limits stands.control_words stands.ids stands.objects i below kept j within in
-        names_settle book.made book.owner book.colour book.fragments cell.value (stands.objects.named i j below kept cell there).0
-        (of_each (IsMarked book.colour) (named_head head cell.value)
+        names_settled book.made book.owner book.colour book.fragments cell.value (stands.objects.named i j below kept cell there).0
+        (each_some (IsMarked book.colour) (named_head head cell.value)
         (λ f names. leads_marked heap state book rule third none (fragment_at (book.fragments i) (row_of j)) (part_of j) f
         (whole_marked heap state book rule third none i (row_of j) below kept marked row) (field_leads j cell f there names)))
 
@@ -91,17 +87,17 @@ module _ (heap : Heap) (state : State) (book : Book) (rule : Rule heap state boo
         record {
           sized = one.sized;
           whole = one.whole;
-          owned = λ k within. settle_stays _ _ i k (one.owned k within) (whole_marked heap state book rule third none i k below kept marked within);
+          owned = λ k within. settled_stays _ _ i k (one.owned k within) (whole_marked heap state book rule third none i k below kept marked within);
           stored = one.stored;
         }
 
   -- the objects stand
   pub objects_later : Objects heap state.words (graph_of heap book.history) book.made now book.fragments
   objects_later = record {
-    kept = λ i below is. let was = kept_before i is in object_later i below was.0 was.1;
-    named = λ i j below is cell there. let was = kept_before i is in (named_later i below was.0 was.1 j cell there, (rule.heap_stands.objects.named i j below was.0 cell there).1);
+    kept = λ i below is. let was = was_kept i is in object_later i below was.0 was.1;
+    named = λ i j below is cell there. let was = was_kept i is in (named_later i below was.0 was.1 j cell there, (rule.heap_stands.objects.named i j below was.0 cell there).1);
     back = λ f i k is.
-        let was = settle_was (book.owner f) (book.colour f) i k is in
+        let was = settled_was (book.owner f) (book.colour f) i k is in
         let one = rule.heap_stands.objects.back f i k was.0 in
-        (one.0, settle_stays _ _ i 0 one.1 (first_marked heap state book rule third none f i k was.0 was.1), one.2, one.3);
+        (one.0, settled_stays _ _ i 0 one.1 (first_marked heap state book rule third none f i k was.0 was.1), one.2, one.3);
   }

@@ -23,22 +23,22 @@ use Rattle.core_rule.specs.Owners.{Owner}
 use Rattle.core_rule.specs.Registers.{HoldsValue}
 use Rattle.core_rule.specs.Ways.{OnWay, Finds, LoadedKept, WayStands}
 use Rattle.core_rule.proofs.lists.Options.{of_some}
-use Rattle.core_rule.proofs.marking.Settled.{settle, settle_stays}
-use Rattle.core_rule.proofs.marking.SettledObjects.{names_settle}
+use Rattle.core_rule.proofs.marking.Settled.{settled_owners, settled_stays}
+use Rattle.core_rule.proofs.marking.SettledObjects.{names_settled}
 
 module _ (made : List Id) (owner : ℕ → Owner) (colour : ℕ → Colour) (fragments : ℕ → List ℕ) where
   abbrev later : ℕ → Owner
-  later f = settle (owner f) (colour f)
+  later = settled_owners owner colour
 
   -- a kept object whose first fragment is marked is kept
   kept_later : (i : ℕ) → IsKept owner fragments i → IsMarked colour (fragment_at (fragments i) 0) → IsKept later fragments i
-  kept_later i kept marked = settle_stays (owner (fragment_at (fragments i) 0)) (colour (fragment_at (fragments i) 0)) i 0 kept marked
+  kept_later i kept marked = settled_stays (owner (fragment_at (fragments i) 0)) (colour (fragment_at (fragments i) 0)) i 0 kept marked
 
   -- a register whose object is marked holds its value
   pub holds_later : (held : Register) (value : Value) → IfSome (register_head held) (IsMarked colour) → HoldsValue made owner fragments held value → HoldsValue made later fragments held value
   holds_later registers.Nil value marked holds = holds
   holds_later (registers.Number n) value marked holds = holds
-  holds_later (registers.Object head id) value marked holds = (holds.0, names_settle made owner colour fragments (values.Object id) holds.1 (subst (IsMarked colour) holds.2 marked), holds.2)
+  holds_later (registers.Object head id) value marked holds = (holds.0, names_settled made owner colour fragments (values.Object id) holds.1 (subst (IsMarked colour) holds.2 marked), holds.2)
 
   module _ (seat : Seat) (held : (r : ℕ) → IfSome (register_head (register_in seat.registers r)) (IsMarked colour)) (loaded : IfSome (head_of seat.loaded) (IsMarked colour)) where
     -- the object of a way is that of a register
@@ -78,7 +78,7 @@ module _ (made : List Id) (owner : ℕ → Owner) (colour : ℕ → Colour) (fra
     pub awaits_later : (g : Graph) (number : ℕ) (place : Place) (awaited : List Entry) → Awaits g made owner fragments number seat place awaited → Awaits g made later fragments number seat place awaited
     awaits_later g number (places.Access Naming) awaited waits = record {
       id = waits.id;
-      kept = names_settle made owner colour fragments (values.Object waits.id) waits.kept (of_some (IsMarked colour) _ _ waits.loads loaded);
+      kept = names_settled made owner colour fragments (values.Object waits.id) waits.kept (of_some (IsMarked colour) _ _ waits.loads loaded);
       loads = waits.loads;
       held = waits.held;
       told = waits.told;

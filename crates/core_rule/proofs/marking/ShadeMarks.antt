@@ -1,5 +1,5 @@
 -- A fragment of a kept object is marked: what stays of marking.
-use Rattle.std.proofs.Common.{◌⊎◌, ◌×◌, ◌≡◌, ◌≢◌, ℕ, ◌≤◌, ◌/◌, List, Option, Some, true, false, inl, inr, refl, sym, ap, ◌∙◌, subst}
+use Rattle.std.proofs.Common.{◌⊎◌, ◌≡◌, ◌≢◌, ℕ, ◌≤◌, ◌/◌, List, Option, Some, true, false, inl, inr, refl, sym, ap, ◌∙◌, subst}
 use Rattle.std.proofs.lemmas.Bool.Decides.{eqb_tells}
 use Rattle.heap_model.specs.declared.heap.Heap.{Heap}
 use Rattle.core_machine.specs.declared.collector.stage.Stage.{Stage}

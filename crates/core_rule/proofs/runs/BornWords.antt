@@ -33,6 +33,7 @@ use Rattle.core_rule.specs.Laws.{EachBirthHasItsColour}
 use Rattle.core_rule.specs.Owners.{born_bit}
 use Rattle.core_rule.specs.Rule.{Rule}
 use Rattle.core_rule.proofs.colours.Births.{birth_colour}
+use Rattle.core_rule.proofs.colours.BlackenColours.{blacken_born}
 use Rattle.core_rule.proofs.colours.ShadeColours.{shade_born}
 use Rattle.core_rule.proofs.colours.MarkWords.{found_marked, found_scanned}
 use Rattle.core_rule.proofs.cycle.Barriers.{black_window, window_black}
@@ -161,6 +162,8 @@ module _ (heap : Heap) (state : State) (book : Book) (rule : Rule heap state boo
   -- a turn bears nothing
   turn_bears_none : (stage : Stage) → ¬ IsBorn heap (state_after_turn heap state (turn_at heap state.collector stage)).words f
   turn_bears_none stages.Advancing born = word_bears_none _ (at-put_apart heap words Phase (Control (f / 16)) _ (λ e. omega (arith, e))) born
+  turn_bears_none (stages.Shading scan target next) born = bit_bears_none _ _ (shade_born _ _ f) born
+  turn_bears_none (stages.Blackening scan) born = bit_bears_none _ _ (blacken_born _ _ f) born
   turn_bears_none _ born = load_bears_none _ born
 
 pub each_birth_has_its_colour : EachBirthHasItsColour

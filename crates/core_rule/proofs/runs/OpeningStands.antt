@@ -1,5 +1,5 @@
 -- The rule holds when a heap opens.
-use Rattle.std.proofs.Common.{◌≡◌, ℕ, zero, suc, ◌+◌, ◌<◌, inl, List, [], ◌∷◌, length, get_or, replicate, refl, sym, ap, ◌∙◌, subst, arith}
+use Rattle.std.proofs.Common.{◌≡◌, ◌≢◌, ℕ, zero, suc, ◌+◌, ◌%◌, ◌<◌, inl, List, [], ◌∷◌, length, get_or, replicate, refl, sym, ap, ◌∙◌, subst, arith}
 use Rattle.std.proofs.lemmas.Bool.{lt-ltb}
 use Rattle.std.proofs.lemmas.List.FromFn.{get_or-map-range_with_len}
 use Rattle.heap_model.specs.declared.heap.Heap.{Heap}
@@ -21,7 +21,8 @@ use Rattle.core_machine.specs.machine.Value.{IsMachine}
 use Rattle.core_machine.proofs.machine_lemmas.OpeningMachine.{opening_machine}
 use Rattle.core_rule.specs.Book.{Book, White}
 use Rattle.core_rule.specs.Laws.{StandsFor}
-use Rattle.core_rule.specs.Owners.{holds_bit, bears_bit}
+use Rattle.core_rule.specs.Marking.{MarkingStands}
+use Rattle.core_rule.specs.Owners.{Dead, holds_bit, bears_bit}
 use Rattle.core_rule.specs.Phases.{CollectorAgrees}
 use Rattle.core_rule.specs.Registers.{Registers}
 use Rattle.core_rule.specs.Registers as regs
@@ -119,6 +120,16 @@ opening_rule heap state fits machine opens = record {
       (opens.words_open (Answer number) (omega (arith, below, fits.seats_fit)) ∙ opening_answer heap number below));
   collector_stands = subst (λ (c : Collector). CollectorAgrees heap c []) (sym opens.nothing_done)
       record { log = refl; phase_told = refl; looked = λ number less. absurd (omega (arith, less)) };
+  marks_stand = record {
+    heap_marks = subst (λ (c : Collector). MarkingStands heap state.words opening_owner (λ f. White) opening_fragments c.stage) (sym opens.nothing_done) record {
+      grey = λ f grey. absurd (cc);
+      scan = tt;
+      pass = tt;
+      alive = λ goes_on f i k. opening_cases (λ o. o ≢ Dead i k) f (λ less is. cc) (λ past is. cc);
+      after = λ ended. absurd (cc);
+    };
+    roots = λ number below marks. absurd (subst (λ (c : Collector). c.phase % 7 ≢ 3) (sym opens.nothing_done) (λ e. omega (arith, e)) marks.phase);
+  };
 }
 
 pub opening_stands : (heap : Heap) (state : State) → IsHeap heap → IsOpening heap state → StandsFor heap state [] []

@@ -47,7 +47,7 @@ module _ (heap : Heap) (state : State) (book : Book) (rule : Rule heap state boo
   -- the seat that was looked at is
   looked_behind : collector.stage ≡ stages.Looking → has_answered_of collector.phase word ≡ false → IsOneBehind heap book.history number word collector.phase
   looked_behind looking none =
-      let below : number < heap.seats = subst (FitsStage heap.seats collector.phase number) looking rule.machine.collector_fit.at_stage in
+      let below : number < heap.seats = subst (FitsStage heap collector.phase number) looking rule.machine.collector_fit.at_stage in
       let seat : Seat = seat_at state number in
       let told = (rule.seats_stand number below).cycle.answers_told in
       let here = rule.collector_stands.phase_told in

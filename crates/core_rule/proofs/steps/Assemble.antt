@@ -119,7 +119,7 @@ seat_steps heap state book number words seat now added rule here machine grown n
     }
 
 -- the rule after a begin, which leaves the words and the others
-pub seat_begins : (heap : Heap) (state : State) (book : Book) (number : ℕ) (seat : Seat) → Rule heap state book → number < heap.seats → IsMachine heap (record state { seats = slice_set state.seats number seat })
+pub seat_begins : (heap : Heap) (state : State) (book : Book) (number : ℕ) (seat : Seat) (rule : Rule heap state book) (here : number < heap.seats) → IsMachine heap (record state { seats = slice_set state.seats number seat })
     → SeatStands heap state.words (book_begun heap state.words book number) number seat
     → seat.answered ≡ (seat_at state number).answered → RootsGoOn heap state book rule number here seat
     → Keeps heap (record state { seats = slice_set state.seats number seat }) book (begins number (length book.history) book.begun) []

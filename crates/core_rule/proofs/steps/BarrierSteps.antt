@@ -25,6 +25,7 @@ use Rattle.core_rule.specs.Flight.{FieldStands, ShadedStands}
 use Rattle.core_rule.specs.Gathers.{IsAnswered}
 use Rattle.core_rule.specs.Objects.{cells_at}
 use Rattle.core_rule.specs.Registers.{IsAwaited, HoldsValue}
+use Rattle.core_rule.specs.Marking.{IsInMarking, AtCall, OfRoots}
 use Rattle.core_rule.specs.Rule.{Rule}
 use Rattle.core_rule.specs.Ways.{AccessStands}
 use Rattle.core_rule.proofs.steps.Assemble.{Keeps}
@@ -35,6 +36,7 @@ use Rattle.core_rule.proofs.entries.InFlight.{began_on}
 use Rattle.core_rule.proofs.colours.Births.{births_stay}
 use Rattle.core_rule.proofs.colours.LeadsFrames.{leads_control}
 use Rattle.core_rule.proofs.ways.LoadedObjects.{KeptHead}
+use Rattle.core_rule.proofs.marking.CallRoots.{IsReachedNow, roots_on_way}
 use Rattle.core_rule.proofs.steps.Loads.{went, loaded_state, load_goes}
 use Rattle.core_rule.proofs.entries.SeatLists.{list_more}
 use Rattle.core_rule.proofs.colours.ShadeColours.{with_mark}
@@ -66,6 +68,10 @@ module _ (heap : Heap) (state : State) (book : Book) (number : ℕ) (rule : Rule
   pub holds_all : (r : ℕ) → HoldsValue book.made book.owner book.fragments (register_in seat.registers r) (register_value g number r)
   holds_all r = (rule.seats_stand number here).names.registers r (awake (target_of seat.command) r)
 
+  -- what marking comes to when it comes to the roots that the seat had
+  abbrev CallGoesOn : Seat → Access → Type 0
+  CallGoesOn next to = IsInMarking state.collector → OfRoots (IsReachedNow heap state book) seat → AtCall (IsReachedNow heap state book) next to
+
   -- what a call has at a place other than a name's
   abbrev Unnamed : Access → Type 0
   Unnamed next = (seat_now : Seat) → Awaits g book.made book.owner book.fragments number seat_now (places.Access next) []
@@ -75,9 +81,10 @@ module _ (heap : Heap) (state : State) (book : Book) (number : ℕ) (rule : Rule
       → AccessStands (cells_at g book.made) book.made book.owner book.fragments (went seat seat.registers seat.reached seat.links loaded (places.Access next) []) next
       → (IsBetween 2 5 p → FieldStands heap state.words book.colour (went seat seat.registers seat.reached seat.links loaded (places.Access next) []) next)
       → ShadedStands book.colour (went seat seat.registers seat.reached seat.links loaded (places.Access next) []) next
+      → CallGoesOn (went seat seat.registers seat.reached seat.links loaded (places.Access next) []) next
       → IsMachine heap (loaded_state heap state number (Word seat.reached (field_part_of seat)) (went seat seat.registers seat.reached seat.links loaded (places.Access next) []))
       → Keeps heap (loaded_state heap state number (Word seat.reached (field_part_of seat)) (went seat seat.registers seat.reached seat.links loaded (places.Access next) [])) book book.begun []
-  loads_on loaded next names way field shaded machine =
+  loads_on loaded next names way field shaded comes machine =
       let stands = rule.seats_stand number here in
       let new : Seat = went seat seat.registers seat.reached seat.links loaded (places.Access next) [] in
       load_goes heap state book number rule here (Word seat.reached (field_part_of seat)) seat.registers seat.reached seat.links loaded (places.Access next) [] machine
@@ -89,6 +96,7 @@ module _ (heap : Heap) (state : State) (book : Book) (number : ℕ) (rule : Rule
       record { answered = refl; left = refl; asked = refl } refl tt
       record { set = λ making snapped. field making; shaded = λ making. shaded; roots = λ begins. tt }
       stands.cycle.births stands.cycle)
+      (λ marks roots. roots_on_way (IsReachedNow heap state book) seat new next refl refl (comes marks roots) roots)
 
   module _ (f : ℕ) (head : KeptHead book.made book.owner book.fragments f) (on : has_barrier_of seat ≡ true) where
     abbrev coloured : ℕ → Colour
@@ -107,9 +115,11 @@ module _ (heap : Heap) (state : State) (book : Book) (number : ℕ) (rule : Rule
         → AccessStands (cells_at g book.made) book.made book.owner book.fragments (shading seat seat.shaded (places.Access next)) next
         → (IsBetween 2 5 p → IsBetween 2 5 seat.answered → FieldStands heap (words_shaded heap state book number rule here f head.index head.kept head.is) coloured (shading seat seat.shaded (places.Access next)) next)
         → (IsBetween 1 5 p → ShadedStands coloured (shading seat seat.shaded (places.Access next)) next)
+        → (IsInMarking state.collector → seat.answered ≡ state.collector.phase → IsReachedNow heap state book f)
+        → CallGoesOn (shading seat seat.shaded (places.Access next)) next
         → IsMachine heap (shaded_state (shading seat seat.shaded (places.Access next)))
         → Keeps heap (shaded_state (shading seat seat.shaded (places.Access next))) book book.begun []
-    shades_on next names way field shaded machine =
+    shades_on next names way field shaded marked comes machine =
         let stands = rule.seats_stand number here in
         let new : Seat = shading seat seat.shaded (places.Access next) in
         shade_keeps heap state book number rule here f head.index head.kept head.is seat.shaded (places.Access next) (barrier_runs p seat.answered (is_near heap state book number rule here from place) (barrier_window seat on)) machine
@@ -121,3 +131,4 @@ module _ (heap : Heap) (state : State) (book : Book) (number : ℕ) (rule : Rule
         record { answered = refl; left = refl; asked = refl } (answer_shaded heap state book number rule here f head.index head.kept head.is number here) tt
         record { set = field; shaded = shaded; roots = λ begins. tt }
         (births_stay book.owner book.owner book.colour coloured number seat.answered (λ x borne. (borne, borne_unshaded heap state book number rule here f head.index head.kept head.is number x borne)) stands.cycle.births) stands.cycle)
+        marked (λ marks roots. roots_on_way (IsReachedNow heap state book) seat new next refl refl (comes marks roots) roots)

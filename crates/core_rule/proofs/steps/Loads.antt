@@ -35,12 +35,14 @@ use Rattle.core_rule.specs.Objects.{cells_at}
 use Rattle.core_rule.specs.Registers.{Registers}
 use Rattle.core_rule.specs.Rule.{Rule}
 use Rattle.core_rule.specs.Ways.{WayStands}
+use Rattle.core_rule.proofs.marking.Marks.{Leaves, RootsGoOn, marks_go_on, leaves_words}
 use Rattle.core_rule.proofs.steps.Assemble.{Keeps, seat_steps}
 use Rattle.core_rule.proofs.cycle.CycleHistory.{cycle_own}
 use Rattle.core_rule.proofs.entries.Others.{gathers_stay}
 use Rattle.core_rule.proofs.entries.OwnEntries.{counts_own, counts_same}
 use Rattle.core_rule.proofs.graph.PutRegister.{OnlyRegisters}
 use Rattle.core_rule.proofs.frames.Replying.{no_part, began_told}
+use Rattle.core_rule.proofs.frames.SeatFrames.{with_entry}
 use Rattle.core_rule.proofs.steps.ReplyStep.{graph_replies, told_keeps}
 use Rattle.core_rule.proofs.entries.Legality.{legal_more}
 use Rattle.core_rule.proofs.cycle.CycleFrames.{leaves_same}
@@ -90,14 +92,19 @@ module _ (heap : Heap) (state : State) (book : Book) (number : ℕ) (rule : Rule
       cycle_unwatched heap state.words state.words book.owner book.owner book.colour book.colour (phase book.history) (last_answer number book.history) (has_left number book.history)
       number (seat_at state number) new record { answered = refl; left = refl; asked = refl } unwatched refl cycle.births cycle
 
+  -- each word leads where it led
+  words_lead : Leaves heap state book rule state.words book
+  words_lead = leaves_words heap state book rule state.words (λ f part g leads. leads) (λ f part g leads. leads)
+
   -- nothing is shown
   pub load_goes : Registers (graph_of heap book.history) book.made book.owner book.fragments number registers place (target_of (seat_at state number).command)
       → OwnList (graph_of heap book.history) book.history book.made book.owner book.fragments number new
       → WayStands (cells_at (graph_of heap book.history) book.made) book.made book.owner book.fragments new place
       → Began book.history number (book.begun number) place
       → SeatInCycle heap state.words (phase book.history) (last_answer number book.history) (has_left number book.history) book.owner book.colour number new
+      → RootsGoOn heap state book rule number here new
       → Keeps heap (loaded_state heap state number a new) book book.begun []
-  load_goes held list way began cycle =
+  load_goes held list way began cycle roots =
       let stands = rule.seats_stand number here in
       from_same book.begun []
       (seat_steps heap state book number state.words new book [] rule here same_machine (sym (append-nil book.history)) refl rule.heap_stands
@@ -112,7 +119,8 @@ module _ (heap : Heap) (state : State) (book : Book) (number : ℕ) (rule : Rule
         };
         cycle = cycle;
       }
-      (λ r below apart other. other))
+      (λ r below apart other. other)
+      (marks_go_on heap state book rule number here state.words book new words_lead refl roots))
 
   module _ (command : Command) (reply : Reply) (nothing : effect_of (Said number command reply) ≡ no_effect)
       (after : Graph) (grows : after_reply (graph_of heap book.history) number command reply ≡ after) (only : OnlyRegisters (graph_of heap book.history) after number) where
@@ -123,8 +131,9 @@ module _ (heap : Heap) (state : State) (book : Book) (number : ℕ) (rule : Rule
         → WayStands (cells_at after book.made) book.made book.owner book.fragments new place
         → IsAnswered place → is_leave_of number (Said number command reply) ≡ false
         → SeatInCycle heap state.words (phase book.history) (last_answer number book.history) (has_left number book.history) book.owner book.colour number new
+        → RootsGoOn heap state book rule number here new
         → Keeps heap (loaded_state heap state number a new) book book.begun (Said number command reply ∷ [])
-    load_tells accepts keeps held list way answers stays cycle =
+    load_tells accepts keeps held list way answers stays cycle roots =
         let entry : Entry = Said number command reply in
         let g : Graph = graph_of heap book.history in
         let stands = rule.seats_stand number here in
@@ -145,4 +154,5 @@ module _ (heap : Heap) (state : State) (book : Book) (number : ℕ) (rule : Rule
         })
         rule.heap_stands.cycle
         (cycle_own heap state.words book.owner book.colour book.history entry (no_part entry (λ e. e.phases) nothing refl) number new cycle (no_part entry (λ e. e.answers) nothing refl) stays)
-        (λ r below apart. leaves_same heap state.words book.owner book.colour (phase book.history) r))
+        (λ r below apart. leaves_same heap state.words book.owner book.colour (phase book.history) r)
+        (marks_go_on heap state book rule number here state.words (with_entry book entry) new words_lead refl roots))

@@ -24,6 +24,8 @@ use Rattle.core_rule.specs.Book.{Book}
 use Rattle.core_rule.specs.Colours.{BornColours}
 use Rattle.core_rule.specs.Cycle.{HeapInCycle}
 use Rattle.core_rule.specs.Rule.{Rule}
+use Rattle.core_rule.proofs.frames.SeatFrames.{with_entry}
+use Rattle.core_rule.proofs.marking.Marks.{MarksGoOn, RootsGoOn, marks_go_on, leaves_words}
 use Rattle.core_rule.proofs.steps.Assemble.{Keeps}
 use Rattle.core_rule.proofs.entries.AtRest.{spent_own, few_own}
 use Rattle.core_rule.proofs.cycle.CycleFrames.{LeavesCycle, leaves_same}
@@ -50,14 +52,15 @@ pub record SeatTells (old now : Seat) (entry : Entry) : Type 0 where
   pub left : now.left ≡ old.left
 
 -- a load at which such a reply stands keeps the rule
-pub local_reply_keeps : (heap : Heap) (state : State) (book : Book) (number : ℕ) (a : Address) (now : Seat) (reply : Reply) → Rule heap state book → number < heap.seats
+pub local_reply_keeps : (heap : Heap) (state : State) (book : Book) (number : ℕ) (a : Address) (now : Seat) (reply : Reply) → (rule : Rule heap state book) → (here : number < heap.seats)
     → IsMachine heap (record state { words = put heap state.words a (at heap state.words a); seats = slice_set state.seats number now })
     → IsAtRest (seat_at state number) → (seat_at state number).mine ≡ filter (is_of number) book.history → (graph_seat (graph_of heap book.history) number).left ≡ false → IsCommand (seat_at state number).command
     → IsLocalReply heap book.history (graph_of heap book.history) number book.made book.owner book.fragments (seat_at state number).command reply now.registers
     → is_leave_of number (entries.Said number (seat_at state number).command reply) ≡ false
     → SeatTells (seat_at state number) now (entries.Said number (seat_at state number).command reply)
+    → RootsGoOn heap state book rule number here now
     → Keeps heap (record state { words = put heap state.words a (at heap state.words a); seats = slice_set state.seats number now }) book book.begun (entries.Said number (seat_at state number).command reply ∷ [])
-local_reply_keeps heap state book number a now reply rule here machine rest told present ranges local stays tells =
+local_reply_keeps heap state book number a now reply rule here machine rest told present ranges local stays tells roots =
     let seat : Seat = seat_at state number in
     let g : Graph = graph_of heap book.history in
     let stands = rule.seats_stand number here in
@@ -88,3 +91,6 @@ local_reply_keeps heap state book number a now reply rule here machine rest told
     refl stays)
     (λ r below apart. subst (λ ws. LeavesCycle heap state.words ws book.owner book.owner book.colour book.colour (phase book.history) r) (sym same)
     (leaves_same heap state.words book.owner book.colour (phase book.history) r))
+    (subst (λ ws. MarksGoOn heap state book (with_entry book (entries.Said number seat.command reply)) ws now) (sym same)
+    (marks_go_on heap state book rule number here state.words (with_entry book (entries.Said number seat.command reply)) now
+    (leaves_words heap state book rule state.words (λ f part g leads. leads) (λ f part g leads. leads)) tells.answered roots))

@@ -28,6 +28,7 @@ use Rattle.core_rule.specs.Cycle.{HeapInCycle, SeatInCycle}
 use Rattle.core_rule.specs.Objects.{AreMade, Objects, cells_at}
 use Rattle.core_rule.specs.Registers as regs
 use Rattle.core_rule.specs.Rule.{Rule, OwnStands, NamesStand, ToldStands}
+use Rattle.core_rule.proofs.marking.Marks.{MarksGoOn}
 use Rattle.core_rule.proofs.steps.Assemble.{Keeps, seat_fits, seat_steps}
 use Rattle.core_rule.proofs.entries.AtRest.{own_reserve}
 use Rattle.core_rule.proofs.words.ControlLemmas.{bits_same}
@@ -104,8 +105,9 @@ module _ (heap : Heap) (state : State) (book : Book) (number : ℕ) (words : Lis
       → HeapInCycle heap words (phase book.history) book.owner book.colour book.fragments
       → SeatInCycle heap words (phase later.history) (last_answer number later.history) (has_left number later.history) book.owner book.colour number now
       → ((r : ℕ) → r < heap.seats → r ≢ number → LeavesCycle heap state.words words book.owner book.owner book.colour book.colour (phase book.history) r)
+      → MarksGoOn heap state book later words now
       → Keeps heap (record state { words = words; seats = slice_set state.seats number now }) book book.begun (entry ∷ [])
-  told_keeps legal same grows own names told heap_cycle cycle leaves =
+  told_keeps legal same grows own names told heap_cycle cycle leaves marks =
       seat_steps heap state book number words now later (entry ∷ []) rule here machine refl refl
       record {
         control_words = bits_same heap state.words words book.owner same.controls rule.heap_stands.control_words;
@@ -125,6 +127,7 @@ module _ (heap : Heap) (state : State) (book : Book) (number : ℕ) (words : Lis
       (cycle_stays heap state.words words book.owner book.owner book.colour book.colour (phase book.history) (last_answer r book.history) (has_left r book.history) r (seat_at state r)
       (leaves r below apart) (watched_born heap state book rule r below) other.cycle) (of_other number r apart))
       other)
+      marks
 
   -- the seat stands idle then
   pub reply_keeps : made_by command reply ≡ 0 → IsAtRest seat → seat.mine ≡ filter (is_of number) book.history → IsLegal heap false later.history
@@ -132,8 +135,9 @@ module _ (heap : Heap) (state : State) (book : Book) (number : ℕ) (words : Lis
       → HeapInCycle heap words (phase book.history) book.owner book.colour book.fragments
       → SeatInCycle heap words (phase later.history) (last_answer number later.history) (has_left number later.history) book.owner book.colour number now
       → ((r : ℕ) → r < heap.seats → r ≢ number → LeavesCycle heap state.words words book.owner book.owner book.colour book.colour (phase book.history) r)
+      → MarksGoOn heap state book later words now
       → Keeps heap (record state { words = words; seats = slice_set state.seats number now }) book book.begun (entry ∷ [])
-  reply_keeps none rest told legal same grows replies heap_cycle cycle leaves =
+  reply_keeps none rest told legal same grows replies heap_cycle cycle leaves marks =
       let stands = rule.seats_stand number here in
       let idle : IsAtRest now = rw replies.idle at fit_after.at_place in
       let own = own_reserve heap state book number rule here rest in
@@ -161,4 +165,4 @@ module _ (heap : Heap) (state : State) (book : Book) (number : ℕ) (words : Lis
         began = rw replies.idle (began_idle book.history entry number (book.begun number) seat.place stands.told.began);
         gathers = gathers_none heap book.owner number (drop (book.begun number) later.history) now.cursor now.tried now.given idle.none_tried idle.none_given;
       }
-      heap_cycle cycle leaves
+      heap_cycle cycle leaves marks

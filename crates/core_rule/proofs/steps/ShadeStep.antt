@@ -1,6 +1,6 @@
 -- The shade of a kept object's first fragment keeps the rule.
 use Rattle.std.specs.Prelude.{bit_or}
-use Rattle.std.proofs.Common.{◌≡◌, ◌≢◌, ℕ, ◌*◌, ◌/◌, ◌%◌, ◌<◌, List, [], ◌++◌, slice_set, refl, sym, ap, ◌∙◌, arith, inl}
+use Rattle.std.proofs.Common.{◌≡◌, ◌≢◌, ℕ, ◌*◌, ◌/◌, ◌%◌, ◌<◌, List, [], ◌++◌, slice_set, refl, sym, ap, ◌∙◌, subst, arith, inl}
 use Rattle.std.proofs.lemmas.List.{append-nil}
 use Rattle.heap_model.specs.declared.heap.Heap.{Heap}
 use Rattle.heap_model.specs.account.Cycles.{graph_of}
@@ -17,13 +17,18 @@ use Rattle.core_rule.specs.Book.{Book, fragment_at}
 use Rattle.core_rule.specs.Counts.{OwnList}
 use Rattle.core_rule.specs.Cycle.{SeatInCycle}
 use Rattle.core_rule.specs.Gathers.{IsAnswered}
+use Rattle.core_rule.specs.Colours.{IsMarked}
+use Rattle.core_rule.specs.Marking.{IsInMarking}
 use Rattle.core_rule.specs.Objects.{IsKept, cells_at}
 use Rattle.core_rule.specs.Owners.{Borne, Kept as KeepsPart}
+use Rattle.core_rule.specs.Paths.{IsReached}
 use Rattle.core_rule.specs.Registers.{Registers}
 use Rattle.core_rule.specs.Rule.{Rule}
 use Rattle.core_rule.specs.Ways.{WayStands}
 use Rattle.core_rule.proofs.words.Addresses.{at-put_apart}
-use Rattle.core_rule.proofs.steps.Assemble.{Keeps, seat_steps}
+use Rattle.core_rule.proofs.marking.Marks.{RootsGoOn}
+use Rattle.core_rule.proofs.marking.SeatShades.{marks_shaded}
+use Rattle.core_rule.proofs.steps.Assemble.{Keeps, seat_steps, in_flight}
 use Rattle.core_rule.proofs.cycle.CycleFrames.{LeavesCycle, cycle_stays}
 use Rattle.core_rule.proofs.cycle.FieldFrames.{watched_born}
 use Rattle.core_rule.proofs.entries.InFlight.{began_on}
@@ -31,7 +36,7 @@ use Rattle.core_rule.proofs.ways.KeptWords.{kept_within}
 use Rattle.core_rule.proofs.colours.LeadsFrames.{leads_control}
 use Rattle.core_rule.proofs.objects.ObjectFrames.{objects_control, bears_keeps_none}
 use Rattle.core_rule.proofs.entries.OwnEntries.{counts_same}
-use Rattle.core_rule.proofs.colours.ShadeColours.{with_mark, mark_keeps, mark_away, bits_shade, marks_shade, coloured_shade}
+use Rattle.core_rule.proofs.colours.ShadeColours.{with_mark, mark_keeps, mark_marks, mark_away, bits_shade, marks_shade, coloured_shade}
 use Rattle.core_rule.proofs.hand.StoredFrames.{stored_control}
 
 -- the seat after a shade: elsewhere, and with so many roots shaded
@@ -77,8 +82,10 @@ module _ (heap : Heap) (state : State) (book : Book) (number : ℕ) (rule : Rule
       → WayStands (cells_at (graph_of heap book.history) book.made) book.made book.owner book.fragments (shading (seat_at state number) shaded place) place
       → ¬ IsAnswered (seat_at state number).place
       → SeatInCycle heap words_shaded (phase book.history) (last_answer number book.history) (has_left number book.history) book.owner (with_mark book.colour f) number (shading (seat_at state number) shaded place)
+      → (IsInMarking state.collector → (seat_at state number).answered ≡ state.collector.phase → IsReached heap state.words book.owner book.colour f)
+      → RootsGoOn heap state book rule number here (shading (seat_at state number) shaded place)
       → Keeps heap (record state { words = words_shaded; seats = slice_set state.seats number (shading (seat_at state number) shaded place) }) book book.begun []
-  shade_keeps shaded place runs machine held list way busy cycle =
+  shade_keeps shaded place runs machine held list way busy cycle comes roots =
       let seat : Seat = seat_at state number in
       let new : Seat = shading seat shaded place in
       let stands = rule.seats_stand number here in
@@ -94,7 +101,8 @@ module _ (heap : Heap) (state : State) (book : Book) (number : ℕ) (rule : Rule
           word = at-put_apart heap state.words (Control (f / 16)) Phase _ (λ e. omega (arith, e)) ∙ old.cycle.word;
           so_far = old.cycle.so_far;
           marks = marks_shade heap state.words book.owner book.colour f rule.machine.table shade_within old.cycle.marks;
-          coloured = coloured_shade heap state.words book.owner book.colour f rule.machine.table shade_within book.fragments (phase book.history) index owned first runs old.cycle.coloured;
+          coloured = coloured_shade heap state.words book.owner book.colour f rule.machine.table shade_within book.fragments (phase book.history) index 0 owned
+              (subst (IsMarked (with_mark book.colour f)) first (mark_marks book.colour f)) runs old.cycle.coloured;
         };
         legal = old.legal;
       }
@@ -116,3 +124,5 @@ module _ (heap : Heap) (state : State) (book : Book) (number : ℕ) (rule : Rule
         cycle = cycle_stays heap state.words words_shaded book.owner book.owner book.colour (with_mark book.colour f) (phase book.history) (last_answer r book.history) (has_left r book.history)
             r (seat_at state r) (others_left r less) (watched_born heap state book rule r less) other.cycle;
       })
+      (marks_shaded heap state book rule f shade_within number here new record { index = index; place = 0; kept = owned }
+      (in_flight rule number here (λ idle. busy (subst IsAnswered (sym idle) tt))) refl comes roots)

@@ -37,7 +37,7 @@ pub record KeptHead (made : List Id) (owner : ℕ → Owner) (fragments : ℕ �
 
 module _ (made : List Id) (owner : ℕ → Owner) (fragments : ℕ → List ℕ) where
   -- what a value refers to
-  named_kept : (value : Value) → NamesKept made owner fragments value → (f : ℕ) → named_head (object_head made fragments) value ≡ Some f → KeptHead made owner fragments f
+  pub named_kept : (value : Value) → NamesKept made owner fragments value → (f : ℕ) → named_head (object_head made fragments) value ≡ Some f → KeptHead made owner fragments f
   named_kept (values.Object id) names f is = record { index = object_number made id; below = names.0; kept = names.1; is = cc }
   named_kept values.Nil names f is = cc
   named_kept (values.Number n) names f is = cc

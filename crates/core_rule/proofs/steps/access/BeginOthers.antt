@@ -17,6 +17,7 @@ use Rattle.core_rule.specs.Book.{Book}
 use Rattle.core_rule.specs.Objects.{cells_at}
 use Rattle.core_rule.specs.Registers.{HoldsValue}
 use Rattle.core_rule.specs.Rule.{Rule}
+use Rattle.core_rule.proofs.marking.CallRoots.{IsReachedNow, begin_roots}
 use Rattle.core_rule.proofs.steps.Assemble.{Keeps, seat_begins}
 use Rattle.core_rule.proofs.entries.AtRest.{seat_fits, none_awaited}
 use Rattle.core_rule.proofs.entries.Begins.{begins, began_now}
@@ -63,3 +64,4 @@ begin_others_keep heap state book number command rule here may other machine =
       cycle = cycle_fresh heap state.words book.owner book.colour (phase book.history) (last_answer number book.history) (has_left number book.history) number old next
           record { answered = same.answered; left = same.left; asked = same.asked } start.fresh stands.cycle;
     }
+    same.answered (λ marks roots. begin_roots (IsReachedNow heap state book) heap seat command other may.served roots.registers)

@@ -1,5 +1,5 @@
 -- Loading a field keeps the rule.
-use Rattle.std.proofs.Common.{◌≡◌, ℕ, ◌-◌, ◌<◌, false, List, [], ◌∷◌, length, get_or, slice_get, slice_set, slice_index_or, Option, Some, refl, sym, ap, ◌∙◌, subst, arith}
+use Rattle.std.proofs.Common.{◌≡◌, ℕ, ◌-◌, ◌<◌, false, List, [], ◌∷◌, length, get_or, slice_get, slice_set, slice_index_or, Option, Some, None, refl, sym, ap, ◌∙◌, subst, arith}
 use Rattle.std.proofs.lemmas.Bool.{eq-eqb}
 use Rattle.std.proofs.lemmas.Option.{slice_get-get_or}
 use Rattle.heap_model.specs.declared.graph.cell.Cell.{Cell}
@@ -29,12 +29,13 @@ use Rattle.core_machine.specs.table.Decode.{head_of, id_of, stamp_of, plain_of}
 use Rattle.core_machine.specs.machine.Machine.{State, seat_at}
 use Rattle.core_machine.specs.seat.Access.{row_of, part_of, after_get}
 use Rattle.core_machine.specs.seat.AccessMoves.{get_move, field_part_of, got_adds, got_shows, reply_entries}
-use Rattle.core_machine.specs.seat.Registers.{value_of}
+use Rattle.core_machine.specs.seat.Registers.{value_of, register_head}
 use Rattle.core_machine.specs.seat.Seat.{Seat, with_entries}
 use Rattle.core_machine.specs.machine.Value.{IsMachine}
 use Rattle.core_rule.proofs.entries.AtRest.{seat_fits, spent_own, few_own}
 use Rattle.core_rule.specs.Book.{Book, fragment_at, id_at, object_number, object_head}
 use Rattle.core_rule.specs.Gathers.{IsAnswered}
+use Rattle.core_rule.specs.Marking.{IsInMarking}
 use Rattle.core_rule.specs.Objects.{NamesKept, cells_at, value_word}
 use Rattle.core_rule.specs.Registers.{HoldsValue, IsAwaited}
 use Rattle.core_rule.specs.Rule.{Rule}
@@ -42,6 +43,9 @@ use Rattle.core_rule.specs.Ways.{Finds}
 use Rattle.core_rule.proofs.steps.Assemble.{Keeps, StepKeeps}
 use Rattle.core_rule.proofs.ways.AtObject.{is_present, way_object, at_rest}
 use Rattle.core_rule.proofs.graph.GraphRegisters.{registers_length}
+use Rattle.core_rule.proofs.lists.Options.{some_holds, none_holds}
+use Rattle.core_rule.proofs.marking.CallRoots.{IsReachedNow, at_call, roots_on_way, roots_over, field_comes}
+use Rattle.core_rule.proofs.marking.RegisterRoots.{heads_put}
 use Rattle.core_rule.proofs.ways.KeptWords.{has_room, field_found, name_found}
 use Rattle.core_rule.proofs.steps.Loads.{went_cycle, went, loaded_state, load_tells, over_went}
 use Rattle.core_rule.proofs.graph.Numbering.{id_at-number_of}
@@ -68,14 +72,14 @@ module _ (heap : Heap) (state : State) (book : Book) (number : ℕ) (rule : Rule
   in_seat = omega (arith, (seat_fits rule number here).own.registers_whole, target_within (seat_at state number).command a_get ranges)
 
   -- a number or nil stands in the register
-  filled_keeps : (new : Register) (stamp : ℕ) → HoldsValue book.made book.owner book.fragments new (value_of new)
+  filled_keeps : (new : Register) (stamp : ℕ) → register_head new ≡ None → HoldsValue book.made book.owner book.fragments new (value_of new)
       → Accepts (graph_of heap book.history) (Said number (seat_at state number).command (Got (value_of new) stamp))
       → IsMachine heap (loaded_state heap state number (Word (seat_at state number).reached (field_part_of (seat_at state number)))
       (went (seat_at state number) (slice_set (seat_at state number).registers (target_of (seat_at state number).command) new) 0 0 0 places.Idle (reply_entries number (seat_at state number) (Got (value_of new) stamp))))
       → Keeps heap (loaded_state heap state number (Word (seat_at state number).reached (field_part_of (seat_at state number)))
       (went (seat_at state number) (slice_set (seat_at state number).registers (target_of (seat_at state number).command) new) 0 0 0 places.Idle (reply_entries number (seat_at state number) (Got (value_of new) stamp))))
       book book.begun (reply_entries number (seat_at state number) (Got (value_of new) stamp))
-  filled_keeps new stamp holds accepts machine =
+  filled_keeps new stamp none holds accepts machine =
       let seat : Seat = seat_at state number in
       let g : Graph = graph_of heap book.history in
       let stands = rule.seats_stand number here in
@@ -90,16 +94,19 @@ module _ (heap : Heap) (state : State) (book : Book) (number : ℕ) (rule : Rule
       (own_entries number book.history entry (eq-eqb number number refl)) refl)
       tt tt (no_leave_told number number seat.command reply (λ leaves. subst IsGet leaves a_get))
       (went_cycle heap state book number rule here (Word seat.reached (field_part_of seat)) (slice_set seat.registers (target_of seat.command) new) 0 0 0 places.Idle (entry ∷ []) machine tt)
+      (λ marks roots. roots_over (IsReachedNow heap state book) (went seat (slice_set seat.registers (target_of seat.command) new) 0 0 0 places.Idle (entry ∷ [])) tt
+      (heads_put (IsReachedNow heap state book) seat.registers (target_of seat.command) new in_seat (none_holds (IsReachedNow heap state book) (register_head new) none) roots.registers))
 
   -- a reference awaits its object's name, and the history has the reply
   pending_keeps : (found : ℕ) (id : Id) → NamesKept book.made book.owner book.fragments (values.Object id) → head_of found ≡ Some (object_head book.made book.fragments id)
+      → (IsInMarking state.collector → IsReachedNow heap state book (seat_at state number).reached → IsReachedNow heap state book (object_head book.made book.fragments id))
       → Accepts (graph_of heap book.history) (Said number (seat_at state number).command (Got (values.Object id) (stamp_of found)))
       → IsMachine heap (loaded_state heap state number (Word (seat_at state number).reached (field_part_of (seat_at state number)))
       (went (seat_at state number) (seat_at state number).registers (seat_at state number).reached (seat_at state number).links found (places.Access Naming) []))
       → Keeps heap (loaded_state heap state number (Word (seat_at state number).reached (field_part_of (seat_at state number)))
       (went (seat_at state number) (seat_at state number).registers (seat_at state number).reached (seat_at state number).links found (places.Access Naming) []))
       book book.begun (reply_entries number (seat_at state number) (Got (values.Object id) (stamp_of found)))
-  pending_keeps found id kept loads accepts machine =
+  pending_keeps found id kept loads comes accepts machine =
       let seat : Seat = seat_at state number in
       let g : Graph = graph_of heap book.history in
       let d : ℕ = target_of seat.command in
@@ -116,6 +123,8 @@ module _ (heap : Heap) (state : State) (book : Book) (number : ℕ) (rule : Rule
       (record { id = id; kept = kept; loads = loads; held = put_target g number d value present in_graph; told = refl }))
       tt tt (no_leave_told number number seat.command reply (λ leaves. subst IsGet leaves a_get))
       (went_cycle heap state book number rule here (Word seat.reached (field_part_of seat)) seat.registers seat.reached seat.links found (places.Access Naming) [] machine tt)
+      (λ marks roots. roots_on_way (IsReachedNow heap state book) seat (went seat seat.registers seat.reached seat.links found (places.Access Naming) []) Naming refl refl
+      (some_holds (IsReachedNow heap state book) (head_of found) (object_head book.made book.fragments id) loads (comes marks (at_call (IsReachedNow heap state book) seat Getting place roots))) roots)
 
 -- loading a field keeps the rule
 pub get_keeps : StepKeeps (places.Access Getting) get_move
@@ -158,10 +167,10 @@ get_keeps heap state book number rule here place machine =
     (rw place at (seat_fits rule number here).at_place) (rw place at (seat_fits rule number here).answer_at_place) in
     let by_value : (value : Value) → cell.value ≡ value → goal (named_head head value) = λ value. elim value as (λ v. cell.value ≡ v → goal (named_head head v)) [
       | values.Nil ↦ λ e. let is : plain_of found ≡ registers.Nil = plain ∙ ap register_plain e in
-          ends (filled (subst (λ x. HoldsValue book.made book.owner book.fragments x (value_of x)) (sym is) refl)
+          ends (filled (ap register_head is) (subst (λ x. HoldsValue book.made book.owner book.fragments x (value_of x)) (sym is) refl)
           (subst (λ v. Accepts g (Said number seat.command (Got v (stamp_of found)))) (e ∙ sym (ap value_of is)) accepted))
       | values.Number n ↦ λ e. let is : plain_of found ≡ registers.Number n = plain ∙ ap register_plain e in
-          ends (filled (subst (λ x. HoldsValue book.made book.owner book.fragments x (value_of x)) (sym is) (refl, subst (NamesKept book.made book.owner book.fragments) e named.0))
+          ends (filled (ap register_head is) (subst (λ x. HoldsValue book.made book.owner book.fragments x (value_of x)) (sym is) (refl, subst (NamesKept book.made book.owner book.fragments) e named.0))
           (subst (λ v. Accepts g (Said number seat.command (Got v (stamp_of found)))) (e ∙ sym (ap value_of is)) accepted))
       | values.Object id ↦ λ e machine.
           let kept : NamesKept book.made book.owner book.fragments (values.Object id) = subst (NamesKept book.made book.owner book.fragments) e named.0 in
@@ -170,6 +179,7 @@ get_keeps heap state book number rule here place machine =
           ∙ id_at-number_of book.made id kept.0 in
           subst (λ x. Keeps heap (loaded_state heap state number (Word seat.reached (field_part_of seat)) (with_entries (after_get seat found (Some (head id))) [])) book book.begun (reply_entries number seat (Got (values.Object x) (stamp_of found)))) (sym name)
           (pending_keeps heap state book number rule here place gets.1 gets.0.in_range found id kept (loads ∙ ap (named_head head) e)
+          (λ marks comes. field_comes heap state book number rule here marks comes (head id) record { index = object_number book.made id; below = kept.0; kept = kept.1; is = refl } (loads ∙ ap (named_head head) e))
           (subst (λ v. Accepts g (Said number seat.command (Got v (stamp_of found)))) e accepted) machine)
     ] in
     subst goal (sym loads) (by_value cell.value refl) machine

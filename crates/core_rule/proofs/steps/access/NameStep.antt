@@ -24,8 +24,11 @@ use Rattle.core_rule.specs.Book.{object_number, object_head}
 use Rattle.core_rule.specs.Counts.{IsAwaitingName}
 use Rattle.core_rule.specs.Registers.{Registers, HoldsValue}
 use Rattle.core_rule.proofs.steps.Assemble.{StepKeeps, seat_fits}
+use Rattle.core_rule.proofs.lists.Options.{of_some}
+use Rattle.core_rule.proofs.marking.CallRoots.{IsReachedNow, at_call, roots_over}
+use Rattle.core_rule.proofs.marking.RegisterRoots.{heads_put}
 use Rattle.core_rule.proofs.ways.KeptWords.{name_found}
-use Rattle.core_rule.proofs.steps.Loads.{went_cycle, load_goes, over_went}
+use Rattle.core_rule.proofs.steps.Loads.{went, went_cycle, load_goes, over_went}
 use Rattle.core_rule.proofs.graph.Numbering.{id_at-number_of}
 use Rattle.core_rule.proofs.graph.ObjectReplies.{target_within}
 use Rattle.core_rule.proofs.graph.PutRegister.{registers_with}
@@ -65,4 +68,8 @@ name_keeps heap state book number rule here place machine =
     })
     tt
     (record { earlier = stands.told.began.earlier; unanswered = λ busy. absurd (busy tt) })
-    (went_cycle heap state book number rule here (Word at_name 1) (slice_set seat.registers d (registers.Object at_name (id_of found))) 0 0 0 places.Idle added machine tt)) machine
+    (went_cycle heap state book number rule here (Word at_name 1) (slice_set seat.registers d (registers.Object at_name (id_of found))) 0 0 0 places.Idle added machine tt)
+    (λ marks roots. roots_over (IsReachedNow heap state book) (went seat (slice_set seat.registers d (registers.Object at_name (id_of found))) 0 0 0 places.Idle added) tt
+    (heads_put (IsReachedNow heap state book) seat.registers d (registers.Object at_name (id_of found)) within
+    (subst (IsReachedNow heap state book) (sym head) (of_some (IsReachedNow heap state book) (head_of seat.loaded) (object_head book.made book.fragments id) awaits.loads (at_call (IsReachedNow heap state book) seat Naming place roots)))
+    roots.registers))) machine

@@ -16,6 +16,7 @@ use Rattle.core_machine.specs.seat.Registers.{register_head}
 use Rattle.core_machine.specs.seat.Seat.{Seat, with_entries}
 use Rattle.core_machine.specs.machine.Value.{IsMachine}
 use Rattle.core_rule.specs.Colours.{IsMarked, WordPointsTo}
+use Rattle.core_rule.specs.Marking.{IsInMarking, OfRoots}
 use Rattle.core_rule.specs.Objects.{cells_at}
 use Rattle.core_rule.specs.Ways.{Finds}
 use Rattle.core_rule.proofs.steps.Assemble.{Keeps, StepKeeps, seat_fits}
@@ -24,7 +25,8 @@ use Rattle.core_rule.proofs.steps.BarrierSteps.{new_cases, loads_on}
 use Rattle.core_rule.proofs.ways.LoadedObjects.{loaded_kept}
 use Rattle.core_rule.proofs.steps.Loads.{went, loaded_state}
 use Rattle.core_rule.proofs.ways.OnwardWays.{finds_at, none_old}
-use Rattle.core_rule.proofs.lists.Options.{none_holds}
+use Rattle.core_rule.proofs.lists.Options.{none_holds, some_holds}
+use Rattle.core_rule.proofs.marking.CallRoots.{IsReachedNow, at_call, field_comes}
 
 -- loading the old value keeps the rule
 pub old_keeps : StepKeeps (places.Access LoadingOld) (λ heap number. old_move)
@@ -40,17 +42,19 @@ old_keeps heap state book number rule here place machine =
     let at_next = λ (next : Access). finds_at (cells_at g book.made) book.made book.owner book.fragments seat found next (seat.mine ++ []) finds in
     let leads : (x : ℕ) → WordPointsTo heap state.words seat.reached (field_part_of seat) x → head_of found ≡ Some x = λ x leads. sym (field_lead seat found) ∙ leads.to in
     let unloaded = λ (next : Access). none_old book.made book.owner book.fragments (went seat seat.registers seat.reached seat.links found (places.Access next) []) in
+    let reached = λ (marks : IsInMarking state.collector) (roots : OfRoots (IsReachedNow heap state book) seat). at_call (IsReachedNow heap state book) seat LoadingOld place roots in
     let goal = λ (o : Option ℕ). IsMachine heap (loaded_state heap state number (Word seat.reached (field_part_of seat)) (with_entries (after_old_load (record seat { loaded = found }) o) []))
     → Keeps heap (loaded_state heap state number (Word seat.reached (field_part_of seat)) (with_entries (after_old_load (record seat { loaded = found }) o) [])) book book.begun [] in
     let by_head : (o : Option ℕ) → head_of found ≡ o → goal o = λ o. elim o as (λ x. head_of found ≡ x → goal x) [
       | None ↦ λ none. new_cases (λ next. IsMachine heap (loaded_state heap state number (Word seat.reached (field_part_of seat)) (went seat seat.registers seat.reached seat.links found (places.Access next) []))
           → Keeps heap (loaded_state heap state number (Word seat.reached (field_part_of seat)) (went seat seat.registers seat.reached seat.links found (places.Access next) [])) book book.begun []) new_head
           (λ no_new. on Swapping (λ s. refl) (at_next Swapping, unloaded Swapping none) (λ making x lead. absurd (cc (none, leads x lead)))
-          (λ is_on. (none_holds (IsMarked book.colour) (head_of found) none, none_holds (IsMarked book.colour) new_head no_new)))
-          (λ f some. on ShadingNew (λ s. refl) (at_next ShadingNew, unloaded ShadingNew none) (λ making x lead. absurd (cc (none, leads x lead))) (none_holds (IsMarked book.colour) (head_of found) none))
+          (λ is_on. (none_holds (IsMarked book.colour) (head_of found) none, none_holds (IsMarked book.colour) new_head no_new)) reached)
+          (λ f some. on ShadingNew (λ s. refl) (at_next ShadingNew, unloaded ShadingNew none) (λ making x lead. absurd (cc (none, leads x lead))) (none_holds (IsMarked book.colour) (head_of found) none) reached)
       | Some f ↦ λ some.
           let head = loaded_kept heap state.words g book.made book.owner book.fragments rule.machine.limits old.control_words old.ids old.objects seat fits.0.2 finds f some in
           on ShadingOld (λ s. refl) (at_next ShadingOld, record { index = head.index; below = head.below; kept = head.kept; loads = some ∙ ap Some head.is })
           (λ making x lead. inl (leads x lead)) tt
+          (λ marks roots. (reached marks roots, some_holds (IsReachedNow heap state book) (head_of found) f some (field_comes heap state book number rule here marks (reached marks roots) f head some)))
     ] in
     by_head (head_of found) refl machine

@@ -37,6 +37,8 @@ use Rattle.core_rule.specs.Rule.{Rule}
 use Rattle.core_rule.specs.Ways.{SetsOut}
 use Rattle.core_rule.proofs.steps.Assemble.{Keeps, StepKeeps}
 use Rattle.core_rule.proofs.ways.AtObject.{is_present, way_object, at_rest}
+use Rattle.core_rule.proofs.marking.CallRoots.{IsReachedNow, at_call}
+use Rattle.core_rule.proofs.marking.Marks.{roots_off_way}
 use Rattle.core_rule.proofs.ways.KeptWords.{length_found}
 use Rattle.core_rule.proofs.steps.Loads.{went_cycle, went, loaded_state, load_tells, over_went}
 use Rattle.core_rule.proofs.graph.ObjectReplies.{IsLen, accepts_length, accepts_no_field, graph_length, graph_no_field, keeps_length, keeps_no_field}
@@ -81,6 +83,7 @@ module _ (heap : Heap) (state : State) (book : Book) (number : ℕ) (rule : Rule
       (own_entries number book.history entry (eq-eqb number number refl)) refl)
       tt tt stays_here
       (went_cycle heap state book number rule here (Word seat.reached 0) seat.registers 0 0 0 places.Idle (entry ∷ []) machine tt)
+      (λ marks. roots_off_way (IsReachedNow heap state book) seat (went seat seat.registers 0 0 0 places.Idle (entry ∷ [])) refl tt)
 
 -- loading the length keeps the rule
 pub open_keeps : StepKeeps (places.Access LoadingMeta) (λ heap. open_move)
@@ -113,7 +116,7 @@ open_keeps heap state book number rule here place machine =
     (subst (λ n. Accepts g (Said number seat.command (replies.Length n))) (sym size) (accepts_length g number id seat.command opens.works.in_range present made held len))
     (keeps_length heap false book.history number enough little (length_of found) seat.command len) (leaves_none (replies.Length (length_of found)))))
     (λ field more. onward_keeps heap state book number rule here (subst IsAnswered place) (λ d r. subst (λ p. IsAwaited p d r) place)
-    opens.none_loaded (record { index = index; way = way; within = omega (arith, more, size) }))
+    opens.none_loaded (at_call (IsReachedNow heap state book) seat LoadingMeta place) (record { index = index; way = way; within = omega (arith, more, size) }))
     (λ field past. ends replies.NoField (met_keeps heap state book number rule here place replies.NoField refl (graph_no_field g number seat.command field)
     (accepts_no_field g number id seat.command opens.works.in_range present made held field (omega (arith, past, size)))
     (keeps_no_field heap false book.history number enough little seat.command field) (leaves_none replies.NoField)))

@@ -24,7 +24,8 @@ use Rattle.core_rule.proofs.steps.BarrierSteps.{shades_on, leads_back, holds_all
 use Rattle.core_rule.proofs.cycle.CycleFrames.{watches_stay}
 use Rattle.core_rule.proofs.ways.LoadedObjects.{held_kept}
 use Rattle.core_rule.proofs.ways.OnwardWays.{finds_at, loaded_at}
-use Rattle.core_rule.proofs.lists.Options.{if_some, some_holds}
+use Rattle.core_rule.proofs.lists.Options.{if_some, some_holds, of_some}
+use Rattle.core_rule.proofs.marking.CallRoots.{IsReachedNow, at_call}
 use Rattle.core_rule.proofs.colours.ShadeColours.{with_mark, mark_marks, mark_keeps}
 use Rattle.core_rule.proofs.steps.ShadeStep.{words_shaded}
 
@@ -57,6 +58,8 @@ shade_new_keeps heap state book number rule here place machine =
       if_some (IsMarked book.colour) (IsMarked coloured) (mark_keeps book.colour f) (head_of seat.loaded) (was making),
       some_holds (IsMarked coloured) (register_head (new_register_of seat)) f some (mark_marks book.colour f),
     ))
+    (λ marks answered. of_some (IsReachedNow heap state book) (register_head (new_register_of seat)) f some ((rule.marks_stand.roots number here marks answered).registers (source_of seat.command)))
+    (λ marks. at_call (IsReachedNow heap state book) seat ShadingNew place)
     machine
   where
     whole : (o : Option ℕ) → IsSome o → o ≡ Some (unwrap_or o 0)

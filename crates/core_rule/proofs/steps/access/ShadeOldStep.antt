@@ -17,13 +17,15 @@ use Rattle.core_machine.specs.machine.Value.{IsMachine}
 use Rattle.core_rule.specs.Book.{Colour, fragment_at}
 use Rattle.core_rule.specs.Colours.{IsMarked, WordPointsTo, IsBetween}
 use Rattle.core_rule.specs.Flight.{DeletionBarrier, FieldStands, WhileAccess}
+use Rattle.core_rule.specs.Marking.{IsInMarking, OfRoots}
 use Rattle.core_rule.specs.Objects.{cells_at}
 use Rattle.core_rule.specs.Ways.{Finds, LoadedKept}
 use Rattle.core_rule.proofs.steps.Assemble.{Keeps, StepKeeps, seat_fits}
 use Rattle.core_rule.proofs.steps.BarrierSteps.{new_cases, shades_on, leads_back}
 use Rattle.core_rule.proofs.ways.LoadedObjects.{KeptHead}
 use Rattle.core_rule.proofs.ways.OnwardWays.{finds_at, loaded_at}
-use Rattle.core_rule.proofs.lists.Options.{some_holds, none_holds, from_some}
+use Rattle.core_rule.proofs.lists.Options.{some_holds, none_holds, from_some, of_some}
+use Rattle.core_rule.proofs.marking.CallRoots.{IsReachedNow, at_call}
 use Rattle.core_rule.proofs.colours.ShadeColours.{with_mark, mark_marks, mark_keeps}
 use Rattle.core_rule.proofs.steps.ShadeStep.{shading, words_shaded}
 
@@ -48,6 +50,9 @@ shade_old_keeps heap state book number rule here place machine =
     let marked : IfSome (head_of seat.loaded) (IsMarked coloured) = some_holds (IsMarked coloured) (head_of seat.loaded) f loads (mark_marks book.colour f) in
     let watched : IsBetween 2 5 p → IsBetween 2 5 seat.answered → DeletionBarrier heap state.words book.colour seat.reached (field_part_of seat) (head_of seat.loaded)
     = subst (λ x. IsBetween 2 5 p → IsBetween 2 5 seat.answered → WhileAccess (FieldStands heap state.words book.colour seat) x) place stands.cycle.flight.set in
+    let comes : IsInMarking state.collector → seat.answered ≡ state.collector.phase → IsReachedNow heap state book f
+    = λ marks answered. of_some (IsReachedNow heap state book) (head_of seat.loaded) f loads (at_call (IsReachedNow heap state book) seat ShadingOld place (rule.marks_stand.roots number here marks answered)).1 in
+    let reached = λ (marks : IsInMarking state.collector) (roots : OfRoots (IsReachedNow heap state book) seat). (at_call (IsReachedNow heap state book) seat ShadingOld place roots).0 in
     let field : IsBetween 2 5 p → IsBetween 2 5 seat.answered → (x : ℕ)
     → WordPointsTo heap (words_shaded heap state book number rule here f head.index head.kept head.is) seat.reached (field_part_of seat) x → (None ≡ Some x) ⊎ IsMarked coloured x
     = λ making snapped x lead. elim (watched making snapped x (back x lead)) [
@@ -58,6 +63,6 @@ shade_old_keeps heap state book number rule here place machine =
     → Keeps heap (record state { words = words_shaded heap state book number rule here f head.index head.kept head.is; seats = slice_set state.seats number (shading seat seat.shaded (places.Access next)) }) book book.begun [])
     (register_head (new_register_of seat))
     (λ no_new. on Swapping (λ s. refl) (at_next Swapping, kept_at Swapping) (λ making snapped. field making snapped)
-    (λ making is_on. (marked, none_holds (IsMarked coloured) (register_head (new_register_of seat)) no_new)))
-    (λ x some. on ShadingNew (λ s. refl) (at_next ShadingNew, kept_at ShadingNew) field (λ making. marked))
+    (λ making is_on. (marked, none_holds (IsMarked coloured) (register_head (new_register_of seat)) no_new)) comes reached)
+    (λ x some. on ShadingNew (λ s. refl) (at_next ShadingNew, kept_at ShadingNew) field (λ making. marked) comes reached)
     machine

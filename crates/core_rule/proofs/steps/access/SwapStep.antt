@@ -51,6 +51,9 @@ use Rattle.core_rule.proofs.entries.PhaseEntries.{no_leave_told}
 use Rattle.core_rule.proofs.steps.ReplyStep.{reply_keeps}
 use Rattle.core_rule.proofs.entries.SeatLists.{all_told}
 use Rattle.core_rule.proofs.hand.StoredFrames.{SameUnkept}
+use Rattle.core_rule.proofs.frames.SeatFrames.{with_entry}
+use Rattle.core_rule.proofs.marking.Marks.{marks_off_way}
+use Rattle.core_rule.proofs.marking.SwapMarks.{leaves_swap}
 use Rattle.core_rule.proofs.cycle.SwapCycle.{heap_swapped, answer_swapped, leaves_swapped}
 use Rattle.core_rule.proofs.cycle.Unwatched.{cycle_apart}
 
@@ -170,3 +173,5 @@ swap_keeps heap state book number rule here place machine =
     (answer_swapped heap state book number rule here place cell.value cell.stamp (holds (source_of seat.command)) names.0 small word is_word number here) stands.cycle.births stands.cycle)
     refl (no_leave_told number number seat.command (replies.Was stamp) (λ leaves. subst IsSet leaves a_set)))
     (leaves_swapped heap state book number rule here place cell.value cell.stamp (holds (source_of seat.command)) names.0 small word is_word)
+    (marks_off_way heap state book rule number here (put heap state.words (Word seat.reached part) word) (with_entry book (entries.Said number seat.command (replies.Was stamp)))
+    (seat_after (swap_move number seat) found) (leaves_swap heap state book number rule here place cell.value cell.stamp (holds (source_of seat.command)) names.0 small word is_word) refl refl tt)

@@ -17,6 +17,7 @@ use Rattle.core_rule.proofs.steps.Assemble.{StepKeeps}
 use Rattle.core_rule.proofs.entries.AtRest.{seat_fits, in_flight, none_awaited}
 use Rattle.core_rule.proofs.graph.GraphRegisters.{registers_length}
 use Rattle.core_rule.proofs.graph.LocalReplies.{local_replies}
+use Rattle.core_rule.proofs.marking.CallRoots.{IsReachedNow, roots_over, local_heads}
 use Rattle.core_rule.proofs.steps.LocalStep.{local_reply_keeps}
 use Rattle.core_rule.proofs.entries.PhaseEntries.{no_leave_told}
 use Rattle.core_rule.proofs.entries.SeatLists.{all_told}
@@ -36,3 +37,5 @@ telling_keeps heap state book number rule here place machine =
     (λ i. stands.names.registers i (none_awaited seat.place places.Local (target_of seat.command) i place (λ none. none))) seat.command at_place.1 at_place.2)
     (no_leave_told number number seat.command (local_reply_of seat.registers seat.command) (λ leaves. subst (IsLocal seat.registers) leaves at_place.2))
     record { idle = refl; reserve = refl; mine = refl; answered = refl; asked = sym silent.none_asked; made = refl; sets = refl; left = refl }
+    (λ marks roots. roots_over (IsReachedNow heap state book) (seat_after (local_move number seat) (at heap state.words Phase)) tt
+    (local_heads (IsReachedNow heap state book) seat.registers (seat_fits rule number here).own.registers_whole roots.registers seat.command at_place.1 at_place.2))

@@ -1,5 +1,5 @@
 -- The begin of the next phase, once all have answered, keeps the rule.
-use Rattle.std.proofs.Common.{◌≡◌, ℕ, ◌+◌, ◌<◌, false, List, [], ◌∷◌, refl, sym, ap, ◌∙◌, subst, arith}
+use Rattle.std.proofs.Common.{◌≡◌, ℕ, ◌+◌, ◌<◌, Bool, true, false, List, [], ◌∷◌, refl, sym, ap, ◌∙◌, subst, arith, inl, inr}
 use Rattle.std.proofs.lemmas.List.Elements.{filter-append}
 use Rattle.heap_model.specs.declared.entry.Entry.TheVariants.{Advance}
 use Rattle.heap_model.specs.declared.heap.Heap.{Heap}
@@ -21,6 +21,9 @@ use Rattle.core_rule.specs.Colours.{WordPointsTo}
 use Rattle.core_rule.specs.Counts.{is_collectors}
 use Rattle.core_rule.specs.Cycle.{HeapInCycle}
 use Rattle.core_rule.specs.Rule.{Rule, HeapStands, SeatStands}
+use Rattle.core_rule.specs.Marking.{OfRoots}
+use Rattle.core_rule.specs.Paths.{IsReached}
+use Rattle.core_rule.proofs.marking.GoneRoots.{gone_roots}
 use Rattle.core_rule.proofs.entries.AtRest.{seat_fits}
 use Rattle.core_rule.proofs.words.Addresses.{at-put_apart}
 use Rattle.core_rule.proofs.steps.TurnSteps.{StageKeeps, TurnKeeps, turn_steps}
@@ -49,7 +52,7 @@ module _ (heap : Heap) (state : State) (book : Book) (rule : Rule heap state boo
   later = begun_phase book next
 
   has_looked : HasLooked heap.seats state.collector.phase state.collector.looked
-  has_looked = subst (FitsStage heap.seats state.collector.phase state.collector.looked) advancing rule.machine.collector_fit.at_stage
+  has_looked = subst (FitsStage heap state.collector.phase state.collector.looked) advancing rule.machine.collector_fit.at_stage
 
   early : phase book.history < 3
   early = omega (arith, has_looked.goes_on, rule.collector_stands.phase_told, rule.heap_stands.cycle.so_far)
@@ -98,6 +101,17 @@ module _ (heap : Heap) (state : State) (book : Book) (rule : Rule heap state boo
       (cycle_next heap state.words words book.owner book.colour (phase book.history) (last_answer r book.history) (has_left r book.history) r (seat_at state r) early
       (at-put_apart heap state.words Phase (Answer r) next (λ e. omega (arith, e))) leads_on (seat_fits rule r below) (all_answered r below) stands.cycle)) stands
 
+  -- no seat has answered the next phase
+  no_roots : (r : ℕ) → r < heap.seats → (seat_at state r).answered ≡ next → OfRoots (IsReached heap words book.owner book.colour) (seat_at state r)
+  no_roots r below answered = by (seat_at state r).left refl
+    where
+      by : (left : Bool) → (seat_at state r).left ≡ left → OfRoots (IsReached heap words book.owner book.colour) (seat_at state r)
+      by true left = gone_roots heap state book r rule below left (IsReached heap words book.owner book.colour)
+      by false present = elim ((rule.seats_stand r below).cycle.answers_told.near present) [
+        | inl same ↦ absurd (omega (arith, same, answered, told))
+        | inr before ↦ absurd (omega (arith, before, answered, told))
+      ]
+
   advance_kept : TurnKeeps heap state book (advance_turn state.collector)
   advance_kept machine =
       turn_steps heap state book words (collector_after (advance_turn state.collector) 0) later (Advance next ∷ []) rule machine refl heap_on
@@ -106,6 +120,16 @@ module _ (heap : Heap) (state : State) (book : Book) (rule : Rule heap state boo
         log = rw (filter-append is_collectors book.history (Advance next ∷ []), rule.collector_stands.log) refl;
         phase_told = told ∙ sym grown;
         looked = λ number none below present. absurd (omega (arith, none));
+      }
+      record {
+        heap_marks = record {
+          grey = rule.marks_stand.heap_marks.grey;
+          scan = tt;
+          pass = tt;
+          alive = λ goes_on. rule.marks_stand.heap_marks.alive (λ ended. absurd (cc (advancing, ended)));
+          after = λ ended. absurd (cc ended);
+        };
+        roots = λ r below marks answered. no_roots r below answered;
       }
 
 -- the begin of the next phase keeps the rule

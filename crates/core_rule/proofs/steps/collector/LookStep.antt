@@ -1,6 +1,6 @@
 -- The collector's look at a seat's answer keeps the rule.
 use Rattle.std.specs.Prelude.{if◌then◌else◌}
-use Rattle.std.proofs.Common.{◌≡◌, ℕ, suc, ◌+◌, ◌%◌, ◌<◌, ◌≤◌, Bool, true, false, List, inl, inr, refl, sym, ◌∙◌, subst, arith}
+use Rattle.std.proofs.Common.{◌≡◌, ◌≢◌, ℕ, suc, ◌+◌, ◌%◌, ◌<◌, ◌≤◌, Bool, true, false, List, inl, inr, refl, sym, ◌∙◌, subst, arith}
 use Rattle.std.proofs.lemmas.Bool.Decides.{eqb_tells, leb_tells}
 use Rattle.heap_words.specs.declared.phase.TheConstants.{LEFT}
 use Rattle.heap_model.specs.declared.entry.Entry.{Entry}
@@ -12,10 +12,13 @@ use Rattle.core_machine.specs.declared.collector.stage.Stage.TheVariants as stag
 use Rattle.core_machine.specs.collector.Collector.{Collector, has_answered_of, after_last_look, after_counted_look, after_look}
 use Rattle.core_machine.specs.seat.Fits.{FitsStage}
 use Rattle.core_machine.specs.table.Layout.{at}
-use Rattle.core_machine.specs.machine.Machine.{seat_at}
+use Rattle.core_machine.specs.machine.Machine.{State, seat_at}
+use Rattle.core_rule.specs.Book.{Book}
+use Rattle.core_rule.specs.Marking.{ScanStands, PassStands}
+use Rattle.core_rule.specs.Rule.{Rule, MarksStand}
 use Rattle.core_rule.specs.Phases.{CollectorAgrees}
 use Rattle.core_rule.proofs.steps.Assemble.{few_answers}
-use Rattle.core_rule.proofs.steps.TurnSteps.{StageKeeps, load_turns}
+use Rattle.core_rule.proofs.steps.TurnSteps.{StageKeeps, after_turn, load_turns}
 
 -- the word of a seat that hasn't left tells that it has answered the phase
 word_tells : (p answer : ℕ) → answer ≤ p → p ≤ 3 → has_answered_of p answer ≡ true → answer ≡ p
@@ -35,10 +38,10 @@ module _ (heap : Heap) (collector : Collector) (history : List Entry) (stands : 
   stands_seen : (stage : Stage) (looked : ℕ) → HasSeen looked → CollectorAgrees heap (record collector { stage = stage; looked = looked }) history
   stands_seen stage looked seen = record { log = stands.log; phase_told = stands.phase_told; looked = seen }
 
-  -- it looks from seat 0 again, or goes on to the next phase
+  -- it begins to mark, or goes on to the next phase
   all_seen : HasSeen heap.seats → CollectorAgrees heap (after_last_look heap collector) history
   all_seen all = elim (eqb_tells (collector.phase % 7) 3) as (λ _. CollectorAgrees heap (after_last_look heap collector) history) [
-    | inl third ↦ rw third.0 (stands_seen collector.stage 0 (λ number none below present. absurd (omega (arith, none))))
+    | inl third ↦ rw third.0 (stands_seen _ heap.seats all)
     | inr other ↦ rw other.0 (stands_seen _ heap.seats all)
   ]
 
@@ -66,13 +69,54 @@ module _ (heap : Heap) (collector : Collector) (history : List Entry) (stands : 
       by true seen = on_seen (seen refl)
       by false seen = stands
 
+module _ (heap : Heap) (state : State) (book : Book) (rule : Rule heap state book) (looking : state.collector.stage ≡ stages.Looking) where
+  abbrev MarksNow : Collector → Type 0
+  MarksNow collector = MarksStand heap (after_turn state state.words collector) book.owner book.colour book.fragments
+
+  -- of marking nothing changes, wherever it goes on
+  marks_at : (stage : Stage) (looked : ℕ) → stage ≢ stages.Marked → ScanStands heap state.words book.owner book.colour book.fragments stage → PassStands book.colour stage
+      → MarksNow (record state.collector { stage = stage; looked = looked })
+  marks_at stage looked goes_on scan pass = record {
+    heap_marks = record {
+      grey = rule.marks_stand.heap_marks.grey;
+      scan = scan;
+      pass = pass;
+      alive = λ still. rule.marks_stand.heap_marks.alive (λ ended. absurd (cc (looking, ended)));
+      after = λ ended. absurd (goes_on ended);
+    };
+    roots = λ r below marks answered. rule.marks_stand.roots r below record { phase = marks.phase; goes_on = λ ended. absurd (cc (looking, ended)) } answered;
+  }
+
+  marks_looking : (looked : ℕ) → MarksNow (record state.collector { looked = looked })
+  marks_looking looked = subst (λ stage. MarksNow (record state.collector { stage = stage; looked = looked })) (sym looking) (marks_at stages.Looking looked (λ e. cc) tt tt)
+
+  -- it begins to mark, or goes on to the next phase
+  marks_last : MarksNow (after_last_look heap state.collector)
+  marks_last = elim (eqb_tells (state.collector.phase % 7) 3) as (λ _. MarksNow (after_last_look heap state.collector)) [
+    | inl third ↦ rw third.0 (marks_at (stages.Passing 0 false) heap.seats (λ e. cc) tt (λ f grey. (f, grey, omega arith)))
+    | inr other ↦ rw other.0 (marks_at stages.Advancing heap.seats (λ e. cc) tt tt)
+  ]
+
+  marks_counted : MarksNow (after_counted_look heap state.collector)
+  marks_counted = elim (leb_tells (suc (state.collector.looked + 1)) heap.seats) as (λ _. MarksNow (after_counted_look heap state.collector)) [
+    | inl more ↦ rw more.0 (marks_looking (state.collector.looked + 1))
+    | inr done ↦ rw done.0 marks_last
+  ]
+
+  look_marks : (found : ℕ) → MarksNow (after_look heap state.collector found)
+  look_marks found = by (has_answered_of state.collector.phase found)
+    where
+      by : (b : Bool) → MarksNow (if b then after_counted_look heap state.collector else state.collector)
+      by true = marks_counted
+      by false = marks_looking state.collector.looked
+
 -- a look at a seat's answer keeps the rule
 pub look_keeps : StageKeeps stages.Looking
 look_keeps heap state book rule looking machine =
     let collector : Collector = state.collector in
     let number : ℕ = collector.looked in
     let found : ℕ = at heap state.words (Answer number) in
-    let below : number < heap.seats = subst (FitsStage heap.seats collector.phase number) looking rule.machine.collector_fit.at_stage in
+    let below : number < heap.seats = subst (FitsStage heap collector.phase number) looking rule.machine.collector_fit.at_stage in
     let stands = rule.seats_stand number below in
     let told = stands.cycle.answers_told in
     let early : phase book.history ≤ 3 = rule.heap_stands.cycle.so_far in
@@ -81,3 +125,4 @@ look_keeps heap state book rule looking machine =
     (subst (λ w. has_answered_of (phase book.history) w ≡ true) (told.word ∙ rw (sym told.leaves ∙ present) (sym told.told))
     (subst (λ p. has_answered_of p found ≡ true) rule.collector_stands.phase_told seen)) in
     load_turns heap state book (Answer number) (after_look heap collector found) rule machine (look_seen heap collector book.history rule.collector_stands found tells)
+    (look_marks heap state book rule looking found)

@@ -15,8 +15,8 @@ use Rattle.core_rule.specs.Book.{Book, Colour, Grey}
 use Rattle.core_rule.specs.Marking.{ScanStands, PassStands, MarkingStands}
 use Rattle.core_rule.specs.Phases.{CollectorAgrees}
 use Rattle.core_rule.specs.Rule.{Rule}
-use Rattle.core_rule.proofs.marking.GreyPlaces.{lowest_is_grey, pass_further, none_grey, pass_anew, scan_anew}
-use Rattle.core_rule.proofs.marking.Settled.{settled}
+use Rattle.core_rule.proofs.marking.GreyPlaces.{lowest_is_grey, pass_further, nothing_grey, pass_anew, scan_anew}
+use Rattle.core_rule.proofs.marking.Settled.{settled_book}
 use Rattle.core_rule.proofs.marking.SettledBook.{heap_settles, seat_settles, marking_settles}
 use Rattle.core_rule.proofs.steps.Assemble.{Keeps}
 use Rattle.core_rule.proofs.steps.TurnSteps.{StageKeeps, after_turn, quiet, load_turns, load_turns_with}
@@ -54,23 +54,23 @@ module _ (heap : Heap) (state : State) (book : Book) (rule : Rule heap state boo
 
   -- it ends where nothing is grey
   ends : ((f : ℕ) → book.colour f ≢ Grey) → KeepsAt stages.Marked
-  ends none machine = load_turns_with heap state book (Control group) (goes_to stages.Marked) (settled book) rule machine refl
+  ends none machine = load_turns_with heap state book (Control group) (goes_to stages.Marked) (settled_book book) rule machine refl
       (heap_settles heap state book rule passes.marks goes_on none) (seat_settles heap state book rule passes.marks goes_on none) (collector_at stages.Marked)
       record { heap_marks = marking_settles heap state book rule passes.marks goes_on none; roots = λ r below is. absurd (is.goes_on refl) }
 
   module _ (none : lowest_grey_of word ≡ None) where
     -- the last group was seen
-    after_last : heap.groups ≤ group + 1 → (some : Bool) → found ≡ some → KeepsAt (after_last_group some)
-    after_last last true is = goes_further (stages.Passing 0 false) (λ e. cc) tt (pass_anew book.colour)
-    after_last last false is =
-        ends (none_grey heap state.words book.colour group rule.machine.table passes.group_within rule.heap_stands.cycle.marks none last
+    behind_all : heap.groups ≤ group + 1 → (some : Bool) → found ≡ some → KeepsAt (after_last_group some)
+    behind_all last true is = goes_further (stages.Passing 0 false) (λ e. cc) tt (pass_anew book.colour)
+    behind_all last false is =
+        ends (nothing_grey heap state.words book.colour group rule.machine.table passes.group_within rule.heap_stands.cycle.marks none last
         (subst (λ b. PassStands book.colour (stages.Passing group b)) is marks.pass))
 
     after_none : KeepsAt (after_group heap group found)
     after_none = elim (leb_tells (suc (group + 1)) heap.groups) as (λ _. KeepsAt (after_group heap group found)) [
       | inl more ↦ rw more.0 (goes_further (stages.Passing (group + 1) found) (λ e. cc) tt
           (pass_further heap state.words book.colour group rule.machine.table passes.group_within rule.heap_stands.cycle.marks none found marks.pass))
-      | inr all ↦ rw all.0 (after_last (omega (arith, all.1)) found refl)
+      | inr all ↦ rw all.0 (behind_all (omega (arith, all.1)) found refl)
     ]
 
   passes_on : (place : Option ℕ) → lowest_grey_of word ≡ place → KeepsAt (after_pass heap group found place)

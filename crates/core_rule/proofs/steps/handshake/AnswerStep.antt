@@ -1,5 +1,5 @@
 -- The answer to a phase keeps the rule: it stands in the history, and so does the reply to the poll.
-use Rattle.std.proofs.Common.{◌≡◌, ◌≢◌, ℕ, ◌+◌, ◌<◌, true, false, List, [], ◌∷◌, ◌++◌, length, drop, inl, refl, sym, ap, ◌∙◌, arith, append_assoc, append-nil}
+use Rattle.std.proofs.Common.{◌≡◌, ◌≢◌, ℕ, ◌+◌, ◌%◌, ◌<◌, true, false, List, [], ◌∷◌, ◌++◌, length, drop, inl, refl, sym, ap, ◌∙◌, subst, arith, append_assoc, append-nil}
 use Rattle.std.proofs.lemmas.Bool.{eq-eqb}
 use Rattle.heap_model.specs.declared.command.Command.TheVariants as commands
 use Rattle.heap_model.specs.declared.entry.Entry.{Entry}
@@ -29,6 +29,13 @@ use Rattle.core_rule.specs.Counts.{CountsAgree}
 use Rattle.core_rule.specs.Cycle.{SeatInCycle}
 use Rattle.core_rule.specs.Phases.{Asks, answer_word}
 use Rattle.core_rule.specs.Rule.{Rule, HeapStands, SeatStands}
+use Rattle.core_rule.proofs.colours.LeadsFrames.{leads_apart, apart_leads}
+use Rattle.core_rule.proofs.lists.Options.{if_some}
+use Rattle.core_rule.specs.Colours.{IsMarked}
+use Rattle.core_rule.specs.Flight.{RootsStand, WhilePolling}
+use Rattle.core_rule.specs.Paths.{IsReached}
+use Rattle.core_machine.specs.seat.Registers.{register_in, register_head}
+use Rattle.core_rule.proofs.marking.Marks.{MarksGoOn, Leaves, leaves_words, heap_marks_on, comes_on}
 use Rattle.core_rule.proofs.entries.AnswerEntries.{graph_answer, graph_reply, phase_answer, accepts_reply, has_answered, keeps_answer, keeps_reply}
 use Rattle.core_rule.proofs.cycle.AnswerWords.{fragments_answer, heap_cycle_answer, leaves_answer}
 use Rattle.core_rule.proofs.steps.Assemble.{Keeps, seat_steps, StepKeeps}
@@ -199,9 +206,25 @@ module _ (heap : Heap) (state : State) (book : Book) (number : ℕ) (rule : Rule
       (cycle_stays heap state.words words book.owner book.owner book.colour book.colour (phase book.history) (last_answer r book.history) (has_left r book.history) r (seat_at state r)
       (leaves_answer heap state.words number p small book.owner book.colour (phase book.history) r apart) (watched_born heap state book rule r below) other.cycle) away) other)
 
+  -- the registers' objects were marked before it, and marking goes on
+  marks_on : MarksGoOn heap state book later words now
+  marks_on =
+      let leaves : Leaves heap state book rule words later
+      = leaves_words heap state book rule words (λ f part g leads. leads_apart heap state.words (Answer number) p f part g (λ e. omega (arith, e, small)) leads)
+      (λ f part g leads. apart_leads heap state.words (Answer number) p f part g (λ e. omega (arith, e, small)) leads) in
+      record {
+        heap_on = heap_marks_on heap state book rule words later leaves;
+        reached_on = comes_on heap state book rule words later leaves;
+        own_on = λ marks answered. record {
+          registers = λ r. if_some (IsMarked book.colour) (IsReached heap words book.owner book.colour) (λ f marked. inl marked) (register_head (register_in seat.registers r))
+              (subst (WhilePolling (RootsStand book.colour seat)) place (stands.cycle.flight.roots (subst (λ x. x % 7 ≡ 3) (sym answered) marks.phase)) r);
+          call = tt;
+        };
+      }
+
   -- the answer keeps the rule
   answer_kept : Keeps heap (state_after_move heap state number (answer_move number seat)) book book.begun (first ∷ second ∷ [])
-  answer_kept = seat_steps heap state book number words now later (first ∷ second ∷ []) rule here machine (append_assoc book.history (first ∷ []) (second ∷ [])) refl heap_later own_stands other_stands
+  answer_kept = seat_steps heap state book number words now later (first ∷ second ∷ []) rule here machine (append_assoc book.history (first ∷ []) (second ∷ [])) refl heap_later own_stands other_stands marks_on
 
 pub answer_keeps : StepKeeps (places.Polling Answering) (λ heap. answer_move)
 answer_keeps heap state book number rule here place machine = answer_kept heap state book number rule here place machine

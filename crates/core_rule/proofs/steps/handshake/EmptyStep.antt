@@ -25,7 +25,7 @@ use Rattle.core_rule.proofs.frames.SeatFrames.{registers_owners}
 use Rattle.core_rule.proofs.steps.Assemble.{seat_steps, StepKeeps}
 use Rattle.core_rule.proofs.entries.AtRest.{seat_fits, in_flight, own_reserve, none_awaited}
 use Rattle.core_rule.proofs.hand.EmptyHand.{nothing_together, gathers_none}
-use Rattle.core_rule.proofs.frames.GivingBack.{words_given, book_given, graph_given, kept_given, heap_given, cycle_given, other_given}
+use Rattle.core_rule.proofs.frames.GivingBack.{words_given, book_given, graph_given, kept_given, heap_given, cycle_given, other_given, marks_given}
 use Rattle.core_rule.proofs.entries.InFlight.{began_past}
 use Rattle.core_rule.proofs.entries.OwnEntries.{counts_own, own_grows}
 use Rattle.core_rule.proofs.hand.ReserveGiven.{reserve_held, reserve_once, holding_emptied, emptied_bits}
@@ -77,3 +77,4 @@ empty_keeps heap state book number rule here place machine =
       cycle = cycle_given heap state book number rule here seat.cursor fs below held once now record { answered = refl; left = refl; asked = refl } tt;
     }
     (other_given heap state book number rule here seat.cursor fs below held once)
+    (marks_given heap state book number rule here seat.cursor fs below held once now refl refl tt)

@@ -30,6 +30,13 @@ use Rattle.core_machine.specs.seat.Seat.{Seat}
 use Rattle.core_machine.proofs.table_lemmas.Addresses.{at-put_same}
 use Rattle.core_rule.specs.Objects.{Objects}
 use Rattle.core_rule.specs.Registers as regs
+use Rattle.core_rule.specs.Paths.{IsReached}
+use Rattle.core_rule.proofs.colours.LeadsFrames.{leads_apart, apart_leads}
+use Rattle.std.specs.Prelude.{IfSome}
+use Rattle.core_machine.specs.declared.seat.register.Register.{Register}
+use Rattle.core_machine.specs.seat.Registers.{register_head}
+use Rattle.core_rule.proofs.frames.SeatFrames.{with_entry}
+use Rattle.core_rule.proofs.marking.Marks.{MarksGoOn, Leaves, leaves_words, heap_marks_on, comes_on}
 use Rattle.core_rule.proofs.cycle.AnswerWords.{fragments_answer, heap_cycle_answer, leaves_answer}
 use Rattle.core_rule.proofs.steps.Assemble.{StepKeeps}
 use Rattle.core_rule.proofs.entries.AtRest.{seat_fits, in_flight, own_reserve, spent_own}
@@ -103,6 +110,23 @@ leave_keeps heap state book number rule here place machine =
       births = stands.cycle.births;
     }
     (λ r below apart. leaves_answer heap state.words number LEFT small book.owner book.colour (phase book.history) r apart)
+    (marks_on small left)
   where
+    -- no register holds an object then
+    marks_on : number < 16 → (left : Entry) → MarksGoOn heap state book (with_entry book left) (put heap state.words (Answer number) LEFT)
+        (seat_after (leave_move number (seat_at state number)) (at heap state.words (Answer number)))
+    marks_on small left =
+        let leaves : Leaves heap state book rule (put heap state.words (Answer number) LEFT) (with_entry book left)
+        = leaves_words heap state book rule (put heap state.words (Answer number) LEFT) (λ f part g leads. leads_apart heap state.words (Answer number) LEFT f part g (λ e. omega (arith, e, small)) leads)
+        (λ f part g leads. apart_leads heap state.words (Answer number) LEFT f part g (λ e. omega (arith, e, small)) leads) in
+        record {
+          heap_on = heap_marks_on heap state book rule (put heap state.words (Answer number) LEFT) (with_entry book left) leaves;
+          reached_on = comes_on heap state book rule (put heap state.words (Answer number) LEFT) (with_entry book left) leaves;
+          own_on = λ marks answered. record {
+            registers = λ r. subst (λ (h : Register). IfSome (register_head h) (IsReached heap (put heap state.words (Answer number) LEFT) book.owner book.colour)) (sym (all_nil registers.Nil 16 r)) tt;
+            call = tt;
+          };
+        }
+
     all_holds : (i : ℕ) {value : Value} → value ≡ values.Nil → regs.HoldsValue book.made book.owner book.fragments (get_or (replicate 16 registers.Nil) i registers.Nil) value
     all_holds i {value} is = subst (λ h. regs.HoldsValue book.made book.owner book.fragments h value) (sym (all_nil registers.Nil 16 i)) is

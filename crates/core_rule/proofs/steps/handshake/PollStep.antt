@@ -27,7 +27,9 @@ use Rattle.core_machine.proofs.table_lemmas.Addresses.{put-at}
 use Rattle.core_rule.specs.Book.{Book}
 use Rattle.core_rule.specs.Cycle.{SeatInCycle}
 use Rattle.core_rule.specs.Phases.{Asks, PollingStands}
+use Rattle.core_rule.specs.Paths.{IsReached}
 use Rattle.core_rule.specs.Rule.{Rule, SeatStands}
+use Rattle.core_rule.proofs.marking.Marks.{roots_off_way, leaves_words, marks_off_way}
 use Rattle.core_rule.proofs.steps.Assemble.{Keeps, seat_steps, StepKeeps}
 use Rattle.core_rule.proofs.cycle.Roots.{roots_marked}
 use Rattle.core_rule.proofs.entries.AtRest.{seat_fits, in_flight, none_awaited}
@@ -101,6 +103,7 @@ module _ (heap : Heap) (state : State) (book : Book) (number : ℕ) (rule : Rule
       (subst (λ c. IsLocalReply heap book.history g number book.made book.owner book.fragments c (replies.Phase found) seat.registers) (sym asks.1) local)
       (no_leave_told number number seat.command (replies.Phase found) (λ leaves. absurd (cc (leaves, asks.1))))
       record { idle = refl; reserve = refl; mine = refl; answered = refl; asked = sym asks.0.none_asked; made = refl; sets = refl; left = refl }
+      (λ marks. roots_off_way (IsReached heap state.words book.owner book.colour) seat (polled number seat found true) refl tt)
 
   -- it hasn't, so that it is one phase behind
   own_cycle : found ≢ seat.answered
@@ -139,7 +142,8 @@ module _ (heap : Heap) (state : State) (book : Book) (number : ℕ) (rule : Rule
         };
         cycle = own_cycle apart;
       }
-      (λ r below apart other. other)) machine
+      (λ r below apart other. other)
+      (marks_off_way heap state book rule number here state.words book next (leaves_words heap state book rule state.words (λ f part x leads. leads) (λ f part x leads. leads)) refl refl tt)) machine
 
 -- a poll's load keeps the rule
 pub poll_keeps : StepKeeps (places.Polling Asking) (λ heap. poll_move)

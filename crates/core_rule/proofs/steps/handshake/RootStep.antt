@@ -20,6 +20,8 @@ use Rattle.core_rule.specs.Flight.{RootsStand, WhilePolling}
 use Rattle.core_rule.specs.Gathers.{IsAnswered}
 use Rattle.core_rule.specs.Phases.{Asks, PollingStands, AnswerStands}
 use Rattle.core_rule.specs.Registers.{IsAwaited, HoldsValue}
+use Rattle.core_rule.specs.Paths.{IsReached}
+use Rattle.core_rule.proofs.marking.Marks.{roots_off_way}
 use Rattle.core_rule.proofs.steps.Assemble.{StepKeeps, seat_fits}
 use Rattle.core_rule.proofs.cycle.CycleFrames.{cycle_by_flight}
 use Rattle.core_rule.proofs.colours.Births.{births_stay}
@@ -77,3 +79,5 @@ root_keeps heap state book number rule here place machine =
           (front_more book.colour seat.registers seat.shaded front));
     }
     (births_stay book.owner book.owner book.colour (with_mark book.colour f) number seat.answered (λ x borne. (borne, borne_unshaded heap state book number rule here f head.index head.kept head.is number x borne)) stands.cycle.births) stands.cycle)
+    (λ marks answered. absurd (omega (arith, asks.next, asks.now, rule.collector_stands.phase_told, answered)))
+    (λ marks. roots_off_way (IsReached heap state.words book.owner book.colour) seat new refl tt)

@@ -13,6 +13,8 @@ use Rattle.core_machine.specs.seat.Seat.{Seat}
 use Rattle.core_machine.specs.machine.Value.{IsMachine}
 use Rattle.core_rule.specs.Book.{Book}
 use Rattle.core_rule.specs.Rule.{Rule}
+use Rattle.core_rule.specs.Paths.{IsReached}
+use Rattle.core_rule.proofs.marking.Marks.{roots_off_way}
 use Rattle.core_rule.proofs.steps.Assemble.{Keeps, seat_begins}
 use Rattle.core_rule.proofs.entries.AtRest.{seat_fits, none_awaited}
 use Rattle.core_rule.proofs.entries.Begins.{begins, began_now}
@@ -56,3 +58,5 @@ begin_keeps heap state book number command rule here may a_record machine =
       cycle = cycle_goes_on heap state.words state.words book.owner book.owner book.colour (phase book.history) (last_answer number book.history) (has_left number book.history) number (seat_at state number) next
           record { answered = same.answered; left = same.left; asked = same.asked } (rw stays.placed tt) refl (λ f borne. borne) stands.cycle;
     }
+    same.answered
+    (λ marks. roots_off_way (IsReached heap state.words book.owner book.colour) (seat_at state number) next same.registers (rw stays.placed tt))

@@ -21,7 +21,9 @@ use Rattle.core_rule.specs.Owners.{Owner, Borne, born_bit, owner_after}
 use Rattle.core_rule.specs.Rule.{Rule}
 use Rattle.core_rule.proofs.cycle.FieldFrames.{watched_born}
 use Rattle.core_rule.proofs.frames.SeatFrames.{same_party, told_nothing, kept_owners, seat_left, registers_owners}
-use Rattle.core_rule.proofs.steps.Assemble.{seat_steps, MoveKeeps, seat_fits}
+use Rattle.core_rule.proofs.marking.MakingMarks.{leaves_borne, dark_now}
+use Rattle.core_rule.proofs.marking.Marks.{marks_off_way}
+use Rattle.core_rule.proofs.steps.Assemble.{in_flight, seat_steps, MoveKeeps, seat_fits}
 use Rattle.core_rule.proofs.colours.Births.{birth_colour, births_are, are_births}
 use Rattle.core_rule.proofs.colours.BirthColours.{painted_cases}
 use Rattle.core_rule.proofs.cycle.BirthCycle.{words_born, colours_born, group_born, some_born, marks_born, heap_born}
@@ -113,3 +115,6 @@ birth_keeps heap state book number rule here place more machine =
       cycle = cycle_control heap state.words book.owner owner book.colour colour (phase book.history) (last_answer r book.history) (has_left r book.history) r (seat_at state r) g word below
           (omega (arith, under, rule.machine.limits.seats_fit)) marks (born_others book.owner book.colour part number black r apart) (watched_born heap state book rule r under) other.cycle;
     } other)
+    (marks_off_way heap state book rule number here words (record book { owner = owner; colour = colour }) (seat_after (birth_move seat) found)
+    (leaves_borne heap state book rule g word below (Borne number) part (λ f there. ap born_bit (held f there)) (λ i k e. cc) black
+    (dark_now heap state book rule number here (in_flight rule number here (λ idle. absurd (cc (place, idle)))))) refl refl (rw place tt))

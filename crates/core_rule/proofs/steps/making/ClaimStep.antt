@@ -30,6 +30,8 @@ use Rattle.core_rule.specs.Owners.{Owner, Free, Taken, Borne, Kept as KeepsPart,
 use Rattle.core_rule.specs.Together.{AreTogether}
 use Rattle.core_rule.proofs.cycle.FieldFrames.{watched_born}
 use Rattle.core_rule.proofs.frames.SeatFrames.{same_party, kept_owners, seat_left, registers_owners}
+use Rattle.core_rule.proofs.marking.MakingMarks.{leaves_handed}
+use Rattle.core_rule.proofs.marking.Marks.{marks_off_way}
 use Rattle.core_rule.proofs.steps.Assemble.{present_at, seat_steps, StepKeeps, seat_fits}
 use Rattle.core_rule.proofs.colours.BirthColours.{marks_claim}
 use Rattle.core_rule.proofs.hand.Bodies.{whole_empty}
@@ -158,3 +160,5 @@ claim_keeps heap state book number rule here place machine =
           (cycle_control heap state.words book.owner owner book.colour book.colour (phase book.history) (last_answer r book.history) (has_left r book.history) r (seat_at state r) g word below
           (omega (arith, under, rule.machine.limits.seats_fit)) (λ f marked. marked) (λ f borne. (borne_before (Taken number) book.owner fs r f holds_bears_none borne, refl)) (watched_born heap state book rule r under) other.cycle);
     } other)
+    (marks_off_way heap state book rule number here words (record book { history = history; owner = owner }) next
+    (leaves_handed heap state book rule g word below (Taken number) fs (λ f there. ap born_bit (free f there)) (λ i k e. cc) refl) same.answered same.registers (rw stays.placed tt))

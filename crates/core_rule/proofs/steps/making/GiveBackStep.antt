@@ -24,7 +24,7 @@ use Rattle.core_rule.proofs.hand.Bodies.{whole_empty}
 use Rattle.core_rule.proofs.hand.ClaimOrder.{together_gives}
 use Rattle.core_rule.proofs.words.ControlSteps.{give_back_bits}
 use Rattle.core_rule.proofs.gather.GatherSteps.{own_gives}
-use Rattle.core_rule.proofs.frames.GivingBack.{words_given, book_given, graph_given, kept_given, heap_given, cycle_given, other_given}
+use Rattle.core_rule.proofs.frames.GivingBack.{words_given, book_given, graph_given, kept_given, heap_given, cycle_given, other_given, marks_given}
 use Rattle.core_rule.proofs.hand.HandMoves.{hand_held, hand_once, part_held, part_once, held_within, holding_gives}
 use Rattle.core_rule.proofs.entries.InFlight.{awaits_none, tried_within, began_past, is_busy}
 use Rattle.core_rule.proofs.hand.MakingSeats.{first_within}
@@ -86,3 +86,4 @@ give_back_keeps heap state book number rule here place machine =
       cycle = cycle_given heap state book number rule here g part below held once now record { answered = refl; left = refl; asked = refl } tt;
     }
     (other_given heap state book number rule here g part below held once)
+    (marks_given heap state book number rule here g part below held once now refl refl tt)

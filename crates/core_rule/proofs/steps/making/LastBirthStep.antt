@@ -24,6 +24,7 @@ use Rattle.core_rule.specs.Book.{Book}
 use Rattle.core_rule.specs.Objects.{AreMade}
 use Rattle.core_rule.specs.Rule.{Rule}
 use Rattle.core_rule.proofs.cycle.FieldFrames.{watched_born}
+use Rattle.core_rule.proofs.marking.LastBirthMarks.{book_born, marks_made}
 use Rattle.core_rule.proofs.steps.Assemble.{present_at, seat_steps, MoveKeeps, seat_fits}
 use Rattle.core_rule.proofs.colours.Births.{birth_colour, AreBorne, births_are, are_births}
 use Rattle.core_rule.proofs.colours.BirthColours.{painted}
@@ -56,16 +57,6 @@ use Rattle.core_rule.proofs.frames.SeatFrames.{same_party, told_other, seat_left
 use Rattle.core_rule.proofs.entries.SeatLists.{making_list, whole_list}
 use Rattle.core_rule.proofs.hand.StoredFrames.{stored_control}
 use Rattle.core_rule.proofs.cycle.Unwatched.{cycle_apart}
-
--- the book after it: the object keeps its fragments, and has a number
-abbrev book_born : Book → ℕ → Seat → Book
-book_born book number seat = record book {
-  history = book.history ++ made_entry number seat ∷ [];
-  made = book.made ++ next_object_id number seat ∷ [];
-  owner = kept_by (length book.made) seat.body book.owner;
-  fragments = with_object book.fragments (length book.made) seat.body;
-  colour = painted (birth_colour (bears_black_of seat)) book.colour (last_part seat);
-}
 
 -- the last birth keeps the rule
 pub last_birth_keeps : (heap : Heap) (state : State) (book : Book) (number : ℕ) → Rule heap state book → number < heap.seats
@@ -172,3 +163,4 @@ last_birth_keeps heap state book number rule here place last machine =
           (omega (arith, less, rule.machine.limits.seats_fit)) marks
           (kept_borne book.owner book.colour number seat.reserve seat.hand body stands.own.holding some group (length book.made) last black births r) (watched_born heap state book rule r less) other.cycle) (of_other number r apart);
     } other)
+    (marks_made heap state book number rule here place last found)

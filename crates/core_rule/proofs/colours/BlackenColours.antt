@@ -1,0 +1,134 @@
+-- A fragment gets black: one scanned bit, and what becomes of the colours.
+use Rattle.std.specs.Int.{bit_at}
+use Rattle.std.specs.Prelude.{bit_or}
+use Rattle.std.proofs.Common.{◌≡◌, ◌≢◌, ◌⊎◌, ℕ, ◌+◌, ◌*◌, ◌/◌, ◌%◌, ◌<◌, ◌==◌, if◌then◌else◌, List, length, inl, inr, refl, sym, ap, ◌∙◌, subst, arith}
+use Rattle.std.proofs.lemmas.Bool.{eq-eqb}
+use Rattle.std.proofs.lemmas.Bool.Decides.{eqb_tells}
+use Rattle.std.proofs.lemmas.Nat.Bits.{bit_at_or, bit_at-pow_same, bit_at-pow_other, bit_at-lt}
+use Rattle.heap_words.specs.Control.{blacken_bit_of}
+use Rattle.heap_model.specs.declared.heap.Heap.{Heap}
+use Rattle.core_machine.specs.declared.table.address.Address.TheVariants.{Control}
+use Rattle.core_machine.specs.table.Layout.{at, put, table_length}
+use Rattle.core_rule.specs.Book.{Colour, White, Grey, Black}
+use Rattle.core_rule.specs.Colours.{Marks, IsMarked, WordPointsTo, Coloured, marked_bit, scanned_bit}
+use Rattle.core_rule.specs.ControlWords.{Bits}
+use Rattle.core_rule.specs.Owners.{Owner}
+use Rattle.core_rule.proofs.words.ControlLemmas.{bits_after, found_taken, found_born}
+use Rattle.core_rule.proofs.colours.LeadsFrames.{leads_control}
+use Rattle.core_rule.proofs.colours.MarkWords.{marks_after, found_marked, found_scanned}
+
+-- the colours with one fragment black
+abbrev pub with_scan : (ℕ → Colour) → ℕ → ℕ → Colour
+with_scan colour f x = if x == f then Black else colour x
+
+module _ (colour : ℕ → Colour) (f : ℕ) where
+  pub scan_here : with_scan colour f f ≡ Black
+  scan_here = rw (eq-eqb f f refl) refl
+
+  pub scan_away : (x : ℕ) → x ≢ f → with_scan colour f x ≡ colour x
+  scan_away x apart = elim (eqb_tells x f) as (λ _. with_scan colour f x ≡ colour x) [
+    | inl same ↦ absurd (apart same.1)
+    | inr other ↦ rw other.0 refl
+  ]
+
+  module _ (grey : colour f ≡ Grey) where
+    -- the same are marked
+    pub scan_keeps : (x : ℕ) → IsMarked colour x → IsMarked (with_scan colour f) x
+    scan_keeps x was white = elim (eqb_tells x f) [
+      | inl same ↦ let black : with_scan colour f x ≡ Black = subst (λ y. with_scan colour f y ≡ Black) (sym same.1) scan_here in absurd (cc (black, white))
+      | inr other ↦ was (sym (scan_away x other.1) ∙ white)
+    ]
+
+    pub scan_was : (x : ℕ) → IsMarked (with_scan colour f) x → IsMarked colour x
+    scan_was x now white = elim (eqb_tells x f) [
+      | inl same ↦ let both : colour f ≡ White = subst (λ y. colour y ≡ White) same.1 white in absurd (cc (both, grey))
+      | inr other ↦ now (scan_away x other.1 ∙ white)
+    ]
+
+  -- what is black now was so, or is the fragment
+  pub scan_black : (x : ℕ) → with_scan colour f x ≡ Black → (x ≡ f) ⊎ (colour x ≡ Black)
+  scan_black x black = elim (eqb_tells x f) as (λ _. (x ≡ f) ⊎ (colour x ≡ Black)) [
+    | inl same ↦ inl same.1
+    | inr other ↦ inr (sym (scan_away x other.1) ∙ black)
+  ]
+
+  -- what is grey now was so, and is another
+  pub scan_grey : (x : ℕ) → with_scan colour f x ≡ Grey → colour x ≡ Grey
+  scan_grey x grey = elim (eqb_tells x f) as (λ _. colour x ≡ Grey) [
+    | inl same ↦ let black : with_scan colour f x ≡ Black = subst (λ y. with_scan colour f y ≡ Black) (sym same.1) scan_here in absurd (cc (black, grey))
+    | inr other ↦ sym (scan_away x other.1) ∙ grey
+  ]
+
+-- the bits of a control word after a blacken
+module _ (word f x : ℕ) where
+  abbrev blackened : ℕ
+  blackened = bit_or word (blacken_bit_of f)
+
+  other_bit : (i : ℕ) → i ≢ 48 + f % 16 → bit_at blackened i ≡ bit_at word i
+  other_bit i apart = rw (bit_at_or word (blacken_bit_of f) i, bit_at-pow_other (48 + f % 16) i apart) (omega arith)
+
+  blacken_taken : bit_at blackened (x % 16) ≡ bit_at word (x % 16)
+  blacken_taken = other_bit (x % 16) (λ e. omega (arith, e))
+
+  pub blacken_born : bit_at blackened (16 + x % 16) ≡ bit_at word (16 + x % 16)
+  blacken_born = other_bit (16 + x % 16) (λ e. omega (arith, e))
+
+  blacken_marked : bit_at blackened (32 + x % 16) ≡ bit_at word (32 + x % 16)
+  blacken_marked = other_bit (32 + x % 16) (λ e. omega (arith, e))
+
+  blacken_other : x % 16 ≢ f % 16 → bit_at blackened (48 + x % 16) ≡ bit_at word (48 + x % 16)
+  blacken_other apart = other_bit (48 + x % 16) (λ e. apart (omega (arith, e)))
+
+blacken_scanned : (word f : ℕ) → bit_at (bit_or word (blacken_bit_of f)) (48 + f % 16) ≡ 1
+blacken_scanned word f = rw (bit_at_or word (blacken_bit_of f) (48 + f % 16), bit_at-pow_same (48 + f % 16)) (omega (arith, bit_at-lt word (48 + f % 16)))
+
+module _ (heap : Heap) (words : List ℕ) (owner : ℕ → Owner) (colour : ℕ → Colour) (f : ℕ) (whole : length words ≡ table_length heap) (within : f < 16 * heap.groups) (grey : colour f ≡ Grey) where
+  abbrev found : ℕ
+  found = at heap words (Control (f / 16))
+
+  abbrev pub black_words : List ℕ
+  black_words = put heap words (Control (f / 16)) (bit_or found (blacken_bit_of f))
+
+  below : f / 16 < heap.groups
+  below = omega (arith, within)
+
+  -- the control words have the same owners
+  pub bits_blacken : Bits heap words owner → Bits heap black_words owner
+  bits_blacken bits = bits_after heap words owner owner (f / 16) (bit_or found (blacken_bit_of f)) whole below bits
+      (λ x here. blacken_taken found f x ∙ found_taken heap words owner (f / 16) whole below bits x here)
+      (λ x here. blacken_born found f x ∙ found_born heap words owner (f / 16) whole below bits x here)
+      (λ x apart. refl) (λ x apart. refl) bits.outside
+
+  same_marked : (x : ℕ) → marked_bit (with_scan colour f x) ≡ marked_bit (colour x)
+  same_marked x = elim (eqb_tells x f) as (λ _. marked_bit (with_scan colour f x) ≡ marked_bit (colour x)) [
+    | inl same ↦ rw (same.1, scan_here colour f, grey) refl
+    | inr other ↦ ap marked_bit (scan_away colour f x other.1)
+  ]
+
+  scanned_now : Marks heap words colour → (x : ℕ) → x / 16 ≡ f / 16 → bit_at (bit_or found (blacken_bit_of f)) (48 + x % 16) ≡ scanned_bit (with_scan colour f x)
+  scanned_now marks x here = elim (eqb_tells x f) as (λ _. bit_at (bit_or found (blacken_bit_of f)) (48 + x % 16) ≡ scanned_bit (with_scan colour f x)) [
+    | inl same ↦ rw (same.1, scan_here colour f) (blacken_scanned found f)
+    | inr other ↦ blacken_other found f x (λ e. other.1 (omega (arith, e, here)))
+        ∙ found_scanned heap words colour colour (f / 16) 0 whole below marks x here ∙ ap scanned_bit (sym (scan_away colour f x other.1))
+  ]
+
+  -- and the new colours
+  pub marks_blacken : Marks heap words colour → Marks heap black_words (with_scan colour f)
+  marks_blacken marks = marks_after heap words colour (with_scan colour f) (f / 16) (bit_or found (blacken_bit_of f)) whole below marks
+      (λ x here. blacken_marked found f x ∙ found_marked heap words colour colour (f / 16) 0 whole below marks x here ∙ sym (same_marked x))
+      (scanned_now marks)
+      (λ x apart. scan_away colour f x (λ e. apart (ap (λ y. y / 16) e)))
+
+  -- which are right where it leads to marked fragments alone
+  pub coloured_blacken : (fragments : ℕ → List ℕ) (phase : ℕ) → phase % 7 ≡ 3 → ((part g : ℕ) → WordPointsTo heap words f part g → IsMarked colour g)
+      → Coloured heap words owner colour fragments phase → Coloured heap black_words owner (with_scan colour f) fragments phase
+  coloured_blacken fragments phase third seen stands = record {
+    rest = λ rests. absurd (omega (arith, third, rests));
+    early = λ one. absurd (omega (arith, third, one));
+    born = λ x now. stands.born x (scan_was colour f grey x now);
+    black = λ making x part g black leads. scan_keeps colour f grey g (elim (scan_black colour f x black) as (λ _. IsMarked colour g) [
+      | inl same ↦ seen part g (subst (λ y. WordPointsTo heap words y part g) same (leads_control heap words (f / 16) _ below x part g leads))
+      | inr was ↦ stands.black making x part g was (leads_control heap words (f / 16) _ below x part g leads)
+    ]);
+    first = λ making x i k keeps now. scan_keeps colour f grey _ (stands.first making x i k keeps (scan_was colour f grey x now));
+  }

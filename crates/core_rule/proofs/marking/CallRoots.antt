@@ -1,0 +1,108 @@
+-- The roots of a call: what its way and its registers lead to.
+use Rattle.std.proofs.Common.{◌≡◌, ℕ, ◌+◌, ◌-◌, ◌<◌, List, length, Some, IfSome, refl, sym, ap, ◌∙◌, subst, arith}
+use Rattle.heap_model.specs.declared.command.Command.{Command}
+use Rattle.heap_model.specs.declared.command.Command.TheVariants as commands
+use Rattle.heap_model.specs.declared.heap.Heap.{Heap}
+use Rattle.heap_model.specs.Command.{IsCommand}
+use Rattle.heap_model.specs.account.Cycles.{graph_of}
+use Rattle.heap_model.specs.graph.Graph.{Graph}
+use Rattle.core_machine.specs.declared.table.address.Address.TheVariants.{Word}
+use Rattle.core_machine.specs.declared.place.Access.{Access}
+use Rattle.core_machine.specs.declared.place.Place.TheVariants as places
+use Rattle.core_machine.specs.declared.seat.register.Register.{Register}
+use Rattle.core_machine.specs.declared.seat.register.Register.TheVariants as registers
+use Rattle.core_machine.specs.seat.Access.{access_start, row_of}
+use Rattle.core_machine.specs.seat.AccessMoves.{field_part_of}
+use Rattle.core_machine.specs.seat.Commands.{IsRecord, IsServed, field_of}
+use Rattle.core_machine.specs.seat.Fits.{IsLocal}
+use Rattle.core_machine.specs.seat.Local.{local_registers}
+use Rattle.core_machine.specs.seat.Registers.{register_in, register_head}
+use Rattle.core_machine.specs.seat.Seat.{Seat}
+use Rattle.core_machine.specs.table.Decode.{head_of, link_of}
+use Rattle.core_machine.specs.table.Layout.{at}
+use Rattle.core_machine.specs.machine.Machine.{State, seat_at, call_start}
+use Rattle.core_rule.specs.Book.{Book, fragment_at}
+use Rattle.core_rule.specs.Flight.{WhileAccess}
+use Rattle.core_rule.specs.Marking.{IsInMarking, AtCall, OfRoots}
+use Rattle.core_rule.specs.Objects.{cells_at}
+use Rattle.core_rule.specs.Owners.{born_bit}
+use Rattle.core_rule.specs.Paths.{IsReached}
+use Rattle.core_rule.specs.Rule.{Rule}
+use Rattle.core_rule.specs.Ways.{Finds}
+use Rattle.core_rule.proofs.cycle.Barriers.{field_lead, part_below}
+use Rattle.core_rule.proofs.entries.AtRest.{seat_fits}
+use Rattle.core_rule.proofs.marking.Marks.{IsOffWay, comes_further, roots_off_way}
+use Rattle.core_rule.proofs.marking.RegisterRoots.{OfHeads, heads_put}
+use Rattle.core_rule.proofs.ways.Chains.{chain_leads}
+use Rattle.core_rule.proofs.ways.KeptWords.{link_found, row_there}
+use Rattle.core_rule.proofs.ways.LoadedObjects.{KeptHead}
+
+module _ (P : ℕ → Type 0) where
+  -- what holds of the roots of a call holds of what it has reached and loaded
+  pub at_call : (seat : Seat) (place : Access) → seat.place ≡ places.Access place → OfRoots P seat → AtCall P seat place
+  at_call seat place placed roots = subst (WhileAccess (AtCall P seat)) placed roots.call
+
+  -- the call goes on with the registers that it had
+  pub roots_on_way : (seat next : Seat) (place : Access) → next.registers ≡ seat.registers → next.place ≡ places.Access place → AtCall P next place → OfRoots P seat → OfRoots P next
+  roots_on_way seat next place same placed call roots = record { registers = rw same roots.registers; call = subst (WhileAccess (AtCall P next)) (sym placed) call }
+
+  -- it is over: its registers' objects are all its roots
+  pub roots_over : (next : Seat) → IsOffWay next.place → OfHeads P next.registers → OfRoots P next
+  roots_over next off heads = roots_off_way P (record next { place = places.Idle }) next refl off record { registers = heads; call = tt }
+
+  -- a call that looks at no word puts no other object into a register
+  pub local_heads : (held : List Register) → length held ≡ 16 → OfHeads P held → (command : Command) → IsCommand command → IsLocal held command → OfHeads P (local_registers held command)
+  local_heads held whole heads (commands.Num d n) ranges local = heads_put P held d (registers.Number n) (omega (arith, whole, ranges.0.1)) tt heads
+  local_heads held whole heads (commands.Nil d) ranges local = heads_put P held d registers.Nil (omega (arith, whole, ranges.1)) tt heads
+  local_heads held whole heads (commands.Copy d r) ranges local = heads_put P held d (register_in held r) (omega (arith, whole, ranges.0.1)) (heads r) heads
+  local_heads held whole heads _ ranges local = heads
+
+  -- a call that begins reaches its register's object
+  start_roots : (seat : Seat) (held : Register) → OfHeads P seat.registers → IfSome (register_head held) P → OfRoots P (access_start seat held)
+  start_roots seat registers.Nil heads first = record { registers = heads; call = tt }
+  start_roots seat (registers.Number n) heads first = record { registers = heads; call = tt }
+  start_roots seat (registers.Object head id) heads first = record { registers = heads; call = first }
+
+  pub begin_roots : (heap : Heap) (seat : Seat) (command : Command) → (IsRecord command → ⊥) → IsServed command → OfHeads P seat.registers → OfRoots P (call_start heap seat command)
+  begin_roots heap seat (commands.Get d r i) other served heads = start_roots seat (register_in seat.registers r) heads (heads r)
+  begin_roots heap seat (commands.Set r i v) other served heads = start_roots seat (register_in seat.registers r) heads (heads r)
+  begin_roots heap seat (commands.Len r) other served heads = start_roots seat (register_in seat.registers r) heads (heads r)
+  begin_roots heap seat (commands.New d fields) other served heads = absurd (other tt)
+  begin_roots heap seat (commands.Array d cells) other served heads = absurd served
+  begin_roots heap seat commands.Collect other served heads = absurd served
+  begin_roots heap seat _ other served heads = record { registers = heads; call = tt }
+
+-- marking comes to the fragment
+abbrev pub IsReachedNow : Heap → State → Book → ℕ → Type 0
+IsReachedNow heap state book = IsReached heap state.words book.owner book.colour
+
+module _ (heap : Heap) (state : State) (book : Book) (number : ℕ) (rule : Rule heap state book) (here : number < heap.seats) where
+  abbrev seat : Seat
+  seat = seat_at state number
+
+  abbrev g : Graph
+  g = graph_of heap book.history
+
+  module _ (marks : IsInMarking state.collector) (comes : IsReachedNow heap state book seat.reached) where
+    -- so it comes to the next fragment of the way
+    pub link_comes : 0 < seat.links → Finds (cells_at g book.made) book.made book.owner book.fragments seat → IsReachedNow heap state book (link_of (at heap state.words (Word seat.reached 0)))
+    link_comes more finds =
+        let stands = rule.heap_stands in
+        let i : ℕ = finds.index in
+        let k : ℕ = row_of (field_of seat.command) - seat.links in
+        let there = row_there heap state.words g book.made book.owner book.fragments rule.machine.limits stands.control_words stands.ids stands.objects
+        i finds.way.below finds.way.kept (field_of seat.command) finds.within in
+        let next : k + 1 < length (book.fragments i) = omega (arith, more, there, finds.way.ahead) in
+        let found : link_of (at heap state.words (Word seat.reached 0)) ≡ fragment_at (book.fragments i) (k + 1)
+        = ap (λ f. link_of (at heap state.words (Word f 0))) finds.way.here
+        ∙ link_found heap state.words g book.made book.owner book.fragments rule.machine.limits stands.control_words stands.ids stands.objects i finds.way.below finds.way.kept k next in
+        subst (IsReachedNow heap state book) (sym found)
+        (comes_further heap state book rule marks (fragment_at (book.fragments i) k) 0 (fragment_at (book.fragments i) (k + 1))
+        (ap born_bit ((stands.objects.kept i finds.way.below finds.way.kept).owned (k + 1) next)) (subst (IsReachedNow heap state book) finds.way.here comes)
+        (chain_leads heap state.words g book.made book.owner book.fragments rule.machine.limits stands.control_words stands.ids stands.owners stands.objects i k finds.way.below finds.way.kept next))
+
+    -- and to the object that the call's field refers to
+    pub field_comes : (f : ℕ) → KeptHead book.made book.owner book.fragments f → head_of (at heap state.words (Word seat.reached (field_part_of seat))) ≡ Some f → IsReachedNow heap state book f
+    field_comes f head leads =
+        comes_further heap state book rule marks seat.reached (field_part_of seat) f (ap born_bit (ap book.owner head.is ∙ head.kept)) comes
+        record { within = (seat_fits rule number here).way.reached_within; below = part_below seat; to = field_lead seat (at heap state.words (Word seat.reached (field_part_of seat))) ∙ leads }

@@ -1,0 +1,106 @@
+-- An object is born and kept: what that leaves of marking, which comes to its first fragment.
+use Rattle.std.proofs.Common.{◌≡◌, ◌≢◌, ℕ, ◌+◌, ◌<◌, ◌≤◌, ◌%◌, true, false, List, [], ◌∷◌, ◌++◌, length, inl, refl, sym, ap, ◌∙◌, subst, arith, ◌*◌}
+use Rattle.heap_model.specs.declared.heap.Heap.{Heap}
+use Rattle.core_machine.specs.declared.place.Making.TheVariants.{Bearing}
+use Rattle.core_machine.specs.declared.place.Place.TheVariants as places
+use Rattle.core_machine.specs.declared.seat.register.Register.TheVariants as registers
+use Rattle.core_machine.specs.machine.Machine.{State, seat_at}
+use Rattle.core_machine.specs.Moves.{bears_black_of, last_part, made_entry, seat_after, is_last_birth, last_birth_move}
+use Rattle.core_machine.specs.seat.Commands.{target_of}
+use Rattle.core_machine.specs.seat.Making.{last_group_of, next_object_id}
+use Rattle.core_machine.specs.seat.Registers.{register_in, register_head}
+use Rattle.core_machine.specs.seat.Seat.{Seat}
+use Rattle.core_machine.specs.seat.Fits.{HasBody}
+use Rattle.core_machine.specs.table.Fragments.{tally}
+use Rattle.core_rule.specs.Book.{Book, White, Black, fragment_at}
+use Rattle.core_rule.specs.Colours.{IsMarked}
+use Rattle.core_rule.specs.Owners.{Owner, Kept, Dead, holds_bit, bears_bit, born_bit}
+use Rattle.core_rule.specs.Paths.{IsReached}
+use Rattle.core_rule.specs.Rule.{Rule}
+use Rattle.core_rule.proofs.colours.BirthColours.{painted}
+use Rattle.core_rule.proofs.colours.Births.{AreBorne, birth_colour, births_are}
+use Rattle.core_rule.proofs.colours.LastColours.{kept_bears, body_coloured}
+use Rattle.core_rule.proofs.cycle.BirthCycle.{words_born, group_born, some_born}
+use Rattle.core_rule.proofs.entries.AtRest.{seat_fits, in_flight}
+use Rattle.core_rule.proofs.marking.MakingMarks.{leaves_kept, dark_now}
+use Rattle.core_rule.proofs.marking.Marks.{MarksGoOn, Leaves, heap_marks_on, comes_on}
+use Rattle.core_rule.proofs.marking.RegisterRoots.{heads_put}
+use Rattle.core_rule.proofs.entries.RecordCommands.{ranges_made}
+use Rattle.core_rule.proofs.hand.Bodies.{body_own}
+use Rattle.core_rule.proofs.hand.HandMoves.{part_held}
+use Rattle.core_rule.proofs.lists.Members.{tally_at}
+use Rattle.core_rule.proofs.lists.Options.{if_some}
+use Rattle.core_rule.proofs.objects.NamesGrowth.{old_apart}
+use Rattle.core_rule.proofs.owners.Keeping.{kept_by, with_object}
+use Rattle.core_rule.proofs.owners.OwnerLemmas.{IsOwn, own_keeps_none}
+
+-- the book after it: the object keeps its fragments, and has a number
+abbrev pub book_born : Book → ℕ → Seat → Book
+book_born book number seat = record book {
+  history = book.history ++ made_entry number seat ∷ [];
+  made = book.made ++ next_object_id number seat ∷ [];
+  owner = kept_by (length book.made) seat.body book.owner;
+  fragments = with_object book.fragments (length book.made) seat.body;
+  colour = painted (birth_colour (bears_black_of seat)) book.colour (last_part seat);
+}
+
+-- what a seat has isn't to be freed
+own_undead : (number i k : ℕ) (o : Owner) → IsOwn number o → o ≢ Dead i k
+own_undead number i k o own is = let none : holds_bit number o + bears_bit number o ≡ 0 = ap (λ x. holds_bit number x + bears_bit number x) is in omega arith
+
+module _ (heap : Heap) (state : State) (book : Book) (number : ℕ) (rule : Rule heap state book) (here : number < heap.seats)
+    (place : (seat_at state number).place ≡ places.Making Bearing) (last : is_last_birth (seat_at state number) ≡ true) (found : ℕ) where
+  abbrev seat : Seat
+  seat = seat_at state number
+
+  abbrev now : Book
+  now = book_born book number seat
+
+  abbrev words : List ℕ
+  words = words_born heap state book number rule here place
+
+  at_place : HasBody seat × (0 < length seat.hand) × (length seat.hand ≤ length seat.body) × (seat.stored ≡ 4 * length seat.body)
+  at_place = rw place at (seat_fits rule number here).at_place
+
+  own : (f : ℕ) → 1 ≤ tally f seat.body → IsOwn number (book.owner f)
+  own f there = body_own book.owner number seat.reserve seat.hand seat.body (rule.seats_stand number here).own.holding f there
+
+  births : AreBorne book.owner book.colour number (bears_black_of seat)
+  births = births_are book.owner book.colour number seat (rule.seats_stand number here).cycle.births
+
+  present : seat.left ≡ false
+  present = in_flight rule number here (λ idle. absurd (cc (place, idle)))
+
+  leaves : Leaves heap state book rule words now
+  leaves =
+      leaves_kept heap state book rule (last_group_of seat.hand) _ (group_born heap state book number rule here place) (length book.made) seat.body (last_part seat) (bears_black_of seat)
+      (dark_now heap state book rule number here present)
+      (kept_bears book.owner book.colour number seat.reserve seat.hand seat.body (rule.seats_stand number here).own.holding (some_born heap state book number rule here place)
+      (last_group_of seat.hand) (length book.made) last (bears_black_of seat) births)
+      (λ f there. ap born_bit (part_held book.owner number seat.reserve seat.hand seat.body (rule.seats_stand number here).own.holding (last_group_of seat.hand) f there))
+      (λ f i k there. own_keeps_none number i k (book.owner f) (own f there)) (λ f i k there. own_undead number i k (book.owner f) (own f there))
+      (λ f i k keeps. old_apart book.made i (rule.heap_stands.objects.back f i k keeps).0)
+
+  -- its first fragment is black then
+  head_marked : state.collector.phase % 7 ≡ 3 → IsMarked now.colour (fragment_at seat.body 0)
+  head_marked third white =
+      let black : now.colour (fragment_at seat.body 0) ≡ birth_colour (bears_black_of seat)
+      = body_coloured book.owner book.colour number seat.reserve seat.hand seat.body (rule.seats_stand number here).own.holding (some_born heap state book number rule here place)
+      (last_group_of seat.hand) (length book.made) last (bears_black_of seat) births (fragment_at seat.body 0) (tally_at seat.body 0 (some_born heap state book number rule here place)) in
+      let dark : now.colour (fragment_at seat.body 0) ≡ Black = black ∙ ap birth_colour (dark_now heap state book rule number here present third) in
+      absurd (cc (white, dark))
+
+  -- so marking goes on
+  pub marks_made : MarksGoOn heap state book now words (seat_after (last_birth_move number seat) found)
+  marks_made = record {
+    heap_on = heap_marks_on heap state book rule words now leaves;
+    reached_on = comes_on heap state book rule words now leaves;
+    own_on = λ marks answered. record {
+      registers = heads_put (IsReached heap words now.owner now.colour) seat.registers (target_of seat.command) _
+          (omega (arith, (seat_fits rule number here).own.registers_whole, (ranges_made seat.command at_place.0.makes.a_record at_place.0.makes.in_range).1))
+          (inl (head_marked marks.phase))
+          (λ r. if_some (IsReached heap state.words book.owner book.colour) (IsReached heap words now.owner now.colour) (comes_on heap state book rule words now leaves marks)
+          (register_head (register_in seat.registers r)) ((rule.marks_stand.roots number here marks answered).registers r));
+      call = tt;
+    };
+  }

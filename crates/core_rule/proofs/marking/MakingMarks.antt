@@ -1,0 +1,140 @@
+-- What the making of an object leaves of marking: fragments that no object has come and go, and are born black while it goes on.
+use Rattle.std.proofs.Common.{◌⊎◌, ◌≡◌, ◌≢◌, ℕ, ◌+◌, ◌*◌, ◌%◌, ◌<◌, ◌≤◌, Bool, true, false, List, length, inl, inr, refl, sym, ap, ◌∙◌, subst, arith}
+use Rattle.heap_model.specs.declared.heap.Heap.{Heap}
+use Rattle.heap_model.specs.account.PhaseCounts.{phase}
+use Rattle.core_machine.specs.declared.table.address.Address.TheVariants.{Control, Word}
+use Rattle.core_machine.specs.machine.Machine.{State, seat_at}
+use Rattle.core_machine.specs.Moves.{bears_black_of}
+use Rattle.core_machine.specs.seat.Seat.{Seat}
+use Rattle.core_machine.specs.table.Fragments.{tally}
+use Rattle.core_machine.specs.table.Layout.{at, put}
+use Rattle.core_rule.specs.Book.{Book, Colour, White, Grey, Black}
+use Rattle.core_rule.specs.Colours.{WordPointsTo, IsBetween}
+use Rattle.core_rule.specs.Owners.{Owner, Kept, Dead, born_bit, owner_after}
+use Rattle.core_rule.specs.Phases.{IsNear}
+use Rattle.core_rule.specs.Rule.{Rule}
+use Rattle.core_rule.proofs.colours.BirthColours.{painted, painted_in, painted_out, painted_cases}
+use Rattle.core_rule.proofs.colours.Births.{birth_colour}
+use Rattle.core_rule.proofs.colours.LeadsFrames.{leads_same, leads_control, control_leads}
+use Rattle.core_rule.proofs.cycle.Barriers.{window_black}
+use Rattle.core_rule.proofs.marking.MarkingFrames.{LeavesMarking}
+use Rattle.core_rule.proofs.owners.Handed.{handed_cases, handed_out, none_or_some}
+use Rattle.core_rule.proofs.owners.OwnerLemmas.{born_once}
+use Rattle.core_rule.proofs.owners.Keeping.{kept_by, with_object, object_old, kept_cases, kept_stays}
+use Rattle.core_rule.proofs.words.Addresses.{fragment_other}
+
+-- what is kept, or is to be freed, is born
+kept_born : (o : Owner) (i k : ℕ) → o ≡ Kept i k → born_bit o ≡ 1
+kept_born o i k is = ap born_bit is
+
+dead_born : (o : Owner) (i k : ℕ) → o ≡ Dead i k → born_bit o ≡ 1
+dead_born o i k is = ap born_bit is
+
+-- a birth makes nothing grey
+never_grey : (black : Bool) → birth_colour black ≢ Grey
+never_grey true is = cc
+never_grey false is = cc
+
+-- in the phase of marking births are black
+pub black_now : (phase : ℕ) (seat : Seat) → phase % 7 ≡ 3 → IsNear phase seat.answered → bears_black_of seat ≡ true
+black_now phase seat third near = window_black seat (elim near [
+  | inl same ↦ record { from = omega (arith, third, same); upto = omega (arith, third, same) }
+  | inr before ↦ record { from = omega (arith, third, before); upto = omega (arith, third, before) }
+])
+
+module _ (heap : Heap) (state : State) (book : Book) (rule : Rule heap state book) where
+  abbrev marks : Type 0
+  marks = state.collector.phase % 7 ≡ 3
+
+  -- nothing that isn't born is grey
+  unborn_grey : (f : ℕ) → born_bit (book.owner f) ≡ 0 → book.colour f ≢ Grey
+  unborn_grey f unborn grey = let born = rule.heap_stands.cycle.coloured.born f (λ white. absurd (cc (grey, white))) in omega (arith, unborn, born)
+
+  -- so what a seat bears then is black
+  pub dark_now : (number : ℕ) (here : number < heap.seats) → (seat_at state number).left ≡ false → marks → bears_black_of (seat_at state number) ≡ true
+  dark_now number here present third =
+      black_now (phase book.history) (seat_at state number) (subst (λ p. p % 7 ≡ 3) rule.collector_stands.phase_told third) ((rule.seats_stand number here).cycle.answers_told.near present)
+
+  module _ (g n : ℕ) (below : g < heap.groups) (o : Owner) (fs : List ℕ) (unborn : (f : ℕ) → 1 ≤ tally f fs → born_bit (book.owner f) ≡ 0) (undead : (i k : ℕ) → o ≢ Dead i k) where
+    abbrev later : ℕ → Owner
+    later = owner_after o book.owner fs
+
+    stays : (P : Owner → Type 0) (f : ℕ) → born_bit (book.owner f) ≡ 1 → P (book.owner f) → P (later f)
+    stays P f born holds = handed_cases P o book.owner fs f (λ there. absurd (omega (arith, born, unborn f there))) (λ away. holds)
+
+    was_dead : (f i k : ℕ) → later f ≡ Dead i k → book.owner f ≡ Dead i k
+    was_dead f i k = handed_cases (λ x. x ≡ Dead i k → book.owner f ≡ Dead i k) o book.owner fs f (λ there is. absurd (undead i k is)) (λ away is. is)
+
+    -- they go to nobody or to a seat that hasn't borne them
+    pub leaves_handed : born_bit o ≡ 0 → LeavesMarking heap state.words (put heap state.words (Control g) n) book.owner later book.colour book.colour book.fragments book.fragments marks
+    leaves_handed none = record {
+      born = λ f born. (stays (λ x. born_bit x ≡ 1) f born born, refl);
+      kept = λ f i k is. (stays (λ x. x ≡ Kept i k) f (kept_born (book.owner f) i k is) is, refl);
+      dead = λ f i k is. stays (λ x. x ≡ Dead i k) f (dead_born (book.owner f) i k is) is;
+      was_dead = was_dead;
+      fresh = unborn_grey;
+      dark = λ marks f fresh. handed_cases (λ x. born_bit x ≡ 1 → book.colour f ≡ Black) o book.owner fs f (λ there born. absurd (omega (arith, born, none))) (λ away born. absurd (omega (arith, born, fresh)));
+      back = λ marks f part x born leads. inl (leads_control heap state.words g n below f part x leads);
+      on = λ marks f part x born leads. inl (control_leads heap state.words g n below f part x leads);
+    }
+
+    -- they are born, and not yet an object's
+    pub leaves_borne : (black : Bool) → (marks → black ≡ true)
+        → LeavesMarking heap state.words (put heap state.words (Control g) n) book.owner later book.colour (painted (birth_colour black) book.colour fs) book.fragments book.fragments marks
+    leaves_borne black dark = record {
+      born = λ f born. (stays (λ x. born_bit x ≡ 1) f born born, painted_cases (λ c. c ≡ book.colour f) (birth_colour black) book.colour fs f (λ there. absurd (omega (arith, born, unborn f there))) (λ away. refl));
+      kept = λ f i k is. (stays (λ x. x ≡ Kept i k) f (kept_born (book.owner f) i k is) is, refl);
+      dead = λ f i k is. stays (λ x. x ≡ Dead i k) f (dead_born (book.owner f) i k is) is;
+      was_dead = was_dead;
+      fresh = λ f fresh. painted_cases (λ c. c ≢ Grey) (birth_colour black) book.colour fs f (λ there. never_grey black) (λ away. unborn_grey f fresh);
+      dark = λ marks f fresh born. elim (in_or_out f) as (λ _. painted (birth_colour black) book.colour fs f ≡ Black) [
+        | inl there ↦ painted_in (birth_colour black) book.colour fs f there ∙ ap birth_colour (dark marks)
+        | inr away ↦ absurd (omega (arith, fresh, subst (λ x. born_bit x ≡ 1) (kept_out f away) born))
+      ];
+      back = λ marks f part x born leads. inl (leads_control heap state.words g n below f part x leads);
+      on = λ marks f part x born leads. inl (control_leads heap state.words g n below f part x leads);
+    }
+      where
+        in_or_out : (f : ℕ) → (1 ≤ tally f fs) ⊎ (tally f fs ≡ 0)
+        in_or_out f = elim (none_or_some (tally f fs)) as (λ _. (1 ≤ tally f fs) ⊎ (tally f fs ≡ 0)) [ inl none ↦ inr none | inr some ↦ inl some ]
+        kept_out : (f : ℕ) → tally f fs ≡ 0 → later f ≡ book.owner f
+        kept_out f away = handed_out o book.owner fs f away
+
+  -- a word of a fragment that isn't born is written
+  pub leaves_stored : (f part word : ℕ) → part < 4 → born_bit (book.owner f) ≡ 0
+      → LeavesMarking heap state.words (put heap state.words (Word f part) word) book.owner book.owner book.colour book.colour book.fragments book.fragments marks
+  leaves_stored f part word fits unborn = record {
+    born = λ x born. (born, refl);
+    kept = λ x i k is. (is, refl);
+    dead = λ x i k is. is;
+    was_dead = λ x i k is. is;
+    fresh = unborn_grey;
+    dark = λ marks x fresh born. absurd (omega (arith, fresh, born));
+    back = λ marks x p g born leads. inl (leads_same heap state.words (put heap state.words (Word f part) word) x p g (elsewhere x p born leads.below) leads);
+    on = λ marks x p g born leads. inl (leads_same heap (put heap state.words (Word f part) word) state.words x p g (sym (elsewhere x p born leads.below)) leads);
+  }
+    where
+      elsewhere : (x p : ℕ) → born_bit (book.owner x) ≡ 1 → p < 4 → at heap (put heap state.words (Word f part) word) (Word x p) ≡ at heap state.words (Word x p)
+      elsewhere x p born below = fragment_other heap state.words word f part x p fits below
+          (λ same. let bit : born_bit (book.owner x) ≡ born_bit (book.owner f) = ap (λ y. born_bit (book.owner y)) same in omega (arith, bit, born, unborn))
+
+  -- a seat's object is born, and keeps its fragments
+  pub leaves_kept : (g n : ℕ) → g < heap.groups → (number : ℕ) (body fs : List ℕ) (black : Bool) → (marks → black ≡ true)
+      → ((f : ℕ) → born_bit (kept_by number body book.owner f) ≡ born_bit (book.owner f) + tally f fs) → ((f : ℕ) → 1 ≤ tally f fs → born_bit (book.owner f) ≡ 0)
+      → ((f i k : ℕ) → 1 ≤ tally f body → book.owner f ≢ Kept i k) → ((f i k : ℕ) → 1 ≤ tally f body → book.owner f ≢ Dead i k) → ((f i k : ℕ) → book.owner f ≡ Kept i k → i ≢ number)
+      → LeavesMarking heap state.words (put heap state.words (Control g) n) book.owner (kept_by number body book.owner) book.colour (painted (birth_colour black) book.colour fs)
+      book.fragments (with_object book.fragments number body) marks
+  leaves_kept g n below number body fs black dark bears unborn unkept undead apart = record {
+    born = λ f born. (omega (arith, bears f, born, born_once (kept_by number body book.owner f)),
+        painted_cases (λ c. c ≡ book.colour f) (birth_colour black) book.colour fs f (λ there. absurd (omega (arith, born, unborn f there))) (λ away. refl));
+    kept = λ f i k is. (kept_stays number body book.owner unkept f i k is, object_old book.fragments number body i (apart f i k is));
+    dead = λ f i k is. kept_cases number body book.owner (λ x. x ≡ Dead i k) f (λ there. absurd (undead f i k there is)) (λ away. is);
+    was_dead = λ f i k. kept_cases number body book.owner (λ x. x ≡ Dead i k → book.owner f ≡ Dead i k) f (λ there is. absurd (no_dead f is)) (λ away is. is);
+    fresh = λ f fresh. painted_cases (λ c. c ≢ Grey) (birth_colour black) book.colour fs f (λ there. never_grey black) (λ away. unborn_grey f fresh);
+    dark = λ marks f fresh born. painted_in (birth_colour black) book.colour fs f (omega (arith, bears f, fresh, born)) ∙ ap birth_colour (dark marks);
+    back = λ marks f part x born leads. inl (leads_control heap state.words g n below f part x leads);
+    on = λ marks f part x born leads. inl (control_leads heap state.words g n below f part x leads);
+  }
+    where
+      no_dead : {j m i k : ℕ} (f : ℕ) → Kept j m ≢ Dead i k
+      no_dead f is = cc

@@ -1,0 +1,54 @@
+-- A seat marks a kept object's fragment: its step leaves marking.
+use Rattle.std.specs.Prelude.{bit_or}
+use Rattle.std.proofs.Common.{◌≡◌, ℕ, ◌*◌, ◌/◌, ◌<◌, List, false, refl, sym, ◌∙◌, arith}
+use Rattle.heap_model.specs.declared.heap.Heap.{Heap}
+use Rattle.core_machine.specs.declared.collector.stage.Stage.TheVariants as stages
+use Rattle.core_machine.specs.declared.table.address.Address.TheVariants.{Control}
+use Rattle.core_machine.specs.collector.FitsTurns.{FitsStage, IsPassing}
+use Rattle.core_machine.specs.machine.Machine.{State, seat_at}
+use Rattle.core_machine.specs.seat.Seat.{Seat}
+use Rattle.core_machine.specs.table.Layout.{at, put}
+use Rattle.core_machine.specs.table.Operation.{shade_bit_of}
+use Rattle.core_rule.specs.Book.{Book}
+use Rattle.core_rule.specs.Colours.{WordPointsTo}
+use Rattle.core_rule.specs.Marking.{IsPart, IsInMarking}
+use Rattle.core_rule.specs.Paths.{IsReached}
+use Rattle.core_rule.specs.Rule.{Rule}
+use Rattle.core_rule.proofs.colours.LeadsFrames.{leads_control, control_leads}
+use Rattle.core_rule.proofs.colours.ShadeColours.{with_mark}
+use Rattle.core_rule.proofs.marking.Marks.{MarksGoOn, RootsGoOn, roots_more, all_answered}
+use Rattle.core_rule.proofs.marking.Paths.{shade_reached}
+use Rattle.core_rule.proofs.marking.ShadeMarks.{marking_shaded}
+
+module _ (heap : Heap) (state : State) (book : Book) (rule : Rule heap state book) (f : ℕ) (within : f < 16 * heap.groups) where
+  abbrev words_marked : List ℕ
+  words_marked = put heap state.words (Control (f / 16)) (bit_or (at heap state.words (Control (f / 16))) (shade_bit_of f))
+
+  group_below : f / 16 < heap.groups
+  group_below = omega (arith, within)
+
+  pub leads_back : (x part g : ℕ) → WordPointsTo heap words_marked x part g → WordPointsTo heap state.words x part g
+  leads_back x part g leads = leads_control heap state.words (f / 16) _ group_below x part g leads
+
+  pub leads_on : (x part g : ℕ) → WordPointsTo heap state.words x part g → WordPointsTo heap words_marked x part g
+  leads_on x part g leads = control_leads heap state.words (f / 16) _ group_below x part g leads
+
+  -- marking comes to all that it came to
+  pub comes_shaded : (x : ℕ) → IsReached heap state.words book.owner book.colour x → IsReached heap words_marked book.owner (with_mark book.colour f) x
+  comes_shaded = shade_reached heap state.words words_marked book.owner book.colour f leads_on
+
+  -- where it comes to the fragment, all of it goes on
+  pub marks_shaded : (number : ℕ) (here : number < heap.seats) (next : Seat) → IsPart book.owner f → (seat_at state number).left ≡ false → next.answered ≡ (seat_at state number).answered
+      → (IsInMarking state.collector → (seat_at state number).answered ≡ state.collector.phase → IsReached heap state.words book.owner book.colour f)
+      → RootsGoOn heap state book rule number here next → MarksGoOn heap state book (record book { colour = with_mark book.colour f }) words_marked next
+  marks_shaded number here next part present same comes roots = record {
+    heap_on = marking_shaded heap state.words words_marked book.owner book.colour book.fragments f part leads_back state.collector.stage passing rule.marks_stand.heap_marks;
+    reached_on = λ marks. comes_shaded;
+    own_on = λ marks answered. roots_more (IsReached heap state.words book.owner book.colour) (IsReached heap words_marked book.owner (with_mark book.colour f)) comes_shaded next
+        (roots marks (rule.marks_stand.roots number here marks (sym same ∙ answered)));
+  }
+    where
+      passing : (group : ℕ) → state.collector.stage ≡ stages.Passing group false → IsReached heap state.words book.owner book.colour f
+      passing group is =
+          let fits : IsPassing heap state.collector.phase state.collector.looked group = rw is at rule.machine.collector_fit.at_stage in
+          comes record { phase = fits.marks.for_marking; goes_on = λ ended. absurd (cc (is, ended)) } (all_answered heap state book rule fits.marks.all number here present)
