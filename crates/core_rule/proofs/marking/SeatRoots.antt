@@ -1,5 +1,5 @@
 -- Where nothing is grey, each seat's roots are marked: those of a seat that has answered the phase, and one that has left has none.
-use Rattle.std.proofs.Common.{◌≡◌, ◌≢◌, ℕ, ◌<◌, ◌%◌, Bool, true, false, IfSome, refl, sym, ◌∙◌, subst, arith}
+use Rattle.std.proofs.Common.{◌≡◌, ◌≢◌, ℕ, ◌<◌, Bool, true, false, IfSome, refl, sym, ◌∙◌, subst, arith}
 use Rattle.heap_model.specs.declared.heap.Heap.{Heap}
 use Rattle.heap_model.specs.account.PhaseCounts.{phase}
 use Rattle.core_machine.specs.collector.FitsTurns.{IsMarking}
@@ -11,8 +11,8 @@ use Rattle.core_machine.specs.machine.Machine.{State, seat_at}
 use Rattle.core_machine.specs.seat.Fits.{FitsWay}
 use Rattle.core_machine.specs.seat.Seat.{Seat}
 use Rattle.core_machine.specs.table.Decode.{head_of}
-use Rattle.core_rule.specs.Book.{Book, Colour, Grey}
-use Rattle.core_rule.specs.Colours.{IsMarked, IsBetween}
+use Rattle.core_rule.specs.Book.{Book, Grey}
+use Rattle.core_rule.specs.Colours.{IsMarked}
 use Rattle.core_rule.specs.Flight.{ShadedStands, WhileAccess}
 use Rattle.core_rule.specs.Marking.{AtCall, OfRoots}
 use Rattle.core_rule.specs.Paths.{IsReached}

@@ -1,5 +1,5 @@
 -- The rule's parts for the book once marking has ended.
-use Rattle.std.proofs.Common.{◌≡◌, ◌≢◌, ℕ, ◌<◌, ◌≤◌, ◌%◌, Bool, true, false, List, drop, inl, inr, refl, sym, ap, ◌∙◌, subst, arith}
+use Rattle.std.proofs.Common.{◌≡◌, ◌≢◌, ℕ, ◌<◌, ◌≤◌, ◌%◌, Bool, true, false, drop, inl, inr, refl, sym, ap, ◌∙◌, subst, arith}
 use Rattle.heap_model.specs.declared.heap.Heap.{Heap}
 use Rattle.heap_model.specs.account.Cycles.{graph_of}
 use Rattle.heap_model.specs.account.PhaseCounts.{phase}
@@ -9,9 +9,9 @@ use Rattle.core_machine.specs.machine.Machine.{State, seat_at}
 use Rattle.core_machine.specs.seat.Fits.{IsAtRest}
 use Rattle.core_machine.specs.seat.Seat.{Seat}
 use Rattle.core_machine.specs.table.Fragments.{tally}
-use Rattle.core_rule.specs.Book.{Book, Colour, White, Grey}
+use Rattle.core_rule.specs.Book.{Book, White, Grey}
 use Rattle.core_rule.specs.Marking.{AfterMarking, MarkingStands}
-use Rattle.core_rule.specs.Owners.{Owner, Borne, Kept, Dead, taken_bit, free_bit, born_bit, holds_bit, bears_bit}
+use Rattle.core_rule.specs.Owners.{Owner, Borne, Kept, Dead, IsSeated, IsBoards, taken_bit, free_bit, born_bit, holds_bit, bears_bit}
 use Rattle.core_rule.specs.Paths.{IsWhite}
 use Rattle.core_rule.specs.Objects.{cells_at}
 use Rattle.core_rule.specs.Rule.{Rule, HeapStands, SeatStands}
@@ -23,7 +23,7 @@ use Rattle.core_rule.proofs.gather.GatherMoves.{gathers_same}
 use Rattle.core_rule.proofs.hand.HandMoves.{holding_stays}
 use Rattle.core_rule.proofs.owners.Seated.{borne_by_seat}
 use Rattle.core_rule.proofs.marking.SeatRoots.{answered_marking, all_roots_marked, loaded_marked}
-use Rattle.core_rule.proofs.marking.Settled.{settled_owner, settled_book, settled_same, settled_seated, settled_boards, settled_was, settled_dead, settled_borne, settled_white}
+use Rattle.core_rule.proofs.marking.Settled.{settled_owner, settled_book, settled_holds, settled_same, settled_was, settled_dead, settled_borne, settled_white}
 use Rattle.core_rule.proofs.marking.SettledObjects.{objects_later}
 use Rattle.core_rule.proofs.marking.SettledSeats.{holds_later, ways_later, awaits_later}
 
@@ -50,8 +50,8 @@ module _ (heap : Heap) (state : State) (book : Book) (rule : Rule heap state boo
           outside = λ f past. ap (λ o. settled_owner o (book.colour f)) (stands.control_words.outside f past);
         };
         owners = record {
-          seated = λ f. settled_seated heap.seats (book.owner f) (book.colour f) (stands.owners.seated f);
-          board = settled_boards (book.owner 0) (book.colour 0) stands.owners.board;
+          seated = λ f. settled_holds (IsSeated heap.seats) (λ i k seated. seated) (book.owner f) (book.colour f) (stands.owners.seated f);
+          board = settled_holds IsBoards (λ i k boards. boards) (book.owner 0) (book.colour 0) stands.owners.board;
         };
         ids = stands.ids;
         objects = objects_later heap state book rule third none;

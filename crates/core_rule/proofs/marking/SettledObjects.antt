@@ -1,5 +1,5 @@
 -- The objects once marking has ended: those that are kept then are whole, and refer to kept ones alone.
-use Rattle.std.proofs.Common.{◌≡◌, ◌≢◌, ℕ, ◌+◌, ◌^◌, ◌<◌, ◌%◌, List, length, slice_get, Option, Some, None, IfSome, refl, sym, ap, ◌∙◌, subst, arith}
+use Rattle.std.proofs.Common.{◌≡◌, ◌≢◌, ℕ, ◌<◌, ◌%◌, List, length, slice_get, Some, IfSome, ap, ◌∙◌, arith}
 use Rattle.std.proofs.lemmas.Option.{slice_get_within}
 use Rattle.heap_model.specs.declared.graph.cell.Cell.{Cell}
 use Rattle.heap_model.specs.declared.heap.Heap.{Heap}
@@ -16,7 +16,7 @@ use Rattle.core_machine.specs.table.Decode.{head_of}
 use Rattle.core_rule.specs.Book.{Book, Colour, Grey, fragment_at, id_at, object_head, object_number}
 use Rattle.core_rule.specs.Colours.{IsMarked, WordPointsTo}
 use Rattle.core_rule.specs.Objects.{Objects, KeptObject, NamesKept, IsKept, cells_at}
-use Rattle.core_rule.specs.Owners.{Owner, Kept}
+use Rattle.core_rule.specs.Owners.{Owner}
 use Rattle.core_rule.specs.Rule.{Rule}
 use Rattle.core_rule.proofs.cycle.Barriers.{later_lead}
 use Rattle.core_rule.proofs.lists.Options.{each_some}

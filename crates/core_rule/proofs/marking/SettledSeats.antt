@@ -1,5 +1,5 @@
 -- A seat once marking has ended: what it names is kept then.
-use Rattle.std.proofs.Common.{◌≡◌, ◌≢◌, ℕ, ◌<◌, ◌%◌, List, Some, None, IfSome, slice_index_or, sym, ap, ◌∙◌, subst}
+use Rattle.std.proofs.Common.{ℕ, List, IfSome, ap, subst}
 use Rattle.heap_model.specs.declared.graph.cell.Cell.{Cell}
 use Rattle.heap_model.specs.declared.entry.Entry.{Entry}
 use Rattle.heap_model.specs.declared.id.Id.{Id}

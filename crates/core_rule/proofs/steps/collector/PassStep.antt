@@ -1,5 +1,5 @@
 -- A load of a group's control word keeps the rule: a grey fragment of it is scanned, or the next group's turn comes, or another pass, or marking ends.
-use Rattle.std.proofs.Common.{◌≡◌, ◌≢◌, ℕ, suc, ◌+◌, ◌*◌, ◌<◌, ◌≤◌, Bool, true, false, List, [], Option, Some, None, inl, inr, refl, subst, arith}
+use Rattle.std.proofs.Common.{◌≡◌, ◌≢◌, ℕ, suc, ◌+◌, ◌*◌, ◌≤◌, Bool, true, false, [], Option, Some, None, inl, inr, refl, subst, arith}
 use Rattle.std.proofs.lemmas.Bool.Decides.{leb_tells}
 use Rattle.heap_model.specs.declared.heap.Heap.{Heap}
 use Rattle.core_machine.specs.collector.Collector.{Collector}
@@ -11,7 +11,7 @@ use Rattle.core_machine.specs.declared.table.address.Address.TheVariants.{Contro
 use Rattle.core_machine.specs.machine.Machine.{State}
 use Rattle.core_machine.specs.machine.Value.{IsMachine}
 use Rattle.core_machine.specs.table.Layout.{at, put}
-use Rattle.core_rule.specs.Book.{Book, Colour, Grey}
+use Rattle.core_rule.specs.Book.{Book, Grey}
 use Rattle.core_rule.specs.Marking.{ScanStands, PassStands, MarkingStands}
 use Rattle.core_rule.specs.Phases.{CollectorAgrees}
 use Rattle.core_rule.specs.Rule.{Rule}
