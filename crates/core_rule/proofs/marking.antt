@@ -12,9 +12,9 @@ pub mod LastBirthMarks
 pub mod GoneRoots
 pub mod ObjectEdges
 pub mod Settled
-pub mod GreyPlaces
 pub mod Ended
 pub mod SettledObjects
 pub mod SettledSeats
 pub mod SeatRoots
 pub mod SettledBook
+pub mod GreyPlaces
