@@ -1,6 +1,6 @@
 -- Where the words of a kept object lead: to its next fragment, or to a kept object's first.
 use Rattle.std.specs.Prelude.{if◌then◌else◌}
-use Rattle.std.proofs.Common.{◌⊎◌, ◌≡◌, ◌≢◌, ℕ, zero, suc, ◌+◌, ◌-◌, ◌*◌, ◌<◌, ◌≤◌, ◌^◌, eqb, Bool, true, false, List, length, get_or, slice_get, Option, Some, None, inl, inr, refl, sym, ap, ◌∙◌, subst, arith}
+use Rattle.std.proofs.Common.{◌⊎◌, ◌≡◌, ◌≢◌, ℕ, zero, suc, ◌+◌, ◌-◌, ◌*◌, ◌<◌, ◌≤◌, ◌^◌, Bool, true, false, List, length, get_or, slice_get, Option, Some, None, inl, inr, refl, sym, ap, ◌∙◌, subst, arith}
 use Rattle.heap_words.specs.declared.name.Name.{Name}
 use Rattle.heap_model.specs.Heap.{IsHeap}
 use Rattle.heap_model.specs.declared.graph.cell.Cell.{Cell}
@@ -8,13 +8,14 @@ use Rattle.heap_model.specs.declared.heap.Heap.{Heap}
 use Rattle.heap_model.specs.declared.id.Id.{Id}
 use Rattle.heap_model.specs.declared.id.Id.TheVariants.{Board, Made}
 use Rattle.heap_model.specs.graph.Graph.{Graph}
-use Rattle.core_machine.specs.table.Decode.{pointer_in, head_of}
+use Rattle.core_machine.specs.table.Decode.{pointer_in}
 use Rattle.core_machine.specs.table.Newborn.{record_word_of}
 use Rattle.core_rule.specs.Book.{fragment_at, id_at, object_head}
 use Rattle.core_rule.specs.Colours.{WordPointsTo}
 use Rattle.core_rule.specs.ControlWords.{Bits}
 use Rattle.core_rule.specs.Objects.{FitsName, AreMade, Objects, KeptObject, IsKept, name_of, value_word, field_word, is_cell, object_word, cells_at}
 use Rattle.core_rule.specs.Owners.{Owner, Kept}
+use Rattle.core_rule.proofs.cycle.Barriers.{later_lead}
 use Rattle.core_rule.proofs.colours.NewbornLeads.{IsNext, newborn_leads, zero_leads}
 use Rattle.std.proofs.lemmas.Bool.Decides.{nat_tests}
 use Rattle.core_rule.proofs.ways.Told.{head_in-value}
@@ -36,9 +37,6 @@ word_cases P head name cells fragments k part cell other = by (is_cell k part) r
 cell_part : (k part : ℕ) → is_cell k part ≡ true → 0 < part
 cell_part zero part is = grind (arith, nat_tests, is)
 cell_part (suc k) part is = grind (arith, nat_tests, is)
-
-later_lead : (part word : ℕ) → 0 < part → pointer_in part word ≡ head_of word
-later_lead part word some = let later : eqb part 0 ≡ false = grind (arith, some) in rw later refl
 
 -- a name has room for an id's numbers
 pub name_small : (id : Id) → FitsName id → ((name_of id).owner < 2 ^ 30) × ((name_of id).count < 2 ^ 32)

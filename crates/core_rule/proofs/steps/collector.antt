@@ -1,4 +1,6 @@
 -- Kinds of the collector, a file for each.
+pub mod PassStep
+pub mod MarkedStep
 pub mod AdvanceStep
 pub mod ColourTurn
 pub mod BlackenStep
@@ -16,3 +18,5 @@ turn_keeps_at (stages.Scanning scan) = ScanStep.scan_keeps scan
 turn_keeps_at (stages.Shading scan target next) = MarkShadeStep.mark_shade_keeps scan target next
 turn_keeps_at (stages.Blackening scan) = BlackenStep.blacken_keeps scan
 turn_keeps_at stages.Advancing = AdvanceStep.advance_keeps
+turn_keeps_at (stages.Passing group found) = PassStep.pass_keeps group found
+turn_keeps_at stages.Marked = MarkedStep.marked_keeps
