@@ -48,12 +48,13 @@ module _ (phase answer : ℕ) (near : IsNear phase answer) where
     | inr before ↦ λ rests. omega (arith, before, rests, on.upto)
   ]
 
--- a field is no first word
+-- a word behind the first leads to what it refers to
+pub later_lead : (part word : ℕ) → 0 < part → pointer_in part word ≡ head_of word
+later_lead part word some = let later : (part == 0) ≡ false = grind (arith, some) in rw later refl
+
+-- so does a field, which is no first word
 pub field_lead : (seat : Seat) (word : ℕ) → pointer_in (field_part_of seat) word ≡ head_of word
-field_lead seat word = by _ (omega arith)
-  where
-    by : (part : ℕ) → 0 < part → pointer_in part word ≡ head_of word
-    by part some = let later : (part == 0) ≡ false = grind (arith, some) in rw later refl
+field_lead seat word = later_lead (field_part_of seat) word (omega arith)
 
 pub part_below : (seat : Seat) → field_part_of seat < 4
 part_below seat = omega arith

@@ -21,7 +21,7 @@ use Rattle.core_rule.proofs.marking.Paths.{shade_reached}
 use Rattle.core_rule.proofs.marking.ShadeMarks.{marking_shaded}
 
 module _ (heap : Heap) (state : State) (book : Book) (rule : Rule heap state book) (f : ℕ) (within : f < 16 * heap.groups) where
-  abbrev words_marked : List ℕ
+  abbrev pub words_marked : List ℕ
   words_marked = put heap state.words (Control (f / 16)) (bit_or (at heap state.words (Control (f / 16))) (shade_bit_of f))
 
   group_below : f / 16 < heap.groups

@@ -48,7 +48,14 @@ module _ (heap : Heap) (words now : List ℕ) (owner : ℕ → Owner) (colour : 
     ]
   ]
 
-  pub scan_shaded : (stage : Stage) → ScanStands heap words owner colour fragments stage → ScanStands heap now owner shaded fragments stage
+  -- what is grey is part of a kept object
+  pub grey_part : ((f : ℕ) → colour f ≡ Grey → IsPart owner f) → (f : ℕ) → shaded f ≡ Grey → IsPart owner f
+  grey_part parts f grey = elim (grey_was f grey) as (λ _. IsPart owner f) [
+    | inl was ↦ parts f was
+    | inr new ↦ subst (IsPart owner) (sym new.0) kept
+  ]
+
+  scan_shaded : (stage : Stage) → ScanStands heap words owner colour fragments stage → ScanStands heap now owner shaded fragments stage
   scan_shaded (stages.Scanning scan) stands = seen_on scan.fragment scan.part stands
   scan_shaded (stages.Shading scan target next) stands =
       (seen_on scan.fragment scan.part stands.0,
@@ -95,10 +102,7 @@ module _ (heap : Heap) (words now : List ℕ) (owner : ℕ → Owner) (colour : 
   pub marking_shaded : (stage : Stage) → ((group : ℕ) → stage ≡ stages.Passing group false → IsReached heap words owner colour m)
       → MarkingStands heap words owner colour fragments stage → MarkingStands heap now owner shaded fragments stage
   marking_shaded stage comes stands = record {
-    grey = λ f grey. elim (grey_was f grey) as (λ _. IsPart owner f) [
-      | inl was ↦ stands.grey f was
-      | inr new ↦ subst (IsPart owner) (sym new.0) kept
-    ];
+    grey = grey_part stands.grey;
     scan = scan_shaded stage stands.scan;
     pass = pass_shaded stage comes stands.pass;
     alive = stands.alive;
