@@ -57,10 +57,12 @@ module _ (heap : Heap) (words now : List ℕ) (owner : ℕ → Owner) (colour : 
 
   scan_shaded : (stage : Stage) → ScanStands heap words owner colour fragments stage → ScanStands heap now owner shaded fragments stage
   scan_shaded (stages.Scanning scan) stands = seen_on scan.fragment scan.part stands
-  scan_shaded (stages.Shading scan target next) stands =
-      (seen_on scan.fragment scan.part stands.0,
-      watches_stay heap words now colour shaded (mark_keeps colour m) scan.fragment scan.part (λ g leads. inl (back scan.fragment scan.part g leads)) (Some target) stands.1,
-      may_on target stands.2, stands.3)
+  scan_shaded (stages.Shading scan target next) stands = (
+    seen_on scan.fragment scan.part stands.0,
+    watches_stay heap words now colour shaded (mark_keeps colour m) scan.fragment scan.part (λ g leads. inl (back scan.fragment scan.part g leads)) (Some target) stands.1,
+    may_on target stands.2,
+    stands.3,
+  )
   scan_shaded (stages.Blackening scan) stands = seen_on scan.fragment 4 stands
   scan_shaded _ stands = tt
 
@@ -92,6 +94,7 @@ module _ (heap : Heap) (words now : List ℕ) (owner : ℕ → Owner) (colour : 
       was_marked : IsMarked colour m
       was_marked white = let dead = after.white_dead m record { unmarked = white; born = ap born_bit kept.kept } in
           let both : Kept kept.index kept.place ≡ Dead dead.0 dead.1 = sym kept.kept ∙ dead.2 in absurd (cc)
+
       still : (f : ℕ) → shaded f ≡ White → colour f ≡ White
       still f white = elim (white_or_marked colour f) as (λ _. colour f ≡ White) [
         | inl was ↦ was
