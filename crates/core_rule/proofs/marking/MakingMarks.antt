@@ -1,5 +1,5 @@
 -- What the making of an object leaves of marking: fragments that no object has come and go, and are born black while it goes on.
-use Rattle.std.proofs.Common.{◌⊎◌, ◌≡◌, ◌≢◌, ℕ, ◌+◌, ◌*◌, ◌%◌, ◌<◌, ◌≤◌, Bool, true, false, List, length, inl, inr, refl, sym, ap, ◌∙◌, subst, arith}
+use Rattle.std.proofs.Common.{◌⊎◌, ◌≡◌, ◌≢◌, ℕ, ◌+◌, ◌%◌, ◌<◌, ◌≤◌, Bool, true, false, List, inl, inr, refl, sym, ap, ◌∙◌, subst, arith}
 use Rattle.heap_model.specs.declared.heap.Heap.{Heap}
 use Rattle.heap_model.specs.account.PhaseCounts.{phase}
 use Rattle.core_machine.specs.declared.table.address.Address.TheVariants.{Control, Word}
@@ -8,12 +8,11 @@ use Rattle.core_machine.specs.Moves.{bears_black_of}
 use Rattle.core_machine.specs.seat.Seat.{Seat}
 use Rattle.core_machine.specs.table.Fragments.{tally}
 use Rattle.core_machine.specs.table.Layout.{at, put}
-use Rattle.core_rule.specs.Book.{Book, Colour, White, Grey, Black}
-use Rattle.core_rule.specs.Colours.{WordPointsTo, IsBetween}
+use Rattle.core_rule.specs.Book.{Book, Grey, Black}
 use Rattle.core_rule.specs.Owners.{Owner, Kept, Dead, born_bit, owner_after}
 use Rattle.core_rule.specs.Phases.{IsNear}
 use Rattle.core_rule.specs.Rule.{Rule}
-use Rattle.core_rule.proofs.colours.BirthColours.{painted, painted_in, painted_out, painted_cases}
+use Rattle.core_rule.proofs.colours.BirthColours.{painted, painted_in, painted_cases}
 use Rattle.core_rule.proofs.colours.Births.{birth_colour}
 use Rattle.core_rule.proofs.colours.LeadsFrames.{leads_same, leads_control, control_leads}
 use Rattle.core_rule.proofs.cycle.Barriers.{window_black}

@@ -2,16 +2,14 @@
 use Rattle.std.specs.Prelude.{if◌then◌else◌}
 use Rattle.std.proofs.lemmas.Bool.{false≢true}
 use Rattle.std.proofs.lemmas.Bool.Decides.{nat_tests}
-use Rattle.std.proofs.Common.{get_or, ◌⊎◌, ◌≡◌, ◌≢◌, ℕ, zero, suc, ◌+◌, ◌*◌, ◌<◌, ◌≤◌, ◌^◌, eqb, Bool, true, false, List, length, Option, Some, None, inl, inr, refl, sym, ap, ◌∙◌, subst, arith}
+use Rattle.std.proofs.Common.{get_or, ◌≡◌, ◌≢◌, ℕ, zero, suc, ◌+◌, ◌<◌, ◌≤◌, ◌^◌, eqb, Bool, true, false, List, length, None, inl, inr, refl, sym, ap, ◌∙◌, subst, arith}
 use Rattle.std.proofs.lemmas.Bool.Decides.{eqb_tells, leb_tells}
 use Rattle.heap_words.specs.declared.cell.Cell.{Cell}
 use Rattle.heap_words.specs.declared.kind.Kind.TheVariants as kinds
-use Rattle.heap_words.specs.declared.name.Name.{Name}
-use Rattle.heap_words.specs.Name.{name_word}
 use Rattle.heap_model.specs.declared.heap.Heap.{Heap}
 use Rattle.heap_model.specs.account.Cycles.{graph_of}
 use Rattle.heap_model.specs.account.PhaseCounts.{phase}
-use Rattle.core_machine.specs.collector.Marking.{part_after, scan_step, scan_at, after_scan_load}
+use Rattle.core_machine.specs.collector.Marking.{part_after, scan_at}
 use Rattle.core_machine.specs.declared.collector.stage.Scan.{Scan}
 use Rattle.core_machine.specs.declared.collector.stage.Stage.{Stage}
 use Rattle.core_machine.specs.declared.collector.stage.Stage.TheVariants as stages
@@ -20,7 +18,7 @@ use Rattle.core_machine.specs.machine.Machine.{State}
 use Rattle.core_machine.specs.table.Decode.{pointer_in, is_meta, is_fixed}
 use Rattle.core_machine.specs.table.Layout.{at}
 use Rattle.core_machine.specs.table.Newborn.{link_after}
-use Rattle.core_rule.specs.Book.{Book, Colour, White, Grey, fragment_at, id_at, object_head}
+use Rattle.core_rule.specs.Book.{Book, Colour, Grey, fragment_at, id_at, object_head}
 use Rattle.core_rule.specs.Colours.{IsMarked, WordPointsTo, IsBetween}
 use Rattle.core_rule.specs.Marking.{IsPart, MayMark, IsSeen, ComesAfter, ScanStands, PassStands}
 use Rattle.core_rule.specs.Objects.{IsKept, KeptObject, name_of, is_cell, cells_at}

@@ -1,15 +1,15 @@
 -- A fragment of a kept object is marked: what stays of marking.
-use Rattle.std.proofs.Common.{◌⊎◌, ◌≡◌, ◌≢◌, ℕ, ◌≤◌, ◌/◌, List, Option, Some, true, false, inl, inr, refl, sym, ap, ◌∙◌, subst}
+use Rattle.std.proofs.Common.{◌⊎◌, ◌≡◌, ℕ, ◌≤◌, ◌/◌, List, Some, false, inl, inr, refl, sym, ap, ◌∙◌, subst}
 use Rattle.std.proofs.lemmas.Bool.Decides.{eqb_tells}
 use Rattle.heap_model.specs.declared.heap.Heap.{Heap}
 use Rattle.core_machine.specs.declared.collector.stage.Stage.{Stage}
 use Rattle.core_machine.specs.declared.collector.stage.Stage.TheVariants as stages
-use Rattle.core_rule.specs.Book.{Colour, White, Grey, Black, fragment_at}
+use Rattle.core_rule.specs.Book.{Colour, White, Grey, fragment_at}
 use Rattle.core_rule.specs.Colours.{IsMarked, WordPointsTo}
 use Rattle.core_rule.specs.Marking.{IsPart, MayMark, IsSeen, ScanStands, PassStands, AfterMarking, MarkingStands}
 use Rattle.core_rule.specs.Owners.{Owner, Kept, Dead, born_bit}
-use Rattle.core_rule.specs.Paths.{IsWhite, Guarded, from_grey, from_white, IsReached}
-use Rattle.core_rule.proofs.colours.ShadeColours.{with_mark, mark_away, mark_keeps, mark_marks}
+use Rattle.core_rule.specs.Paths.{Guarded, from_grey, from_white, IsReached}
+use Rattle.core_rule.proofs.colours.ShadeColours.{with_mark, mark_away, mark_keeps}
 use Rattle.core_rule.proofs.cycle.CycleFrames.{watches_stay}
 use Rattle.core_rule.proofs.marking.Paths.{white_or_marked, grey_on, same_marked}
 

@@ -1,5 +1,5 @@
 -- The load of a word of a grey fragment keeps the rule.
-use Rattle.std.proofs.Common.{◌≡◌, ◌≢◌, ℕ, ◌%◌, Option, Some, None, inl, refl, sym, ◌∙◌, arith}
+use Rattle.std.proofs.Common.{◌≡◌, ◌≢◌, ℕ, Option, Some, None, inl, refl, sym, ◌∙◌, arith}
 use Rattle.heap_model.specs.declared.heap.Heap.{Heap}
 use Rattle.heap_model.specs.account.PhaseCounts.{phase}
 use Rattle.core_machine.specs.collector.Marking.{part_after, scan_step, after_scan_load}
