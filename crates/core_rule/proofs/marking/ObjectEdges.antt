@@ -1,6 +1,6 @@
 -- Where the words of a kept object lead: to its next fragment, or to a kept object's first.
 use Rattle.std.specs.Prelude.{if◌then◌else◌}
-use Rattle.std.proofs.Common.{◌⊎◌, ◌≡◌, ◌≢◌, ℕ, zero, suc, ◌+◌, ◌-◌, ◌*◌, ◌<◌, ◌≤◌, ◌^◌, Bool, true, false, List, length, get_or, slice_get, Option, Some, None, inl, inr, refl, sym, ap, ◌∙◌, subst, arith}
+use Rattle.std.proofs.Common.{◌⊎◌, ◌≡◌, ℕ, zero, suc, ◌+◌, ◌-◌, ◌*◌, ◌<◌, ◌^◌, Bool, true, false, List, length, get_or, slice_get, Option, Some, None, inl, inr, refl, sym, ap, ◌∙◌, arith}
 use Rattle.heap_words.specs.declared.name.Name.{Name}
 use Rattle.heap_model.specs.Heap.{IsHeap}
 use Rattle.heap_model.specs.declared.graph.cell.Cell.{Cell}
@@ -14,7 +14,7 @@ use Rattle.core_rule.specs.Book.{fragment_at, id_at, object_head}
 use Rattle.core_rule.specs.Colours.{WordPointsTo}
 use Rattle.core_rule.specs.ControlWords.{Bits}
 use Rattle.core_rule.specs.Objects.{FitsName, AreMade, Objects, KeptObject, IsKept, name_of, value_word, field_word, is_cell, object_word, cells_at}
-use Rattle.core_rule.specs.Owners.{Owner, Kept}
+use Rattle.core_rule.specs.Owners.{Owner}
 use Rattle.core_rule.proofs.cycle.Barriers.{later_lead}
 use Rattle.core_rule.proofs.colours.NewbornLeads.{IsNext, newborn_leads, zero_leads}
 use Rattle.std.proofs.lemmas.Bool.Decides.{nat_tests}

@@ -2,16 +2,14 @@
 use Rattle.std.specs.Prelude.{if◌then◌else◌}
 use Rattle.std.proofs.lemmas.Bool.{false≢true}
 use Rattle.std.proofs.lemmas.Bool.Decides.{nat_tests}
-use Rattle.std.proofs.Common.{get_or, ◌⊎◌, ◌≡◌, ◌≢◌, ℕ, zero, suc, ◌+◌, ◌*◌, ◌<◌, ◌≤◌, ◌^◌, eqb, Bool, true, false, List, length, Option, Some, None, inl, inr, refl, sym, ap, ◌∙◌, subst, arith}
+use Rattle.std.proofs.Common.{get_or, ◌≡◌, ◌≢◌, ℕ, zero, suc, ◌+◌, ◌<◌, ◌≤◌, ◌^◌, eqb, Bool, true, false, List, length, None, inl, inr, refl, sym, ap, ◌∙◌, subst, arith}
 use Rattle.std.proofs.lemmas.Bool.Decides.{eqb_tells, leb_tells}
 use Rattle.heap_words.specs.declared.cell.Cell.{Cell}
 use Rattle.heap_words.specs.declared.kind.Kind.TheVariants as kinds
-use Rattle.heap_words.specs.declared.name.Name.{Name}
-use Rattle.heap_words.specs.Name.{name_word}
 use Rattle.heap_model.specs.declared.heap.Heap.{Heap}
 use Rattle.heap_model.specs.account.Cycles.{graph_of}
 use Rattle.heap_model.specs.account.PhaseCounts.{phase}
-use Rattle.core_machine.specs.collector.Marking.{part_after, scan_step, scan_at, after_scan_load}
+use Rattle.core_machine.specs.collector.Marking.{part_after, scan_at}
 use Rattle.core_machine.specs.declared.collector.stage.Scan.{Scan}
 use Rattle.core_machine.specs.declared.collector.stage.Stage.{Stage}
 use Rattle.core_machine.specs.declared.collector.stage.Stage.TheVariants as stages
@@ -20,7 +18,7 @@ use Rattle.core_machine.specs.machine.Machine.{State}
 use Rattle.core_machine.specs.table.Decode.{pointer_in, is_meta, is_fixed}
 use Rattle.core_machine.specs.table.Layout.{at}
 use Rattle.core_machine.specs.table.Newborn.{link_after}
-use Rattle.core_rule.specs.Book.{Book, Colour, White, Grey, fragment_at, id_at, object_head}
+use Rattle.core_rule.specs.Book.{Book, Colour, Grey, fragment_at, id_at, object_head}
 use Rattle.core_rule.specs.Colours.{IsMarked, WordPointsTo, IsBetween}
 use Rattle.core_rule.specs.Marking.{IsPart, MayMark, IsSeen, ComesAfter, ScanStands, PassStands}
 use Rattle.core_rule.specs.Objects.{IsKept, KeptObject, name_of, is_cell, cells_at}
@@ -77,12 +75,12 @@ module _ (heap : Heap) (state : State) (book : Book) (rule : Rule heap state boo
   pub may_mark : IsBetween 1 5 (phase book.history) → book.colour f ≡ Grey → (part m : ℕ) → WordPointsTo heap state.words f part m → MayMark book.owner book.colour book.fragments m
   may_mark cycle grey part m leads = elim (object_leads heap state.words (graph_of heap book.history) book.made book.owner book.fragments rule.machine.limits rule.heap_stands.control_words
       rule.heap_stands.ids rule.heap_stands.objects i there.0 there.1 k part m there.2 (subst (λ x. WordPointsTo heap state.words x part m) there.3 leads)) as (λ _. MayMark book.owner book.colour book.fragments m) [
-    | inl next ↦ record {
-        part = record { index = i; place = k + 1; kept = ap book.owner next.1 ∙ the_object.owned (k + 1) next.0 };
-        first = inr (rule.heap_stands.cycle.coloured.first cycle f i k part_of.kept (λ white. absurd (cc (grey, white))));
-      }
-    | inr head ↦ record { part = record { index = head.index; place = 0; kept = ap book.owner head.is ∙ head.kept }; first = inl refl }
-  ]
+        | inl next ↦ record {
+          part = record { index = i; place = k + 1; kept = ap book.owner next.1 ∙ the_object.owned (k + 1) next.0 };
+          first = inr (rule.heap_stands.cycle.coloured.first cycle f i k part_of.kept (λ white. absurd (cc (grey, white))));
+        }
+        | inr head ↦ record { part = record { index = head.index; place = 0; kept = ap book.owner head.is ∙ head.kept }; first = inl refl }
+      ]
 
   -- an object's name leads nowhere
   name_nowhere : k ≡ 0 → (g : ℕ) → ¬ WordPointsTo heap state.words f 1 g
@@ -126,6 +124,7 @@ module _ (heap : Heap) (state : State) (book : Book) (rule : Rule heap state boo
     where
       first : (j : ℕ) → book.owner f ≡ Kept j 0 → k ≡ 0
       first j is = let both : Kept i k ≡ Kept j 0 = sym part_of.kept ∙ is in cc
+
       each : (p g : ℕ) → p < next → WordPointsTo heap words f p g → ComesAfter book.owner f part next → IsMarked colour g
       each p g below leads comes = elim (eqb_tells p part) as (λ _. IsMarked colour g) [
         | inl same ↦ here g (subst (λ x. WordPointsTo heap words f x g) same.1 leads)

@@ -1,6 +1,6 @@
 -- A scanned fragment gets black: that keeps the rule.
 use Rattle.std.specs.Prelude.{bit_or}
-use Rattle.std.proofs.Common.{◌≡◌, ◌⊎◌, ℕ, ◌*◌, ◌/◌, ◌%◌, ◌<◌, true, List, inl, inr, refl, sym, ap, ◌∙◌, subst, arith}
+use Rattle.std.proofs.Common.{◌≡◌, ℕ, ◌/◌, ◌%◌, ◌<◌, true, List, inl, inr, sym, ap, ◌∙◌, subst, arith}
 use Rattle.std.proofs.lemmas.Bool.Decides.{eqb_tells}
 use Rattle.heap_words.specs.Control.{blacken_bit_of}
 use Rattle.heap_model.specs.declared.heap.Heap.{Heap}
@@ -13,11 +13,12 @@ use Rattle.core_machine.specs.machine.Machine.{State}
 use Rattle.core_machine.specs.table.Layout.{at, put}
 use Rattle.core_rule.specs.Book.{Book, Colour, White, Grey}
 use Rattle.core_rule.specs.Colours.{IsMarked, WordPointsTo}
-use Rattle.core_rule.specs.Marking.{IsSeen, IsPart, MarkingStands}
+use Rattle.core_rule.specs.Marking.{IsSeen, MarkingStands}
 use Rattle.core_rule.specs.Owners.{Borne, Kept}
 use Rattle.core_rule.specs.Paths.{IsWhite, Edge, IsReached}
 use Rattle.core_rule.specs.Rule.{Rule}
-use Rattle.core_rule.proofs.colours.BlackenColours.{with_scan, scan_away, scan_keeps, scan_grey, bits_blacken, marks_blacken, coloured_blacken}
+use Rattle.core_rule.proofs.colours.OneBit.{bits_marked}
+use Rattle.core_rule.proofs.colours.BlackenColours.{with_scan, scan_away, scan_keeps, scan_grey, marks_blacken, coloured_blacken}
 use Rattle.core_rule.proofs.colours.LeadsFrames.{control_leads}
 use Rattle.core_rule.proofs.frames.Recoloured.{Recolours}
 use Rattle.core_rule.proofs.marking.Paths.{path_stays}
@@ -51,7 +52,7 @@ module _ (heap : Heap) (state : State) (book : Book) (rule : Rule heap state boo
 
   new : Recolours heap words book coloured
   new = record {
-    bits = bits_blacken heap state.words book.owner book.colour f rule.machine.table fits.fragment_within seen.grey rule.heap_stands.control_words;
+    bits = bits_marked heap state.words book.owner 48 f rule.machine.table fits.fragment_within (omega arith) rule.heap_stands.control_words;
     marks = marks_blacken heap state.words book.owner book.colour f rule.machine.table fits.fragment_within seen.grey rule.heap_stands.cycle.marks;
     right = coloured_blacken heap state.words book.owner book.colour f rule.machine.table fits.fragment_within seen.grey book.fragments (phase book.history) third seen_all rule.heap_stands.cycle.coloured;
     keeps = scan_keeps book.colour f seen.grey;

@@ -1,23 +1,20 @@
 -- The collector marks what a word of a grey fragment led to: that keeps the rule.
-use Rattle.std.specs.Prelude.{bit_or}
-use Rattle.std.proofs.Common.{◌≡◌, ◌≢◌, ◌⊎◌, ℕ, ◌*◌, ◌/◌, ◌%◌, ◌<◌, List, Some, inl, inr, refl, sym, ap, ◌∙◌, subst, arith}
+use Rattle.std.proofs.Common.{◌≡◌, ℕ, ◌/◌, ◌%◌, List, Some, inl, inr, sym, ap, ◌∙◌, subst, arith}
 use Rattle.heap_model.specs.declared.heap.Heap.{Heap}
 use Rattle.heap_model.specs.account.PhaseCounts.{phase}
 use Rattle.core_machine.specs.collector.FitsTurns.{IsShading}
 use Rattle.core_machine.specs.collector.Marking.{scan_step, scan_at}
 use Rattle.core_machine.specs.declared.collector.stage.Scan.{Scan}
 use Rattle.core_machine.specs.declared.collector.stage.Stage.TheVariants as stages
-use Rattle.core_machine.specs.declared.table.address.Address.TheVariants.{Control}
 use Rattle.core_machine.specs.machine.Machine.{State}
-use Rattle.core_machine.specs.table.Layout.{at, put}
-use Rattle.core_machine.specs.table.Operation.{shade_bit_of}
 use Rattle.core_rule.specs.Book.{Book, Colour, fragment_at}
-use Rattle.core_rule.specs.Colours.{IsMarked, WordPointsTo}
+use Rattle.core_rule.specs.Colours.{IsMarked}
 use Rattle.core_rule.specs.Flight.{DeletionBarrier}
 use Rattle.core_rule.specs.Marking.{IsSeen, MayMark, ComesAfter, IsPart, MarkingStands}
 use Rattle.core_rule.specs.Owners.{Borne, Kept}
 use Rattle.core_rule.specs.Rule.{Rule}
-use Rattle.core_rule.proofs.colours.ShadeColours.{with_mark, mark_keeps, mark_marks, mark_away, bits_shade, marks_shade, coloured_shade}
+use Rattle.core_rule.proofs.colours.OneBit.{bits_marked}
+use Rattle.core_rule.proofs.colours.ShadeColours.{with_mark, mark_keeps, mark_marks, mark_away, marks_shade, coloured_shade}
 use Rattle.core_rule.proofs.frames.Recoloured.{Recolours}
 use Rattle.core_rule.proofs.marking.Paths.{grey_on}
 use Rattle.core_rule.proofs.marking.Scans.{scan_stands, scan_passes, scan_on_marks, seen_next}
@@ -61,7 +58,7 @@ module _ (heap : Heap) (state : State) (book : Book) (rule : Rule heap state boo
 
   new : Recolours heap words book coloured
   new = record {
-    bits = bits_shade heap state.words book.owner book.colour m rule.machine.table fits.target_within rule.heap_stands.control_words;
+    bits = bits_marked heap state.words book.owner 32 m rule.machine.table fits.target_within (omega arith) rule.heap_stands.control_words;
     marks = marks_shade heap state.words book.owner book.colour m rule.machine.table fits.target_within rule.heap_stands.cycle.marks;
     right = coloured_shade heap state.words book.owner book.colour m rule.machine.table fits.target_within book.fragments (phase book.history) part_of.index part_of.place part_of.kept first
         (λ rests. omega (arith, third, rests)) rule.heap_stands.cycle.coloured;

@@ -1,5 +1,5 @@
 -- The load of a word of a grey fragment keeps the rule.
-use Rattle.std.proofs.Common.{◌≡◌, ◌≢◌, ℕ, ◌%◌, Option, Some, None, inl, refl, sym, ◌∙◌, arith}
+use Rattle.std.proofs.Common.{◌≡◌, ◌≢◌, ℕ, Option, Some, None, inl, refl, sym, ◌∙◌, arith}
 use Rattle.heap_model.specs.declared.heap.Heap.{Heap}
 use Rattle.heap_model.specs.account.PhaseCounts.{phase}
 use Rattle.core_machine.specs.collector.Marking.{part_after, scan_step, after_scan_load}
@@ -58,10 +58,12 @@ module _ (heap : Heap) (state : State) (book : Book) (rule : Rule heap state boo
       (scan_stands heap state.words book.owner book.colour book.fragments (scan_step scan) next
       (seen_next heap state book rule f part_of state.words book.colour scan.part next (λ p g leads. leads) seen (λ g leads. absurd (cc (is, leads.to))) (comes_after heap state book rule f part_of scan.part)))
       (scan_passes book.colour (scan_step scan) next)
-  loaded (Some m) is = marks_after (stages.Shading (scan_step scan) m next) (λ e. cc)
-      (seen, (λ g leads. inl (sym is ∙ leads.to)),
-      may_mark heap state book rule f part_of cycle seen.grey scan.part m record { within = fits.fragment_within; below = fits.part_within; to = is },
-      comes_after heap state book rule f part_of scan.part)
+  loaded (Some m) is = marks_after (stages.Shading (scan_step scan) m next) (λ e. cc) (
+    seen,
+    (λ g leads. inl (sym is ∙ leads.to)),
+    may_mark heap state book rule f part_of cycle seen.grey scan.part m record { within = fits.fragment_within; below = fits.part_within; to = is },
+    comes_after heap state book rule f part_of scan.part,
+  )
       tt
 
 pub scan_keeps : (scan : Scan) → StageKeeps (stages.Scanning scan)
