@@ -11,10 +11,9 @@ use Rattle.core_rule.specs.Colours.{Marks, Coloured, BornColours}
 use Rattle.core_rule.specs.Phases.{AnswersAgree, AnswerStands}
 use Rattle.core_rule.specs.Flight.{Flight}
 
--- the phase word is the history's phase, so far none after the first cycle's third; the control words have the colours, which are right
+-- the phase word is the history's phase; the control words have the colours, which are right
 pub record HeapInCycle (heap : Heap) (words : List ℕ) (phase : ℕ) (owner : ℕ → Owner) (colour : ℕ → Colour) (fragments : ℕ → List ℕ) : Type 0 where
   pub word : at heap words Phase ≡ phase
-  pub so_far : phase ≤ marking
   pub marks : Marks heap words colour
   pub coloured : Coloured heap words owner colour fragments phase
 

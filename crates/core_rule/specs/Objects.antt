@@ -84,10 +84,11 @@ pub record KeptObject (heap : Heap) (words : List ℕ) (owner : ℕ → Owner) (
 abbrev pub cells_at : Graph → List Id → ℕ → List Cell
 cells_at g made i = cells_in (node g (id_at made i))
 
--- the kept objects have the graph's cells, and each fragment that is kept is one of theirs
+-- the kept objects have the graph's cells, and each fragment that is kept is one of theirs; the board begins with fragment 0
 pub record Objects (heap : Heap) (words : List ℕ) (g : Graph) (made : List Id) (owner : ℕ → Owner) (fragments : ℕ → List ℕ) : Type 0 where
   pub kept : (i : ℕ) → i < length made → IsKept owner fragments i
       → KeptObject heap words owner (object_head made fragments) i (id_at made i) (cells_at g made i) (fragments i)
   pub named : (i j : ℕ) → i < length made → IsKept owner fragments i → (cell : Cell) → slice_get (cells_at g made i) j ≡ Some cell
       → NamesKept made owner fragments cell.value × (cell.stamp < 2 ^ 32)
   pub back : (f i k : ℕ) → owner f ≡ Kept i k → (i < length made) × IsKept owner fragments i × (k < length (fragments i)) × (f ≡ fragment_at (fragments i) k)
+  pub board : fragment_at (fragments 0) 0 ≡ 0

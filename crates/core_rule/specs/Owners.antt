@@ -39,6 +39,14 @@ born_bit (Borne number) = 1
 born_bit (Kept i k) = 1
 born_bit (Dead i k) = 1
 
+-- whether it is to be freed
+abbrev pub dead_bit : Owner → ℕ
+dead_bit Free = 0
+dead_bit (Taken number) = 0
+dead_bit (Borne number) = 0
+dead_bit (Kept i k) = 0
+dead_bit (Dead i k) = 1
+
 -- whether the seat has it, unborn
 abbrev pub holds_bit : ℕ → Owner → ℕ
 holds_bit number Free = 0
@@ -65,8 +73,9 @@ IsSeated seats (Taken number) = number < seats
 IsSeated seats (Borne number) = number < seats
 IsSeated seats _ = Unit {0}
 
--- it is the first part of the board, which is kept or is to be freed
+-- it is the first part of the board, which is kept, is to be freed, or was freed
 abbrev pub IsBoards : Owner → Type 0
+IsBoards Free = Unit {0}
 IsBoards (Kept i k) = (i ≡ 0) × (k ≡ 0)
 IsBoards (Dead i k) = (i ≡ 0) × (k ≡ 0)
 IsBoards _ = ⊥

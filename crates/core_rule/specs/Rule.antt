@@ -62,7 +62,7 @@ pub record SeatStands (heap : Heap) (words : List ℕ) (book : Book) (number : �
 
 -- what is true of the collector's marking, and of the roots that it begins with
 pub record MarksStand (heap : Heap) (state : State) (owner : ℕ → Owner) (colour : ℕ → Colour) (fragments : ℕ → List ℕ) : Type 0 where
-  pub heap_marks : MarkingStands heap state.words owner colour fragments state.collector.stage
+  pub heap_marks : MarkingStands heap state.words owner colour fragments state.collector.phase state.collector.stage
   pub roots : (number : ℕ) → number < heap.seats → RootsAreReached heap state.words owner colour state.collector (seat_at state number)
 
 -- the book stands for the state
