@@ -1,12 +1,13 @@
 -- The machine's tests of a seat's last answer are the rule's windows; while black fragments are made each set's barrier is on; and a field's word leads
 -- where its reference does.
-use Rattle.std.proofs.Common.{◌≡◌, ℕ, ◌%◌, ◌<◌, true, false, inl, inr, refl, arith, ◌==◌, ◌≢◌, nat_lt, if◌then◌else◌}
+use Rattle.std.proofs.Common.{◌≡◌, ℕ, ◌%◌, ◌<◌, true, false, inl, inr, refl, arith, ◌≢◌, nat_lt, if◌then◌else◌}
 use Rattle.std.proofs.lemmas.Bool.Decides.{nat_tests}
 use Rattle.heap_model.specs.PhasePlan.{barriers, black_births, sweep}
+use Rattle.core_machine.specs.seat.FitsAccess.{IsFieldPart}
+use Rattle.core_machine.proofs.table_lemmas.WithinHeap.{part_some}
 use Rattle.core_machine.specs.table.Decode.{head_of, pointer_in}
 use Rattle.core_machine.specs.seat.MakingMoves.{bears_black_of}
 use Rattle.core_machine.specs.seat.Access.{has_barrier_of}
-use Rattle.core_machine.specs.seat.AccessMoves.{field_part_of}
 use Rattle.core_machine.specs.seat.Seat.{Seat}
 use Rattle.core_rule.specs.Colours.{IsBetween}
 use Rattle.core_rule.specs.Phases.{IsNear}
@@ -49,11 +50,5 @@ module _ (phase answer : ℕ) (near : IsNear phase answer) where
   ]
 
 -- a field is no first word
-pub field_lead : (seat : Seat) (word : ℕ) → pointer_in (field_part_of seat) word ≡ head_of word
-field_lead seat word = by _ (omega arith)
-  where
-    by : (part : ℕ) → 0 < part → pointer_in part word ≡ head_of word
-    by part some = let later : (part == 0) ≡ false = grind (arith, some) in rw later refl
-
-pub part_below : (seat : Seat) → field_part_of seat < 4
-part_below seat = omega arith
+pub field_lead : (part word : ℕ) → IsFieldPart part → pointer_in part word ≡ head_of word
+field_lead part word is = rw (part_some part is) refl
