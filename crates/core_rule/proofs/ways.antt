@@ -1,7 +1,6 @@
 -- What loaded words tell, and the way to a field.
 pub mod Told
 pub mod KeptWords
-pub mod FieldWords
 pub mod Chains
 pub mod LoadedObjects
 pub mod Rows

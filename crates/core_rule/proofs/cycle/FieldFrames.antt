@@ -20,7 +20,7 @@ use Rattle.core_rule.specs.Owners.{Owner, born_bit}
 use Rattle.core_rule.specs.Ways.{Finds, WayStands}
 use Rattle.core_rule.proofs.words.Addresses.{at-put_apart, control_after_word, fragment_other}
 use Rattle.core_rule.proofs.cycle.CycleFrames.{IsWatching, LeadsStay, LeavesCycle, WatchesBorn, coloured_stays}
-use Rattle.core_rule.proofs.ways.FieldWords.{row_ahead}
+use Rattle.core_rule.proofs.ways.KeptWords.{row_ahead}
 use Rattle.core_rule.proofs.colours.LeadsFrames.{leads_same}
 use Rattle.core_rule.proofs.colours.MarkWords.{marks_same}
 

@@ -34,7 +34,7 @@ use Rattle.core_rule.proofs.entries.AtRest.{seat_fits}
 use Rattle.core_rule.proofs.marking.Marks.{IsOffWay, comes_further, roots_off_way}
 use Rattle.core_rule.proofs.marking.RegisterRoots.{OfHeads, heads_put}
 use Rattle.core_rule.proofs.ways.Chains.{chain_leads}
-use Rattle.core_rule.proofs.ways.FieldWords.{link_ahead, row_ahead}
+use Rattle.core_rule.proofs.ways.KeptWords.{link_ahead, row_ahead}
 use Rattle.core_rule.proofs.ways.LoadedObjects.{KeptHead}
 
 module _ (P : ℕ → Type 0) where

@@ -23,8 +23,7 @@ use Rattle.core_rule.specs.Objects.{AreMade, Objects, NamesKept, IsKept, cells_a
 use Rattle.core_rule.specs.Owners.{Owner}
 use Rattle.core_rule.specs.Registers.{HoldsValue}
 use Rattle.core_rule.specs.Ways.{Finds}
-use Rattle.core_rule.proofs.ways.FieldWords.{cell_reached}
-use Rattle.core_rule.proofs.ways.KeptWords.{has_room}
+use Rattle.core_rule.proofs.ways.KeptWords.{has_room, cell_reached}
 use Rattle.core_rule.proofs.ways.Told.{named_head, head_in-value}
 
 -- the first fragment of a kept object

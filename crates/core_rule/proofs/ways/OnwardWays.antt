@@ -21,7 +21,7 @@ use Rattle.core_rule.specs.ControlWords.{Bits}
 use Rattle.core_rule.specs.Objects.{AreMade, Objects, cells_at}
 use Rattle.core_rule.specs.Owners.{Owner}
 use Rattle.core_rule.specs.Ways.{Finds, LoadedKept, OldKept, AccessStands}
-use Rattle.core_rule.proofs.ways.FieldWords.{link_ahead}
+use Rattle.core_rule.proofs.ways.KeptWords.{link_ahead}
 use Rattle.core_rule.proofs.cycle.Unwatched.{IsUnwatched}
 
 -- so the way leads to one of four places

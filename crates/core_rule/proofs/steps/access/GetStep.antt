@@ -46,8 +46,7 @@ use Rattle.core_rule.proofs.graph.GraphRegisters.{registers_length}
 use Rattle.core_rule.proofs.lists.Options.{some_holds, none_holds}
 use Rattle.core_rule.proofs.marking.CallRoots.{IsReachedNow, at_call, roots_on_way, roots_over, field_comes}
 use Rattle.core_rule.proofs.marking.RegisterRoots.{heads_put}
-use Rattle.core_rule.proofs.ways.FieldWords.{cell_reached}
-use Rattle.core_rule.proofs.ways.KeptWords.{has_room, name_found}
+use Rattle.core_rule.proofs.ways.KeptWords.{has_room, name_found, cell_reached}
 use Rattle.core_rule.proofs.steps.Loads.{went_cycle, went, loaded_state, load_tells, over_went}
 use Rattle.core_rule.proofs.graph.Numbering.{id_at-number_of}
 use Rattle.core_rule.proofs.graph.ObjectReplies.{accepts_got, graph_got, keeps_got, target_within}

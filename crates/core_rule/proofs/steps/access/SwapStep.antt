@@ -47,7 +47,7 @@ use Rattle.core_rule.proofs.graph.CellSet.{Sets, sets_cell}
 use Rattle.core_rule.proofs.objects.CellWords.{stamp_of_value, register_is_value, register_names}
 use Rattle.core_rule.proofs.cycle.CycleHistory.{cycle_own}
 use Rattle.core_rule.proofs.entries.Legality.{legal_more, keeps_said}
-use Rattle.core_rule.proofs.ways.FieldWords.{field_reached}
+use Rattle.core_rule.proofs.ways.KeptWords.{field_reached}
 use Rattle.core_rule.proofs.objects.ObjectsSet.{made_node, ids_set, lengths_stay, found_is, objects_set, set_unkept}
 use Rattle.core_rule.proofs.entries.PhaseEntries.{no_leave_told}
 use Rattle.core_rule.proofs.steps.ReplyStep.{reply_keeps}
