@@ -6,5 +6,6 @@ pub mod Births
 pub mod BirthColours
 pub mod BirthAhead
 pub mod LastColours
+pub mod OneBit
 pub mod ShadeColours
 pub mod BlackenColours

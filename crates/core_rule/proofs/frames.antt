@@ -4,3 +4,4 @@ pub mod EntryFrames
 pub mod Replying
 pub mod GivingBack
 pub mod ClaimTold
+pub mod Recoloured

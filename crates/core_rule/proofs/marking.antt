@@ -12,4 +12,10 @@ pub mod LastBirthMarks
 pub mod GoneRoots
 pub mod ObjectEdges
 pub mod Settled
+pub mod Ended
+pub mod SettledObjects
+pub mod SettledSeats
+pub mod SeatRoots
+pub mod SettledBook
 pub mod GreyPlaces
+pub mod Scans

@@ -1,5 +1,6 @@
 -- Where a seat stands on the way to a field.
 use Rattle.std.specs.Prelude.{◌≡◌, ℕ, ◌+◌, ◌<◌, List, length, Some, IsSome}
+use Rattle.heap_model.specs.declared.command.Command.{Command}
 use Rattle.heap_model.specs.declared.graph.cell.Cell.{Cell}
 use Rattle.heap_model.specs.declared.id.Id.{Id}
 use Rattle.core_machine.specs.declared.place.Place.{Place}
@@ -28,14 +29,18 @@ pub record SetsOut (made : List Id) (owner : ℕ → Owner) (fragments : ℕ →
   pub index : ℕ
   pub way : OnWay made owner fragments seat index 0
 
--- the way of one whose object has the field: so many links lead on to the field's row, and the field stands in this word of it
+-- a command's field is one of an object's so many: from this row so many links lead on to the field's, and it stands in this word of the fragment there
+pub record FieldAhead (fields : ℕ) (command : Command) (row links part : ℕ) : Type 0 where
+  pub within : field_of command < fields
+  pub leads : row + links ≡ row_of (field_of command)
+  pub there : part ≡ part_of (field_of command)
+
+-- the way of one whose object has the field
 pub record Finds (cells : ℕ → List Cell) (made : List Id) (owner : ℕ → Owner) (fragments : ℕ → List ℕ) (seat : Seat) : Type 0 where
   pub index : ℕ
   pub row : ℕ
   pub way : OnWay made owner fragments seat index row
-  pub within : field_of seat.command < length (cells index)
-  pub ahead : row + seat.links ≡ row_of (field_of seat.command)
-  pub there : seat.part ≡ part_of (field_of seat.command)
+  pub field : FieldAhead (length (cells index)) seat.command row seat.links seat.part
 
 -- the object that a set has loaded from its field is a kept one
 pub record LoadedKept (made : List Id) (owner : ℕ → Owner) (fragments : ℕ → List ℕ) (seat : Seat) : Type 0 where

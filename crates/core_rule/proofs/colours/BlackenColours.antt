@@ -4,17 +4,15 @@ use Rattle.std.specs.Prelude.{bit_or}
 use Rattle.std.proofs.Common.{◌≡◌, ◌≢◌, ◌⊎◌, ℕ, ◌+◌, ◌*◌, ◌/◌, ◌%◌, ◌<◌, ◌==◌, if◌then◌else◌, List, length, inl, inr, refl, sym, ap, ◌∙◌, subst, arith}
 use Rattle.std.proofs.lemmas.Bool.{eq-eqb}
 use Rattle.std.proofs.lemmas.Bool.Decides.{eqb_tells}
-use Rattle.std.proofs.lemmas.Nat.Bits.{bit_at_or, bit_at-pow_same, bit_at-pow_other, bit_at-lt}
 use Rattle.heap_words.specs.Control.{blacken_bit_of}
 use Rattle.heap_model.specs.declared.heap.Heap.{Heap}
 use Rattle.core_machine.specs.declared.table.address.Address.TheVariants.{Control}
 use Rattle.core_machine.specs.table.Layout.{at, put, table_length}
 use Rattle.core_rule.specs.Book.{Colour, White, Grey, Black}
 use Rattle.core_rule.specs.Colours.{Marks, IsMarked, WordPointsTo, Coloured, marked_bit, scanned_bit}
-use Rattle.core_rule.specs.ControlWords.{Bits}
 use Rattle.core_rule.specs.Owners.{Owner}
-use Rattle.core_rule.proofs.words.ControlLemmas.{bits_after, found_taken, found_born}
 use Rattle.core_rule.proofs.colours.LeadsFrames.{leads_control}
+use Rattle.core_rule.proofs.colours.OneBit.{bit_other, bit_here, bit_beside}
 use Rattle.core_rule.proofs.colours.MarkWords.{marks_after, found_marked, found_scanned}
 
 -- the colours with one fragment black
@@ -59,29 +57,6 @@ module _ (colour : ℕ → Colour) (f : ℕ) where
     | inr other ↦ sym (scan_away x other.1) ∙ grey
   ]
 
--- the bits of a control word after a blacken
-module _ (word f x : ℕ) where
-  abbrev blackened : ℕ
-  blackened = bit_or word (blacken_bit_of f)
-
-  other_bit : (i : ℕ) → i ≢ 48 + f % 16 → bit_at blackened i ≡ bit_at word i
-  other_bit i apart = rw (bit_at_or word (blacken_bit_of f) i, bit_at-pow_other (48 + f % 16) i apart) (omega arith)
-
-  blacken_taken : bit_at blackened (x % 16) ≡ bit_at word (x % 16)
-  blacken_taken = other_bit (x % 16) (λ e. omega (arith, e))
-
-  pub blacken_born : bit_at blackened (16 + x % 16) ≡ bit_at word (16 + x % 16)
-  blacken_born = other_bit (16 + x % 16) (λ e. omega (arith, e))
-
-  blacken_marked : bit_at blackened (32 + x % 16) ≡ bit_at word (32 + x % 16)
-  blacken_marked = other_bit (32 + x % 16) (λ e. omega (arith, e))
-
-  blacken_other : x % 16 ≢ f % 16 → bit_at blackened (48 + x % 16) ≡ bit_at word (48 + x % 16)
-  blacken_other apart = other_bit (48 + x % 16) (λ e. apart (omega (arith, e)))
-
-blacken_scanned : (word f : ℕ) → bit_at (bit_or word (blacken_bit_of f)) (48 + f % 16) ≡ 1
-blacken_scanned word f = rw (bit_at_or word (blacken_bit_of f) (48 + f % 16), bit_at-pow_same (48 + f % 16)) (omega (arith, bit_at-lt word (48 + f % 16)))
-
 module _ (heap : Heap) (words : List ℕ) (owner : ℕ → Owner) (colour : ℕ → Colour) (f : ℕ) (whole : length words ≡ table_length heap) (within : f < 16 * heap.groups) (grey : colour f ≡ Grey) where
   abbrev found : ℕ
   found = at heap words (Control (f / 16))
@@ -92,13 +67,6 @@ module _ (heap : Heap) (words : List ℕ) (owner : ℕ → Owner) (colour : ℕ 
   below : f / 16 < heap.groups
   below = omega (arith, within)
 
-  -- the control words have the same owners
-  pub bits_blacken : Bits heap words owner → Bits heap black_words owner
-  bits_blacken bits = bits_after heap words owner owner (f / 16) (bit_or found (blacken_bit_of f)) whole below bits
-      (λ x here. blacken_taken found f x ∙ found_taken heap words owner (f / 16) whole below bits x here)
-      (λ x here. blacken_born found f x ∙ found_born heap words owner (f / 16) whole below bits x here)
-      (λ x apart. refl) (λ x apart. refl) bits.outside
-
   same_marked : (x : ℕ) → marked_bit (with_scan colour f x) ≡ marked_bit (colour x)
   same_marked x = elim (eqb_tells x f) as (λ _. marked_bit (with_scan colour f x) ≡ marked_bit (colour x)) [
     | inl same ↦ rw (same.1, scan_here colour f, grey) refl
@@ -107,15 +75,15 @@ module _ (heap : Heap) (words : List ℕ) (owner : ℕ → Owner) (colour : ℕ 
 
   scanned_now : Marks heap words colour → (x : ℕ) → x / 16 ≡ f / 16 → bit_at (bit_or found (blacken_bit_of f)) (48 + x % 16) ≡ scanned_bit (with_scan colour f x)
   scanned_now marks x here = elim (eqb_tells x f) as (λ _. bit_at (bit_or found (blacken_bit_of f)) (48 + x % 16) ≡ scanned_bit (with_scan colour f x)) [
-    | inl same ↦ rw (same.1, scan_here colour f) (blacken_scanned found f)
-    | inr other ↦ blacken_other found f x (λ e. other.1 (omega (arith, e, here)))
+    | inl same ↦ rw (same.1, scan_here colour f) (bit_here found 48 f)
+    | inr other ↦ bit_beside found 48 f x (λ e. other.1 (omega (arith, e, here)))
         ∙ found_scanned heap words colour colour (f / 16) 0 whole below marks x here ∙ ap scanned_bit (sym (scan_away colour f x other.1))
   ]
 
   -- and the new colours
   pub marks_blacken : Marks heap words colour → Marks heap black_words (with_scan colour f)
   marks_blacken marks = marks_after heap words colour (with_scan colour f) (f / 16) (bit_or found (blacken_bit_of f)) whole below marks
-      (λ x here. blacken_marked found f x ∙ found_marked heap words colour colour (f / 16) 0 whole below marks x here ∙ sym (same_marked x))
+      (λ x here. bit_other found 48 f (32 + x % 16) (λ e. omega (arith, e)) ∙ found_marked heap words colour colour (f / 16) 0 whole below marks x here ∙ sym (same_marked x))
       (scanned_now marks)
       (λ x apart. scan_away colour f x (λ e. apart (ap (λ y. y / 16) e)))
 

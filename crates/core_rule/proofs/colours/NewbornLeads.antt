@@ -51,7 +51,7 @@ module _ (fragments : List ℕ) (small : (i : ℕ) → i < length fragments → 
       ∙ rw (lt-ltb fields (2 ^ 29) few) refl in
       second_of (get_or fragments 1 0) g refl (sym word ∙ leads)
 
-  name_leads : (name : Name) → name.owner < 2 ^ 30 → name.count < 2 ^ 32 → head_of (name_word name) ≡ None
+  pub name_leads : (name : Name) → name.owner < 2 ^ 30 → name.count < 2 ^ 32 → head_of (name_word name) ≡ None
   name_leads name owner count = ap (λ (c : Cell). reference_of c.kind c.value) (cell_of-cell_word kinds.Fixed name.owner name.count owner count)
 
   link_leads : (k g : ℕ) → pointer_in 0 (link_after fragments k) ≡ Some g → IsNext k g
@@ -67,7 +67,7 @@ module _ (fragments : List ℕ) (small : (i : ℕ) → i < length fragments → 
   ]
 
   module _ (name : Name) (fields : ℕ) where
-    link_word_at : (k : ℕ) → record_word_of name fields fragments (suc k) 0 ≡ link_after fragments (suc k)
+    pub link_word_at : (k : ℕ) → record_word_of name fields fragments (suc k) 0 ≡ link_after fragments (suc k)
     link_word_at k = let later : eqb (suc k) 0 ≡ false = grind arith in rw later refl
 
     head_zero : (part : ℕ) → record_word_of name fields fragments 0 (suc (suc part)) ≡ 0

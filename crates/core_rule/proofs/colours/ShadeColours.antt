@@ -4,17 +4,15 @@ use Rattle.std.specs.Prelude.{bit_or}
 use Rattle.std.proofs.Common.{◌≡◌, ◌≢◌, ◌⊎◌, ℕ, ◌+◌, ◌*◌, ◌/◌, ◌%◌, ◌<◌, ◌==◌, if◌then◌else◌, List, length, inl, inr, refl, sym, ap, ◌∙◌, subst, arith}
 use Rattle.std.proofs.lemmas.Bool.{eq-eqb}
 use Rattle.std.proofs.lemmas.Bool.Decides.{eqb_tells}
-use Rattle.std.proofs.lemmas.Nat.Bits.{bit_at_or, bit_at-pow_same, bit_at-pow_other, bit_at-lt}
 use Rattle.heap_model.specs.declared.heap.Heap.{Heap}
 use Rattle.core_machine.specs.declared.table.address.Address.TheVariants.{Control}
 use Rattle.core_machine.specs.table.Layout.{at, put, table_length}
 use Rattle.core_machine.specs.table.Operation.{shade_bit_of}
 use Rattle.core_rule.specs.Book.{Colour, White, Grey, Black, fragment_at}
 use Rattle.core_rule.specs.Colours.{Marks, IsMarked, Coloured, marked_bit, scanned_bit}
-use Rattle.core_rule.specs.ControlWords.{Bits}
 use Rattle.core_rule.specs.Owners.{Owner, Kept, born_bit}
-use Rattle.core_rule.proofs.words.ControlLemmas.{bits_after, found_taken, found_born}
 use Rattle.core_rule.proofs.colours.LeadsFrames.{leads_control}
+use Rattle.core_rule.proofs.colours.OneBit.{bit_other, bit_here, bit_beside}
 use Rattle.core_rule.proofs.colours.MarkWords.{marks_after, found_marked, found_scanned}
 
 -- what a shade makes of a colour
@@ -82,29 +80,6 @@ module _ (colour : ℕ → Colour) (f : ℕ) where
     | inr other ↦ sym (mark_away x other.1) ∙ black
   ]
 
--- the bits of a control word after a shade
-module _ (word f x : ℕ) where
-  abbrev shaded_word : ℕ
-  shaded_word = bit_or word (shade_bit_of f)
-
-  other_bit : (i : ℕ) → i ≢ 32 + f % 16 → bit_at shaded_word i ≡ bit_at word i
-  other_bit i apart = rw (bit_at_or word (shade_bit_of f) i, bit_at-pow_other (32 + f % 16) i apart) (omega arith)
-
-  shade_taken : bit_at shaded_word (x % 16) ≡ bit_at word (x % 16)
-  shade_taken = other_bit (x % 16) (λ e. omega (arith, e))
-
-  pub shade_born : bit_at shaded_word (16 + x % 16) ≡ bit_at word (16 + x % 16)
-  shade_born = other_bit (16 + x % 16) (λ e. omega (arith, e))
-
-  shade_scanned : bit_at shaded_word (48 + x % 16) ≡ bit_at word (48 + x % 16)
-  shade_scanned = other_bit (48 + x % 16) (λ e. omega (arith, e))
-
-  shade_marked_other : x % 16 ≢ f % 16 → bit_at shaded_word (32 + x % 16) ≡ bit_at word (32 + x % 16)
-  shade_marked_other apart = other_bit (32 + x % 16) (λ e. apart (omega (arith, e)))
-
-shade_marked : (word f : ℕ) → bit_at (bit_or word (shade_bit_of f)) (32 + f % 16) ≡ 1
-shade_marked word f = rw (bit_at_or word (shade_bit_of f) (32 + f % 16), bit_at-pow_same (32 + f % 16)) (omega (arith, bit_at-lt word (32 + f % 16)))
-
 module _ (heap : Heap) (words : List ℕ) (owner : ℕ → Owner) (colour : ℕ → Colour) (f : ℕ) (whole : length words ≡ table_length heap) (within : f < 16 * heap.groups) where
   abbrev pub shaded_words : List ℕ
   shaded_words = put heap words (Control (f / 16)) (bit_or (at heap words (Control (f / 16))) (shade_bit_of f))
@@ -112,17 +87,10 @@ module _ (heap : Heap) (words : List ℕ) (owner : ℕ → Owner) (colour : ℕ 
   below : f / 16 < heap.groups
   below = omega (arith, within)
 
-  -- the control words have the same owners
-  pub bits_shade : Bits heap words owner → Bits heap shaded_words owner
-  bits_shade bits = bits_after heap words owner owner (f / 16) (bit_or (at heap words (Control (f / 16))) (shade_bit_of f)) whole below bits
-      (λ x here. shade_taken (at heap words (Control (f / 16))) f x ∙ found_taken heap words owner (f / 16) whole below bits x here)
-      (λ x here. shade_born (at heap words (Control (f / 16))) f x ∙ found_born heap words owner (f / 16) whole below bits x here)
-      (λ x apart. refl) (λ x apart. refl) bits.outside
-
   marked_now : Marks heap words colour → (x : ℕ) → x / 16 ≡ f / 16 → bit_at (bit_or (at heap words (Control (f / 16))) (shade_bit_of f)) (32 + x % 16) ≡ marked_bit (with_mark colour f x)
   marked_now marks x here = elim (eqb_tells x f) as (λ _. bit_at (bit_or (at heap words (Control (f / 16))) (shade_bit_of f)) (32 + x % 16) ≡ marked_bit (with_mark colour f x)) [
-    | inl same ↦ rw (same.1, mark_here colour f, marked_whole (colour f)) (shade_marked (at heap words (Control (f / 16))) f)
-    | inr other ↦ shade_marked_other (at heap words (Control (f / 16))) f x (λ e. other.1 (omega (arith, e, here)))
+    | inl same ↦ rw (same.1, mark_here colour f, marked_whole (colour f)) (bit_here (at heap words (Control (f / 16))) 32 f)
+    | inr other ↦ bit_beside (at heap words (Control (f / 16))) 32 f x (λ e. other.1 (omega (arith, e, here)))
         ∙ found_marked heap words colour colour (f / 16) 0 whole below marks x here ∙ ap marked_bit (sym (mark_away colour f x other.1))
   ]
 
@@ -136,7 +104,7 @@ module _ (heap : Heap) (words : List ℕ) (owner : ℕ → Owner) (colour : ℕ 
   pub marks_shade : Marks heap words colour → Marks heap shaded_words (with_mark colour f)
   marks_shade marks = marks_after heap words colour (with_mark colour f) (f / 16) (bit_or (at heap words (Control (f / 16))) (shade_bit_of f)) whole below marks
       (marked_now marks)
-      (λ x here. shade_scanned (at heap words (Control (f / 16))) f x ∙ found_scanned heap words colour colour (f / 16) 0 whole below marks x here ∙ sym (scanned_now x))
+      (λ x here. bit_other (at heap words (Control (f / 16))) 32 f (48 + x % 16) (λ e. omega (arith, e)) ∙ found_scanned heap words colour colour (f / 16) 0 whole below marks x here ∙ sym (scanned_now x))
       (λ x apart. mark_away colour f x (λ e. apart (ap (λ y. y / 16) e)))
 
   -- which are right where it is a kept object's, whose first fragment is marked then, and the heap doesn't rest

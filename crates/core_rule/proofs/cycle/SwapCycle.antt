@@ -24,7 +24,7 @@ use Rattle.core_rule.specs.Rule.{Rule}
 use Rattle.core_rule.proofs.entries.AtRest.{seat_fits}
 use Rattle.core_rule.proofs.words.Addresses.{at-put_apart, control_after_word}
 use Rattle.core_rule.proofs.ways.AtObject.{is_near}
-use Rattle.core_rule.proofs.cycle.Barriers.{barrier_making, field_lead}
+use Rattle.core_rule.proofs.cycle.Barriers.{barrier_making, later_lead}
 use Rattle.core_rule.proofs.cycle.CycleFrames.{LeadsStay, LeavesCycle, coloured_stays}
 use Rattle.core_rule.proofs.ways.KeptWords.{has_room}
 use Rattle.core_rule.proofs.colours.LeadsFrames.{leads_put}
@@ -54,7 +54,7 @@ module _ (heap : Heap) (state : State) (book : Book) (number : ℕ) (rule : Rule
   -- the new word leads to the register's object
   new_leads : pointer_in seat.part word ≡ head_of_register (new_register_of seat)
   new_leads =
-      field_lead seat.part word (swap_part heap state book number rule here place) ∙ ap head_of is_word
+      later_lead seat.part word (swap_part heap state book number rule here place).some ∙ ap head_of is_word
       ∙ head_in-value (object_head book.made book.fragments) value stamp
       (has_room heap state.words (graph_of heap book.history) book.made book.owner book.fragments rule.machine.limits rule.heap_stands.control_words value names) small
       ∙ sym (held_head book.made book.owner book.fragments (new_register_of seat) value holds)

@@ -57,14 +57,14 @@ all_nil r = elim (cases_lt r register_count) as (λ _. get_or (replicate registe
 ]
 
 emptied_said : (g : Graph) (number other : ℕ) (command : Command) (reply : Reply) → IsPresent g other → IsEmptied (graph_seat g number) → IsEmptied (graph_seat (after_reply g other command reply) number)
-emptied_said g number other (commands.New d fields) (replies.Made id) present has = emptied_with g number other _ has (λ its. emptied_present _ present)
-emptied_said g number other (commands.Array d cells) (replies.Made id) present has = emptied_with g number other _ has (λ its. emptied_present _ present)
-emptied_said g number other (commands.Get d r i) (replies.Got value stamp) present has = emptied_with g number other _ has (λ its. emptied_present _ present)
+emptied_said g number other (commands.New d fields) (replies.Made id) present has = emptied_with g number other _ has (λ its left. absurd (cc (present, left)))
+emptied_said g number other (commands.Array d cells) (replies.Made id) present has = emptied_with g number other _ has (λ its left. absurd (cc (present, left)))
+emptied_said g number other (commands.Get d r i) (replies.Got value stamp) present has = emptied_with g number other _ has (λ its left. absurd (cc (present, left)))
 emptied_said g number other (commands.Set r i v) (replies.Was stamp) present has =
     emptied_write (count_set g other) number (register_value g other r) i _ (emptied_with g number other _ has (λ its. its))
-emptied_said g number other (commands.Num d n) reply present has = emptied_with g number other _ has (λ its. emptied_present _ present)
-emptied_said g number other (commands.Nil d) reply present has = emptied_with g number other _ has (λ its. emptied_present _ present)
-emptied_said g number other (commands.Copy d r) reply present has = emptied_with g number other _ has (λ its. emptied_present _ present)
+emptied_said g number other (commands.Num d n) reply present has = emptied_with g number other _ has (λ its left. absurd (cc (present, left)))
+emptied_said g number other (commands.Nil d) reply present has = emptied_with g number other _ has (λ its left. absurd (cc (present, left)))
+emptied_said g number other (commands.Copy d r) reply present has = emptied_with g number other _ has (λ its left. absurd (cc (present, left)))
 emptied_said g number other commands.Leave reply present has = emptied_with g number other _ has (λ its left. all_nil)
 emptied_said g number other command reply present has = has
 

@@ -1,6 +1,6 @@
 -- What holds of the value that an option may have.
 use Rattle.std.specs.Prelude.{unwrap_or}
-use Rattle.std.proofs.Common.{◌≡◌, ℕ, Option, Some, None, IfSome, subst}
+use Rattle.std.proofs.Common.{◌≡◌, ℕ, Option, Some, None, IfSome, refl, subst}
 
 -- what holds of some value goes on to hold
 pub if_some : {A : Type 0} (P Q : A → Type 0) → ((a : A) → P a → Q a) → (o : Option A) → IfSome o P → IfSome o Q
@@ -20,6 +20,11 @@ some_holds P (Some b) a is holds = let same : a ≡ b = cc in subst P same holds
 pub none_holds : {A : Type 0} (P : A → Type 0) (o : Option A) → o ≡ None → IfSome o P
 none_holds P None is = tt
 none_holds P (Some b) is = cc
+
+-- what holds of whatever value the option has
+pub each_some : {A : Type 0} (P : A → Type 0) (o : Option A) → ((a : A) → o ≡ Some a → P a) → IfSome o P
+each_some P None each = tt
+each_some P (Some a) each = each a refl
 
 -- the number that an option holds
 pub from_some : (o : Option ℕ) (x : ℕ) → o ≡ Some x → unwrap_or o 0 ≡ x

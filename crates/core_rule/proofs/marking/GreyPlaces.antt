@@ -1,42 +1,17 @@
 -- The grey fragments of a group by its control word, and what a pass tells that finds one or none.
 use Rattle.std.specs.Int.{bit_at}
-use Rattle.std.specs.List.{find, range_with_len}
-use Rattle.std.proofs.Common.{◌≡◌, ◌≢◌, ◌×◌, ◌⊎◌, ℕ, zero, suc, ◌+◌, ◌*◌, ◌/◌, ◌%◌, ◌==◌, ◌<◌, ◌≤◌, if◌then◌else◌, Bool, true, false, List, length, Option, Some, None, inl, inr, refl, sym, ap, ◌∙◌, subst, arith}
-use Rattle.std.proofs.lemmas.Bool.{cases_lt}
+use Rattle.std.proofs.Common.{◌≡◌, ◌≢◌, ℕ, ◌+◌, ◌*◌, ◌/◌, ◌%◌, ◌==◌, ◌<◌, ◌≤◌, if◌then◌else◌, Bool, true, false, List, length, Some, None, inl, inr, refl, sym, ap, ◌∙◌, arith}
 use Rattle.std.proofs.lemmas.Bool.Decides.{eqb_tells}
 use Rattle.heap_words.specs.Control.{is_grey, lowest_grey_of}
 use Rattle.heap_model.specs.declared.heap.Heap.{Heap}
 use Rattle.core_machine.specs.declared.collector.stage.Stage.TheVariants as stages
 use Rattle.core_machine.specs.declared.table.address.Address.TheVariants.{Control}
 use Rattle.core_machine.specs.table.Layout.{at, table_length}
+use Rattle.core_machine.proofs.table_lemmas.Grey.{grey_within, grey_found, grey_none}
 use Rattle.core_rule.specs.Book.{Colour, White, Grey, Black}
 use Rattle.core_rule.specs.Colours.{Marks, marked_bit, scanned_bit}
 use Rattle.core_rule.specs.Marking.{IsSeen, PassStands}
 use Rattle.core_rule.proofs.colours.MarkWords.{found_marked, found_scanned}
-
--- a test is passed or not
-true_or_false : (b : Bool) → (b ≡ true) ⊎ (b ≡ false)
-true_or_false true = inl refl
-true_or_false false = inr refl
-
--- the first number that passes is one of those that are looked at, and passes
-find_passes : (p : ℕ → Bool) (a n i : ℕ) → find p (range_with_len a n) ≡ Some i → (i < a + n) × (p i ≡ true)
-find_passes p a zero i is = absurd (cc)
-find_passes p a (suc n) i is = elim (true_or_false (p a)) as (λ _. (i < a + suc n) × (p i ≡ true)) [
-  | inl yes ↦ let here : Some a ≡ Some i = rw yes at is in let same : a ≡ i = cc in (omega (arith, same), subst (λ x. p x ≡ true) same yes)
-  | inr no ↦ let further = find_passes p (a + 1) n i (rw no at is) in (omega (arith, further.0), further.1)
-]
-
--- where none passes, none of them does
-find_misses : (p : ℕ → Bool) (a n i : ℕ) → find p (range_with_len a n) ≡ None → a ≤ i → i < a + n → p i ≡ false
-find_misses p a zero i is from below = absurd (omega arith)
-find_misses p a (suc n) i is from below = elim (true_or_false (p a)) as (λ _. p i ≡ false) [
-  | inl yes ↦ let here : Some a ≡ None = rw yes at is in absurd (cc)
-  | inr no ↦ elim (eqb_tells a i) as (λ _. p i ≡ false) [
-    | inl same ↦ subst (λ x. p x ≡ false) same.1 no
-    | inr apart ↦ find_misses p (a + 1) n i (rw no at is) (omega (arith, from, apart.1)) (omega (arith, below))
-  ]
-]
 
 -- a fragment that is marked and not scanned is grey
 grey_by_bits : (c : Colour) → marked_bit c ≡ 1 → scanned_bit c ≡ 0 → c ≡ Grey
@@ -74,40 +49,37 @@ module _ (heap : Heap) (words : List ℕ) (colour : ℕ → Colour) (group : ℕ
   -- the lowest one is
   pub lowest_is_grey : (place : ℕ) → lowest_grey_of word ≡ Some place → colour (16 * group + place) ≡ Grey
   lowest_is_grey place is =
-      let found = find_passes (is_grey word) 0 16 place is in
+      let within = grey_within word place is in
       let rest : (16 * group + place) % 16 ≡ place % 16 = omega arith in
-      grey_there (16 * group + place) (omega (arith, found.0)) (rw rest found.1)
+      grey_there (16 * group + place) (omega (arith, within)) (rw rest (grey_found word place is))
 
   -- and where the word has none no fragment of the group is grey
   none_in_group : lowest_grey_of word ≡ None → (f : ℕ) → f / 16 ≡ group → colour f ≢ Grey
   none_in_group none f here grey =
       let rest : f % 16 % 16 ≡ f % 16 = omega arith in
-      let missed : is_grey word (f % 16) ≡ false = find_misses (is_grey word) 0 16 (f % 16) none (omega arith) (omega arith) in
-      let told : is_grey word f ≡ true = grey_told f here grey in
-      absurd (cc (told, rw rest at missed))
+      let missed : is_grey word (f % 16) ≡ false = grey_none word (f % 16) none (omega arith) in
+      let not_there : is_grey word f ≡ false = rw rest at missed in
+      let there : is_grey word f ≡ true = grey_told f here grey in
+      absurd (cc (there, not_there))
 
   module _ (none : lowest_grey_of word ≡ None) where
     -- so a pass goes on behind it
+    further : (x : ℕ) → colour x ≡ Grey → group ≤ x / 16 → group + 1 ≤ x / 16
+    further x is from = elim (eqb_tells (x / 16) group) as (λ _. group + 1 ≤ x / 16) [
+      | inl here ↦ absurd (none_in_group none x here.1 is)
+      | inr apart ↦ omega (arith, from, apart.1)
+    ]
+
     pub pass_further : (found : Bool) → PassStands colour (stages.Passing group found) → PassStands colour (stages.Passing (group + 1) found)
     pass_further true stands = tt
-    pass_further false stands f grey =
-        let some = stands f grey in
-        (some.0, some.1, past some.0 some.1 some.2)
-      where
-        past : (x : ℕ) → colour x ≡ Grey → group ≤ x / 16 → group + 1 ≤ x / 16
-        past x is from = elim (eqb_tells (x / 16) group) as (λ _. group + 1 ≤ x / 16) [
-          | inl here ↦ absurd (none_in_group none x here.1 is)
-          | inr apart ↦ omega (arith, from, apart.1)
-        ]
+    pass_further false stands = λ f grey. let some = stands f grey in (some.0, some.1, further some.0 some.1 some.2)
 
     -- and behind the last group nothing is grey, where it has found nothing
-    pub none_grey : heap.groups ≤ group + 1 → PassStands colour (stages.Passing group false) → (f : ℕ) → colour f ≢ Grey
-    none_grey last stands f grey =
-        let some = pass_further false stands f grey in
-        nowhere some.0 some.1 some.2
-      where
-        nowhere : (x : ℕ) → colour x ≡ Grey → group + 1 ≤ x / 16 → ⊥
-        nowhere x is past = let white : colour x ≡ White = marks.outside x (omega (arith, last, past)) in cc (is, white)
+    pub nothing_grey : heap.groups ≤ group + 1 → PassStands colour (stages.Passing group false) → (f : ℕ) → colour f ≢ Grey
+    nothing_grey last stands f grey =
+        let some = stands f grey in
+        let white : colour some.0 ≡ White = marks.outside some.0 (omega (arith, last, further some.0 some.1 some.2)) in
+        absurd (cc (some.1, white))
 
 -- another pass begins at the first group
 pub pass_anew : (colour : ℕ → Colour) → PassStands colour (stages.Passing 0 false)

@@ -1,9 +1,8 @@
 -- An object is born and kept: what that leaves of marking, which comes to its first fragment.
-use Rattle.std.proofs.Common.{◌≡◌, ◌≢◌, ℕ, ◌+◌, ◌<◌, ◌≤◌, ◌%◌, true, false, List, [], ◌∷◌, ◌++◌, length, inl, refl, sym, ap, ◌∙◌, subst, arith, ◌*◌}
+use Rattle.std.proofs.Common.{◌≡◌, ◌≢◌, ℕ, ◌+◌, ◌<◌, ◌≤◌, ◌%◌, true, false, List, [], ◌∷◌, ◌++◌, length, inl, ap, ◌∙◌, arith, ◌*◌}
 use Rattle.heap_model.specs.declared.heap.Heap.{Heap}
 use Rattle.core_machine.specs.declared.place.Making.TheVariants.{Bearing}
 use Rattle.core_machine.specs.declared.place.Place.TheVariants as places
-use Rattle.core_machine.specs.declared.seat.register.Register.TheVariants as registers
 use Rattle.core_machine.specs.machine.Machine.{State, seat_at}
 use Rattle.core_machine.specs.Moves.{bears_black_of, last_part, made_entry, seat_after, is_last_birth, last_birth_move}
 use Rattle.core_machine.specs.seat.Commands.{target_of}
@@ -12,9 +11,9 @@ use Rattle.core_machine.specs.seat.Registers.{register_in, register_head}
 use Rattle.core_machine.specs.seat.Seat.{Seat}
 use Rattle.core_machine.specs.seat.Fits.{HasBody}
 use Rattle.core_machine.specs.table.Fragments.{tally}
-use Rattle.core_rule.specs.Book.{Book, White, Black, fragment_at}
+use Rattle.core_rule.specs.Book.{Book, Black, fragment_at}
 use Rattle.core_rule.specs.Colours.{IsMarked}
-use Rattle.core_rule.specs.Owners.{Owner, Kept, Dead, holds_bit, bears_bit, born_bit}
+use Rattle.core_rule.specs.Owners.{Owner, Dead, holds_bit, bears_bit, born_bit}
 use Rattle.core_rule.specs.Paths.{IsReached}
 use Rattle.core_rule.specs.Rule.{Rule}
 use Rattle.core_rule.proofs.colours.BirthColours.{painted}

@@ -1,5 +1,5 @@
 -- What the making of an object leaves of marking: fragments that no object has come and go, and are born black while it goes on.
-use Rattle.std.proofs.Common.{◌⊎◌, ◌≡◌, ◌≢◌, ℕ, ◌+◌, ◌*◌, ◌%◌, ◌<◌, ◌≤◌, Bool, true, false, List, length, inl, inr, refl, sym, ap, ◌∙◌, subst, arith}
+use Rattle.std.proofs.Common.{◌⊎◌, ◌≡◌, ◌≢◌, ℕ, ◌+◌, ◌%◌, ◌<◌, ◌≤◌, Bool, true, false, List, inl, inr, refl, sym, ap, ◌∙◌, subst, arith}
 use Rattle.heap_model.specs.declared.heap.Heap.{Heap}
 use Rattle.heap_model.specs.account.PhaseCounts.{phase}
 use Rattle.core_machine.specs.declared.table.address.Address.TheVariants.{Control, Word}
@@ -8,12 +8,11 @@ use Rattle.core_machine.specs.Moves.{bears_black_of}
 use Rattle.core_machine.specs.seat.Seat.{Seat}
 use Rattle.core_machine.specs.table.Fragments.{tally}
 use Rattle.core_machine.specs.table.Layout.{at, put}
-use Rattle.core_rule.specs.Book.{Book, Colour, White, Grey, Black}
-use Rattle.core_rule.specs.Colours.{WordPointsTo, IsBetween}
+use Rattle.core_rule.specs.Book.{Book, Grey, Black}
 use Rattle.core_rule.specs.Owners.{Owner, Kept, Dead, born_bit, owner_after}
 use Rattle.core_rule.specs.Phases.{IsNear}
 use Rattle.core_rule.specs.Rule.{Rule}
-use Rattle.core_rule.proofs.colours.BirthColours.{painted, painted_in, painted_out, painted_cases}
+use Rattle.core_rule.proofs.colours.BirthColours.{painted, painted_in, painted_cases}
 use Rattle.core_rule.proofs.colours.Births.{birth_colour}
 use Rattle.core_rule.proofs.colours.LeadsFrames.{leads_same, leads_control, control_leads}
 use Rattle.core_rule.proofs.cycle.Barriers.{window_black}
@@ -97,6 +96,7 @@ module _ (heap : Heap) (state : State) (book : Book) (rule : Rule heap state boo
       where
         in_or_out : (f : ℕ) → (1 ≤ tally f fs) ⊎ (tally f fs ≡ 0)
         in_or_out f = elim (none_or_some (tally f fs)) as (λ _. (1 ≤ tally f fs) ⊎ (tally f fs ≡ 0)) [ inl none ↦ inr none | inr some ↦ inl some ]
+
         kept_out : (f : ℕ) → tally f fs ≡ 0 → later f ≡ book.owner f
         kept_out f away = handed_out o book.owner fs f away
 
@@ -125,8 +125,10 @@ module _ (heap : Heap) (state : State) (book : Book) (rule : Rule heap state boo
       → LeavesMarking heap state.words (put heap state.words (Control g) n) book.owner (kept_by number body book.owner) book.colour (painted (birth_colour black) book.colour fs)
       book.fragments (with_object book.fragments number body) marks
   leaves_kept g n below number body fs black dark bears unborn unkept undead apart = record {
-    born = λ f born. (omega (arith, bears f, born, born_once (kept_by number body book.owner f)),
-        painted_cases (λ c. c ≡ book.colour f) (birth_colour black) book.colour fs f (λ there. absurd (omega (arith, born, unborn f there))) (λ away. refl));
+    born = λ f born. (
+      omega (arith, bears f, born, born_once (kept_by number body book.owner f)),
+      painted_cases (λ c. c ≡ book.colour f) (birth_colour black) book.colour fs f (λ there. absurd (omega (arith, born, unborn f there))) (λ away. refl),
+    );
     kept = λ f i k is. (kept_stays number body book.owner unkept f i k is, object_old book.fragments number body i (apart f i k is));
     dead = λ f i k is. kept_cases number body book.owner (λ x. x ≡ Dead i k) f (λ there. absurd (undead f i k there is)) (λ away. is);
     was_dead = λ f i k. kept_cases number body book.owner (λ x. x ≡ Dead i k → book.owner f ≡ Dead i k) f (λ there is. absurd (no_dead f is)) (λ away is. is);

@@ -1,6 +1,6 @@
 -- Where the words of a kept object lead: to its next fragment, or to a kept object's first.
 use Rattle.std.specs.Prelude.{if◌then◌else◌}
-use Rattle.std.proofs.Common.{◌⊎◌, ◌≡◌, ◌≢◌, ℕ, zero, suc, ◌+◌, ◌-◌, ◌*◌, ◌<◌, ◌≤◌, ◌^◌, eqb, Bool, true, false, List, length, get_or, slice_get, Option, Some, None, inl, inr, refl, sym, ap, ◌∙◌, subst, arith}
+use Rattle.std.proofs.Common.{◌⊎◌, ◌≡◌, ℕ, zero, suc, ◌+◌, ◌-◌, ◌*◌, ◌<◌, ◌^◌, Bool, true, false, List, length, get_or, slice_get, Option, Some, None, inl, inr, refl, sym, ap, ◌∙◌, arith}
 use Rattle.heap_words.specs.declared.name.Name.{Name}
 use Rattle.heap_model.specs.Heap.{IsHeap}
 use Rattle.heap_model.specs.declared.graph.cell.Cell.{Cell}
@@ -8,15 +8,17 @@ use Rattle.heap_model.specs.declared.heap.Heap.{Heap}
 use Rattle.heap_model.specs.declared.id.Id.{Id}
 use Rattle.heap_model.specs.declared.id.Id.TheVariants.{Board, Made}
 use Rattle.heap_model.specs.graph.Graph.{Graph}
-use Rattle.core_machine.specs.table.Decode.{pointer_in, head_of}
+use Rattle.core_machine.specs.table.Decode.{pointer_in}
 use Rattle.core_machine.specs.table.Newborn.{record_word_of}
 use Rattle.core_rule.specs.Book.{fragment_at, id_at, object_head}
 use Rattle.core_rule.specs.Colours.{WordPointsTo}
 use Rattle.core_rule.specs.ControlWords.{Bits}
 use Rattle.core_rule.specs.Objects.{FitsName, AreMade, Objects, KeptObject, IsKept, name_of, value_word, field_word, is_cell, object_word, cells_at}
-use Rattle.core_rule.specs.Owners.{Owner, Kept}
+use Rattle.core_rule.specs.Owners.{Owner}
+use Rattle.core_rule.proofs.cycle.Barriers.{later_lead}
 use Rattle.core_rule.proofs.colours.NewbornLeads.{IsNext, newborn_leads, zero_leads}
-use Rattle.core_rule.proofs.objects.CellWords.{head_in-value}
+use Rattle.std.proofs.lemmas.Bool.Decides.{nat_tests}
+use Rattle.core_rule.proofs.ways.Told.{head_in-value}
 use Rattle.core_rule.proofs.ways.KeptWords.{kept_within, has_room}
 use Rattle.core_rule.proofs.ways.LoadedObjects.{KeptHead, named_kept}
 
@@ -36,21 +38,18 @@ cell_part : (k part : ℕ) → is_cell k part ≡ true → 0 < part
 cell_part zero part is = grind (arith, nat_tests, is)
 cell_part (suc k) part is = grind (arith, nat_tests, is)
 
-later_lead : (part word : ℕ) → 0 < part → pointer_in part word ≡ head_of word
-later_lead part word some = let later : eqb part 0 ≡ false = grind (arith, some) in rw later refl
-
 -- a name has room for an id's numbers
-name_small : (id : Id) → FitsName id → ((name_of id).owner < 2 ^ 30) × ((name_of id).count < 2 ^ 32)
+pub name_small : (id : Id) → FitsName id → ((name_of id).owner < 2 ^ 30) × ((name_of id).count < 2 ^ 32)
 name_small Board fits = (omega arith, omega arith)
 name_small (Made s count) fits = (omega (arith, fits.0), fits.1)
 
 module _ (heap : Heap) (words : List ℕ) (g : Graph) (made : List Id) (owner : ℕ → Owner) (fragments : ℕ → List ℕ)
     (limits : IsHeap heap) (bits : Bits heap words owner) (ids : AreMade g made) (objects : Objects heap words g made owner fragments)
     (i : ℕ) (below : i < length made) (kept : IsKept owner fragments i) where
-  the_object : KeptObject heap words owner (object_head made fragments) i (id_at made i) (cells_at g made i) (fragments i)
+  abbrev the_object : KeptObject heap words owner (object_head made fragments) i (id_at made i) (cells_at g made i) (fragments i)
   the_object = objects.kept i below kept
 
-  small : (k : ℕ) → k < length (fragments i) → get_or (fragments i) k 0 < 2 ^ 30
+  pub small : (k : ℕ) → k < length (fragments i) → get_or (fragments i) k 0 < 2 ^ 30
   small k within = omega (arith, limits.groups_fit, kept_within heap words owner _ _ _ bits (the_object.owned k within))
 
   -- a cell leads to the object that it refers to

@@ -1,5 +1,5 @@
 -- A fact of the objects of all registers, where one register gets another value.
-use Rattle.std.proofs.Common.{◌≡◌, ℕ, ◌<◌, List, length, slice_set, IfSome, sym, subst, inl, inr}
+use Rattle.std.proofs.Common.{ℕ, ◌<◌, List, length, slice_set, IfSome, sym, subst, inl, inr}
 use Rattle.std.proofs.lemmas.Bool.Decides.{eqb_tells}
 use Rattle.std.proofs.lemmas.List.{get_or-set_same, get_or-set_other}
 use Rattle.core_machine.specs.declared.seat.register.Register.{Register}

@@ -1,10 +1,10 @@
 -- A seat marks a kept object's fragment: its step leaves marking.
 use Rattle.std.specs.Prelude.{bit_or}
-use Rattle.std.proofs.Common.{◌≡◌, ℕ, ◌*◌, ◌/◌, ◌<◌, List, false, refl, sym, ◌∙◌, arith}
+use Rattle.std.proofs.Common.{◌≡◌, ℕ, ◌*◌, ◌/◌, ◌<◌, List, false, sym, ◌∙◌, arith}
 use Rattle.heap_model.specs.declared.heap.Heap.{Heap}
 use Rattle.core_machine.specs.declared.collector.stage.Stage.TheVariants as stages
 use Rattle.core_machine.specs.declared.table.address.Address.TheVariants.{Control}
-use Rattle.core_machine.specs.collector.FitsTurns.{FitsStage, IsPassing}
+use Rattle.core_machine.specs.collector.FitsTurns.{IsPassing}
 use Rattle.core_machine.specs.machine.Machine.{State, seat_at}
 use Rattle.core_machine.specs.seat.Seat.{Seat}
 use Rattle.core_machine.specs.table.Layout.{at, put}
@@ -21,7 +21,7 @@ use Rattle.core_rule.proofs.marking.Paths.{shade_reached}
 use Rattle.core_rule.proofs.marking.ShadeMarks.{marking_shaded}
 
 module _ (heap : Heap) (state : State) (book : Book) (rule : Rule heap state book) (f : ℕ) (within : f < 16 * heap.groups) where
-  abbrev words_marked : List ℕ
+  abbrev pub words_marked : List ℕ
   words_marked = put heap state.words (Control (f / 16)) (bit_or (at heap state.words (Control (f / 16))) (shade_bit_of f))
 
   group_below : f / 16 < heap.groups

@@ -1,15 +1,15 @@
 -- A fragment of a kept object is marked: what stays of marking.
-use Rattle.std.proofs.Common.{◌⊎◌, ◌≡◌, ◌≢◌, ℕ, ◌≤◌, ◌/◌, List, Option, Some, true, false, inl, inr, refl, sym, ap, ◌∙◌, subst}
+use Rattle.std.proofs.Common.{◌⊎◌, ◌≡◌, ℕ, ◌≤◌, ◌/◌, List, Some, false, inl, inr, refl, sym, ap, ◌∙◌, subst}
 use Rattle.std.proofs.lemmas.Bool.Decides.{eqb_tells}
 use Rattle.heap_model.specs.declared.heap.Heap.{Heap}
 use Rattle.core_machine.specs.declared.collector.stage.Stage.{Stage}
 use Rattle.core_machine.specs.declared.collector.stage.Stage.TheVariants as stages
-use Rattle.core_rule.specs.Book.{Colour, White, Grey, Black, fragment_at}
+use Rattle.core_rule.specs.Book.{Colour, White, Grey, fragment_at}
 use Rattle.core_rule.specs.Colours.{IsMarked, WordPointsTo}
 use Rattle.core_rule.specs.Marking.{IsPart, MayMark, IsSeen, ScanStands, PassStands, AfterMarking, MarkingStands}
 use Rattle.core_rule.specs.Owners.{Owner, Kept, Dead, born_bit}
-use Rattle.core_rule.specs.Paths.{IsWhite, Guarded, from_grey, from_white, IsReached}
-use Rattle.core_rule.proofs.colours.ShadeColours.{with_mark, mark_away, mark_keeps, mark_marks}
+use Rattle.core_rule.specs.Paths.{Guarded, from_grey, from_white, IsReached}
+use Rattle.core_rule.proofs.colours.ShadeColours.{with_mark, mark_away, mark_keeps}
 use Rattle.core_rule.proofs.cycle.CycleFrames.{watches_stay}
 use Rattle.core_rule.proofs.marking.Paths.{white_or_marked, grey_on, same_marked}
 
@@ -48,12 +48,21 @@ module _ (heap : Heap) (words now : List ℕ) (owner : ℕ → Owner) (colour : 
     ]
   ]
 
-  pub scan_shaded : (stage : Stage) → ScanStands heap words owner colour fragments stage → ScanStands heap now owner shaded fragments stage
+  -- what is grey is part of a kept object
+  pub grey_part : ((f : ℕ) → colour f ≡ Grey → IsPart owner f) → (f : ℕ) → shaded f ≡ Grey → IsPart owner f
+  grey_part parts f grey = elim (grey_was f grey) as (λ _. IsPart owner f) [
+    | inl was ↦ parts f was
+    | inr new ↦ subst (IsPart owner) (sym new.0) kept
+  ]
+
+  scan_shaded : (stage : Stage) → ScanStands heap words owner colour fragments stage → ScanStands heap now owner shaded fragments stage
   scan_shaded (stages.Scanning scan) stands = seen_on scan.fragment scan.part stands
-  scan_shaded (stages.Shading scan target next) stands =
-      (seen_on scan.fragment scan.part stands.0,
-      watches_stay heap words now colour shaded (mark_keeps colour m) scan.fragment scan.part (λ g leads. inl (back scan.fragment scan.part g leads)) (Some target) stands.1,
-      may_on target stands.2, stands.3)
+  scan_shaded (stages.Shading scan target next) stands = (
+    seen_on scan.fragment scan.part stands.0,
+    watches_stay heap words now colour shaded (mark_keeps colour m) scan.fragment scan.part (λ g leads. inl (back scan.fragment scan.part g leads)) (Some target) stands.1,
+    may_on target stands.2,
+    stands.3,
+  )
   scan_shaded (stages.Blackening scan) stands = seen_on scan.fragment 4 stands
   scan_shaded _ stands = tt
 
@@ -85,6 +94,7 @@ module _ (heap : Heap) (words now : List ℕ) (owner : ℕ → Owner) (colour : 
       was_marked : IsMarked colour m
       was_marked white = let dead = after.white_dead m record { unmarked = white; born = ap born_bit kept.kept } in
           let both : Kept kept.index kept.place ≡ Dead dead.0 dead.1 = sym kept.kept ∙ dead.2 in absurd (cc)
+
       still : (f : ℕ) → shaded f ≡ White → colour f ≡ White
       still f white = elim (white_or_marked colour f) as (λ _. colour f ≡ White) [
         | inl was ↦ was
@@ -95,10 +105,7 @@ module _ (heap : Heap) (words now : List ℕ) (owner : ℕ → Owner) (colour : 
   pub marking_shaded : (stage : Stage) → ((group : ℕ) → stage ≡ stages.Passing group false → IsReached heap words owner colour m)
       → MarkingStands heap words owner colour fragments stage → MarkingStands heap now owner shaded fragments stage
   marking_shaded stage comes stands = record {
-    grey = λ f grey. elim (grey_was f grey) as (λ _. IsPart owner f) [
-      | inl was ↦ stands.grey f was
-      | inr new ↦ subst (IsPart owner) (sym new.0) kept
-    ];
+    grey = grey_part stands.grey;
     scan = scan_shaded stage stands.scan;
     pass = pass_shaded stage comes stands.pass;
     alive = stands.alive;

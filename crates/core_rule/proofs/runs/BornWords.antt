@@ -33,8 +33,7 @@ use Rattle.core_rule.specs.Laws.{EachBirthHasItsColour}
 use Rattle.core_rule.specs.Owners.{born_bit}
 use Rattle.core_rule.specs.Rule.{Rule}
 use Rattle.core_rule.proofs.colours.Births.{birth_colour}
-use Rattle.core_rule.proofs.colours.BlackenColours.{blacken_born}
-use Rattle.core_rule.proofs.colours.ShadeColours.{shade_born}
+use Rattle.core_rule.proofs.colours.OneBit.{bit_born}
 use Rattle.core_rule.proofs.colours.MarkWords.{found_marked, found_scanned}
 use Rattle.core_rule.proofs.cycle.Barriers.{black_window, window_black}
 use Rattle.core_rule.proofs.runs.Runs.{seat_of_step}
@@ -150,10 +149,10 @@ module _ (heap : Heap) (state : State) (book : Book) (rule : Rule heap state boo
             → HasBirthColour heap (state_after_due heap state number (Some (if last then last_birth_move number seat else birth_move seat))).words f (last_answer number book.history)
         by true born = birth_colours born
         by false born = birth_colours born
-    step_colours (places.Access ShadingOld) born = absurd (bit_bears_none _ _ (shade_born _ _ f) born)
-    step_colours (places.Access ShadingNew) born = absurd (bit_bears_none _ _ (shade_born _ _ f) born)
+    step_colours (places.Access ShadingOld) born = absurd (bit_bears_none _ _ (bit_born _ 32 _ f (omega arith)) born)
+    step_colours (places.Access ShadingNew) born = absurd (bit_bears_none _ _ (bit_born _ 32 _ f (omega arith)) born)
     step_colours (places.Access Swapping) born = absurd (word_bears_none _ (control_after_word heap words _ _ _ (f / 16) (omega (arith, within))) born)
-    step_colours (places.Polling Shading) born = absurd (bit_bears_none _ _ (shade_born _ _ f) born)
+    step_colours (places.Polling Shading) born = absurd (bit_bears_none _ _ (bit_born _ 32 _ f (omega arith)) born)
     step_colours (places.Polling Answering) born = absurd (answer_bears_none _ born)
     step_colours (places.Leaving Emptying) born = absurd (bit_bears_none _ _ (untaken_born _ (f % 16) (omega arith) _ (mask-lt _)) born)
     step_colours (places.Leaving Parting) born = absurd (answer_bears_none _ born)
@@ -162,8 +161,8 @@ module _ (heap : Heap) (state : State) (book : Book) (rule : Rule heap state boo
   -- a turn bears nothing
   turn_bears_none : (stage : Stage) → ¬ IsBorn heap (state_after_turn heap state (turn_at heap state.collector stage)).words f
   turn_bears_none stages.Advancing born = word_bears_none _ (at-put_apart heap words Phase (Control (f / 16)) _ (λ e. omega (arith, e))) born
-  turn_bears_none (stages.Shading scan target next) born = bit_bears_none _ _ (shade_born _ _ f) born
-  turn_bears_none (stages.Blackening scan) born = bit_bears_none _ _ (blacken_born _ _ f) born
+  turn_bears_none (stages.Shading scan target next) born = bit_bears_none _ _ (bit_born _ 32 _ f (omega arith)) born
+  turn_bears_none (stages.Blackening scan) born = bit_bears_none _ _ (bit_born _ 48 _ f (omega arith)) born
   turn_bears_none _ born = load_bears_none _ born
 
 pub each_birth_has_its_colour : EachBirthHasItsColour

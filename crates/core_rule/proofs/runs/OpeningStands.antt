@@ -1,5 +1,5 @@
 -- The rule holds when a heap opens.
-use Rattle.std.proofs.Common.{◌≡◌, ℕ, zero, suc, ◌+◌, ◌<◌, inl, List, [], ◌∷◌, length, get_or, replicate, refl, sym, ap, ◌∙◌, subst, arith}
+use Rattle.std.proofs.Common.{◌≡◌, ◌≢◌, ℕ, zero, suc, ◌+◌, ◌%◌, ◌<◌, inl, List, [], ◌∷◌, length, get_or, replicate, refl, sym, ap, ◌∙◌, subst, arith}
 use Rattle.std.proofs.lemmas.Bool.{lt-ltb}
 use Rattle.std.proofs.lemmas.List.FromFn.{get_or-map-range_with_len}
 use Rattle.heap_model.specs.declared.heap.Heap.{Heap}
@@ -21,7 +21,8 @@ use Rattle.core_machine.specs.machine.Value.{IsMachine}
 use Rattle.core_machine.proofs.machine_lemmas.OpeningMachine.{opening_machine}
 use Rattle.core_rule.specs.Book.{Book, White}
 use Rattle.core_rule.specs.Laws.{StandsFor}
-use Rattle.core_rule.specs.Owners.{holds_bit, bears_bit}
+use Rattle.core_rule.specs.Marking.{MarkingStands}
+use Rattle.core_rule.specs.Owners.{Dead, holds_bit, bears_bit}
 use Rattle.core_rule.specs.Phases.{CollectorAgrees}
 use Rattle.core_rule.specs.Registers.{Registers}
 use Rattle.core_rule.specs.Registers as regs

@@ -1,11 +1,11 @@
 -- The shade of a kept object's first fragment keeps the rule.
 use Rattle.std.specs.Prelude.{bit_or}
-use Rattle.std.proofs.Common.{◌≡◌, ◌≢◌, ℕ, ◌*◌, ◌/◌, ◌%◌, ◌<◌, List, [], ◌++◌, slice_set, refl, sym, ap, ◌∙◌, subst, arith, inl}
+use Rattle.std.proofs.Common.{◌≡◌, ◌≢◌, ℕ, ◌*◌, ◌/◌, ◌%◌, ◌<◌, List, [], ◌++◌, slice_set, refl, sym, ap, ◌∙◌, subst, arith}
 use Rattle.std.proofs.lemmas.List.{append-nil}
 use Rattle.heap_model.specs.declared.heap.Heap.{Heap}
 use Rattle.heap_model.specs.account.Cycles.{graph_of}
 use Rattle.heap_model.specs.account.PhaseCounts.{phase, last_answer, has_left}
-use Rattle.core_machine.specs.declared.table.address.Address.TheVariants.{Answer, Control, Phase}
+use Rattle.core_machine.specs.declared.table.address.Address.TheVariants.{Answer, Control}
 use Rattle.core_machine.specs.declared.place.Place.{Place}
 use Rattle.core_machine.specs.seat.Commands.{target_of}
 use Rattle.core_machine.specs.table.Layout.{at, put}
@@ -25,18 +25,17 @@ use Rattle.core_rule.specs.Paths.{IsReached}
 use Rattle.core_rule.specs.Registers.{Registers}
 use Rattle.core_rule.specs.Rule.{Rule}
 use Rattle.core_rule.specs.Ways.{WayStands}
+use Rattle.core_rule.proofs.frames.Recoloured.{Recolours, heap_recoloured, seat_recoloured}
+use Rattle.core_rule.proofs.colours.OneBit.{bits_marked}
 use Rattle.core_rule.proofs.words.Addresses.{at-put_apart}
 use Rattle.core_rule.proofs.marking.Marks.{RootsGoOn}
 use Rattle.core_rule.proofs.marking.SeatShades.{marks_shaded}
 use Rattle.core_rule.proofs.steps.Assemble.{Keeps, seat_steps, in_flight}
-use Rattle.core_rule.proofs.cycle.CycleFrames.{LeavesCycle, cycle_stays}
-use Rattle.core_rule.proofs.cycle.FieldFrames.{watched_born}
 use Rattle.core_rule.proofs.entries.InFlight.{began_on}
 use Rattle.core_rule.proofs.ways.KeptWords.{kept_within}
-use Rattle.core_rule.proofs.colours.LeadsFrames.{leads_control}
-use Rattle.core_rule.proofs.objects.ObjectFrames.{objects_control, bears_keeps_none}
+use Rattle.core_rule.proofs.objects.ObjectFrames.{bears_keeps_none}
 use Rattle.core_rule.proofs.entries.OwnEntries.{counts_same}
-use Rattle.core_rule.proofs.colours.ShadeColours.{with_mark, mark_keeps, mark_marks, mark_away, bits_shade, marks_shade, coloured_shade}
+use Rattle.core_rule.proofs.colours.ShadeColours.{with_mark, mark_keeps, mark_marks, mark_away, marks_shade, coloured_shade}
 use Rattle.core_rule.proofs.hand.StoredFrames.{stored_control}
 
 -- the seat after a shade: elsewhere, and with so many roots shaded
@@ -66,13 +65,15 @@ module _ (heap : Heap) (state : State) (book : Book) (number : ℕ) (rule : Rule
   pub borne_unshaded : (r x : ℕ) → book.owner x ≡ Borne r → with_mark book.colour f x ≡ book.colour x
   borne_unshaded r x borne = mark_away book.colour f x (λ same. bears_keeps_none r index 0 (sym borne ∙ ap book.owner same ∙ owned))
 
-  -- what is needed of the others stays
-  others_left : (r : ℕ) → r < heap.seats → LeavesCycle heap state.words words_shaded book.owner book.owner book.colour (with_mark book.colour f) (phase book.history) r
-  others_left r less = record {
-    answer = answer_shaded r less;
-    leads = λ making x part g born leads. inl (leads_control heap state.words (f / 16) _ group_below x part g leads);
-    marks = mark_keeps book.colour f;
-    births = λ x borne. (borne, borne_unshaded r x borne);
+  -- the control words have the new colours
+  recolours : phase book.history % 7 ≢ 0 → Recolours heap words_shaded book (with_mark book.colour f)
+  recolours runs = record {
+    bits = bits_marked heap state.words book.owner 32 f rule.machine.table shade_within (omega arith) rule.heap_stands.control_words;
+    marks = marks_shade heap state.words book.owner book.colour f rule.machine.table shade_within rule.heap_stands.cycle.marks;
+    right = coloured_shade heap state.words book.owner book.colour f rule.machine.table shade_within book.fragments (phase book.history) index 0 owned
+        (subst (IsMarked (with_mark book.colour f)) first (mark_marks book.colour f)) runs rule.heap_stands.cycle.coloured;
+    keeps = mark_keeps book.colour f;
+    births = borne_unshaded;
   }
 
   pub shade_keeps : (shaded : ℕ) (place : Place) → phase book.history % 7 ≢ 0
@@ -89,23 +90,8 @@ module _ (heap : Heap) (state : State) (book : Book) (number : ℕ) (rule : Rule
       let seat : Seat = seat_at state number in
       let new : Seat = shading seat shaded place in
       let stands = rule.seats_stand number here in
-      let old = rule.heap_stands in
       seat_steps heap state book number words_shaded new (record book { colour = with_mark book.colour f }) [] rule here machine (sym (append-nil book.history)) refl
-      record {
-        control_words = bits_shade heap state.words book.owner book.colour f rule.machine.table shade_within old.control_words;
-        owners = old.owners;
-        ids = old.ids;
-        objects = objects_control heap state.words (graph_of heap book.history) book.made book.owner book.fragments (f / 16) _ group_below old.objects;
-        used = old.used;
-        cycle = record {
-          word = at-put_apart heap state.words (Control (f / 16)) Phase _ (λ e. omega (arith, e)) ∙ old.cycle.word;
-          so_far = old.cycle.so_far;
-          marks = marks_shade heap state.words book.owner book.colour f rule.machine.table shade_within old.cycle.marks;
-          coloured = coloured_shade heap state.words book.owner book.colour f rule.machine.table shade_within book.fragments (phase book.history) index 0 owned
-              (subst (IsMarked (with_mark book.colour f)) first (mark_marks book.colour f)) runs old.cycle.coloured;
-        };
-        legal = old.legal;
-      }
+      (heap_recoloured heap state book rule (f / 16) _ group_below (with_mark book.colour f) (recolours runs))
       record {
         own = record { holding = stands.own.holding; stored = stored_control heap state.words number seat (f / 16) _ group_below stands.own.stored; together = stands.own.together };
         names = record { registers = held; way = way };
@@ -117,12 +103,6 @@ module _ (heap : Heap) (state : State) (book : Book) (number : ℕ) (rule : Rule
         };
         cycle = cycle;
       }
-      (λ r less apart other. record {
-        own = record { holding = other.own.holding; stored = stored_control heap state.words r (seat_at state r) (f / 16) _ group_below other.own.stored; together = other.own.together };
-        names = other.names;
-        told = other.told;
-        cycle = cycle_stays heap state.words words_shaded book.owner book.owner book.colour (with_mark book.colour f) (phase book.history) (last_answer r book.history) (has_left r book.history)
-            r (seat_at state r) (others_left r less) (watched_born heap state book rule r less) other.cycle;
-      })
+      (λ r less apart other. seat_recoloured heap state book rule (f / 16) _ group_below (with_mark book.colour f) (recolours runs) r less other)
       (marks_shaded heap state book rule f shade_within number here new record { index = index; place = 0; kept = owned }
       (in_flight rule number here (λ idle. busy (subst IsAnswered (sym idle) tt))) refl comes roots)

@@ -1,5 +1,5 @@
 -- A turn of the collector keeps the rule, where the heap, each seat and the collector stand after it.
-use Rattle.std.proofs.Common.{◌≡◌, ℕ, ◌<◌, List, [], ◌++◌, sym, subst}
+use Rattle.std.proofs.Common.{◌≡◌, ℕ, ◌<◌, List, [], ◌++◌, refl, sym, ◌∙◌, subst}
 use Rattle.std.proofs.lemmas.List.{append-nil}
 use Rattle.heap_model.specs.declared.entry.Entry.{Entry}
 use Rattle.heap_model.specs.declared.heap.Heap.{Heap}
@@ -41,13 +41,22 @@ turn_steps heap state book words collector now added rule machine grown heap_aft
 abbrev pub quiet : Collector → Collector
 quiet collector = record collector { log = collector.log ++ [] }
 
--- the rule after a load of the collector that leaves the book
+-- the rule after a load of the collector, with the book that stands then
+pub load_turns_with : (heap : Heap) (state : State) (book : Book) (a : Address) (collector : Collector) (now : Book) → Rule heap state book
+    → IsMachine heap (after_turn state (put heap state.words a (at heap state.words a)) (quiet collector)) → now.history ≡ book.history
+    → HeapStands heap state.words now
+    → ((r : ℕ) → r < heap.seats → SeatStands heap state.words book r (seat_at state r) → SeatStands heap state.words now r (seat_at state r))
+    → CollectorAgrees heap collector now.history → MarksStand heap (after_turn state state.words collector) now.owner now.colour now.fragments
+    → Keeps heap (after_turn state (put heap state.words a (at heap state.words a)) (quiet collector)) book now.begun []
+load_turns_with heap state book a collector now rule machine told heap_after seats stands marks =
+    subst (λ words. IsMachine heap (after_turn state words (quiet collector)) → Keeps heap (after_turn state words (quiet collector)) book now.begun []) (sym (put-at heap state.words a))
+    (λ same. turn_steps heap state book state.words (quiet collector) now [] rule same (told ∙ sym (append-nil book.history)) heap_after seats
+    (subst (λ log. CollectorAgrees heap (record collector { log = log }) now.history) (sym (append-nil collector.log)) stands)
+    record { heap_marks = marks.heap_marks; roots = λ r below is answered. marks.roots r below (record { phase = is.phase; goes_on = is.goes_on }) answered }) machine
+
+-- and after one that leaves the book
 pub load_turns : (heap : Heap) (state : State) (book : Book) (a : Address) (collector : Collector) → Rule heap state book
     → IsMachine heap (after_turn state (put heap state.words a (at heap state.words a)) (quiet collector))
     → CollectorAgrees heap collector book.history → MarksStand heap (after_turn state state.words collector) book.owner book.colour book.fragments
     → Keeps heap (after_turn state (put heap state.words a (at heap state.words a)) (quiet collector)) book book.begun []
-load_turns heap state book a collector rule machine stands marks =
-    subst (λ words. IsMachine heap (after_turn state words (quiet collector)) → Keeps heap (after_turn state words (quiet collector)) book book.begun []) (sym (put-at heap state.words a))
-    (λ same. turn_steps heap state book state.words (quiet collector) book [] rule same (sym (append-nil book.history)) rule.heap_stands (λ r below seat_stands. seat_stands)
-    (subst (λ log. CollectorAgrees heap (record collector { log = log }) book.history) (sym (append-nil collector.log)) stands) 
-    record { heap_marks = marks.heap_marks; roots = λ r below is_marking answered. marks.roots r below record { phase = is_marking.phase; goes_on = is_marking.goes_on } answered }) machine
+load_turns heap state book a collector rule machine = load_turns_with heap state book a collector book rule machine refl rule.heap_stands (λ r below seat_stands. seat_stands)

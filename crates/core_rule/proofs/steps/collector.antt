@@ -1,6 +1,12 @@
 -- Kinds of the collector, a file for each.
+pub mod PassStep
+pub mod MarkedStep
 pub mod AdvanceStep
+pub mod ColourTurn
+pub mod BlackenStep
 pub mod LookStep
+pub mod MarkShadeStep
+pub mod ScanStep
 use Rattle.core_machine.specs.declared.collector.stage.Stage.{Stage}
 use Rattle.core_machine.specs.declared.collector.stage.Stage.TheVariants as stages
 use Rattle.core_rule.proofs.steps.TurnSteps.{StageKeeps}
@@ -8,4 +14,9 @@ use Rattle.core_rule.proofs.steps.TurnSteps.{StageKeeps}
 -- each turn keeps the rule, by its stage
 pub turn_keeps_at : (stage : Stage) → StageKeeps stage
 turn_keeps_at stages.Looking = LookStep.look_keeps
+turn_keeps_at (stages.Scanning scan) = ScanStep.scan_keeps scan
+turn_keeps_at (stages.Shading scan target next) = MarkShadeStep.mark_shade_keeps scan target next
+turn_keeps_at (stages.Blackening scan) = BlackenStep.blacken_keeps scan
 turn_keeps_at stages.Advancing = AdvanceStep.advance_keeps
+turn_keeps_at (stages.Passing group found) = PassStep.pass_keeps group found
+turn_keeps_at stages.Marked = MarkedStep.marked_keeps

@@ -110,7 +110,7 @@ module _ (heap : Heap) (words : List ℕ) (g : Graph) (made : List Id) (owner : 
   module _ (ids : AreMade g made) (objects : Objects heap words g made owner fragments) (seat : Seat) (finds : Finds (cells_at g made) made owner fragments seat) where
     -- the object has the row to which a way leads
     pub row_ahead : finds.row + seat.links < length (fragments finds.index)
-    row_ahead = omega (arith, finds.ahead, row_there ids objects finds.index finds.way.below finds.way.kept (field_of seat.command) finds.within)
+    row_ahead = omega (arith, finds.field.leads, row_there ids objects finds.index finds.way.below finds.way.kept (field_of seat.command) finds.field.within)
 
     -- where links lead on, the first of them leads to the next row
     pub link_ahead : 0 < seat.links → link_of (at heap words (Word seat.reached 0)) ≡ fragment_at (fragments finds.index) (finds.row + 1)
@@ -119,10 +119,10 @@ module _ (heap : Heap) (words : List ℕ) (g : Graph) (made : List Id) (owner : 
 
     -- where none does, the way stands at the field
     pub field_reached : seat.links ≡ 0 → Word seat.reached seat.part ≡ Word (fragment_at (fragments finds.index) (row_of (field_of seat.command))) (part_of (field_of seat.command))
-    field_reached arrived = cc (finds.way.here, finds.there, row)
+    field_reached arrived = cc (finds.way.here, finds.field.there, row)
       where
         row : finds.row ≡ row_of (field_of seat.command)
-        row = omega (arith, finds.ahead, arrived)
+        row = omega (arith, finds.field.leads, arrived)
 
     -- and its cell is found
     pub cell_reached : seat.links ≡ 0 → (cell : Cell) → slice_get (cells_at g made finds.index) (field_of seat.command) ≡ Some cell

@@ -68,7 +68,7 @@ module _ (heap : Heap) (words : List ℕ) (g : Graph) (made : List Id) (owner : 
   loaded_kept seat arrived finds f is =
       let field : ℕ = field_of seat.command in
       let cell : Cell = get_or (cells_at g made finds.index) field unset in
-      let there : slice_get (cells_at g made finds.index) field ≡ Some cell = slice_get-get_or (cells_at g made finds.index) field unset finds.within in
+      let there : slice_get (cells_at g made finds.index) field ≡ Some cell = slice_get-get_or (cells_at g made finds.index) field unset finds.field.within in
       let named = objects.named finds.index field finds.way.below finds.way.kept cell there in
       named_kept made owner fragments cell.value named.0 f
       (sym (head_in-value (object_head made fragments) cell.value cell.stamp (has_room heap words g made owner fragments limits bits cell.value named.0) named.1)

@@ -67,9 +67,7 @@ module _ (cells : ℕ → List Cell) (made : List Id) (owner : ℕ → Owner) (f
     index = finds.index;
     row = finds.row;
     way = record { below = finds.way.below; kept = finds.way.kept; holds = finds.way.holds; here = finds.way.here };
-    within = finds.within;
-    ahead = finds.ahead;
-    there = finds.there;
+    field = finds.field;
   }
 
 module _ (heap : Heap) (words : List ℕ) (g : Graph) (made : List Id) (owner : ℕ → Owner) (fragments : ℕ → List ℕ)
@@ -87,7 +85,5 @@ module _ (heap : Heap) (words : List ℕ) (g : Graph) (made : List Id) (owner : 
       holds = finds.way.holds;
       here = link_ahead heap words g made owner fragments limits bits ids objects seat finds more;
     };
-    within = finds.within;
-    ahead = omega (arith, more, finds.ahead);
-    there = finds.there;
+    field = record { within = finds.field.within; leads = omega (arith, more, finds.field.leads); there = finds.field.there };
   }

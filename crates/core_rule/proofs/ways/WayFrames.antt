@@ -36,9 +36,7 @@ module _ (cells now_cells : ℕ → List Cell) (made now_made : List Id) (owner 
     index = finds.index;
     row = finds.row;
     way = way_stays seat finds.index finds.row finds.way;
-    within = rw (stay finds.index finds.way.below finds.way.kept).cells_stay finds.within;
-    ahead = finds.ahead;
-    there = finds.there;
+    field = rw (stay finds.index finds.way.below finds.way.kept).cells_stay finds.field;
   }
 
   loaded_stays : (seat : Seat) → LoadedKept made owner fragments seat → LoadedKept now_made now_owner now_fragments seat

@@ -144,7 +144,7 @@ get_keeps heap state book number rule here place machine =
     let index : ℕ = finds.index in
     let way = finds.way in
     let cell : Cell = get_or (cells_at g book.made index) field unset in
-    let there : slice_get (cells_at g book.made index) field ≡ Some cell = slice_get-get_or (cells_at g book.made index) field unset finds.within in
+    let there : slice_get (cells_at g book.made index) field ≡ Some cell = slice_get-get_or (cells_at g book.made index) field unset finds.field.within in
     let named = heap_stands.objects.named index field way.below way.kept cell there in
     let room : HasRoom head cell.value = has_room heap words g book.made book.owner book.fragments rule.machine.limits bits cell.value named.0 in
     let word : found ≡ value_word head cell.value cell.stamp

@@ -118,9 +118,7 @@ open_keeps heap state book number rule here place machine =
       index = index;
       row = 0;
       way = record { below = way.below; kept = way.kept; holds = way.holds; here = way.here };
-      within = omega (arith, more, size);
-      ahead = omega arith;
-      there = refl;
+      field = record { within = omega (arith, more, size); leads = omega arith; there = refl };
     })
     (λ field past. ends replies.NoField (met_keeps heap state book number rule here place replies.NoField refl (graph_no_field g number seat.command field)
     (accepts_no_field g number id seat.command opens.works.in_range present made held field (omega (arith, past, size)))

@@ -113,7 +113,7 @@ swap_keeps heap state book number rule here place machine =
     let ids : AreMade g book.made = rule.heap_stands.ids in
     let there = made_node (node g id) (ids.in_graph n finds.way.below) in
     let old : Cell = get_or cells i unset in
-    let old_there : slice_get cells i ≡ Some old = slice_get-get_or cells i unset finds.within in
+    let old_there : slice_get cells i ≡ Some old = slice_get-get_or cells i unset finds.field.within in
     let field : Address = Word (fragment_at (book.fragments n) (row_of i)) (part_of i) in
     let arrived : Word seat.reached seat.part ≡ field
     = field_reached heap state.words g book.made book.owner book.fragments rule.machine.limits rule.heap_stands.control_words ids objects seat finds fits.0.2.arrived in
@@ -131,7 +131,7 @@ swap_keeps heap state book number rule here place machine =
     let few : (graph_seat g number).sets + 1 < 2 ^ 26 = omega (arith, numbered, stands.told.counts.stamped) in
     let old_stamp : stamp ≡ old.stamp
     = ap (λ a. stamp_of (at heap state.words a)) arrived
-    ∙ ap stamp_of (found_is heap state.words g now number book.made book.owner book.fragments n i cell word ids objects finds.way.below finds.way.kept sets finds.within old old_there)
+    ∙ ap stamp_of (found_is heap state.words g now number book.made book.owner book.fragments n i cell word ids objects finds.way.below finds.way.kept sets finds.field.within old old_there)
     ∙ stamp_of_value (object_head book.made book.fragments) old.value old.stamp (objects.named n i finds.way.below finds.way.kept old old_there).1 in
     let cells_there : slice_get there.0.cells i ≡ Some old = ap (λ (o : Option Node). slice_get (cells_in o) i) (sym there.1) ∙ old_there in
     let is_word : word ≡ value_word (object_head book.made book.fragments) cell.value cell.stamp
@@ -148,13 +148,13 @@ swap_keeps heap state book number rule here place machine =
     (keeps_said heap false book.history number seat.command (replies.Was stamp) refl tt tt (set_shows seat.command a_set heap book.history number stamp)
     (spent_own heap state book number rule here rest) (omega (arith, set_most seat.command a_set, few_own heap state book number rule here rest))))
     (subst (λ a. SameUnkept heap book.owner state.words (put heap state.words a word)) (sym arrived)
-    (set_unkept heap state.words g now number book.made book.owner book.fragments n i cell word ids objects finds.way.below finds.way.kept sets finds.within))
+    (set_unkept heap state.words g now number book.made book.owner book.fragments n i cell word ids objects finds.way.below finds.way.kept sets finds.field.within))
     record {
-      ids = ids_set heap state.words g now number book.made book.owner book.fragments n i cell word ids objects finds.way.below finds.way.kept sets finds.within;
+      ids = ids_set heap state.words g now number book.made book.owner book.fragments n i cell word ids objects finds.way.below finds.way.kept sets finds.field.within;
       objects = subst (λ a. Objects heap (put heap state.words a word) now book.made book.owner book.fragments) (sym arrived)
-          (objects_set heap state.words g now number book.made book.owner book.fragments n i cell word ids objects finds.way.below finds.way.kept sets finds.within
+          (objects_set heap state.words g now number book.made book.owner book.fragments n i cell word ids objects finds.way.below finds.way.kept sets finds.field.within
           rule.machine.table inside.0 is_word names);
-      lengths = lengths_stay heap state.words g now number book.made book.owner book.fragments n i cell word ids objects finds.way.below finds.way.kept sets finds.within;
+      lengths = lengths_stay heap state.words g now number book.made book.owner book.fragments n i cell word ids objects finds.way.below finds.way.kept sets finds.field.within;
       others = sets.others;
     }
     record {

@@ -1,5 +1,5 @@
 -- The last birth of an object keeps the rule.
-use Rattle.std.proofs.Common.{eq-eqb, ◌≡◌, ℕ, ◌*◌, ◌<◌, ◌≤◌, Bool, false, List, [], ◌∷◌, ◌++◌, length, drop, bit_or, refl, sym, ap, ◌∙◌, subst, arith, true}
+use Rattle.std.proofs.Common.{eq-eqb, ◌≡◌, ℕ, ◌*◌, ◌<◌, ◌≤◌, Bool, false, List, [], ◌∷◌, length, drop, bit_or, refl, sym, ap, ◌∙◌, subst, arith, true}
 use Rattle.heap_model.specs.declared.entry.Entry.{Entry}
 use Rattle.heap_model.specs.declared.heap.Heap.{Heap}
 use Rattle.heap_model.specs.declared.id.Id.{Id}
@@ -26,8 +26,7 @@ use Rattle.core_rule.specs.Rule.{Rule}
 use Rattle.core_rule.proofs.cycle.FieldFrames.{watched_born}
 use Rattle.core_rule.proofs.marking.LastBirthMarks.{book_born, marks_made}
 use Rattle.core_rule.proofs.steps.Assemble.{present_at, seat_steps, MoveKeeps, seat_fits}
-use Rattle.core_rule.proofs.colours.Births.{birth_colour, AreBorne, births_are, are_births}
-use Rattle.core_rule.proofs.colours.BirthColours.{painted}
+use Rattle.core_rule.proofs.colours.Births.{AreBorne, births_are, are_births}
 use Rattle.core_rule.proofs.cycle.BirthCycle.{words_born, group_born, some_born, marks_born, heap_born}
 use Rattle.core_rule.proofs.hand.Bodies.{body_once, body_own}
 use Rattle.core_rule.proofs.counts.CountMoves.{used_same}
@@ -38,7 +37,6 @@ use Rattle.core_rule.proofs.graph.GraphGrowth.{party_other}
 use Rattle.core_rule.proofs.graph.GraphRegisters.{registers_length}
 use Rattle.core_rule.proofs.graph.IdsGrowth.{OneMore, ids_grown, number_new}
 use Rattle.core_rule.proofs.entries.InFlight.{awaits_none, began_idle}
-use Rattle.core_rule.proofs.owners.Keeping.{kept_by, with_object}
 use Rattle.core_rule.proofs.owners.KeptOwners.{kept_free, kept_taken, kept_holding, kept_others, kept_bits}
 use Rattle.core_rule.proofs.objects.LastBirth.{one_more, all_stored, registers_own}
 use Rattle.core_rule.proofs.colours.LastColours.{kept_bears, kept_own, kept_borne, kept_first}

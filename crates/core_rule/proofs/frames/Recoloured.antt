@@ -1,0 +1,72 @@
+-- A control word gets other marks: what stays of the heap and of each seat.
+use Rattle.std.proofs.Common.{◌≡◌, ℕ, ◌<◌, List, inl, ◌∙◌, arith}
+use Rattle.heap_model.specs.declared.heap.Heap.{Heap}
+use Rattle.heap_model.specs.account.Cycles.{graph_of}
+use Rattle.heap_model.specs.account.PhaseCounts.{phase, last_answer, has_left}
+use Rattle.core_machine.specs.declared.table.address.Address.TheVariants.{Answer, Control, Phase}
+use Rattle.core_machine.specs.machine.Machine.{State, seat_at}
+use Rattle.core_machine.specs.table.Layout.{put}
+use Rattle.core_rule.specs.Book.{Book, Colour}
+use Rattle.core_rule.specs.Colours.{Marks, IsMarked, Coloured}
+use Rattle.core_rule.specs.ControlWords.{Bits}
+use Rattle.core_rule.specs.Owners.{Borne}
+use Rattle.core_rule.specs.Rule.{Rule, HeapStands, SeatStands}
+use Rattle.core_rule.proofs.colours.LeadsFrames.{leads_control}
+use Rattle.core_rule.proofs.cycle.CycleFrames.{LeavesCycle, cycle_stays}
+use Rattle.core_rule.proofs.cycle.FieldFrames.{watched_born}
+use Rattle.core_rule.proofs.hand.StoredFrames.{stored_control}
+use Rattle.core_rule.proofs.objects.ObjectFrames.{objects_control}
+use Rattle.core_rule.proofs.words.Addresses.{at-put_apart}
+
+-- the control words tell the same owners and the new colours, which are right; what was marked is, and what seats bear has its colour
+pub record Recolours (heap : Heap) (words : List ℕ) (book : Book) (coloured : ℕ → Colour) : Type 0 where
+  pub bits : Bits heap words book.owner
+  pub marks : Marks heap words coloured
+  pub right : Coloured heap words book.owner coloured book.fragments (phase book.history)
+  pub keeps : (f : ℕ) → IsMarked book.colour f → IsMarked coloured f
+  pub births : (r f : ℕ) → book.owner f ≡ Borne r → coloured f ≡ book.colour f
+
+-- the book with other colours
+abbrev pub with_colours : Book → (ℕ → Colour) → Book
+with_colours book coloured = record book { colour = coloured }
+
+module _ (heap : Heap) (state : State) (book : Book) (rule : Rule heap state book) (g n : ℕ) (below : g < heap.groups) (coloured : ℕ → Colour)
+    (new : Recolours heap (put heap state.words (Control g) n) book coloured) where
+  abbrev words : List ℕ
+  words = put heap state.words (Control g) n
+
+  -- the heap stands
+  pub heap_recoloured : HeapStands heap words (with_colours book coloured)
+  heap_recoloured = let old = rule.heap_stands in record {
+    control_words = new.bits;
+    owners = old.owners;
+    ids = old.ids;
+    objects = objects_control heap state.words (graph_of heap book.history) book.made book.owner book.fragments g n below old.objects;
+    used = old.used;
+    cycle = record {
+      word = at-put_apart heap state.words (Control g) Phase n (λ e. omega (arith, e)) ∙ old.cycle.word;
+      so_far = old.cycle.so_far;
+      marks = new.marks;
+      coloured = new.right;
+    };
+    legal = old.legal;
+  }
+
+  -- what a seat needs of it is left
+  pub leaves_recoloured : (r : ℕ) → r < heap.seats → LeavesCycle heap state.words words book.owner book.owner book.colour coloured (phase book.history) r
+  leaves_recoloured r less = record {
+    answer = at-put_apart heap state.words (Control g) (Answer r) n (λ e. omega (arith, e, less, rule.machine.limits.seats_fit));
+    leads = λ making x part y born leads. inl (leads_control heap state.words g n below x part y leads);
+    marks = new.keeps;
+    births = λ f borne. (borne, new.births r f borne);
+  }
+
+  -- so each seat stands that makes no step
+  pub seat_recoloured : (r : ℕ) → r < heap.seats → SeatStands heap state.words book r (seat_at state r) → SeatStands heap words (with_colours book coloured) r (seat_at state r)
+  seat_recoloured r less stands = record {
+    own = record { holding = stands.own.holding; stored = stored_control heap state.words r (seat_at state r) g n below stands.own.stored; together = stands.own.together };
+    names = stands.names;
+    told = stands.told;
+    cycle = cycle_stays heap state.words words book.owner book.owner book.colour coloured (phase book.history) (last_answer r book.history) (has_left r book.history)
+        r (seat_at state r) (leaves_recoloured r less) (watched_born heap state book rule r less) stands.cycle;
+  }

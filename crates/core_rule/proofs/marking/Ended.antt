@@ -1,0 +1,53 @@
+-- Where the marking phase's last pass has found nothing grey: all that marking came to is marked, and so is what that leads to.
+use Rattle.std.proofs.Common.{◌≡◌, ◌≢◌, ℕ, zero, suc, ◌+◌, ◌<◌, ◌%◌, List, length, inl, inr, subst, arith}
+use Rattle.heap_model.specs.declared.heap.Heap.{Heap}
+use Rattle.heap_model.specs.account.Cycles.{graph_of}
+use Rattle.heap_model.specs.account.PhaseCounts.{phase}
+use Rattle.core_machine.specs.machine.Machine.{State}
+use Rattle.core_rule.specs.Book.{Book, Colour, Grey, Black, fragment_at}
+use Rattle.core_rule.specs.Colours.{IsMarked, WordPointsTo}
+use Rattle.core_rule.specs.Objects.{IsKept}
+use Rattle.core_rule.specs.Owners.{Owner, Kept}
+use Rattle.core_rule.specs.Paths.{from_grey, from_white, IsGuarded, IsReached}
+use Rattle.core_rule.specs.Rule.{Rule}
+use Rattle.core_rule.proofs.marking.Paths.{grey_or_black}
+use Rattle.core_rule.proofs.ways.Chains.{chain_leads}
+
+module _ (heap : Heap) (words : List ℕ) (owner : ℕ → Owner) (colour : ℕ → Colour) (none : (f : ℕ) → colour f ≢ Grey) where
+  -- no path leaves a grey fragment
+  nothing_guarded : (f : ℕ) → IsGuarded heap words owner colour f → ⊥
+  nothing_guarded f (from_grey e _ grey leads white) = none e grey
+  nothing_guarded f (from_white e _ path leads white) = nothing_guarded e path
+
+  pub reached_marked : (f : ℕ) → IsReached heap words owner colour f → IsMarked colour f
+  reached_marked f (inl marked) = marked
+  reached_marked f (inr path) = absurd (nothing_guarded f path)
+
+module _ (heap : Heap) (state : State) (book : Book) (rule : Rule heap state book) (third : phase book.history % 7 ≡ 3) (none : (f : ℕ) → book.colour f ≢ Grey) where
+  -- what is marked is black
+  is_black : (f : ℕ) → IsMarked book.colour f → book.colour f ≡ Black
+  is_black f marked = elim (grey_or_black book.colour f marked) as (λ _. book.colour f ≡ Black) [
+    | inl grey ↦ absurd (none f grey)
+    | inr black ↦ black
+  ]
+
+  -- and leads to what is marked
+  pub leads_marked : (f part g : ℕ) → IsMarked book.colour f → WordPointsTo heap state.words f part g → IsMarked book.colour g
+  leads_marked f part g marked leads =
+      rule.heap_stands.cycle.coloured.black (record { from = omega (arith, third); upto = omega (arith, third) }) f part g (is_black f marked) leads
+
+  -- a kept object with a marked fragment is marked by its first
+  pub first_marked : (f i k : ℕ) → book.owner f ≡ Kept i k → IsMarked book.colour f → IsMarked book.colour (fragment_at (book.fragments i) 0)
+  first_marked f i k kept marked = rule.heap_stands.cycle.coloured.first (record { from = omega (arith, third); upto = omega (arith, third) }) f i k kept marked
+
+  -- and then by all of them
+  pub whole_marked : (i k : ℕ) → i < length book.made → IsKept book.owner book.fragments i → IsMarked book.colour (fragment_at (book.fragments i) 0)
+      → k < length (book.fragments i) → IsMarked book.colour (fragment_at (book.fragments i) k)
+  whole_marked i zero below kept first within = first
+  whole_marked i (suc k) below kept first within =
+      let more : k + 1 < length (book.fragments i) = omega (arith, within) in
+      let next : k + 1 ≡ suc k = omega arith in
+      let stands = rule.heap_stands in
+      subst (λ n. IsMarked book.colour (fragment_at (book.fragments i) n)) next
+      (leads_marked (fragment_at (book.fragments i) k) 0 (fragment_at (book.fragments i) (k + 1)) (whole_marked i k below kept first (omega (arith, within)))
+      (chain_leads heap state.words (graph_of heap book.history) book.made book.owner book.fragments rule.machine.limits stands.control_words stands.ids stands.owners stands.objects i k below kept more))

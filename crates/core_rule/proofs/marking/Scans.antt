@@ -1,0 +1,135 @@
+-- A scan goes on from word to word, and what it comes to may be marked.
+use Rattle.std.specs.Prelude.{if◌then◌else◌}
+use Rattle.std.proofs.lemmas.Bool.{false≢true}
+use Rattle.std.proofs.lemmas.Bool.Decides.{nat_tests}
+use Rattle.std.proofs.Common.{get_or, ◌≡◌, ◌≢◌, ℕ, zero, suc, ◌+◌, ◌<◌, ◌≤◌, ◌^◌, eqb, Bool, true, false, List, length, None, inl, inr, refl, sym, ap, ◌∙◌, subst, arith}
+use Rattle.std.proofs.lemmas.Bool.Decides.{eqb_tells, leb_tells}
+use Rattle.heap_words.specs.declared.cell.Cell.{Cell}
+use Rattle.heap_words.specs.declared.kind.Kind.TheVariants as kinds
+use Rattle.heap_model.specs.declared.heap.Heap.{Heap}
+use Rattle.heap_model.specs.account.Cycles.{graph_of}
+use Rattle.heap_model.specs.account.PhaseCounts.{phase}
+use Rattle.core_machine.specs.collector.Marking.{part_after, scan_at}
+use Rattle.core_machine.specs.declared.collector.stage.Scan.{Scan}
+use Rattle.core_machine.specs.declared.collector.stage.Stage.{Stage}
+use Rattle.core_machine.specs.declared.collector.stage.Stage.TheVariants as stages
+use Rattle.core_machine.specs.declared.table.address.Address.TheVariants.{Word}
+use Rattle.core_machine.specs.machine.Machine.{State}
+use Rattle.core_machine.specs.table.Decode.{pointer_in, is_meta, is_fixed}
+use Rattle.core_machine.specs.table.Layout.{at}
+use Rattle.core_machine.specs.table.Newborn.{link_after}
+use Rattle.core_rule.specs.Book.{Book, Colour, Grey, fragment_at, id_at, object_head}
+use Rattle.core_rule.specs.Colours.{IsMarked, WordPointsTo, IsBetween}
+use Rattle.core_rule.specs.Marking.{IsPart, MayMark, IsSeen, ComesAfter, ScanStands, PassStands}
+use Rattle.core_rule.specs.Objects.{IsKept, KeptObject, name_of, is_cell, cells_at}
+use Rattle.core_rule.specs.Owners.{Owner, Kept}
+use Rattle.core_rule.specs.Rule.{Rule}
+use Rattle.core_rule.proofs.colours.NewbornLeads.{name_leads, link_word_at}
+use Rattle.core_rule.proofs.marking.ObjectEdges.{word_cases, name_small, small, object_leads}
+use Rattle.core_machine.proofs.table_lemmas.CellWords.{cell_of-cell_word}
+
+-- a scan that comes to a word stands before it, or has seen to all four
+pub scan_cases : (P : Stage → Type 0) (scan : Scan) (part : ℕ) → P (stages.Scanning (record scan { part = part })) → (4 ≤ part → P (stages.Blackening (record scan { part = part }))) → P (scan_at scan part)
+scan_cases P scan part before behind = elim (leb_tells (suc part) 4) as (λ _. P (scan_at scan part)) [
+  | inl more ↦ rw more.0 before
+  | inr done ↦ rw done.0 (behind (omega (arith, done.1)))
+]
+
+-- so what it has seen is right, of a pass nothing is asked, and marking hasn't ended
+pub scan_stands : (heap : Heap) (words : List ℕ) (owner : ℕ → Owner) (colour : ℕ → Colour) (fragments : ℕ → List ℕ) (scan : Scan) (part : ℕ) → IsSeen heap words colour scan.fragment part
+    → ScanStands heap words owner colour fragments (scan_at scan part)
+scan_stands heap words owner colour fragments scan part seen = scan_cases (ScanStands heap words owner colour fragments) scan part seen
+    (λ behind. record { grey = seen.grey; seen = λ p g below leads. seen.seen p g (omega (arith, below, behind)) leads })
+
+pub scan_passes : (colour : ℕ → Colour) (scan : Scan) (part : ℕ) → PassStands colour (scan_at scan part)
+scan_passes colour scan part = scan_cases (PassStands colour) scan part tt (λ behind. tt)
+
+pub scan_on_marks : (scan : Scan) (part : ℕ) → scan_at scan part ≢ stages.Marked
+scan_on_marks scan part = scan_cases (λ stage. stage ≢ stages.Marked) scan part (λ e. cc) (λ behind e. cc)
+
+-- a first word is no cell
+no_cell : (n : ℕ) → is_cell (suc n) 0 ≢ true
+no_cell n is = grind (arith, nat_tests, is)
+
+-- a link is no meta
+link_no_meta : (fragments : List ℕ) (n : ℕ) → ((m : ℕ) → m < length fragments → get_or fragments m 0 < 2 ^ 30) → is_meta (link_after fragments n) ≡ false
+link_no_meta fragments n small = elim (leb_tells (suc (n + 1)) (length fragments)) as (λ _. is_meta (link_after fragments n) ≡ false) [
+  | inl more ↦ rw more.0 (ap (λ (c : Cell). is_fixed c.kind) (cell_of-cell_word kinds.Reference (get_or fragments (n + 1) 0) 0 (small (n + 1) (omega (arith, more.1))) (omega arith)))
+  | inr last ↦ rw last.0 refl
+]
+
+module _ (heap : Heap) (state : State) (book : Book) (rule : Rule heap state book) (f : ℕ) (part_of : IsPart book.owner f) where
+  abbrev i : ℕ
+  i = part_of.index
+
+  abbrev k : ℕ
+  k = part_of.place
+
+  there : (i < length book.made) × IsKept book.owner book.fragments i × (k < length (book.fragments i)) × (f ≡ fragment_at (book.fragments i) k)
+  there = rule.heap_stands.objects.back f i k part_of.kept
+
+  the_object : KeptObject heap state.words book.owner (object_head book.made book.fragments) i (id_at book.made i) (cells_at (graph_of heap book.history) book.made i) (book.fragments i)
+  the_object = rule.heap_stands.objects.kept i there.0 there.1
+
+  -- where a fragment of a kept object is grey, what it leads to may be marked
+  pub may_mark : IsBetween 1 5 (phase book.history) → book.colour f ≡ Grey → (part m : ℕ) → WordPointsTo heap state.words f part m → MayMark book.owner book.colour book.fragments m
+  may_mark cycle grey part m leads = elim (object_leads heap state.words (graph_of heap book.history) book.made book.owner book.fragments rule.machine.limits rule.heap_stands.control_words
+      rule.heap_stands.ids rule.heap_stands.objects i there.0 there.1 k part m there.2 (subst (λ x. WordPointsTo heap state.words x part m) there.3 leads)) as (λ _. MayMark book.owner book.colour book.fragments m) [
+        | inl next ↦ record {
+          part = record { index = i; place = k + 1; kept = ap book.owner next.1 ∙ the_object.owned (k + 1) next.0 };
+          first = inr (rule.heap_stands.cycle.coloured.first cycle f i k part_of.kept (λ white. absurd (cc (grey, white))));
+        }
+        | inr head ↦ record { part = record { index = head.index; place = 0; kept = ap book.owner head.is ∙ head.kept }; first = inl refl }
+      ]
+
+  -- an object's name leads nowhere
+  name_nowhere : k ≡ 0 → (g : ℕ) → ¬ WordPointsTo heap state.words f 1 g
+  name_nowhere first g leads =
+      let head : f ≡ fragment_at (book.fragments i) 0 = there.3 ∙ ap (fragment_at (book.fragments i)) first in
+      let stored = the_object.stored 0 1 (subst (λ x. x < length (book.fragments i)) first there.2) (omega arith) in
+      let fits = name_small (id_at book.made i) (rule.heap_stands.ids.fit i there.0) in
+      let none : pointer_in 1 (at heap state.words (Word f 1)) ≡ None = ap (λ x. pointer_in 1 (at heap state.words (Word x 1))) head ∙ ap (pointer_in 1) stored
+      ∙ word_cases (λ w. pointer_in 1 w ≡ None) (object_head book.made book.fragments) (name_of (id_at book.made i)) (cells_at (graph_of heap book.history) book.made i) (book.fragments i) 0 1
+      (λ cell. absurd (cc cell))
+      (λ frame. name_leads (book.fragments i) (small heap state.words (graph_of heap book.history) book.made book.owner book.fragments rule.machine.limits rule.heap_stands.control_words
+      rule.heap_stands.ids rule.heap_stands.objects i there.0 there.1) (name_of (id_at book.made i)) fits.0 fits.1) in
+      absurd (cc (none, leads.to))
+
+  -- a meta stands in an object's first fragment alone
+  meta_first : (n : ℕ) → k ≡ n → is_meta (at heap state.words (Word f 0)) ≡ true → k ≡ 0
+  meta_first zero is meta = is
+  meta_first (suc n) is meta =
+      let later : f ≡ fragment_at (book.fragments i) (suc n) = there.3 ∙ ap (fragment_at (book.fragments i)) is in
+      let smalls = small heap state.words (graph_of heap book.history) book.made book.owner book.fragments rule.machine.limits rule.heap_stands.control_words
+      rule.heap_stands.ids rule.heap_stands.objects i there.0 there.1 in
+      let within : suc n < length (book.fragments i) = subst (λ x. x < length (book.fragments i)) is there.2 in
+      let no_meta : is_meta (at heap state.words (Word f 0)) ≡ false = ap (λ x. is_meta (at heap state.words (Word x 0))) later ∙ ap is_meta (the_object.stored (suc n) 0 within (omega arith))
+      ∙ word_cases (λ w. is_meta w ≡ false) (object_head book.made book.fragments) (name_of (id_at book.made i)) (cells_at (graph_of heap book.history) book.made i) (book.fragments i) (suc n) 0
+      (λ cell. absurd (no_cell n cell)) (λ frame. ap is_meta (link_word_at (book.fragments i) smalls (name_of (id_at book.made i)) (length (cells_at (graph_of heap book.history) book.made i)) n) ∙ link_no_meta (book.fragments i) (suc n) smalls) in
+      absurd (false≢true (sym no_meta ∙ meta))
+
+  -- which word comes next
+  pub comes_after : (part : ℕ) → ComesAfter book.owner f part (part_after part (at heap state.words (Word f part)))
+  comes_after zero = by (is_meta (at heap state.words (Word f 0))) refl
+    where
+      by : (meta : Bool) → is_meta (at heap state.words (Word f 0)) ≡ meta → ComesAfter book.owner f 0 (if meta then 2 else 1)
+      by true is = inr (refl, refl, (i, part_of.kept ∙ ap (Kept i) (meta_first k refl is)))
+      by false is = inl refl
+  comes_after (suc part) = let later : eqb (suc part) 0 ≡ false = grind arith in inl (rw later refl)
+
+  -- what was seen up to a word, and at it, is seen up to the next
+  pub seen_next : (words : List ℕ) (colour : ℕ → Colour) (part next : ℕ) → ((p g : ℕ) → WordPointsTo heap words f p g → WordPointsTo heap state.words f p g)
+      → IsSeen heap words colour f part → ((g : ℕ) → WordPointsTo heap words f part g → IsMarked colour g) → ComesAfter book.owner f part next → IsSeen heap words colour f next
+  seen_next words colour part next back seen here comes = record { grey = seen.grey; seen = λ p g below leads. each p g below leads comes }
+    where
+      first : (j : ℕ) → book.owner f ≡ Kept j 0 → k ≡ 0
+      first j is = let both : Kept i k ≡ Kept j 0 = sym part_of.kept ∙ is in cc
+
+      each : (p g : ℕ) → p < next → WordPointsTo heap words f p g → ComesAfter book.owner f part next → IsMarked colour g
+      each p g below leads comes = elim (eqb_tells p part) as (λ _. IsMarked colour g) [
+        | inl same ↦ here g (subst (λ x. WordPointsTo heap words f x g) same.1 leads)
+        | inr other ↦ elim comes as (λ _. IsMarked colour g) [
+          | inl on ↦ seen.seen p g (omega (arith, below, on, other.1)) leads
+          | inr past ↦ absurd (name_nowhere (first past.2.0 past.2.1) g (back 1 g (subst (λ x. WordPointsTo heap words f x g) (omega (arith, below, past.0, past.1, other.1)) leads)))
+        ]
+      ]

@@ -1,0 +1,145 @@
+-- The rule's parts for the book once marking has ended.
+use Rattle.std.proofs.Common.{◌≡◌, ◌≢◌, ℕ, ◌<◌, ◌≤◌, ◌%◌, Bool, true, false, drop, inl, inr, refl, sym, ap, ◌∙◌, subst, arith}
+use Rattle.heap_model.specs.declared.heap.Heap.{Heap}
+use Rattle.heap_model.specs.account.Cycles.{graph_of}
+use Rattle.heap_model.specs.account.PhaseCounts.{phase}
+use Rattle.core_machine.specs.collector.FitsTurns.{IsMarking}
+use Rattle.core_machine.specs.declared.collector.stage.Stage.TheVariants as stages
+use Rattle.core_machine.specs.machine.Machine.{State, seat_at}
+use Rattle.core_machine.specs.seat.Fits.{IsAtRest}
+use Rattle.core_machine.specs.seat.Seat.{Seat}
+use Rattle.core_machine.specs.table.Fragments.{tally}
+use Rattle.core_rule.specs.Book.{Book, White, Grey}
+use Rattle.core_rule.specs.Marking.{AfterMarking, MarkingStands}
+use Rattle.core_rule.specs.Owners.{Owner, Borne, Kept, Dead, IsSeated, IsBoards, taken_bit, free_bit, born_bit, holds_bit, bears_bit}
+use Rattle.core_rule.specs.Paths.{IsWhite}
+use Rattle.core_rule.specs.Objects.{cells_at}
+use Rattle.core_rule.specs.Rule.{Rule, HeapStands, SeatStands}
+use Rattle.core_rule.proofs.colours.Births.{births_stay}
+use Rattle.core_rule.proofs.counts.CountMoves.{used_same}
+use Rattle.core_rule.proofs.cycle.CycleFrames.{coloured_stays}
+use Rattle.core_rule.proofs.entries.AtRest.{seat_fits}
+use Rattle.core_rule.proofs.gather.GatherMoves.{gathers_same}
+use Rattle.core_rule.proofs.hand.HandMoves.{holding_stays}
+use Rattle.core_rule.proofs.owners.Seated.{borne_by_seat}
+use Rattle.core_rule.proofs.marking.SeatRoots.{answered_marking, all_roots_marked, loaded_marked}
+use Rattle.core_rule.proofs.marking.Settled.{settled_owner, settled_book, settled_holds, settled_same, settled_was, settled_dead, settled_borne, settled_white}
+use Rattle.core_rule.proofs.marking.SettledObjects.{objects_later}
+use Rattle.core_rule.proofs.marking.SettledSeats.{holds_later, ways_later, awaits_later}
+
+module _ (heap : Heap) (state : State) (book : Book) (rule : Rule heap state book) (marks : IsMarking heap.seats state.collector.phase state.collector.looked)
+    (goes_on : state.collector.stage ≢ stages.Marked) (none : (f : ℕ) → book.colour f ≢ Grey) where
+  abbrev now : Book
+  now = settled_book book
+
+  third : phase book.history % 7 ≡ 3
+  third = let told = marks.for_marking in let same = rule.collector_stands.phase_told in omega (arith, told, same)
+
+  -- a fact that tells no kept fragment from one that is to be freed stays
+  same : (bit : Owner → ℕ) → ((i k : ℕ) → bit (Dead i k) ≡ bit (Kept i k)) → (f : ℕ) → bit (now.owner f) ≡ bit (book.owner f)
+  same bit alike f = settled_same bit alike (book.owner f) (book.colour f)
+
+  -- the heap stands
+  pub heap_settles : HeapStands heap state.words now
+  heap_settles =
+      let stands = rule.heap_stands in
+      record {
+        control_words = record {
+          taken = λ f within. stands.control_words.taken f within ∙ sym (same taken_bit (λ i k. refl) f);
+          born = λ f within. stands.control_words.born f within ∙ sym (same born_bit (λ i k. refl) f);
+          outside = λ f past. ap (λ o. settled_owner o (book.colour f)) (stands.control_words.outside f past);
+        };
+        owners = record {
+          seated = λ f. settled_holds (IsSeated heap.seats) (λ i k seated. seated) (book.owner f) (book.colour f) (stands.owners.seated f);
+          board = settled_holds IsBoards (λ i k boards. boards) (book.owner 0) (book.colour 0) stands.owners.board;
+        };
+        ids = stands.ids;
+        objects = objects_later heap state book rule third none;
+        used = used_same heap book.owner now.owner book.history (same taken_bit (λ i k. refl)) stands.used;
+        cycle = record {
+          word = stands.cycle.word;
+          so_far = stands.cycle.so_far;
+          marks = stands.cycle.marks;
+          coloured = coloured_stays heap state.words state.words book.owner now.owner book.colour book.fragments (phase book.history) (λ making f part g born leads. inl leads)
+              (λ f marked born. same born_bit (λ i k. refl) f ∙ born) (λ f i k is. (settled_was (book.owner f) (book.colour f) i k is).0) stands.cycle.coloured;
+        };
+        legal = stands.legal;
+      }
+
+  -- and each seat
+  pub seat_settles : (number : ℕ) → number < heap.seats → SeatStands heap state.words book number (seat_at state number) → SeatStands heap state.words now number (seat_at state number)
+  seat_settles number here stands =
+      let seat : Seat = seat_at state number in
+      let roots = all_roots_marked heap state book rule marks goes_on none number here in
+      let loaded = loaded_marked heap state book rule marks goes_on none number here in
+      record {
+        own = record {
+          holding = holding_stays book.owner now.owner number seat.reserve seat.hand seat.body
+              record { held = same (holds_bit number) (λ i k. refl); borne = same (bears_bit number) (λ i k. refl) } stands.own.holding;
+          stored = stands.own.stored;
+          together = stands.own.together;
+        };
+        names = record {
+          registers = λ r awake. holds_later book.made book.owner book.colour book.fragments _ _ (roots.registers r) (stands.names.registers r awake);
+          way = ways_later book.made book.owner book.colour book.fragments seat roots.registers loaded (cells_at (graph_of heap book.history) book.made) seat.place stands.names.way;
+        };
+        told = record {
+          list = record {
+            awaited = stands.told.list.awaited;
+            own = stands.told.list.own;
+            awaits = awaits_later book.made book.owner book.colour book.fragments seat roots.registers loaded (graph_of heap book.history) number seat.place stands.told.list.awaited stands.told.list.awaits;
+          };
+          counts = stands.told.counts;
+          began = stands.told.began;
+          gathers = gathers_same heap book.owner now.owner number (drop (book.begun number) book.history) seat.cursor seat.tried seat.given (same free_bit (λ i k. refl)) stands.told.gathers;
+        };
+        cycle = record {
+          answers_told = stands.cycle.answers_told;
+          answer = stands.cycle.answer;
+          flight = stands.cycle.flight;
+          births = births_stay book.owner now.owner book.colour book.colour number seat.answered (λ f borne. (settled_borne (book.owner f) (book.colour f) number borne, refl)) stands.cycle.births;
+        };
+      }
+
+  -- no seat has borne a white fragment
+  borne_dark : (f number : ℕ) → book.colour f ≡ White → book.owner f ≢ Borne number
+  borne_dark f number white borne = by (seat_at state number).left refl
+    where
+      there : (number < heap.seats) × (1 ≤ tally f (seat_at state number).body)
+      there = borne_by_seat heap state book rule number f borne
+
+      by : (left : Bool) → (seat_at state number).left ≡ left → ⊥
+      by true left =
+          let idle = ((seat_fits rule number there.0).gone left).idle in
+          let rest : IsAtRest (seat_at state number) = rw idle at (seat_fits rule number there.0).at_place in
+          let bare : tally f (seat_at state number).body ≡ 0 = ap (tally f) rest.no_body in
+          omega (arith, bare, there.1)
+      by false present =
+          let answered = answered_marking heap state book rule marks goes_on none number there.0 present in
+          let dark = (rule.seats_stand number there.0).cycle.births.dark (record { from = omega (arith, answered, third); upto = omega (arith, answered, third) }) f borne in
+          absurd (cc (dark, white))
+
+  white_is_dead : (f : ℕ) → IsWhite now.owner book.colour f → (i : ℕ) × (k : ℕ) × (now.owner f ≡ Dead i k)
+  white_is_dead f white =
+      subst (λ c. born_bit (settled_owner (book.owner f) c) ≡ 1 → (i : ℕ) × (k : ℕ) × (settled_owner (book.owner f) c ≡ Dead i k)) (sym white.unmarked)
+      (settled_white (book.owner f) (λ number. borne_dark f number white.unmarked)) white.born
+
+  -- what is white is to be freed, and nothing else
+  after_settles : AfterMarking now.owner book.colour
+  after_settles = record {
+    no_grey = none;
+    white_dead = white_is_dead;
+    dead_white = λ f i k is. elim (settled_dead (book.owner f) (book.colour f) i k is) as (λ _. book.colour f ≡ White) [
+      | inl before ↦ absurd (rule.marks_stand.heap_marks.alive goes_on f i k before)
+      | inr white ↦ white
+    ];
+  }
+
+  pub marking_settles : MarkingStands heap state.words now.owner book.colour book.fragments stages.Marked
+  marking_settles = record {
+    grey = λ f grey. absurd (none f grey);
+    scan = tt;
+    pass = tt;
+    alive = λ going. absurd (going refl);
+    after = λ ended. after_settles;
+  }

@@ -1,0 +1,103 @@
+-- The objects once marking has ended: those that are kept then are whole, and refer to kept ones alone.
+use Rattle.std.proofs.Common.{◌≡◌, ◌≢◌, ℕ, ◌<◌, ◌%◌, List, length, slice_get, Some, IfSome, ap, ◌∙◌, arith}
+use Rattle.std.proofs.lemmas.Option.{slice_get_within}
+use Rattle.heap_model.specs.declared.graph.cell.Cell.{Cell}
+use Rattle.heap_model.specs.declared.heap.Heap.{Heap}
+use Rattle.heap_model.specs.declared.id.Id.{Id}
+use Rattle.heap_model.specs.declared.id.Value.{Value}
+use Rattle.heap_model.specs.declared.id.Value.TheVariants as values
+use Rattle.heap_model.specs.account.Cycles.{graph_of}
+use Rattle.heap_model.specs.account.PhaseCounts.{phase}
+use Rattle.core_machine.specs.machine.Machine.{State}
+use Rattle.core_machine.specs.seat.Access.{row_of, part_of}
+use Rattle.core_machine.specs.declared.table.address.Address.TheVariants.{Word}
+use Rattle.core_machine.specs.table.Layout.{at}
+use Rattle.core_machine.specs.table.Decode.{head_of}
+use Rattle.core_rule.specs.Book.{Book, Colour, Grey, fragment_at, id_at, object_head, object_number}
+use Rattle.core_rule.specs.Colours.{IsMarked, WordPointsTo}
+use Rattle.core_rule.specs.Objects.{Objects, KeptObject, NamesKept, IsKept, cells_at}
+use Rattle.core_rule.specs.Owners.{Owner}
+use Rattle.core_rule.specs.Rule.{Rule}
+use Rattle.core_rule.proofs.cycle.Barriers.{later_lead}
+use Rattle.core_rule.proofs.lists.Options.{each_some}
+use Rattle.core_rule.proofs.marking.Ended.{leads_marked, first_marked, whole_marked}
+use Rattle.core_rule.proofs.marking.Settled.{settled_owners, settled_book, settled_was, settled_stays}
+use Rattle.core_rule.proofs.ways.KeptWords.{kept_within, has_room, row_there, field_found}
+use Rattle.core_rule.proofs.ways.Rows.{part_within}
+use Rattle.core_rule.proofs.ways.Told.{named_head, head_in-value}
+
+module _ (made : List Id) (owner : ℕ → Owner) (colour : ℕ → Colour) (fragments : ℕ → List ℕ) where
+  abbrev later : ℕ → Owner
+  later = settled_owners owner colour
+
+  -- a name of a kept object names a kept one where its first fragment is marked
+  pub names_settled : (value : Value) → NamesKept made owner fragments value → IfSome (named_head (object_head made fragments) value) (IsMarked colour) → NamesKept made later fragments value
+  names_settled values.Nil names marked = tt
+  names_settled (values.Number n) names marked = names
+  names_settled (values.Object id) names marked = (names.0, settled_stays (owner (object_head made fragments id)) (colour (object_head made fragments id)) (object_number made id) 0 names.1 marked)
+
+module _ (heap : Heap) (state : State) (book : Book) (rule : Rule heap state book) (third : phase book.history % 7 ≡ 3) (none : (f : ℕ) → book.colour f ≢ Grey) where
+  abbrev now : ℕ → Owner
+  now = (settled_book book).owner
+
+  abbrev head : Id → ℕ
+  head = object_head book.made book.fragments
+
+  abbrev cells : ℕ → List Cell
+  cells i = cells_at (graph_of heap book.history) book.made i
+
+  -- an object that is kept was, and is marked
+  was_kept : (i : ℕ) → IsKept now book.fragments i → IsKept book.owner book.fragments i × IsMarked book.colour (fragment_at (book.fragments i) 0)
+  was_kept i kept = settled_was (book.owner (fragment_at (book.fragments i) 0)) (book.colour (fragment_at (book.fragments i) 0)) i 0 kept
+
+  module _ (i : ℕ) (below : i < length book.made) (kept : IsKept book.owner book.fragments i) where
+    -- a field that refers to an object leads to its first fragment
+    field_leads : (j : ℕ) (cell : Cell) (f : ℕ) → slice_get (cells i) j ≡ Some cell → named_head head cell.value ≡ Some f
+        → WordPointsTo heap state.words (fragment_at (book.fragments i) (row_of j)) (part_of j) f
+    field_leads j cell f there names =
+        let stands = rule.heap_stands in
+        let named = stands.objects.named i j below kept cell there in
+        let within = slice_get_within (cells i) j cell there in
+        let row = row_there heap state.words (graph_of heap book.history) book.made book.owner book.fragments rule.machine.limits stands.control_words stands.ids stands.objects i below kept j within in
+        record {
+          within = kept_within heap state.words book.owner (fragment_at (book.fragments i) (row_of j)) i (row_of j) stands.control_words ((stands.objects.kept i below kept).owned (row_of j) row);
+          below = part_within j;
+          to = later_lead (part_of j) (at heap state.words (Word (fragment_at (book.fragments i) (row_of j)) (part_of j))) (omega arith)
+              ∙ ap head_of (field_found heap state.words (graph_of heap book.history) book.made book.owner book.fragments rule.machine.limits stands.control_words stands.ids stands.objects i below kept j cell there)
+              ∙ head_in-value head cell.value cell.stamp (has_room heap state.words (graph_of heap book.history) book.made book.owner book.fragments rule.machine.limits stands.control_words cell.value named.0) named.1
+              ∙ names;
+        }
+
+    -- so what a marked object's fields name is kept
+    named_later : IsMarked book.colour (fragment_at (book.fragments i) 0) → (j : ℕ) (cell : Cell) → slice_get (cells i) j ≡ Some cell → NamesKept book.made now book.fragments cell.value
+    named_later marked j cell there =
+        let stands = rule.heap_stands in
+        let within = slice_get_within (cells i) j cell there in
+        let row = row_there heap state.words (graph_of heap book.history) book.made book.owner book.fragments rule.machine.limits stands.control_words stands.ids stands.objects i below kept j within in
+        names_settled book.made book.owner book.colour book.fragments cell.value (stands.objects.named i j below kept cell there).0
+        (each_some (IsMarked book.colour) (named_head head cell.value)
+        (λ f names. leads_marked heap state book rule third none (fragment_at (book.fragments i) (row_of j)) (part_of j) f
+        (whole_marked heap state book rule third none i (row_of j) below kept marked row) (field_leads j cell f there names)))
+
+    -- and a marked object is whole
+    object_later : IsMarked book.colour (fragment_at (book.fragments i) 0)
+        → KeptObject heap state.words now head i (id_at book.made i) (cells i) (book.fragments i)
+    object_later marked =
+        let one = rule.heap_stands.objects.kept i below kept in
+        record {
+          sized = one.sized;
+          whole = one.whole;
+          owned = λ k within. settled_stays _ _ i k (one.owned k within) (whole_marked heap state book rule third none i k below kept marked within);
+          stored = one.stored;
+        }
+
+  -- the objects stand
+  pub objects_later : Objects heap state.words (graph_of heap book.history) book.made now book.fragments
+  objects_later = record {
+    kept = λ i below is. let was = was_kept i is in object_later i below was.0 was.1;
+    named = λ i j below is cell there. let was = was_kept i is in (named_later i below was.0 was.1 j cell there, (rule.heap_stands.objects.named i j below was.0 cell there).1);
+    back = λ f i k is.
+        let was = settled_was (book.owner f) (book.colour f) i k is in
+        let one = rule.heap_stands.objects.back f i k was.0 in
+        (one.0, settled_stays _ _ i 0 one.1 (first_marked heap state book rule third none f i k was.0 was.1), one.2, one.3);
+  }

@@ -1,0 +1,85 @@
+-- A seat once marking has ended: what it names is kept then.
+use Rattle.std.proofs.Common.{ℕ, List, IfSome, ap, subst}
+use Rattle.heap_model.specs.declared.graph.cell.Cell.{Cell}
+use Rattle.heap_model.specs.declared.entry.Entry.{Entry}
+use Rattle.heap_model.specs.declared.id.Id.{Id}
+use Rattle.heap_model.specs.declared.id.Value.{Value}
+use Rattle.heap_model.specs.declared.id.Value.TheVariants as values
+use Rattle.heap_model.specs.graph.Graph.{Graph}
+use Rattle.core_machine.specs.declared.place.Access.TheVariants.{LoadingMeta, Walking, Getting, Naming, LoadingOld, ShadingOld, ShadingNew, Swapping}
+use Rattle.core_machine.specs.declared.place.Place.{Place}
+use Rattle.core_machine.specs.declared.place.Place.TheVariants as places
+use Rattle.core_machine.specs.declared.seat.register.Register.{Register}
+use Rattle.core_machine.specs.declared.seat.register.Register.TheVariants as registers
+use Rattle.core_machine.specs.seat.Commands.{object_of}
+use Rattle.core_machine.specs.seat.Registers.{register_in, register_head}
+use Rattle.core_machine.specs.seat.Seat.{Seat}
+use Rattle.core_machine.specs.table.Decode.{head_of}
+use Rattle.core_rule.specs.Book.{Colour, fragment_at}
+use Rattle.core_rule.specs.Colours.{IsMarked}
+use Rattle.core_rule.specs.Counts.{Awaits}
+use Rattle.core_rule.specs.Objects.{IsKept}
+use Rattle.core_rule.specs.Owners.{Owner}
+use Rattle.core_rule.specs.Registers.{HoldsValue}
+use Rattle.core_rule.specs.Ways.{OnWay, Finds, LoadedKept, WayStands}
+use Rattle.core_rule.proofs.lists.Options.{of_some}
+use Rattle.core_rule.proofs.marking.Settled.{settled_owners, settled_stays}
+use Rattle.core_rule.proofs.marking.SettledObjects.{names_settled}
+
+module _ (made : List Id) (owner : ℕ → Owner) (colour : ℕ → Colour) (fragments : ℕ → List ℕ) where
+  abbrev later : ℕ → Owner
+  later = settled_owners owner colour
+
+  -- a kept object whose first fragment is marked is kept
+  kept_later : (i : ℕ) → IsKept owner fragments i → IsMarked colour (fragment_at (fragments i) 0) → IsKept later fragments i
+  kept_later i kept marked = settled_stays (owner (fragment_at (fragments i) 0)) (colour (fragment_at (fragments i) 0)) i 0 kept marked
+
+  -- a register whose object is marked holds its value
+  pub holds_later : (held : Register) (value : Value) → IfSome (register_head held) (IsMarked colour) → HoldsValue made owner fragments held value → HoldsValue made later fragments held value
+  holds_later registers.Nil value marked holds = holds
+  holds_later (registers.Number n) value marked holds = holds
+  holds_later (registers.Object head id) value marked holds = (holds.0, names_settled made owner colour fragments (values.Object id) holds.1 (subst (IsMarked colour) holds.2 marked), holds.2)
+
+  module _ (seat : Seat) (held : (r : ℕ) → IfSome (register_head (register_in seat.registers r)) (IsMarked colour)) (loaded : IfSome (head_of seat.loaded) (IsMarked colour)) where
+    -- the object of a way is that of a register
+    way_later : (index row : ℕ) → OnWay made owner fragments seat index row → OnWay made later fragments seat index row
+    way_later index row way = record {
+      below = way.below;
+      kept = kept_later index way.kept (of_some (IsMarked colour) _ _ (ap register_head way.holds) (held (object_of seat.command)));
+      holds = way.holds;
+      here = way.here;
+    }
+
+    finds_later : (cells : ℕ → List Cell) → Finds cells made owner fragments seat → Finds cells made later fragments seat
+    finds_later cells finds = record { index = finds.index; row = finds.row; way = way_later finds.index finds.row finds.way; field = finds.field }
+
+    -- what it has loaded is kept
+    old_later : LoadedKept made owner fragments seat → LoadedKept made later fragments seat
+    old_later old = record {
+      index = old.index;
+      below = old.below;
+      kept = kept_later old.index old.kept (of_some (IsMarked colour) _ _ old.loads loaded);
+      loads = old.loads;
+    }
+
+    -- so its way stands at its place
+    pub ways_later : (cells : ℕ → List Cell) (place : Place) → WayStands cells made owner fragments seat place → WayStands cells made later fragments seat place
+    ways_later cells (places.Access LoadingMeta) way = record { index = way.index; way = way_later way.index 0 way.way }
+    ways_later cells (places.Access Walking) way = finds_later cells way
+    ways_later cells (places.Access Getting) way = finds_later cells way
+    ways_later cells (places.Access LoadingOld) way = finds_later cells way
+    ways_later cells (places.Access ShadingOld) way = (finds_later cells way.0, old_later way.1)
+    ways_later cells (places.Access ShadingNew) way = (finds_later cells way.0, λ some. old_later (way.1 some))
+    ways_later cells (places.Access Swapping) way = (finds_later cells way.0, λ some. old_later (way.1 some))
+    ways_later cells _ way = way
+
+    -- and the name that its own list awaits
+    pub awaits_later : (g : Graph) (number : ℕ) (place : Place) (awaited : List Entry) → Awaits g made owner fragments number seat place awaited → Awaits g made later fragments number seat place awaited
+    awaits_later g number (places.Access Naming) awaited waits = record {
+      id = waits.id;
+      kept = names_settled made owner colour fragments (values.Object waits.id) waits.kept (of_some (IsMarked colour) _ _ waits.loads loaded);
+      loads = waits.loads;
+      held = waits.held;
+      told = waits.told;
+    }
+    awaits_later g number _ awaited waits = waits

@@ -1,0 +1,91 @@
+-- A scanned fragment gets black: that keeps the rule.
+use Rattle.std.specs.Prelude.{bit_or}
+use Rattle.std.proofs.Common.{◌≡◌, ℕ, ◌/◌, ◌%◌, ◌<◌, true, List, inl, inr, sym, ap, ◌∙◌, subst, arith}
+use Rattle.std.proofs.lemmas.Bool.Decides.{eqb_tells}
+use Rattle.heap_words.specs.Control.{blacken_bit_of}
+use Rattle.heap_model.specs.declared.heap.Heap.{Heap}
+use Rattle.heap_model.specs.account.PhaseCounts.{phase}
+use Rattle.core_machine.specs.collector.FitsTurns.{IsBlackening}
+use Rattle.core_machine.specs.declared.collector.stage.Scan.{Scan}
+use Rattle.core_machine.specs.declared.collector.stage.Stage.TheVariants as stages
+use Rattle.core_machine.specs.declared.table.address.Address.TheVariants.{Control}
+use Rattle.core_machine.specs.machine.Machine.{State}
+use Rattle.core_machine.specs.table.Layout.{at, put}
+use Rattle.core_rule.specs.Book.{Book, Colour, White, Grey}
+use Rattle.core_rule.specs.Colours.{IsMarked, WordPointsTo}
+use Rattle.core_rule.specs.Marking.{IsSeen, MarkingStands}
+use Rattle.core_rule.specs.Owners.{Borne, Kept}
+use Rattle.core_rule.specs.Paths.{IsWhite, Edge, IsReached}
+use Rattle.core_rule.specs.Rule.{Rule}
+use Rattle.core_rule.proofs.colours.OneBit.{bits_marked}
+use Rattle.core_rule.proofs.colours.BlackenColours.{with_scan, scan_away, scan_keeps, scan_grey, marks_blacken, coloured_blacken}
+use Rattle.core_rule.proofs.colours.LeadsFrames.{control_leads}
+use Rattle.core_rule.proofs.frames.Recoloured.{Recolours}
+use Rattle.core_rule.proofs.marking.Paths.{path_stays}
+use Rattle.core_rule.proofs.steps.collector.ColourTurn.{colour_turns}
+use Rattle.core_rule.proofs.steps.TurnSteps.{StageKeeps}
+
+module _ (heap : Heap) (state : State) (book : Book) (rule : Rule heap state book) (scan : Scan) (blackening : state.collector.stage ≡ stages.Blackening scan) where
+  abbrev f : ℕ
+  f = scan.fragment
+
+  abbrev coloured : ℕ → Colour
+  coloured = with_scan book.colour f
+
+  abbrev words : List ℕ
+  words = put heap state.words (Control (f / 16)) (bit_or (at heap state.words (Control (f / 16))) (blacken_bit_of f))
+
+  fits : IsBlackening heap state.collector.phase state.collector.looked scan
+  fits = rw blackening at rule.machine.collector_fit.at_stage
+
+  seen : IsSeen heap state.words book.colour f 4
+  seen = rw blackening at rule.marks_stand.heap_marks.scan
+
+  below : f / 16 < heap.groups
+  below = omega (arith, fits.fragment_within)
+
+  third : phase book.history % 7 ≡ 3
+  third = ap (λ p. p % 7) (sym rule.collector_stands.phase_told) ∙ fits.marks.for_marking
+
+  seen_all : (part g : ℕ) → WordPointsTo heap state.words f part g → IsMarked book.colour g
+  seen_all part g leads = seen.seen part g leads.below leads
+
+  new : Recolours heap words book coloured
+  new = record {
+    bits = bits_marked heap state.words book.owner 48 f rule.machine.table fits.fragment_within (omega arith) rule.heap_stands.control_words;
+    marks = marks_blacken heap state.words book.owner book.colour f rule.machine.table fits.fragment_within seen.grey rule.heap_stands.cycle.marks;
+    right = coloured_blacken heap state.words book.owner book.colour f rule.machine.table fits.fragment_within seen.grey book.fragments (phase book.history) third seen_all rule.heap_stands.cycle.coloured;
+    keeps = scan_keeps book.colour f seen.grey;
+    births = λ r x borne. scan_away book.colour f x (λ same. apart r (sym borne ∙ ap book.owner same ∙ (rule.marks_stand.heap_marks.grey f seen.grey).kept));
+  }
+    where
+      apart : (r : ℕ) {i k : ℕ} → Borne r ≡ Kept i k → ⊥
+      apart r e = cc
+
+  -- no path began there
+  comes : (x : ℕ) → IsReached heap state.words book.owner book.colour x → IsReached heap words book.owner coloured x
+  comes x (inl marked) = inl (scan_keeps book.colour f seen.grey x marked)
+  comes x (inr path) = inr (path_stays (Edge heap state.words) (Edge heap words) (IsWhite book.owner book.colour) (IsWhite book.owner coloured) (λ y. book.colour y ≡ Grey) (λ y. coloured y ≡ Grey)
+      (λ y white. record { unmarked = scan_away book.colour f y (λ same. absurd (let grey = seen.grey in let light = subst (λ z. book.colour z ≡ White) same white.unmarked in cc)) ∙ white.unmarked; born = white.born })
+      still
+      (λ y g from leads white. record { part = leads.part; points = control_leads heap state.words (f / 16) _ below y leads.part g leads.points }) x path)
+    where
+      still : (y g : ℕ) → book.colour y ≡ Grey → Edge heap state.words y g → IsWhite book.owner book.colour g → coloured y ≡ Grey
+      still y g grey leads white = elim (eqb_tells y f) as (λ _. coloured y ≡ Grey) [
+        | inl same ↦ absurd (seen_all leads.part g (subst (λ z. WordPointsTo heap state.words z leads.part g) same.1 leads.points) white.unmarked)
+        | inr other ↦ scan_away book.colour f y other.1 ∙ grey
+      ]
+
+  marks : MarkingStands heap words book.owner coloured book.fragments (stages.Passing (f / 16) true)
+  marks = record {
+    grey = λ x grey. rule.marks_stand.heap_marks.grey x (scan_grey book.colour f x grey);
+    scan = tt;
+    pass = tt;
+    alive = λ still. rule.marks_stand.heap_marks.alive (λ ended. absurd (cc (blackening, ended)));
+    after = λ ended. absurd (cc ended);
+  }
+
+pub blacken_keeps : (scan : Scan) → StageKeeps (stages.Blackening scan)
+blacken_keeps scan heap state book rule blackening machine =
+    colour_turns heap state book rule (stages.Blackening scan) (stages.Passing (scan.fragment / 16) true) blackening (scan.fragment / 16) _ (below heap state book rule scan blackening)
+    (with_scan book.colour scan.fragment) (new heap state book rule scan blackening) machine (marks heap state book rule scan blackening) (λ e. cc) (comes heap state book rule scan blackening)

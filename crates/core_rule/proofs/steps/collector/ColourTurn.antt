@@ -1,0 +1,64 @@
+-- A turn of the collector that colours a fragment keeps the rule.
+use Rattle.std.proofs.Common.{◌≡◌, ◌≢◌, ℕ, ◌<◌, List, [], sym, ◌∙◌}
+use Rattle.std.proofs.lemmas.List.{append-nil}
+use Rattle.heap_model.specs.declared.heap.Heap.{Heap}
+use Rattle.core_machine.specs.collector.Collector.{Collector}
+use Rattle.core_machine.specs.declared.collector.stage.Stage.{Stage}
+use Rattle.core_machine.specs.declared.collector.stage.Stage.TheVariants as stages
+use Rattle.core_machine.specs.declared.table.address.Address.{Address}
+use Rattle.core_machine.specs.declared.table.address.Address.TheVariants.{Control}
+use Rattle.core_machine.specs.machine.Machine.{State, seat_at}
+use Rattle.core_machine.specs.machine.Value.{IsMachine}
+use Rattle.core_machine.specs.table.Layout.{at, put}
+use Rattle.core_rule.specs.Book.{Book, Colour}
+use Rattle.core_rule.specs.Marking.{MarkingStands, RootsAreReached}
+use Rattle.core_rule.specs.Paths.{IsReached}
+use Rattle.core_rule.specs.Phases.{CollectorAgrees}
+use Rattle.core_rule.specs.Rule.{Rule}
+use Rattle.core_rule.proofs.frames.Recoloured.{Recolours, heap_recoloured, seat_recoloured}
+use Rattle.core_rule.proofs.marking.Marks.{roots_more}
+use Rattle.core_rule.proofs.steps.Assemble.{Keeps}
+use Rattle.core_rule.proofs.steps.TurnSteps.{after_turn, quiet, turn_steps, load_turns}
+
+-- the collector at another stage
+abbrev pub at_stage : Collector → Stage → Collector
+at_stage collector stage = record collector { stage = stage }
+
+-- it stands as before, wherever it goes on in its phase
+pub agrees_at : (heap : Heap) (state : State) (book : Book) → Rule heap state book → (stage : Stage) → CollectorAgrees heap (quiet (at_stage state.collector stage)) book.history
+agrees_at heap state book rule stage =
+    let stands = rule.collector_stands in
+    record { log = rw (append-nil state.collector.log) stands.log; phase_told = stands.phase_told; looked = stands.looked }
+
+module _ (heap : Heap) (state : State) (book : Book) (rule : Rule heap state book) (from stage : Stage) (was : state.collector.stage ≡ from) where
+  -- until marking has ended a stage leads on to another one, and each root that was reached is
+  pub roots_at : (words : List ℕ) (coloured : ℕ → Colour) → from ≢ stages.Marked
+      → ((f : ℕ) → IsReached heap state.words book.owner book.colour f → IsReached heap words book.owner coloured f)
+      → (r : ℕ) → r < heap.seats → RootsAreReached heap words book.owner coloured (quiet (at_stage state.collector stage)) (seat_at state r)
+  roots_at words coloured goes reached r below marks answered =
+      roots_more (IsReached heap state.words book.owner book.colour) (IsReached heap words book.owner coloured) reached (seat_at state r)
+      (rule.marks_stand.roots r below record { phase = marks.phase; goes_on = λ ended. goes (sym was ∙ ended) } answered)
+
+  -- a turn that colours
+  pub colour_turns : (g n : ℕ) (below : g < heap.groups) (coloured : ℕ → Colour) → Recolours heap (put heap state.words (Control g) n) book coloured
+      → IsMachine heap (after_turn state (put heap state.words (Control g) n) (quiet (at_stage state.collector stage)))
+      → MarkingStands heap (put heap state.words (Control g) n) book.owner coloured book.fragments stage
+      → from ≢ stages.Marked
+      → ((f : ℕ) → IsReached heap state.words book.owner book.colour f → IsReached heap (put heap state.words (Control g) n) book.owner coloured f)
+      → Keeps heap (after_turn state (put heap state.words (Control g) n) (quiet (at_stage state.collector stage))) book book.begun []
+  colour_turns g n below coloured new machine marks goes reached =
+      turn_steps heap state book (put heap state.words (Control g) n) (quiet (at_stage state.collector stage)) (record book { colour = coloured }) [] rule machine (sym (append-nil book.history))
+      (heap_recoloured heap state book rule g n below coloured new) (λ r less stands. seat_recoloured heap state book rule g n below coloured new r less stands)
+      (agrees_at heap state book rule stage)
+      record { heap_marks = marks; roots = roots_at (put heap state.words (Control g) n) coloured goes reached }
+
+  -- a turn that loads
+  pub load_turns_on : (a : Address) → IsMachine heap (after_turn state (put heap state.words a (at heap state.words a)) (quiet (at_stage state.collector stage)))
+      → MarkingStands heap state.words book.owner book.colour book.fragments stage → from ≢ stages.Marked
+      → Keeps heap (after_turn state (put heap state.words a (at heap state.words a)) (quiet (at_stage state.collector stage))) book book.begun []
+  load_turns_on a machine marks goes =
+      load_turns heap state book a (at_stage state.collector stage) rule machine record { log = rule.collector_stands.log; phase_told = rule.collector_stands.phase_told; looked = rule.collector_stands.looked }
+      record {
+        heap_marks = marks;
+        roots = λ r below is_marking answered. rule.marks_stand.roots r below record { phase = is_marking.phase; goes_on = λ ended. goes (sym was ∙ ended) } answered;
+      }

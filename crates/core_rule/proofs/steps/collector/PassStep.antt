@@ -1,0 +1,82 @@
+-- A load of a group's control word keeps the rule: a grey fragment of it is scanned, or the next group's turn comes, or another pass, or marking ends.
+use Rattle.std.proofs.Common.{◌≡◌, ◌≢◌, ℕ, suc, ◌+◌, ◌*◌, ◌≤◌, Bool, true, false, [], Option, Some, None, inl, inr, refl, subst, arith}
+use Rattle.std.proofs.lemmas.Bool.Decides.{leb_tells}
+use Rattle.heap_model.specs.declared.heap.Heap.{Heap}
+use Rattle.core_machine.specs.collector.Collector.{Collector}
+use Rattle.core_machine.specs.collector.FitsTurns.{FitsStage, IsPassing}
+use Rattle.core_machine.specs.collector.Marking.{lowest_grey_of, after_last_group, after_group, after_pass}
+use Rattle.core_machine.specs.declared.collector.stage.Stage.{Stage}
+use Rattle.core_machine.specs.declared.collector.stage.Stage.TheVariants as stages
+use Rattle.core_machine.specs.declared.table.address.Address.TheVariants.{Control}
+use Rattle.core_machine.specs.machine.Machine.{State}
+use Rattle.core_machine.specs.machine.Value.{IsMachine}
+use Rattle.core_machine.specs.table.Layout.{at, put}
+use Rattle.core_rule.specs.Book.{Book, Grey}
+use Rattle.core_rule.specs.Marking.{ScanStands, PassStands, MarkingStands}
+use Rattle.core_rule.specs.Phases.{CollectorAgrees}
+use Rattle.core_rule.specs.Rule.{Rule}
+use Rattle.core_rule.proofs.marking.GreyPlaces.{lowest_is_grey, pass_further, nothing_grey, pass_anew, scan_anew}
+use Rattle.core_rule.proofs.marking.Settled.{settled_book}
+use Rattle.core_rule.proofs.marking.SettledBook.{heap_settles, seat_settles, marking_settles}
+use Rattle.core_rule.proofs.steps.Assemble.{Keeps}
+use Rattle.core_rule.proofs.steps.TurnSteps.{StageKeeps, after_turn, quiet, load_turns, load_turns_with}
+
+module _ (heap : Heap) (state : State) (book : Book) (rule : Rule heap state book) (group : ℕ) (found : Bool) (passing : state.collector.stage ≡ stages.Passing group found) where
+  passes : IsPassing heap state.collector.phase state.collector.looked group
+  passes = subst (FitsStage heap state.collector.phase state.collector.looked) passing rule.machine.collector_fit.at_stage
+
+  goes_on : state.collector.stage ≢ stages.Marked
+  goes_on marked = absurd (cc (passing, marked))
+
+  marks : MarkingStands heap state.words book.owner book.colour book.fragments (stages.Passing group found)
+  marks = subst (MarkingStands heap state.words book.owner book.colour book.fragments) passing rule.marks_stand.heap_marks
+
+  abbrev word : ℕ
+  word = at heap state.words (Control group)
+
+  abbrev goes_to : Stage → Collector
+  goes_to stage = record state.collector { stage = stage }
+
+  -- the rule is kept where this stage comes
+  abbrev KeepsAt : Stage → Type 0
+  KeepsAt stage = IsMachine heap (after_turn state (put heap state.words (Control group) word) (quiet (goes_to stage)))
+      → Keeps heap (after_turn state (put heap state.words (Control group) word) (quiet (goes_to stage))) book book.begun []
+
+  collector_at : (stage : Stage) → CollectorAgrees heap (goes_to stage) book.history
+  collector_at stage = record { log = rule.collector_stands.log; phase_told = rule.collector_stands.phase_told; looked = rule.collector_stands.looked }
+
+  -- marking goes on, where a scan and a pass stand at the stage
+  goes_further : (stage : Stage) → stage ≢ stages.Marked → ScanStands heap state.words book.owner book.colour book.fragments stage → PassStands book.colour stage → KeepsAt stage
+  goes_further stage on scan pass machine = load_turns heap state book (Control group) (goes_to stage) rule machine (collector_at stage) record {
+    heap_marks = record { grey = marks.grey; scan = scan; pass = pass; alive = λ going. rule.marks_stand.heap_marks.alive goes_on; after = λ ended. absurd (on ended) };
+    roots = λ r below is answered. rule.marks_stand.roots r below (record { phase = is.phase; goes_on = goes_on }) answered;
+  }
+
+  -- it ends where nothing is grey
+  ends : ((f : ℕ) → book.colour f ≢ Grey) → KeepsAt stages.Marked
+  ends none machine = load_turns_with heap state book (Control group) (goes_to stages.Marked) (settled_book book) rule machine refl
+      (heap_settles heap state book rule passes.marks goes_on none) (seat_settles heap state book rule passes.marks goes_on none) (collector_at stages.Marked)
+      record { heap_marks = marking_settles heap state book rule passes.marks goes_on none; roots = λ r below is. absurd (is.goes_on refl) }
+
+  module _ (none : lowest_grey_of word ≡ None) where
+    -- the last group was seen
+    behind_all : heap.groups ≤ group + 1 → (some : Bool) → found ≡ some → KeepsAt (after_last_group some)
+    behind_all last true is = goes_further (stages.Passing 0 false) (λ e. cc) tt (pass_anew book.colour)
+    behind_all last false is =
+        ends (nothing_grey heap state.words book.colour group rule.machine.table passes.group_within rule.heap_stands.cycle.marks none last
+        (subst (λ b. PassStands book.colour (stages.Passing group b)) is marks.pass))
+
+    after_none : KeepsAt (after_group heap group found)
+    after_none = elim (leb_tells (suc (group + 1)) heap.groups) as (λ _. KeepsAt (after_group heap group found)) [
+      | inl more ↦ rw more.0 (goes_further (stages.Passing (group + 1) found) (λ e. cc) tt
+          (pass_further heap state.words book.colour group rule.machine.table passes.group_within rule.heap_stands.cycle.marks none found marks.pass))
+      | inr all ↦ rw all.0 (behind_all (omega (arith, all.1)) found refl)
+    ]
+
+  passes_on : (place : Option ℕ) → lowest_grey_of word ≡ place → KeepsAt (after_pass heap group found place)
+  passes_on None is = after_none is
+  passes_on (Some place) is = goes_further (stages.Scanning (record { fragment = 16 * group + place; part = 0; steps = 0 })) (λ e. cc)
+      (scan_anew heap state.words book.colour (16 * group + place) (lowest_is_grey heap state.words book.colour group rule.machine.table passes.group_within rule.heap_stands.cycle.marks place is)) tt
+
+pub pass_keeps : (group : ℕ) (found : Bool) → StageKeeps (stages.Passing group found)
+pass_keeps group found heap state book rule passing machine = passes_on heap state book rule group found passing (lowest_grey_of (at heap state.words (Control group))) refl machine
