@@ -29,7 +29,7 @@ pub record SetsOut (made : List Id) (owner : ℕ → Owner) (fragments : ℕ →
   pub index : ℕ
   pub way : OnWay made owner fragments seat index 0
 
--- a command's field is one of an object's so many: from this row so many links lead on to the field's, and it stands in this word of the fragment there
+-- the command's field is one of so many: from this row so many links lead on to the field's row, and it stands in this word there
 pub record FieldAhead (fields : ℕ) (command : Command) (row links part : ℕ) : Type 0 where
   pub within : field_of command < fields
   pub leads : row + links ≡ row_of (field_of command)
