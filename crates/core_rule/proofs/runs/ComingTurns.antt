@@ -34,6 +34,7 @@ no_end false seat answer p cycle kept same = cc same
 turn_shape : (heap : Heap) (collector : Collector) (stage : Stage) (found : ℕ) → HasShape (turn_at heap collector stage) found
 turn_shape heap collector stages.Advancing found = inr (collector.phase + 1, refl, refl)
 turn_shape heap collector stages.Looking found = inl (refl, no_end (has_answered_of collector.phase found) collector.looked found collector.phase)
+turn_shape heap collector _ found = inl (refl, λ cycle kept same. cc same)
 
 module _ (heap : Heap) (state : State) (book : Book) (old new : CollectorState) (rule : Rule heap state book) where
   abbrev turn : Turn
