@@ -41,6 +41,7 @@ pub struct SeatParty {
     pub(crate) made: u32,
     pub(crate) reached: u16,
     pub(crate) links: u16,
+    pub(crate) part: u8,
     pub(crate) loaded: u64,
     pub(crate) asked: u64,
     pub(crate) shaded: u8,
@@ -70,6 +71,7 @@ impl Model for SeatParty {
         made = party.made;
         reached = party.reached;
         links = party.links;
+        part = party.part;
         loaded = party.loaded;
         asked = party.asked;
         shaded = party.shaded;
@@ -107,6 +109,7 @@ impl SeatParty {
             made: 0,
             reached: 0,
             links: 0,
+            part: 0,
             loaded: 0,
             asked: 0,
             shaded: 0,
@@ -148,6 +151,7 @@ impl SeatParty {
         self.place = Place::Idle;
         self.reached = 0;
         self.links = 0;
+        self.part = 0;
         self.loaded = 0;
         self.asked = 0;
         self.shaded = 0;

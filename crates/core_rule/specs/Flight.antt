@@ -11,7 +11,7 @@ use Rattle.core_machine.specs.declared.place.Access.{Access}
 use Rattle.core_machine.specs.declared.place.Access.TheVariants.{ShadingOld, ShadingNew, Swapping}
 use Rattle.core_machine.specs.declared.seat.register.Register.{Register}
 use Rattle.core_machine.specs.table.Decode.{head_of}
-use Rattle.core_machine.specs.seat.AccessMoves.{field_part_of, new_register_of}
+use Rattle.core_machine.specs.seat.AccessMoves.{new_register_of}
 use Rattle.core_machine.specs.seat.Registers.{register_in, register_head}
 use Rattle.core_machine.specs.seat.Seat.{Seat}
 use Rattle.core_rule.specs.Book.{Colour}
@@ -23,9 +23,9 @@ DeletionBarrier heap words colour f part old = (g : ℕ) → WordPointsTo heap w
 
 -- the field of a set past its load of the old value
 abbrev pub FieldStands : Heap → List ℕ → (ℕ → Colour) → Seat → Access → Type 0
-FieldStands heap words colour seat ShadingOld = DeletionBarrier heap words colour seat.reached (field_part_of seat) (head_of seat.loaded)
-FieldStands heap words colour seat ShadingNew = DeletionBarrier heap words colour seat.reached (field_part_of seat) None
-FieldStands heap words colour seat Swapping = DeletionBarrier heap words colour seat.reached (field_part_of seat) None
+FieldStands heap words colour seat ShadingOld = DeletionBarrier heap words colour seat.reached seat.part (head_of seat.loaded)
+FieldStands heap words colour seat ShadingNew = DeletionBarrier heap words colour seat.reached seat.part None
+FieldStands heap words colour seat Swapping = DeletionBarrier heap words colour seat.reached seat.part None
 FieldStands heap words colour seat _ = Unit {0}
 
 -- the old value of a set is marked once it was shaded; and at the swap so is the new one, while the seat's last answer is to a phase from barriers up to

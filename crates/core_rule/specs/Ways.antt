@@ -1,5 +1,6 @@
 -- Where a seat stands on the way to a field.
-use Rattle.std.specs.Prelude.{◌≡◌, ℕ, ◌-◌, ◌<◌, ◌≤◌, List, length, Some, IsSome}
+use Rattle.std.specs.Prelude.{◌≡◌, ℕ, ◌+◌, ◌<◌, List, length, Some, IsSome}
+use Rattle.heap_model.specs.declared.command.Command.{Command}
 use Rattle.heap_model.specs.declared.graph.cell.Cell.{Cell}
 use Rattle.heap_model.specs.declared.id.Id.{Id}
 use Rattle.core_machine.specs.declared.place.Place.{Place}
@@ -9,31 +10,37 @@ use Rattle.core_machine.specs.declared.place.Access.TheVariants.{LoadingMeta, Wa
 use Rattle.core_machine.specs.declared.seat.register.Register.TheVariants.{Object}
 use Rattle.core_machine.specs.seat.Commands.{object_of, field_of}
 use Rattle.core_machine.specs.table.Decode.{head_of}
-use Rattle.core_machine.specs.seat.Access.{row_of}
+use Rattle.core_machine.specs.seat.Access.{row_of, part_of}
 use Rattle.core_machine.specs.seat.Registers.{register_in}
 use Rattle.core_machine.specs.seat.Seat.{Seat}
 use Rattle.core_rule.specs.Owners.{Owner}
 use Rattle.core_rule.specs.Book.{fragment_at, id_at}
 use Rattle.core_rule.specs.Objects.{IsKept}
 
--- the call's register holds the object of this number, and the way stands at the fragment of it from which so many links lead to the field
-pub record OnWay (made : List Id) (owner : ℕ → Owner) (fragments : ℕ → List ℕ) (seat : Seat) (index : ℕ) : Type 0 where
+-- the call's register holds the object of this number, and the way stands at this row of it
+pub record OnWay (made : List Id) (owner : ℕ → Owner) (fragments : ℕ → List ℕ) (seat : Seat) (index row : ℕ) : Type 0 where
   pub below : index < length made
   pub kept : IsKept owner fragments index
   pub holds : register_in seat.registers (object_of seat.command) ≡ Object (fragment_at (fragments index) 0) (id_at made index)
-  pub ahead : seat.links ≤ row_of (field_of seat.command)
-  pub here : seat.reached ≡ fragment_at (fragments index) (row_of (field_of seat.command) - seat.links)
+  pub here : seat.reached ≡ fragment_at (fragments index) row
 
--- the way of a call whose object's length wasn't loaded yet
+-- the way of a call whose object's length wasn't loaded yet: it stands at the object's first fragment
 pub record SetsOut (made : List Id) (owner : ℕ → Owner) (fragments : ℕ → List ℕ) (seat : Seat) : Type 0 where
   pub index : ℕ
-  pub way : OnWay made owner fragments seat index
+  pub way : OnWay made owner fragments seat index 0
+
+-- the command's field is one of so many: from this row so many links lead on to the field's row, and it stands in this word there
+pub record FieldAhead (fields : ℕ) (command : Command) (row links part : ℕ) : Type 0 where
+  pub within : field_of command < fields
+  pub leads : row + links ≡ row_of (field_of command)
+  pub there : part ≡ part_of (field_of command)
 
 -- the way of one whose object has the field
 pub record Finds (cells : ℕ → List Cell) (made : List Id) (owner : ℕ → Owner) (fragments : ℕ → List ℕ) (seat : Seat) : Type 0 where
   pub index : ℕ
-  pub way : OnWay made owner fragments seat index
-  pub within : field_of seat.command < length (cells index)
+  pub row : ℕ
+  pub way : OnWay made owner fragments seat index row
+  pub field : FieldAhead (length (cells index)) seat.command row seat.links seat.part
 
 -- the object that a set has loaded from its field is a kept one
 pub record LoadedKept (made : List Id) (owner : ℕ → Owner) (fragments : ℕ → List ℕ) (seat : Seat) : Type 0 where

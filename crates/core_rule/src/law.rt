@@ -1,4 +1,4 @@
-ghost use Rattle.core_rule.specs.Laws.{EachEventKeeps, EveryRunKeeps, WholeCallsPlay, FreeIsUnused, EachBirthHasItsColour, EachAnswerIsMarked, EachWaitIsBehind};
+ghost use Rattle.core_rule.specs.Laws.{EachEventKeeps, EveryRunKeeps, WholeCallsPlay, FreeIsUnused, EachBirthHasItsColour, EachAnswerIsMarked, EachWaitIsBehind, EachTurnComesTo};
 ghost use Rattle.core_rule.specs.HeldLaws.{EachHeldIsTaken, NoClaimTakesHeld, EachHeldIsMarked};
 
 /// The rule holds after every list of begins, steps and turns of the collector, over every heap.
@@ -10,6 +10,7 @@ pub fn law_every_run()
     ensures births { EachBirthHasItsColour }
     ensures answers { EachAnswerIsMarked }
     ensures waits { EachWaitIsBehind }
+    ensures turns { EachTurnComesTo }
     ensures held { EachHeldIsTaken }
     ensures claims { NoClaimTakesHeld }
     ensures marked { EachHeldIsMarked }

@@ -9,6 +9,8 @@ use Rattle.core_machine.specs.declared.place.Access.TheVariants.{LoadingMeta, Wa
 use Rattle.core_machine.specs.declared.place.Polling.{Polling}
 use Rattle.core_machine.specs.declared.place.Polling.TheVariants.{Asking, Shading, Answering}
 use Rattle.core_machine.specs.declared.place.Leaving.TheVariants.{Emptying, Parting}
+use Rattle.core_machine.specs.seat.Access.{row_of}
+use Rattle.core_machine.specs.seat.Commands.{field_of}
 use Rattle.core_machine.specs.seat.Handshake.{roots}
 use Rattle.core_machine.specs.declared.place.Making.TheVariants.{Gathering, Returning, Refusing, Storing, Bearing}
 use Rattle.core_machine.specs.seat.Seat.{Seat, need}
@@ -43,16 +45,16 @@ making_steps heap seat Refusing = 1
 making_steps heap seat Storing = (4 * length seat.body - seat.stored) + length seat.hand
 making_steps heap seat Bearing = length seat.hand
 
--- and the reading or writing of a field
-abbrev pub access_steps : ℕ → Access → ℕ
-access_steps links LoadingMeta = links + 5
-access_steps links Walking = links + 4
-access_steps links Getting = 2
-access_steps links Naming = 1
-access_steps links LoadingOld = 4
-access_steps links ShadingOld = 3
-access_steps links ShadingNew = 2
-access_steps links Swapping = 1
+-- and the reading or writing of a field, whose row comes after so many others
+abbrev pub access_steps : ℕ → ℕ → Access → ℕ
+access_steps rows links LoadingMeta = rows + 5
+access_steps rows links Walking = links + 4
+access_steps rows links Getting = 2
+access_steps rows links Naming = 1
+access_steps rows links LoadingOld = 4
+access_steps rows links ShadingOld = 3
+access_steps rows links ShadingNew = 2
+access_steps rows links Swapping = 1
 
 -- and a poll
 abbrev pub polling_steps : Seat → Polling → ℕ
@@ -65,7 +67,7 @@ abbrev pub steps_at : Heap → Seat → Place → ℕ
 steps_at heap seat places.Idle = 0
 steps_at heap seat (places.Making place) = making_steps heap seat place
 steps_at heap seat places.Local = 1
-steps_at heap seat (places.Access place) = access_steps seat.links place
+steps_at heap seat (places.Access place) = access_steps (row_of (field_of seat.command)) seat.links place
 steps_at heap seat (places.Polling place) = polling_steps seat place
 steps_at heap seat (places.Leaving Emptying) = 2
 steps_at heap seat (places.Leaving Parting) = 1

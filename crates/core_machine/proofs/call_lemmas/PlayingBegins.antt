@@ -18,7 +18,7 @@ use Rattle.core_machine.proofs.call_lemmas.Stages.{Untouched, Stage}
 
 module _ (heap : Heap) (old : State) (number : ℕ) (now : State) (fits : Fits heap (seat_at old number)) (idle : (seat_at old number).place ≡ places.Idle) (same : now.words ≡ old.words) where
   -- a seat that has begun a call and made no step
-  untouched : (seat : Seat) → seat ≡ record (seat_at old number) { command = seat.command; reached = seat.reached; links = seat.links; place = seat.place; mine = seat.mine }
+  untouched : (seat : Seat) → seat ≡ record (seat_at old number) { command = seat.command; reached = seat.reached; place = seat.place; mine = seat.mine }
       → Untouched old now number [] seat
   untouched seat is = record { resting = over_idle heap (seat_at old number) fits idle; words_stay = same; seat_stays = is; none_told = refl }
 

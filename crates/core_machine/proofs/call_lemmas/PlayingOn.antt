@@ -29,7 +29,7 @@ use Rattle.core_machine.specs.table.Layout.{at, put, InTable}
 use Rattle.core_machine.specs.table.Operation.{address_of, word_after}
 use Rattle.core_machine.specs.table.Decode.{head_of, id_of, stamp_of}
 use Rattle.core_machine.specs.seat.Registers.{register_in, register_head}
-use Rattle.core_machine.specs.seat.Access.{at_access, field_place_of, way_place_of, after_link, after_walk, meta_reply_of, after_meta, after_get, new_place_of, after_old, after_old_load}
+use Rattle.core_machine.specs.seat.Access.{at_access, with_field_place, field_place_of, way_place_of, after_link, after_walk, meta_reply_of, after_meta, after_get, new_place_of, after_old, after_old_load}
 use Rattle.core_machine.specs.seat.AccessMoves.{reply_entries_if, got_adds, got_shows}
 use Rattle.core_machine.specs.seat.HandshakeMoves.{poll_move}
 use Rattle.core_machine.specs.seat.Local.{local_reply_of, local_registers}
@@ -143,7 +143,7 @@ module _ (heap : Heap) (old : State) (number : ℕ) (command : Command) (now : S
   met_stage : (reply : Option Reply) (found : ℕ) → the_seat.command ≡ command → NamesObject the_seat.command
       → (new : State) → (IsPlaceRefusalOf reply → LeavesAll old new number) → told_ ≡ []
       → Stage heap old new number command (told_ ++ reply_entries_if number the_seat reply) (with_entries (after_meta the_seat found reply) (reply_entries_if number the_seat reply)) (with_entries (after_meta the_seat found reply) (reply_entries_if number the_seat reply)).place
-  met_stage None found same names new refused none = onward_stage new (told_ ++ []) the_seat found [] same (none_more none)
+  met_stage None found same names new refused none = onward_stage new (told_ ++ []) (with_field_place the_seat) found [] same (none_more none)
   met_stage (Some reply) found same names new refused none = ended_alone new the_seat reply same (object_alone the_seat.command names) refused none
 
   closed_after : (reply : Option Reply) (found : ℕ) → IsPlaceRefusalOf reply → Untouched old now number told_ the_seat

@@ -69,7 +69,7 @@ pub record Answered (heap : Heap) (old new : State) (number : ℕ) (command : Co
 pub record Untouched (old now : State) (number : ℕ) (told : List Entry) (seat : Seat) : Type 0 where
   pub resting : after_call (seat_at old number) ≡ seat_at old number
   pub words_stay : now.words ≡ old.words
-  pub seat_stays : seat ≡ record (seat_at old number) { command = seat.command; reached = seat.reached; links = seat.links; place = seat.place; mine = seat.mine }
+  pub seat_stays : seat ≡ record (seat_at old number) { command = seat.command; reached = seat.reached; place = seat.place; mine = seat.mine }
   pub none_told : told ≡ []
 
 -- the history has the reply of a get

@@ -182,7 +182,7 @@ fits_open heap number limits = record {
   };
   asked_small = omega arith;
   at_place = record { empty_hand = refl; no_body = refl; none_stored = refl; none_tried = refl; none_given = refl };
-  way_at_place = record { none_reached = refl; no_links = refl; none_loaded = refl };
+  way_at_place = record { none_reached = refl; no_links = refl; no_part = refl; none_loaded = refl };
   answer_at_place = record { none_asked = refl; none_shaded = refl };
   gone = gone_aside refl;
 }

@@ -14,11 +14,10 @@ use Rattle.core_machine.specs.declared.seat.register.Register.TheVariants.{Objec
 use Rattle.core_machine.specs.declared.table.address.Address.TheVariants.{Word}
 use Rattle.core_machine.specs.machine.Machine.{found_by}
 use Rattle.core_machine.specs.seat.Awaiting.{entries_awaited}
-use Rattle.core_machine.specs.seat.Commands.{field_of}
 use Rattle.core_machine.specs.seat.Fits.{Fits, FitsRegister}
 use Rattle.core_machine.specs.seat.FitsAccess.{SeatIsAtGet}
 use Rattle.core_machine.specs.seat.Access.{after_get}
-use Rattle.core_machine.specs.seat.AccessMoves.{loaded_head_of, got_adds, field_part_of, got_shows, get_move, name_move}
+use Rattle.core_machine.specs.seat.AccessMoves.{loaded_head_of, got_adds, got_shows, get_move, name_move}
 use Rattle.core_machine.specs.seat.Seat.{Seat, with_entries}
 use Rattle.core_machine.specs.table.Decode.{head_of, id_of, plain_of, plain_register, IsWithinHeap}
 use Rattle.core_machine.proofs.call_lemmas.Awaits.{after_words}
@@ -28,7 +27,7 @@ use Rattle.core_machine.proofs.moves.Standing.{PlaceStands, rests_at}
 use Rattle.core_machine.proofs.seat_lemmas.FittingAccess.{Rests, fits_access, fits_filled}
 use Rattle.core_machine.proofs.table_lemmas.Addresses.{put-at}
 use Rattle.core_machine.proofs.table_lemmas.StepStands.{load_stands}
-use Rattle.core_machine.proofs.table_lemmas.WithinHeap.{head_leads, some_within, part_small}
+use Rattle.core_machine.proofs.table_lemmas.WithinHeap.{head_leads, some_within}
 
 -- a number in a word has thirty bits
 plain_fits : (heap : Heap) (kind : Kind) (value : ℕ) → value < 2 ^ 30 → FitsRegister heap (plain_register kind value)
@@ -43,7 +42,7 @@ fits_got : (heap : Heap) (seat : Seat) (found : ℕ) (head : Option ℕ) → Res
 fits_got heap seat found None rests is none led =
     fits_filled heap seat (plain_of found) rests (plain_fits heap (cell_of found).kind (cell_of found).value (omega arith))
 fits_got heap seat found (Some head) rests is some led =
-    fits_access heap seat seat.reached seat.links found Naming rests rests.fits.way.reached_within (subst (IsWithinHeap heap) (sym some) led)
+    fits_access heap seat seat.reached seat.links seat.part found Naming rests rests.fits.way.reached_within (subst (IsWithinHeap heap) (sym some) led)
     (is, subst IsSome (sym some) refl)
 
 nears_got : (heap : Heap) (number : ℕ) (seat : Seat) (found : ℕ) (head : Option ℕ)
@@ -70,11 +69,11 @@ pub get_stands : PlaceStands (places.Access Getting)
 get_stands heap number seat here =
     let move = get_move heap number seat in
     record {
-      step = load_stands heap move.step refl (here.fits.way.reached_within, part_small (field_of seat.command));
-      fits = λ found small led. fits_got heap seat found (head_of found) (rests_at heap number seat Getting here) here.way.0 refl (head_leads heap (field_of seat.command) found led);
+      step = load_stands heap move.step refl (here.fits.way.reached_within, here.way.0.2.field_part.below);
+      fits = λ found small led. fits_got heap seat found (head_of found) (rests_at heap number seat Getting here) here.way.0 refl (head_leads heap seat.part found here.way.0.2.field_part led);
       near = λ found. nears_got heap number seat found (head_of found);
       adds = λ now. let found = found_by heap now move.step in
-          let same : after_words heap now number seat move ≡ now.words = put-at heap now.words (Word seat.reached (field_part_of seat)) in
+          let same : after_words heap now number seat move ≡ now.words = put-at heap now.words (Word seat.reached seat.part) in
           let by = got_awaits heap number seat now.words found (head_of found) refl in
           record { kept = by.0; told = rw (same, here.placed) by.1 };
       says = λ old command words told is found. got_says old number command heap words seat told found (head_of found) is;

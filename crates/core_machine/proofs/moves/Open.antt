@@ -13,10 +13,10 @@ use Rattle.core_machine.specs.declared.seat.register.Register.{Register}
 use Rattle.core_machine.specs.declared.seat.register.Register.TheVariants.{Nil, Number, Object}
 use Rattle.core_machine.specs.machine.Machine.{found_by}
 use Rattle.core_machine.specs.seat.Awaiting.{entries_awaited}
-use Rattle.core_machine.specs.seat.Commands.{object_of}
+use Rattle.core_machine.specs.seat.Commands.{object_of, field_of}
 use Rattle.core_machine.specs.seat.Fits.{Fits, FitsRegister, IsLocal}
 use Rattle.core_machine.specs.seat.FitsAccess.{NamesObject, NamesField, SeatIsAtHead}
-use Rattle.core_machine.specs.seat.Access.{meta_reply_of, after_meta, access_start}
+use Rattle.core_machine.specs.seat.Access.{row_of, part_of, with_field_place, meta_reply_of, after_meta, access_start}
 use Rattle.core_machine.specs.seat.AccessMoves.{reply_entries_if, open_move}
 use Rattle.core_machine.specs.seat.Registers.{register_head, register_in}
 use Rattle.core_machine.specs.seat.Seat.{Seat, with_entries}
@@ -43,24 +43,26 @@ met_names _ found names none = absurd names
 fits_met : (heap : Heap) (seat : Seat) (found : ℕ) (reply : Option Reply) → Rests heap seat → SeatIsAtHead seat → meta_reply_of seat.command found ≡ reply
     → IsWithinHeap heap (pointer_in 0 found) → Fits heap (after_meta seat found reply)
 fits_met heap seat found None rests is none led =
-    fits_onward heap seat found rests is.works (met_names seat.command found is.names none) is.none_loaded (omega (arith, is.whole_way)) led
+    fits_onward heap seat (row_of (field_of seat.command)) (part_of (field_of seat.command)) found rests is.works (met_names seat.command found is.names none) is.none_loaded (omega arith)
+    record { some = omega arith; below = omega arith } led
 fits_met heap seat found (Some reply) rests is some led = fits_closed heap seat seat.registers seat.sets rests rests.fits.own.registers_whole rests.fits.own.registers_fit
 
 nears_met : (heap : Heap) (number : ℕ) (seat : Seat) (found : ℕ) (reply : Option Reply)
-    → Nears heap (with_entries (after_meta seat found reply) (reply_entries_if number seat reply)) 1 (seat.links + 5) (length (reply_entries_if number seat reply))
-nears_met heap number seat found None = nears_onward heap seat found (seat.links + 5) (inl (omega arith))
+    → Nears heap (with_entries (after_meta seat found reply) (reply_entries_if number seat reply)) 1 (row_of (field_of seat.command) + 5) (length (reply_entries_if number seat reply))
+nears_met heap number seat found None = nears_onward heap (with_field_place seat) found (row_of (field_of seat.command) + 5) (inl (omega arith))
 nears_met heap number seat found (Some reply) = record { fewer = omega arith; paid = omega arith }
 
 module _ (heap : Heap) (number : ℕ) (seat : Seat) where
   met_adds : (words : List ℕ) (found : ℕ) (reply : Option Reply)
       → ((after_meta seat found reply).mine ≡ seat.mine) × (entries_awaited heap words number (with_entries (after_meta seat found reply) (reply_entries_if number seat reply)) ≡ [])
-  met_adds words found None = (onward_mine seat found, onward_awaits heap words number seat found [])
+  met_adds words found None = (onward_mine (with_field_place seat) found, onward_awaits heap words number (with_field_place seat) found [])
   met_adds words found (Some reply) = (refl, refl)
 
 module _ (old : Seat) (number : ℕ) (command : Command) where
   met_says : (seat : Seat) (told : List Entry) (found : ℕ) (reply : Option Reply) → IsGoing old number command seat told × (command ≢ commands.Leave)
       → Says old number command (with_entries (after_meta seat found reply) (reply_entries_if number seat reply)) (told ++ reply_entries_if number seat reply) (after_meta seat found reply).place
-  met_says seat told found None is = onward_says old number command seat told found is
+  met_says seat told found None is = onward_says old number command (with_field_place seat) told found
+      (record { same = is.0.same; made_stays = is.0.made_stays; sets_stay = is.0.sets_stay; present_stays = is.0.present_stays; beside = is.0.beside }, is.1)
   met_says seat told found (Some reply) is = ends old number command seat _ told [] reply is (omega arith) (omega arith) refl tt
 
 -- the meta is loaded
@@ -107,7 +109,8 @@ open_begins command stays names heap number seat ready = by (register_in seat.re
             works = record { in_range = ready.may.in_range; numbered = ready.may.numbered; holds = subst IsSome (sym (ap register_head is)) refl };
             names = names;
             at_head = ap register_head is;
-            whole_way = refl;
+            no_links = aside.nowhere.no_links;
+            no_part = aside.nowhere.no_part;
             none_loaded = aside.nowhere.none_loaded;
           };
           answer_at_place = aside.silent;

@@ -31,7 +31,7 @@ use Rattle.core_machine.proofs.table_lemmas.WithinHeap.{roots_within, few_roots}
 pub record Polls (heap : Heap) (seat : Seat) : Type 0 where
   fits : Fits heap seat
   rest : IsAtRest seat
-  nowhere : HasNoWay seat.reached seat.links seat.loaded
+  nowhere : HasNoWay seat.reached seat.links seat.part seat.loaded
   present : seat.left ≡ false
   polls : seat.command ≡ commands.Poll
 

@@ -10,10 +10,10 @@ use Rattle.core_machine.specs.declared.place.Place.TheVariants as places
 use Rattle.core_machine.specs.declared.place.Access.TheVariants.{LoadingOld, ShadingOld, ShadingNew, Swapping}
 use Rattle.core_machine.specs.machine.Machine.{found_by}
 use Rattle.core_machine.specs.seat.Awaiting.{entries_awaited}
-use Rattle.core_machine.specs.seat.Commands.{field_of, source_of}
+use Rattle.core_machine.specs.seat.Commands.{source_of}
 use Rattle.core_machine.specs.seat.Fits.{Fits, FitsRegister}
 use Rattle.core_machine.specs.seat.FitsAccess.{SeatIsAtSet}
-use Rattle.core_machine.specs.seat.Access.{part_of, after_old, after_old_load, at_access, has_barrier_of, new_place_of}
+use Rattle.core_machine.specs.seat.Access.{after_old, after_old_load, at_access, has_barrier_of, new_place_of}
 use Rattle.core_machine.specs.seat.AccessMoves.{loaded_head_of, new_register_of, old_move, shade_old_move, shade_new_move, swap_move}
 use Rattle.core_machine.specs.seat.Registers.{register_in, register_head}
 use Rattle.core_machine.specs.seat.Seat.{Seat, with_entries}
@@ -27,22 +27,22 @@ use Rattle.core_machine.proofs.seat_lemmas.FittingAccess.{Rests, fits_access, fi
 use Rattle.core_machine.proofs.table_lemmas.Leading.{register_leads}
 use Rattle.core_machine.proofs.table_lemmas.StepStands.{load_stands, shade_stands}
 use Rattle.core_machine.proofs.table_lemmas.Wide.{set_numbered, register_wide}
-use Rattle.core_machine.proofs.table_lemmas.WithinHeap.{head_leads, some_within, head_within, part_some, part_small, register_fits}
+use Rattle.core_machine.proofs.table_lemmas.WithinHeap.{head_leads, some_within, head_within, part_some, register_fits}
 
 -- a set goes on to its new value
 fits_old_done : (heap : Heap) (seat : Seat) (loaded : ℕ) → Rests heap seat → SeatIsAtSet seat → has_barrier_of seat ≡ true → IsWithinHeap heap (head_of loaded)
     → Fits heap (after_old (record seat { loaded = loaded }))
 fits_old_done heap seat loaded rests is on led = by (register_head (register_in seat.registers (source_of seat.command))) refl where
   by : (new : Option ℕ) → register_head (register_in seat.registers (source_of seat.command)) ≡ new → Fits heap (at_access (record seat { loaded = loaded }) (new_place_of new))
-  by None e = fits_access heap seat seat.reached seat.links loaded Swapping rests rests.fits.way.reached_within led (is, λ off. gone_aside off on)
-  by (Some head) e = fits_access heap seat seat.reached seat.links loaded ShadingNew rests rests.fits.way.reached_within led (is, on, subst IsSome (sym e) refl)
+  by None e = fits_access heap seat seat.reached seat.links seat.part loaded Swapping rests rests.fits.way.reached_within led (is, λ off. gone_aside off on)
+  by (Some head) e = fits_access heap seat seat.reached seat.links seat.part loaded ShadingNew rests rests.fits.way.reached_within led (is, on, subst IsSome (sym e) refl)
 
 -- a set's old value was found
 fits_old_found : (heap : Heap) (seat : Seat) (found : ℕ) (head : Option ℕ) → Rests heap seat → SeatIsAtSet seat → has_barrier_of seat ≡ true → head_of found ≡ head
     → IsWithinHeap heap head → Fits heap (after_old_load (record seat { loaded = found }) head)
 fits_old_found heap seat found None rests is on none led = fits_old_done heap seat found rests is on (subst (IsWithinHeap heap) (sym none) led)
 fits_old_found heap seat found (Some head) rests is on some led =
-    fits_access heap seat seat.reached seat.links found ShadingOld rests rests.fits.way.reached_within (subst (IsWithinHeap heap) (sym some) led)
+    fits_access heap seat seat.reached seat.links seat.part found ShadingOld rests rests.fits.way.reached_within (subst (IsWithinHeap heap) (sym some) led)
     (is, on, subst IsSome (sym some) refl)
 
 nears_old_done : (heap : Heap) (seat : Seat) (loaded steps : ℕ) → 2 < steps → Nears heap (with_entries (after_old (record seat { loaded = loaded })) []) 1 steps 0
@@ -85,8 +85,8 @@ pub old_stands : PlaceStands (places.Access LoadingOld)
 old_stands heap number seat here =
     let move = old_move seat in
     record {
-      step = load_stands heap move.step refl (here.fits.way.reached_within, part_small (field_of seat.command));
-      fits = λ found small led. fits_old_found heap seat found (head_of found) (rests_at heap number seat LoadingOld here) here.way.0 here.way.1 refl (head_leads heap (field_of seat.command) found led);
+      step = load_stands heap move.step refl (here.fits.way.reached_within, here.way.0.2.field_part.below);
+      fits = λ found small led. fits_old_found heap seat found (head_of found) (rests_at heap number seat LoadingOld here) here.way.0 here.way.1 refl (head_leads heap seat.part found here.way.0.2.field_part led);
       near = λ found. nears_old_found heap seat found (head_of found);
       adds = λ now. let found = found_by heap now move.step in
           let by = old_found_adds heap number seat (after_words heap now number seat move) found (head_of found) in
@@ -111,7 +111,7 @@ pub shade_new_stands : PlaceStands (places.Access ShadingNew)
 shade_new_stands heap number seat here = record {
   step = shade_stands heap (unwrap_or (register_head (new_register_of seat)) 0)
       (head_within heap (new_register_of seat) here.way.2 (register_fits heap seat.registers (source_of seat.command) here.fits.own.registers_fit));
-  fits = λ found small led. fits_access heap seat seat.reached seat.links seat.loaded Swapping (rests_at heap number seat ShadingNew here) here.fits.way.reached_within here.fits.way.loaded_within
+  fits = λ found small led. fits_access heap seat seat.reached seat.links seat.part seat.loaded Swapping (rests_at heap number seat ShadingNew here) here.fits.way.reached_within here.fits.way.loaded_within
       (here.way.0, λ off. gone_aside off here.way.1);
   near = λ found. record { fewer = omega arith; paid = omega arith };
   adds = λ now. plain heap now number seat (shade_new_move seat) refl (rw here.placed refl) refl refl;
@@ -126,9 +126,9 @@ swap_stands heap number seat here =
     let groups : 16 * heap.groups ≤ 2 ^ 16 = omega (arith, here.limits.groups_fit) in
     record {
       step = record {
-        in_table = (here.fits.way.reached_within, part_small (field_of seat.command));
+        in_table = (here.fits.way.reached_within, here.way.0.2.field_part.below);
         wide = λ found small. register_wide heap (new_register_of seat) (set_stamp number (seat.sets + 1)) groups fit small_stamp;
-        leads = λ found led. register_leads heap (new_register_of seat) (set_stamp number (seat.sets + 1)) (part_of (field_of seat.command)) (part_some (field_of seat.command)) groups fit small_stamp;
+        leads = λ found led. register_leads heap (new_register_of seat) (set_stamp number (seat.sets + 1)) seat.part (part_some seat.part here.way.0.2.field_part) groups fit small_stamp;
       };
       fits = λ found small led. fits_closed heap seat seat.registers (seat.sets + 1) (rests_at heap number seat Swapping here) here.fits.own.registers_whole here.fits.own.registers_fit;
       near = λ found. record { fewer = omega arith; paid = omega arith };

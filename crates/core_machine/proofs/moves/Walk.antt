@@ -13,7 +13,7 @@ use Rattle.core_machine.specs.machine.Machine.{found_by}
 use Rattle.core_machine.specs.seat.Awaiting.{entries_awaited_at, entries_awaited}
 use Rattle.core_machine.specs.seat.Commands.{field_of}
 use Rattle.core_machine.specs.seat.Fits.{Fits}
-use Rattle.core_machine.specs.seat.FitsAccess.{FitsAccess, IsGet, IsSet, NamesField, WorksOnObject}
+use Rattle.core_machine.specs.seat.FitsAccess.{FitsAccess, IsAtField, IsFieldPart, IsGet, IsSet, NamesField, WorksOnObject}
 use Rattle.core_machine.specs.seat.Access.{after_walk, at_access, row_of, has_barrier_of, field_place_of, way_place_of, after_link}
 use Rattle.core_machine.specs.seat.AccessMoves.{walk_move}
 use Rattle.core_machine.specs.seat.Seat.{Seat, with_entries}
@@ -33,54 +33,54 @@ unwrap_within heap None some led = omega arith
 unwrap_within heap (Some f) some led = led
 
 -- the field was reached
-field_fits : (seat : Seat) (command : Command) → seat.command ≡ command → WorksOnObject seat → NamesField command → seat.links ≡ 0 → seat.loaded ≡ 0
+field_fits : (seat : Seat) (command : Command) → seat.command ≡ command → WorksOnObject seat → NamesField command → IsAtField seat.links seat.part → seat.loaded ≡ 0
     → FitsAccess seat (field_place_of seat command)
-field_fits seat (Get d r i) is works names none empty = ((works, subst IsGet (sym is) tt, none), empty)
-field_fits seat (Set r i v) is works names none empty =
+field_fits seat (Get d r i) is works names there empty = ((works, subst IsGet (sym is) tt, there), empty)
+field_fits seat (Set r i v) is works names there empty =
     elim (bool_tells (has_barrier_of seat)) as (λ _. FitsAccess seat (field_place_of seat (Set r i v))) [
-      | inl on ↦ rw on ((works, subst IsSet (sym is) tt, none), on, empty)
-      | inr off ↦ rw off ((works, subst IsSet (sym is) tt, none), λ e. empty)
+      | inl on ↦ rw on ((works, subst IsSet (sym is) tt, there), on, empty)
+      | inr off ↦ rw off ((works, subst IsSet (sym is) tt, there), λ e. empty)
     ]
-field_fits seat _ is works names none empty = absurd names
+field_fits seat _ is works names there empty = absurd names
 
 -- the way stands at a fragment
-way_fits : (heap : Heap) (seat : Seat) (reached links : ℕ) → Rests heap seat → WorksOnObject seat → NamesField seat.command → seat.loaded ≡ 0
-    → reached < 16 * heap.groups → links < row_of (field_of seat.command) ⊎ (links ≡ 0)
-    → Fits heap (at_access (record seat { reached = reached; links = links }) (way_place_of (record seat { reached = reached; links = links })))
-way_fits heap seat reached links rests works names empty within fewer =
-    elim (eqb_tells links 0) as (λ _. Fits heap (at_access (record seat { reached = reached; links = links }) (way_place_of (record seat { reached = reached; links = links })))) [
-      | inl none ↦ rw none.0 (fits_access heap seat reached links seat.loaded (field_place_of seat seat.command) rests within rests.fits.way.loaded_within
+way_fits : (heap : Heap) (seat : Seat) (reached links part : ℕ) → Rests heap seat → WorksOnObject seat → NamesField seat.command → seat.loaded ≡ 0
+    → reached < 16 * heap.groups → links < row_of (field_of seat.command) ⊎ (links ≡ 0) → IsFieldPart part
+    → Fits heap (at_access (record seat { reached = reached; links = links; part = part }) (way_place_of (record seat { reached = reached; links = links; part = part })))
+way_fits heap seat reached links part rests works names empty within fewer field =
+    elim (eqb_tells links 0) as (λ _. Fits heap (at_access (record seat { reached = reached; links = links; part = part }) (way_place_of (record seat { reached = reached; links = links; part = part })))) [
+      | inl none ↦ rw none.0 (fits_access heap seat reached links part seat.loaded (field_place_of seat seat.command) rests within rests.fits.way.loaded_within
           (field_fits_there none.1))
-      | inr some ↦ rw some.0 (fits_access heap seat reached links seat.loaded Walking rests within rests.fits.way.loaded_within
-          (record { works = works; names = names; more = omega (arith, some.1); some_done = less some.1 fewer; none_loaded = empty }))
+      | inr some ↦ rw some.0 (fits_access heap seat reached links part seat.loaded Walking rests within rests.fits.way.loaded_within
+          (record { works = works; names = names; more = omega (arith, some.1); some_done = less some.1 fewer; field_part = field; none_loaded = empty }))
     ]
   where
-    field_fits_there : links ≡ 0 → FitsAccess (record seat { reached = reached; links = links; place = places.Access (field_place_of seat seat.command) }) (field_place_of seat seat.command)
+    field_fits_there : links ≡ 0 → FitsAccess (record seat { reached = reached; links = links; part = part; place = places.Access (field_place_of seat seat.command) }) (field_place_of seat seat.command)
     field_fits_there none =
-        field_fits (record seat { reached = reached; links = links; place = places.Access (field_place_of seat seat.command) }) seat.command refl works names none empty
+        field_fits (record seat { reached = reached; links = links; part = part; place = places.Access (field_place_of seat seat.command) }) seat.command refl works names (record { arrived = none; field_part = field }) empty
 
     less : (links ≡ 0 → ⊥) → links < row_of (field_of seat.command) ⊎ (links ≡ 0) → links < row_of (field_of seat.command)
     less some (inl l) = l
     less some (inr none) = absurd (some none)
 
 -- the way went on by a link that leads within the heap
-pub fits_onward : (heap : Heap) (seat : Seat) (found : ℕ) → Rests heap seat → WorksOnObject seat → NamesField seat.command → seat.loaded ≡ 0
-    → seat.links ≤ row_of (field_of seat.command) → IsWithinHeap heap (pointer_in 0 found) → Fits heap (after_walk seat found)
-fits_onward heap seat found rests works names empty fewer led =
-    elim (eqb_tells seat.links 0) as (λ _. Fits heap (after_walk seat found)) [
-      | inl none ↦ let fit = way_fits heap seat seat.reached seat.links rests works names empty rests.fits.way.reached_within (inr none.1) in rw none.0 (rw none.0 at fit)
-      | inr some ↦ rw some.0 (way_fits heap seat (link_of found) (seat.links - 1) rests works names empty
-          (unwrap_within heap (pointer_in 0 found) (omega (arith, rests.fits.own.cursor_within)) led) (inl (omega (arith, some.1, fewer))))
+pub fits_onward : (heap : Heap) (seat : Seat) (links part found : ℕ) → Rests heap seat → WorksOnObject seat → NamesField seat.command → seat.loaded ≡ 0
+    → links ≤ row_of (field_of seat.command) → IsFieldPart part → IsWithinHeap heap (pointer_in 0 found) → Fits heap (after_walk (record seat { links = links; part = part }) found)
+fits_onward heap seat links part found rests works names empty fewer field led =
+    elim (eqb_tells links 0) as (λ _. Fits heap (after_walk (record seat { links = links; part = part }) found)) [
+      | inl none ↦ let fit = way_fits heap seat seat.reached links part rests works names empty rests.fits.way.reached_within (inr none.1) field in rw none.0 (rw none.0 at fit)
+      | inr some ↦ rw some.0 (way_fits heap seat (link_of found) (links - 1) part rests works names empty
+          (unwrap_within heap (pointer_in 0 found) (omega (arith, rests.fits.own.cursor_within)) led) (inl (omega (arith, some.1, fewer))) field)
     ]
 
 -- few steps are left where the field was reached
-field_few : (links : ℕ) (seat : Seat) (command : Command) → access_steps links (field_place_of seat command) ≤ 4
-field_few links seat command = field_cases (λ p. access_steps links p ≤ 4) seat command (omega arith) (λ on. omega arith) (λ off. omega arith)
+field_few : (rows links : ℕ) (seat : Seat) (command : Command) → access_steps rows links (field_place_of seat command) ≤ 4
+field_few rows links seat command = field_cases (λ p. access_steps rows links p ≤ 4) seat command (omega arith) (λ on. omega arith) (λ off. omega arith)
 
-way_few : (seat : Seat) → access_steps seat.links (way_place_of seat) ≤ seat.links + 4
-way_few seat =
-    elim (eqb_tells seat.links 0) as (λ _. access_steps seat.links (way_place_of seat) ≤ seat.links + 4) [
-      | inl none ↦ rw none.0 (let few = field_few seat.links seat seat.command in omega arith)
+way_few : (rows : ℕ) (seat : Seat) → access_steps rows seat.links (way_place_of seat) ≤ seat.links + 4
+way_few rows seat =
+    elim (eqb_tells seat.links 0) as (λ _. access_steps rows seat.links (way_place_of seat) ≤ seat.links + 4) [
+      | inl none ↦ rw none.0 (let few = field_few rows seat.links seat seat.command in omega arith)
       | inr some ↦ rw some.0 (omega arith)
     ]
 
@@ -89,17 +89,20 @@ pub nears_onward : (heap : Heap) (seat : Seat) (found steps : ℕ) → seat.link
     → Nears heap (with_entries (after_walk seat found) []) 1 steps 0
 nears_onward heap seat found steps more =
     elim (eqb_tells seat.links 0) as (λ _. Nears heap (with_entries (after_walk seat found) []) 1 steps 0) [
-      | inl none ↦ let near : Nears heap (with_entries (at_access seat (way_place_of seat)) []) 1 steps 0 = record { fewer = none_more none.1 (way_few seat) more; paid = omega arith } in rw none.0 (rw none.0 at near)
-      | inr some ↦ rw some.0 (let few = way_few (after_link seat found) in record { fewer = some_more some.1 few more; paid = omega arith })
+      | inl none ↦ let near : Nears heap (with_entries (at_access seat (way_place_of seat)) []) 1 steps 0 = record { fewer = none_more none.1 (way_few rows seat) more; paid = omega arith } in rw none.0 (rw none.0 at near)
+      | inr some ↦ rw some.0 (let few = way_few rows (after_link seat found) in record { fewer = some_more some.1 few more; paid = omega arith })
     ]
   where
-    none_more : seat.links ≡ 0 → access_steps seat.links (way_place_of seat) ≤ seat.links + 4 → seat.links + 4 < steps ⊎ ((0 < seat.links) × (seat.links + 4 ≡ steps))
-        → access_steps seat.links (way_place_of seat) < steps
+    rows : ℕ
+    rows = row_of (field_of seat.command)
+
+    none_more : seat.links ≡ 0 → access_steps rows seat.links (way_place_of seat) ≤ seat.links + 4 → seat.links + 4 < steps ⊎ ((0 < seat.links) × (seat.links + 4 ≡ steps))
+        → access_steps rows seat.links (way_place_of seat) < steps
     none_more none few (inl l) = omega arith
     none_more none few (inr e) = absurd (omega (arith, e.0))
 
-    some_more : (seat.links ≡ 0 → ⊥) → access_steps (seat.links - 1) (way_place_of (after_link seat found)) ≤ (seat.links - 1) + 4 → seat.links + 4 < steps ⊎ ((0 < seat.links) × (seat.links + 4 ≡ steps))
-        → access_steps (seat.links - 1) (way_place_of (after_link seat found)) < steps
+    some_more : (seat.links ≡ 0 → ⊥) → access_steps rows (seat.links - 1) (way_place_of (after_link seat found)) ≤ (seat.links - 1) + 4 → seat.links + 4 < steps ⊎ ((0 < seat.links) × (seat.links + 4 ≡ steps))
+        → access_steps rows (seat.links - 1) (way_place_of (after_link seat found)) < steps
     some_more some few (inl l) = omega (arith, some)
     some_more some few (inr e) = omega (arith, some, e.0, e.1)
 
@@ -148,7 +151,7 @@ walk_stands heap number seat here =
     let move = walk_move seat in
     record {
       step = load_stands heap move.step refl (here.fits.way.reached_within, omega arith);
-      fits = λ found small led. fits_onward heap seat found (rests_at heap number seat Walking here) here.way.works here.way.names here.way.none_loaded (omega (arith, here.way.some_done)) led;
+      fits = λ found small led. fits_onward heap seat seat.links seat.part found (rests_at heap number seat Walking here) here.way.works here.way.names here.way.none_loaded (omega (arith, here.way.some_done)) here.way.field_part led;
       near = λ found. nears_onward heap seat found (seat.links + 4) (inr (here.way.more, refl));
       adds = λ now. let found = found_by heap now move.step in
           plain heap now number seat move (onward_mine seat found) (rw here.placed refl) (onward_awaits heap (after_words heap now number seat move) number seat found []) refl;

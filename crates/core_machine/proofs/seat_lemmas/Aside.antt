@@ -12,17 +12,17 @@ use Rattle.core_machine.specs.seat.FitsAccess.{HasNoWay, IsNowhere}
 use Rattle.core_machine.specs.seat.Fits.{FitsRegister, FitsWay, FitsAnswer, HasNoAnswer, IsAtRest, IsSilent, Fits, FitsPlace, AreFragments}
 
 -- the registers fit, nothing is reached, loaded or about to be answered, and the seat hasn't left
-pub record StandsAside (heap : Heap) (registers : List Register) (reached links loaded asked shaded : ℕ) (left : Bool) : Type 0 where
+pub record StandsAside (heap : Heap) (registers : List Register) (reached links part loaded asked shaded : ℕ) (left : Bool) : Type 0 where
   pub registers_fit : All (FitsRegister heap) registers
   pub reached_within : reached < 16 * heap.groups
   pub loaded_within : IsWithinHeap heap (head_of loaded)
   pub asked_small : asked < 2 ^ 64
-  pub nowhere : HasNoWay reached links loaded
+  pub nowhere : HasNoWay reached links part loaded
   pub silent : HasNoAnswer asked shaded
   pub present : left ≡ false
 
 abbrev pub IsAside : Heap → Seat → Type 0
-IsAside heap seat = StandsAside heap seat.registers seat.reached seat.links seat.loaded seat.asked seat.shaded seat.left
+IsAside heap seat = StandsAside heap seat.registers seat.reached seat.links seat.part seat.loaded seat.asked seat.shaded seat.left
 
 -- who hasn't left isn't gone
 pub gone_aside : {G : Type 0} {left : Bool} → left ≡ false → left ≡ true → G
@@ -92,15 +92,15 @@ fits_over heap seat whole fit cursor small of_cursor gone = record {
   };
   asked_small = omega arith;
   at_place = record { empty_hand = refl; no_body = refl; none_stored = refl; none_tried = refl; none_given = refl };
-  way_at_place = record { none_reached = refl; no_links = refl; none_loaded = refl };
+  way_at_place = record { none_reached = refl; no_links = refl; no_part = refl; none_loaded = refl };
   answer_at_place = record { none_asked = refl; none_shaded = refl };
   gone = λ left. record { idle = refl; no_reserve = gone left };
 }
 
 rest_over : (seat : Seat) → seat.place ≡ places.Idle → IsAtRest seat → IsNowhere seat → IsSilent seat
-    → after_call seat ≡ record seat { hand = seat.hand; body = seat.body; stored = seat.stored; tried = seat.tried; given = seat.given; place = seat.place; reached = seat.reached; links = seat.links; loaded = seat.loaded; asked = seat.asked; shaded = seat.shaded }
+    → after_call seat ≡ record seat { hand = seat.hand; body = seat.body; stored = seat.stored; tried = seat.tried; given = seat.given; place = seat.place; reached = seat.reached; links = seat.links; part = seat.part; loaded = seat.loaded; asked = seat.asked; shaded = seat.shaded }
 rest_over seat here rest nowhere silent =
-    rw (here, rest.empty_hand, rest.no_body, rest.none_stored, rest.none_tried, rest.none_given, nowhere.none_reached, nowhere.no_links, nowhere.none_loaded, silent.none_asked, silent.none_shaded) refl
+    rw (here, rest.empty_hand, rest.no_body, rest.none_stored, rest.none_tried, rest.none_given, nowhere.none_reached, nowhere.no_links, nowhere.no_part, nowhere.none_loaded, silent.none_asked, silent.none_shaded) refl
 
 -- a seat without a call in flight has nothing of one
 pub over_idle : (heap : Heap) (seat : Seat) → Fits heap seat → seat.place ≡ places.Idle → after_call seat ≡ seat
@@ -111,7 +111,7 @@ over_idle heap seat fits here =
     rest_over seat here rest nowhere silent
 
 -- a seat that makes nothing and answers no phase has its way alone of a call
-pub over_way : (seat : Seat) → IsAtRest seat → IsSilent seat → after_call seat ≡ record seat { reached = 0; links = 0; loaded = 0; place = places.Idle }
+pub over_way : (seat : Seat) → IsAtRest seat → IsSilent seat → after_call seat ≡ record seat { reached = 0; links = 0; part = 0; loaded = 0; place = places.Idle }
 over_way seat rest silent = by where
-  by : after_call seat ≡ record seat { hand = seat.hand; body = seat.body; stored = seat.stored; tried = seat.tried; given = seat.given; reached = 0; links = 0; loaded = 0; place = places.Idle; asked = seat.asked; shaded = seat.shaded }
+  by : after_call seat ≡ record seat { hand = seat.hand; body = seat.body; stored = seat.stored; tried = seat.tried; given = seat.given; reached = 0; links = 0; part = 0; loaded = 0; place = places.Idle; asked = seat.asked; shaded = seat.shaded }
   by = rw (rest.empty_hand, rest.no_body, rest.none_stored, rest.none_tried, rest.none_given, silent.none_asked, silent.none_shaded) refl

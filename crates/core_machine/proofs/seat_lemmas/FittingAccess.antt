@@ -23,11 +23,11 @@ pub record Rests (heap : Heap) (seat : Seat) : Type 0 where
   pub present : seat.left ≡ false
 
 -- the seat at another place of reaching
-pub fits_access : (heap : Heap) (seat : Seat) (reached links loaded : ℕ) (place : Access) → Rests heap seat → reached < 16 * heap.groups
+pub fits_access : (heap : Heap) (seat : Seat) (reached links part loaded : ℕ) (place : Access) → Rests heap seat → reached < 16 * heap.groups
     → IsWithinHeap heap (head_of loaded)
-    → FitsAccess (record seat { reached = reached; links = links; loaded = loaded; place = places.Access place }) place
-    → Fits heap (record seat { reached = reached; links = links; loaded = loaded; place = places.Access place })
-fits_access heap seat reached links loaded place rests within led way =
+    → FitsAccess (record seat { reached = reached; links = links; part = part; loaded = loaded; place = places.Access place }) place
+    → Fits heap (record seat { reached = reached; links = links; part = part; loaded = loaded; place = places.Access place })
+fits_access heap seat reached links part loaded place rests within led way =
     let fits = rests.fits in
     record {
       own = fits.own;

@@ -7,20 +7,20 @@ use Rattle.heap_model.specs.declared.heap.Heap.{Heap}
 use Rattle.core_machine.specs.declared.seat.register.Register.{Register}
 use Rattle.core_machine.specs.declared.seat.register.Register.TheVariants.{Nil, Number, Object}
 use Rattle.core_machine.specs.table.Decode.{head_of, pointer_in, IsWithinHeap}
-use Rattle.core_machine.specs.seat.Access.{part_of}
 use Rattle.core_machine.specs.seat.Registers.{register_head, heads_of, register_in}
 use Rattle.core_machine.specs.seat.Handshake.{roots}
 use Rattle.core_machine.specs.seat.Seat.{Seat}
 use Rattle.core_machine.specs.seat.Fits.{FitsRegister, Fits}
+use Rattle.core_machine.specs.seat.FitsAccess.{IsFieldPart}
 use Rattle.std.proofs.lemmas.List.{get_or_past}
 
 -- a field doesn't stand in a fragment's first word
-pub part_some : (i : ℕ) → eqb (part_of i) 0 ≡ false
-part_some i = grind arith
+pub part_some : (part : ℕ) → IsFieldPart part → eqb part 0 ≡ false
+part_some part is = grind (arith, is.some)
 
 -- a field leads where it refers to
-pub head_leads : (heap : Heap) (i found : ℕ) → IsWithinHeap heap (pointer_in (part_of i) found) → IsWithinHeap heap (head_of found)
-head_leads heap i found led = rw (part_some i) at led
+pub head_leads : (heap : Heap) (part found : ℕ) → IsFieldPart part → IsWithinHeap heap (pointer_in part found) → IsWithinHeap heap (head_of found)
+head_leads heap part found is led = rw (part_some part is) at led
 
 -- what is there is within
 pub some_within : (heap : Heap) (fragment : Option ℕ) → IsSome fragment → IsWithinHeap heap fragment → unwrap_or fragment 0 < 16 * heap.groups
@@ -68,7 +68,3 @@ register_fits heap registers r fit =
       | inl within ↦ fit r Nil within.1
       | inr past ↦ subst (FitsRegister heap) (sym (get_or_past registers r Nil (omega (arith, past.1)))) tt
     ]
-
--- a field stands in a word of its fragment
-pub part_small : (i : ℕ) → part_of i < 4
-part_small i = omega arith

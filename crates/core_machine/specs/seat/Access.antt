@@ -40,7 +40,7 @@ with_register_filled seat register = after_call (record seat { registers = slice
 -- the way begins at the object's first fragment; without an object the reply is told at once
 abbrev pub access_start : Seat → Register → Seat
 access_start seat (Object head id) =
-    at_access (record seat { reached = head; links = row_of (field_of seat.command) }) LoadingMeta
+    at_access (record seat { reached = head }) LoadingMeta
 access_start seat Nil = record seat { place = places.Local }
 access_start seat (Number n) = record seat { place = places.Local }
 
@@ -91,9 +91,13 @@ meta_reply_of commands.Poll found = None
 meta_reply_of commands.Collect found = None
 meta_reply_of commands.Leave found = None
 
--- the meta was found
+-- where the field stands: so many links lead to its fragment, and it is this word of it
+abbrev pub with_field_place : Seat → Seat
+with_field_place seat = record seat { links = row_of (field_of seat.command); part = part_of (field_of seat.command) }
+
+-- the meta was found: it tells where the field stands
 abbrev pub after_meta : Seat → ℕ → Option Reply → Seat
-after_meta seat found None = after_walk seat found
+after_meta seat found None = after_walk (with_field_place seat) found
 after_meta seat found (Some reply) = after_call seat
 
 -- a get's field was found: a number or nil stands in the register, a reference waits for its object's name

@@ -13,10 +13,10 @@ use Rattle.core_machine.specs.declared.place.Access.TheVariants.{LoadingMeta, Wa
 use Rattle.core_machine.specs.declared.seat.register.Register.{Register}
 use Rattle.core_machine.specs.declared.step.Step.TheVariants as steps
 use Rattle.core_machine.specs.declared.step.AccessStep.TheVariants.{WalkLoad, NameLoad, GetLoad, OldLoad, Shade, Swap}
-use Rattle.core_machine.specs.seat.Commands.{source_of, field_of}
+use Rattle.core_machine.specs.seat.Commands.{source_of}
 use Rattle.core_machine.specs.table.Layout.{at}
 use Rattle.core_machine.specs.table.Decode.{head_of, id_of, stamp_of, plain_of}
-use Rattle.core_machine.specs.seat.Access.{part_of, after_walk, meta_reply_of, after_meta, after_get, after_name, after_old, after_old_load, at_access, after_swap}
+use Rattle.core_machine.specs.seat.Access.{after_walk, meta_reply_of, after_meta, after_get, after_name, after_old, after_old_load, at_access, after_swap}
 use Rattle.core_machine.specs.seat.Registers.{register_in, register_word, register_head, value_of}
 use Rattle.core_machine.specs.seat.Seat.{Seat}
 use Rattle.core_machine.specs.Move.{Move, plain_move}
@@ -29,10 +29,6 @@ reply_entries number seat reply = Said number seat.command reply ∷ []
 abbrev pub reply_entries_if : ℕ → Seat → Option Reply → List Entry
 reply_entries_if number seat None = []
 reply_entries_if number seat (Some reply) = reply_entries number seat reply
-
--- the word of its fragment in which the call's field stands
-abbrev pub field_part_of : Seat → ℕ
-field_part_of seat = part_of (field_of seat.command)
 
 -- the object's meta is loaded
 abbrev pub open_move : ℕ → Seat → Move
@@ -62,7 +58,7 @@ got_shows heap number seat words found (Some head) =
 -- a get loads its field
 abbrev pub get_move : Heap → ℕ → Seat → Move
 get_move heap number seat = record {
-  step = steps.Access (GetLoad seat.reached (field_part_of seat));
+  step = steps.Access (GetLoad seat.reached seat.part);
   told = λ found. after_get seat found (head_of found);
   adds = λ found. got_adds number seat found (head_of found);
   shows = λ words found. got_shows heap number seat words found (head_of found);
@@ -84,7 +80,7 @@ name_move number seat = record {
 -- a set with the barrier on loads what its field holds
 abbrev pub old_move : Seat → Move
 old_move seat =
-    plain_move (steps.Access (OldLoad seat.reached (field_part_of seat)))
+    plain_move (steps.Access (OldLoad seat.reached seat.part))
     (λ found. after_old_load (record seat { loaded = found }) (head_of found)) (λ found. [])
 
 -- the old value is shaded
@@ -107,7 +103,7 @@ new_word_of number seat = register_word (new_register_of seat) (set_stamp number
 -- the field's word is exchanged
 abbrev pub swap_move : ℕ → Seat → Move
 swap_move number seat =
-    plain_move (steps.Access (Swap seat.reached (field_part_of seat) (new_word_of number seat))) (λ found. after_swap seat)
+    plain_move (steps.Access (Swap seat.reached seat.part (new_word_of number seat))) (λ found. after_swap seat)
     (λ found. reply_entries number seat (Was (stamp_of found)))
 
 -- the move at each place of access

@@ -13,14 +13,15 @@ use Rattle.core_machine.specs.seat.Registers.{register_in, register_head}
 use Rattle.core_machine.specs.seat.Seat.{Seat, HasNumberLeft}
 
 -- nothing was reached or loaded
-pub record HasNoWay (reached links loaded : ℕ) : Type 0 where
+pub record HasNoWay (reached links part loaded : ℕ) : Type 0 where
   pub none_reached : reached ≡ 0
   pub no_links : links ≡ 0
+  pub no_part : part ≡ 0
   pub none_loaded : loaded ≡ 0
 
 -- the seat has nothing reached or loaded
 abbrev pub IsNowhere : Seat → Type 0
-IsNowhere seat = HasNoWay seat.reached seat.links seat.loaded
+IsNowhere seat = HasNoWay seat.reached seat.links seat.part seat.loaded
 
 -- the command is a get
 abbrev pub IsGet : Command → Type 0
@@ -55,37 +56,49 @@ pub record HoldsObject (registers : List Register) (made sets : ℕ) (command : 
 abbrev pub WorksOnObject : Seat → Type 0
 WorksOnObject seat = HoldsObject seat.registers seat.made seat.sets seat.command
 
--- the way begins at the object's first fragment
-pub record IsAtHead (registers : List Register) (made sets : ℕ) (command : Command) (reached links loaded : ℕ) : Type 0 where
+-- the way begins at the object's first fragment, and where the field stands isn't known yet
+pub record IsAtHead (registers : List Register) (made sets : ℕ) (command : Command) (reached links part loaded : ℕ) : Type 0 where
   pub works : HoldsObject registers made sets command
   pub names : NamesObject command
   pub at_head : register_head (register_in registers (object_of command)) ≡ Some reached
-  pub whole_way : links ≡ row_of (field_of command)
+  pub no_links : links ≡ 0
+  pub no_part : part ≡ 0
   pub none_loaded : loaded ≡ 0
 
 -- the seat's way begins at its object's first fragment
 abbrev pub SeatIsAtHead : Seat → Type 0
-SeatIsAtHead seat = IsAtHead seat.registers seat.made seat.sets seat.command seat.reached seat.links seat.loaded
+SeatIsAtHead seat = IsAtHead seat.registers seat.made seat.sets seat.command seat.reached seat.links seat.part seat.loaded
+
+-- a field stands in one of the last three words of its fragment
+pub record IsFieldPart (part : ℕ) : Type 0 where
+  pub some : 0 < part
+  pub below : part < 4
 
 -- some links of the way are still to be walked
-pub record IsOnWay (registers : List Register) (made sets : ℕ) (command : Command) (links loaded : ℕ) : Type 0 where
+pub record IsOnWay (registers : List Register) (made sets : ℕ) (command : Command) (links part loaded : ℕ) : Type 0 where
   pub works : HoldsObject registers made sets command
   pub names : NamesField command
   pub more : 0 < links
   pub some_done : links < row_of (field_of command)
+  pub field_part : IsFieldPart part
   pub none_loaded : loaded ≡ 0
 
 -- the seat has links of its way still to walk
 abbrev pub SeatIsOnWay : Seat → Type 0
-SeatIsOnWay seat = IsOnWay seat.registers seat.made seat.sets seat.command seat.links seat.loaded
+SeatIsOnWay seat = IsOnWay seat.registers seat.made seat.sets seat.command seat.links seat.part seat.loaded
+
+-- no link leads on to the field
+pub record IsAtField (links part : ℕ) : Type 0 where
+  pub arrived : links ≡ 0
+  pub field_part : IsFieldPart part
 
 -- the field was reached by a get
 abbrev pub SeatIsAtGet : Seat → Type 0
-SeatIsAtGet seat = WorksOnObject seat × IsGet seat.command × (seat.links ≡ 0)
+SeatIsAtGet seat = WorksOnObject seat × IsGet seat.command × IsAtField seat.links seat.part
 
 -- the field was reached by a set
 abbrev pub SeatIsAtSet : Seat → Type 0
-SeatIsAtSet seat = WorksOnObject seat × IsSet seat.command × (seat.links ≡ 0)
+SeatIsAtSet seat = WorksOnObject seat × IsSet seat.command × IsAtField seat.links seat.part
 
 -- what is true of the seat's data at each place of access
 abbrev pub FitsAccess : Seat → Access → Type 0

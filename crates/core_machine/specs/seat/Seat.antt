@@ -39,8 +39,10 @@ pub record Seat : Type 0 where
   pub made : ℕ
   -- the fragment that its call has reached on the way to a field
   pub reached : ℕ
-  -- how many links lead on from there to the field
+  -- how many links lead on from there to the field; 0 until the object's meta is loaded
   pub links : ℕ
+  -- the word of its fragment in which the field stands; 0 until the object's meta is loaded
+  pub part : ℕ
   -- the field that the call has loaded: for a get, while the name of what it refers to is awaited, and for a set with the barrier on
   pub loaded : ℕ
   -- the phase that it is about to answer
@@ -71,6 +73,7 @@ absent_seat = record {
   made = 0;
   reached = 0;
   links = 0;
+  part = 0;
   loaded = 0;
   asked = 0;
   shaded = 0;
@@ -109,6 +112,7 @@ after_call seat = record seat {
   place = Idle;
   reached = 0;
   links = 0;
+  part = 0;
   loaded = 0;
   asked = 0;
   shaded = 0;

@@ -43,14 +43,14 @@ impl SeatParty {
             Access::LoadingMeta | Access::Walking => AccessStep::WalkLoad { fragment },
             Access::Getting => AccessStep::GetLoad {
                 fragment,
-                part: self.field_part(),
+                part: self.part,
             },
             Access::Naming => AccessStep::NameLoad {
                 head: self.loaded_head(),
             },
             Access::LoadingOld => AccessStep::OldLoad {
                 fragment,
-                part: self.field_part(),
+                part: self.part,
             },
             Access::ShadingOld => AccessStep::Shade {
                 fragment: self.loaded_head(),
@@ -60,7 +60,7 @@ impl SeatParty {
             },
             Access::Swapping => AccessStep::Swap {
                 fragment,
-                part: self.field_part(),
+                part: self.part,
                 word: self.new_word(number),
             },
         }

@@ -2,8 +2,8 @@ ghost use Rattle.std.specs.Prelude.{◌≡◌, ◌*◌, ◌<◌, ◌≤◌, ◌^
 ghost use Rattle.heap_model.specs.Limits.{last_index, register_count};
 ghost use Rattle.core_machine.specs.seat.Commands.{field_of};
 ghost use Rattle.core_machine.specs.table.Decode.{pointer_in};
-ghost use Rattle.core_machine.specs.seat.Access.{row_of, part_of, has_barrier_of, field_place_of, way_place_of, access_start, after_walk, field_reply_of, meta_reply_of};
-ghost use Rattle.core_machine.specs.seat.AccessMoves.{open_move, field_part_of};
+ghost use Rattle.core_machine.specs.seat.Access.{row_of, part_of, has_barrier_of, field_place_of, way_place_of, access_start, with_field_place, after_walk, field_reply_of, meta_reply_of};
+ghost use Rattle.core_machine.specs.seat.AccessMoves.{open_move};
 ghost use Rattle.core_machine.specs.seat.Registers.{register_in};
 ghost use Rattle.core_machine.specs.Moves.{seat_after};
 ghost use Rattle.core_machine.specs.machine.Value.{KeepsRoom};
@@ -59,7 +59,6 @@ impl SeatParty {
     /// The way begins at the object that the register holds; without an object the reply is told at once.
     pub(crate) fn open(&mut self, r: u8)
         requires register { r < register_count }
-        requires field { field_of self.old.seat.command ≤ last_index }
         ensures seat { self.new.seat ≡ access_start self.old.seat (register_in self.old.seat.registers r) }
         ensures spare { self.new.spare ≡ self.old.spare }
     {
@@ -68,16 +67,18 @@ impl SeatParty {
             return;
         };
         self.reached = head;
-        self.links = row(Parts::of(&self.command).field);
         self.place = Place::Access(Access::LoadingMeta);
     }
 
-    /// The word of its fragment in which the call's field stands.
-    pub(crate) fn field_part(&self) -> u8
-        requires { field_of self.now.seat.command ≤ last_index }
-        ensures { result ≡ field_part_of self.now.seat }
+    /// Learns where the field of the call stands.
+    fn learn_field_place(&mut self)
+        requires { field_of self.old.seat.command ≤ last_index }
+        ensures seat { self.new.seat ≡ with_field_place self.old.seat }
+        ensures spare { self.new.spare ≡ self.old.spare }
     {
-        part(Parts::of(&self.command).field)
+        let field = Parts::of(&self.command).field;
+        self.links = row(field);
+        self.part = part(field);
     }
 
     /// Whether a set has to shade what it takes out and what it puts in.
@@ -125,12 +126,14 @@ impl SeatParty {
 
     /// Learns the object's meta.
     pub(crate) fn learn_meta(&mut self, number: u8, found: u64)
+        requires field { field_of self.old.seat.command ≤ last_index }
         requires leads { IfSome (pointer_in 0 found) (λ fragment. fragment < 2 ^ 16) }
         requires spare { 0 < self.old.spare }
         ensures seat { self.new.seat ≡ seat_after (open_move number self.old.seat) found }
         ensures spare { KeepsRoom self.old self.new }
     {
         let Some(reply) = meta_reply(&self.command, found) else {
+            self.learn_field_place();
             self.learn_link(found);
             return;
         };

@@ -6,7 +6,6 @@ use Rattle.heap_model.specs.PhasePlan.{barriers, black_births, sweep}
 use Rattle.core_machine.specs.table.Decode.{head_of, pointer_in}
 use Rattle.core_machine.specs.seat.MakingMoves.{bears_black_of}
 use Rattle.core_machine.specs.seat.Access.{has_barrier_of}
-use Rattle.core_machine.specs.seat.AccessMoves.{field_part_of}
 use Rattle.core_machine.specs.seat.Seat.{Seat}
 use Rattle.core_rule.specs.Colours.{IsBetween}
 use Rattle.core_rule.specs.Phases.{IsNear}
@@ -51,10 +50,3 @@ module _ (phase answer : ℕ) (near : IsNear phase answer) where
 -- a word behind the first leads to what it refers to
 pub later_lead : (part word : ℕ) → 0 < part → pointer_in part word ≡ head_of word
 later_lead part word some = let later : (part == 0) ≡ false = grind (arith, some) in rw later refl
-
--- so does a field, which is no first word
-pub field_lead : (seat : Seat) (word : ℕ) → pointer_in (field_part_of seat) word ≡ head_of word
-field_lead seat word = later_lead (field_part_of seat) word (omega arith)
-
-pub part_below : (seat : Seat) → field_part_of seat < 4
-part_below seat = omega arith

@@ -9,7 +9,6 @@ use Rattle.core_machine.specs.declared.place.Polling.TheVariants.{Asking, Shadin
 use Rattle.core_machine.specs.declared.place.Access.{Access}
 use Rattle.core_machine.specs.declared.place.Access.TheVariants.{ShadingOld, ShadingNew, Swapping}
 use Rattle.core_machine.specs.table.Layout.{at}
-use Rattle.core_machine.specs.seat.AccessMoves.{field_part_of}
 use Rattle.core_machine.specs.seat.Seat.{Seat}
 use Rattle.core_rule.specs.Book.{Colour, White, Black}
 use Rattle.core_rule.specs.Colours.{IsMarked, WordPointsTo, IsBetween, Coloured, BornColours}
@@ -69,7 +68,7 @@ watches_stay heap words now colour coloured marks f part leads old watches g lat
 
 module _ (heap : Heap) (words now : List ℕ) (colour coloured : ℕ → Colour) (seat : Seat) (marks : (f : ℕ) → IsMarked colour f → IsMarked coloured f) where
   pub field_stays : (place : Access)
-      → (IsWatching place → (g : ℕ) → WordPointsTo heap now seat.reached (field_part_of seat) g → WordPointsTo heap words seat.reached (field_part_of seat) g ⊎ IsMarked coloured g)
+      → (IsWatching place → (g : ℕ) → WordPointsTo heap now seat.reached seat.part g → WordPointsTo heap words seat.reached seat.part g ⊎ IsMarked coloured g)
       → FieldStands heap words colour seat place → FieldStands heap now coloured seat place
   field_stays ShadingOld leads field = watches_stay heap words now colour coloured marks _ _ (leads tt) _ field
   field_stays ShadingNew leads field = watches_stay heap words now colour coloured marks _ _ (leads tt) _ field

@@ -1,5 +1,5 @@
 -- The fields at which sets stand are born; so a store into a seat's new object leaves them, and the colours.
-use Rattle.std.proofs.Common.{◌≡◌, ℕ, ◌-◌, ◌<◌, List, length, refl, ap, ◌∙◌, subst, arith, inl}
+use Rattle.std.proofs.Common.{◌≡◌, ℕ, ◌<◌, List, refl, ap, ◌∙◌, subst, arith, inl}
 use Rattle.heap_model.specs.declared.graph.cell.Cell.{Cell}
 use Rattle.heap_model.specs.declared.heap.Heap.{Heap}
 use Rattle.heap_model.specs.declared.id.Id.{Id}
@@ -11,9 +11,7 @@ use Rattle.core_machine.specs.declared.table.address.Address.TheVariants.{Phase,
 use Rattle.core_machine.specs.declared.place.Place.TheVariants as places
 use Rattle.core_machine.specs.declared.place.Access.{Access}
 use Rattle.core_machine.specs.declared.place.Access.TheVariants.{ShadingOld, ShadingNew, Swapping}
-use Rattle.core_machine.specs.seat.Commands.{field_of}
 use Rattle.core_machine.specs.table.Layout.{put}
-use Rattle.core_machine.specs.seat.Access.{row_of}
 use Rattle.core_machine.specs.seat.Seat.{Seat}
 use Rattle.core_rule.specs.Book.{Book, Colour}
 use Rattle.core_rule.specs.Cycle.{HeapInCycle}
@@ -22,7 +20,7 @@ use Rattle.core_rule.specs.Owners.{Owner, born_bit}
 use Rattle.core_rule.specs.Ways.{Finds, WayStands}
 use Rattle.core_rule.proofs.words.Addresses.{at-put_apart, control_after_word, fragment_other}
 use Rattle.core_rule.proofs.cycle.CycleFrames.{IsWatching, LeadsStay, LeavesCycle, WatchesBorn, coloured_stays}
-use Rattle.core_rule.proofs.ways.KeptWords.{row_there}
+use Rattle.core_rule.proofs.ways.KeptWords.{row_ahead}
 use Rattle.core_rule.proofs.colours.LeadsFrames.{leads_same}
 use Rattle.core_rule.proofs.colours.MarkWords.{marks_same}
 
@@ -42,10 +40,8 @@ watched_born heap state book rule r below reaching is watches =
     let finds = way_found (cells_at g book.made) book.made book.owner book.fragments seat reaching watches
     (subst (WayStands (cells_at g book.made) book.made book.owner book.fragments seat) is (rule.seats_stand r below).names.way) in
     let i : ℕ = finds.index in
-    let k : ℕ = row_of (field_of seat.command) - seat.links in
-    let row : row_of (field_of seat.command) < length (book.fragments i)
-    = row_there heap state.words g book.made book.owner book.fragments rule.machine.limits stands.control_words stands.ids stands.objects i finds.way.below finds.way.kept (field_of seat.command) finds.within in
-    ap born_bit (ap book.owner finds.way.here ∙ (stands.objects.kept i finds.way.below finds.way.kept).owned k (omega (arith, row)))
+    let row = row_ahead heap state.words g book.made book.owner book.fragments rule.machine.limits stands.control_words stands.ids stands.objects seat finds in
+    ap born_bit (ap book.owner finds.way.here ∙ (stands.objects.kept i finds.way.below finds.way.kept).owned finds.row (omega (arith, row)))
 
 module _ (heap : Heap) (words : List ℕ) (owner : ℕ → Owner) (colour : ℕ → Colour) (now f part word : ℕ) (fits : part < 4) (unborn : born_bit (owner f) ≡ 0) where
   -- a word of a fragment that isn't born is written

@@ -7,10 +7,11 @@ use Rattle.heap_model.specs.account.PhaseCounts.{phase}
 use Rattle.core_machine.specs.declared.table.address.Address.TheVariants.{Answer, Phase, Word}
 use Rattle.core_machine.specs.declared.place.Place.TheVariants as places
 use Rattle.core_machine.specs.declared.place.Access.TheVariants.{Swapping}
+use Rattle.core_machine.specs.seat.FitsAccess.{FitsAccess, IsFieldPart}
 use Rattle.core_machine.specs.table.Layout.{at, put}
 use Rattle.core_machine.specs.table.Decode.{head_of, pointer_in}
 use Rattle.core_machine.specs.machine.Machine.{State, seat_at}
-use Rattle.core_machine.specs.seat.AccessMoves.{field_part_of, new_register_of}
+use Rattle.core_machine.specs.seat.AccessMoves.{new_register_of}
 use Rattle.core_machine.specs.seat.Registers.{register_head as head_of_register}
 use Rattle.core_machine.specs.seat.Seat.{Seat}
 use Rattle.core_rule.specs.Book.{Book, object_head}
@@ -20,9 +21,10 @@ use Rattle.core_rule.specs.Flight.{ShadedStands, WhileAccess}
 use Rattle.core_rule.specs.Objects.{NamesKept, value_word}
 use Rattle.core_rule.specs.Registers.{HoldsValue}
 use Rattle.core_rule.specs.Rule.{Rule}
+use Rattle.core_rule.proofs.entries.AtRest.{seat_fits}
 use Rattle.core_rule.proofs.words.Addresses.{at-put_apart, control_after_word}
 use Rattle.core_rule.proofs.ways.AtObject.{is_near}
-use Rattle.core_rule.proofs.cycle.Barriers.{barrier_making, field_lead, part_below}
+use Rattle.core_rule.proofs.cycle.Barriers.{barrier_making, later_lead}
 use Rattle.core_rule.proofs.cycle.CycleFrames.{LeadsStay, LeavesCycle, coloured_stays}
 use Rattle.core_rule.proofs.ways.KeptWords.{has_room}
 use Rattle.core_rule.proofs.colours.LeadsFrames.{leads_put}
@@ -30,6 +32,11 @@ use Rattle.core_rule.proofs.ways.LoadedObjects.{held_head}
 use Rattle.core_rule.proofs.colours.MarkWords.{marks_same}
 use Rattle.core_rule.proofs.lists.Options.{of_some}
 use Rattle.core_rule.proofs.ways.Told.{head_in-value}
+
+-- a swap's word is none of its fragment's first
+pub swap_part : (heap : Heap) (state : State) (book : Book) (number : ℕ) → Rule heap state book → number < heap.seats → (seat_at state number).place ≡ places.Access Swapping
+    → IsFieldPart (seat_at state number).part
+swap_part heap state book number rule here place = let fits : FitsAccess (seat_at state number) Swapping = rw place at (seat_fits rule number here).way_at_place in fits.0.2.field_part
 
 module _ (heap : Heap) (state : State) (book : Book) (number : ℕ) (rule : Rule heap state book) (here : number < heap.seats)
     (place : (seat_at state number).place ≡ places.Access Swapping)
@@ -42,18 +49,18 @@ module _ (heap : Heap) (state : State) (book : Book) (number : ℕ) (rule : Rule
   p = phase book.history
 
   abbrev pub words_swapped : List ℕ
-  words_swapped = put heap state.words (Word seat.reached (field_part_of seat)) word
+  words_swapped = put heap state.words (Word seat.reached seat.part) word
 
   -- the new word leads to the register's object
-  new_leads : pointer_in (field_part_of seat) word ≡ head_of_register (new_register_of seat)
+  new_leads : pointer_in seat.part word ≡ head_of_register (new_register_of seat)
   new_leads =
-      field_lead seat word ∙ ap head_of is_word
+      later_lead seat.part word (swap_part heap state book number rule here place).some ∙ ap head_of is_word
       ∙ head_in-value (object_head book.made book.fragments) value stamp
       (has_room heap state.words (graph_of heap book.history) book.made book.owner book.fragments rule.machine.limits rule.heap_stands.control_words value names) small
       ∙ sym (held_head book.made book.owner book.fragments (new_register_of seat) value holds)
 
   -- which is marked while black fragments are made
-  new_marked : IsBetween 2 5 p → (x : ℕ) → pointer_in (field_part_of seat) word ≡ Some x → IsMarked book.colour x
+  new_marked : IsBetween 2 5 p → (x : ℕ) → pointer_in seat.part word ≡ Some x → IsMarked book.colour x
   new_marked making x leads =
       let stands = rule.seats_stand number here in
       let shaded : ShadedStands book.colour seat Swapping
@@ -62,7 +69,7 @@ module _ (heap : Heap) (state : State) (book : Book) (number : ℕ) (rule : Rule
       of_some (IsMarked book.colour) (head_of_register (new_register_of seat)) x (sym new_leads ∙ leads) (shaded on).1
 
   pub leads_now : LeadsStay heap state.words words_swapped book.owner book.colour p
-  leads_now making f part x born leads = elim (leads_put heap state.words seat.reached (field_part_of seat) word rule.machine.table (part_below seat) f part x leads) [
+  leads_now making f part x born leads = elim (leads_put heap state.words seat.reached seat.part word rule.machine.table (swap_part heap state book number rule here place).below f part x leads) [
     | inl before ↦ inl before
     | inr new ↦ inr (new_marked making x new.2)
   ]
@@ -72,15 +79,15 @@ module _ (heap : Heap) (state : State) (book : Book) (number : ℕ) (rule : Rule
   heap_swapped =
       let cycle = rule.heap_stands.cycle in
       record {
-        word = at-put_apart heap state.words (Word seat.reached (field_part_of seat)) Phase word (λ e. omega (arith, e)) ∙ cycle.word;
+        word = at-put_apart heap state.words (Word seat.reached seat.part) Phase word (λ e. omega (arith, e)) ∙ cycle.word;
         so_far = cycle.so_far;
-        marks = marks_same heap state.words words_swapped book.colour (λ group below. control_after_word heap state.words word seat.reached (field_part_of seat) group below) cycle.marks;
+        marks = marks_same heap state.words words_swapped book.colour (λ group below. control_after_word heap state.words word seat.reached seat.part group below) cycle.marks;
         coloured = coloured_stays heap state.words words_swapped book.owner book.owner book.colour book.fragments p leads_now (λ x marked born. born) (λ x i k keeps. keeps) cycle.coloured;
       }
 
   -- no answer changes
   pub answer_swapped : (r : ℕ) → r < heap.seats → at heap words_swapped (Answer r) ≡ at heap state.words (Answer r)
-  answer_swapped r below = at-put_apart heap state.words (Word seat.reached (field_part_of seat)) (Answer r) word (λ e. omega (arith, e, below, rule.machine.limits.seats_fit))
+  answer_swapped r below = at-put_apart heap state.words (Word seat.reached seat.part) (Answer r) word (λ e. omega (arith, e, below, rule.machine.limits.seats_fit))
 
   -- and what the others need is left
   pub leaves_swapped : (r : ℕ) → r < heap.seats → r ≢ number → LeavesCycle heap state.words words_swapped book.owner book.owner book.colour book.colour p r

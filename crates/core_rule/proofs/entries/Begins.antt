@@ -27,9 +27,9 @@ pub record SameData (seat next : Seat) : Type 0 where
   pub left : next.left ≡ seat.left
   pub asked : next.asked ≡ seat.asked
 
-pub same_data : (seat : Seat) (place : Place) (command : Command) (reached links cursor tried given : ℕ) (reserve hand body : List ℕ)
-    → SameData seat (record seat { place = place; command = command; reached = reached; links = links; cursor = cursor; tried = tried; given = given; reserve = reserve; hand = hand; body = body })
-same_data seat place command reached links cursor tried given reserve hand body =
+pub same_data : (seat : Seat) (place : Place) (command : Command) (reached cursor tried given : ℕ) (reserve hand body : List ℕ)
+    → SameData seat (record seat { place = place; command = command; reached = reached; cursor = cursor; tried = tried; given = given; reserve = reserve; hand = hand; body = body })
+same_data seat place command reached cursor tried given reserve hand body =
     record { registers = refl; stored = refl; mine = refl; made = refl; sets = refl; answered = refl; left = refl; asked = refl }
 
 module _ (heap : Heap) (words : List ℕ) (book : Book) (number : ℕ) where

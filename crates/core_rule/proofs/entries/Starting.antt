@@ -1,5 +1,5 @@
 -- Where a seat stands that begins a call which makes no object.
-use Rattle.std.proofs.Common.{◌≡◌, ℕ, ◌-◌, List, [], refl, sym, ap, ◌∙◌, arith}
+use Rattle.std.proofs.Common.{◌≡◌, ℕ, List, [], refl, sym, ap, ◌∙◌}
 use Rattle.heap_model.specs.declared.graph.cell.Cell.{Cell}
 use Rattle.heap_model.specs.declared.command.Command.{Command}
 use Rattle.heap_model.specs.declared.command.Command.TheVariants as commands
@@ -13,9 +13,9 @@ use Rattle.core_machine.specs.declared.place.Polling.TheVariants.{Asking}
 use Rattle.core_machine.specs.declared.place.Access.TheVariants.{LoadingMeta}
 use Rattle.core_machine.specs.declared.seat.register.Register.{Register}
 use Rattle.core_machine.specs.declared.seat.register.Register.TheVariants as registers
-use Rattle.core_machine.specs.seat.Commands.{IsRecord, IsServed, object_of, field_of}
+use Rattle.core_machine.specs.seat.Commands.{IsRecord, IsServed, object_of}
 use Rattle.core_machine.specs.machine.Machine.{call_start}
-use Rattle.core_machine.specs.seat.Access.{access_start, row_of}
+use Rattle.core_machine.specs.seat.Access.{access_start}
 use Rattle.core_machine.specs.seat.Registers.{register_in}
 use Rattle.core_machine.specs.seat.Seat.{Seat}
 use Rattle.core_rule.specs.Book.{fragment_at, object_number}
@@ -36,8 +36,8 @@ pub record SameOwn (old now : Seat) : Type 0 where
   pub given : now.given ≡ old.given
 
 -- a seat that has another place, command or way
-at_place : (seat : Seat) (place : Place) (command : Command) (reached links : ℕ) → SameOwn seat (record seat { place = place; command = command; reached = reached; links = links })
-at_place seat place command reached links = record { same = same_data seat _ _ _ _ _ _ _ _ _ _; reserve = refl; hand = refl; body = refl; tried = refl; given = refl }
+at_place : (seat : Seat) (place : Place) (command : Command) (reached : ℕ) → SameOwn seat (record seat { place = place; command = command; reached = reached })
+at_place seat place command reached = record { same = same_data seat _ _ _ _ _ _ _ _ _; reserve = refl; hand = refl; body = refl; tried = refl; given = refl }
 
 -- the place is no later than the first of a way or of an answer
 abbrev pub IsFresh : Place → Type 0
@@ -64,20 +64,16 @@ module _ (g : Graph) (cells : ℕ → List Cell) (made : List Id) (owner : ℕ �
       below = holds.1.0;
       kept = holds.1.1;
       holds = sym is ∙ ap (λ f. registers.Object f id) holds.2 ∙ ap (λ i. registers.Object (fragment_at (fragments (object_number made id)) 0) i) (sym (id_at-number_of made id holds.1.0));
-      ahead = omega arith;
-      here = holds.2 ∙ ap (λ k. fragment_at (fragments (object_number made id)) k) (no_rest (row_of (field_of seat.command)));
+      here = holds.2;
     };
   }
-    where
-      no_rest : (n : ℕ) → 0 ≡ n - n
-      no_rest n = omega arith
 
   -- the call of an object opens its way, and is told at once where the register holds none
   opened_starts : (seat : Seat) (held : Register) (value : Value) → HoldsValue made owner fragments held value
       → held ≡ register_in seat.registers (object_of seat.command) → Starts seat (access_start seat held)
-  opened_starts seat registers.Nil value holds is = record { own = at_place seat _ _ _ _; awaits = refl; way = tt; fresh = tt }
-  opened_starts seat (registers.Number n) value holds is = record { own = at_place seat _ _ _ _; awaits = refl; way = tt; fresh = tt }
-  opened_starts seat (registers.Object head id) value holds is = record { own = at_place seat _ _ _ _; awaits = refl; way = sets_out seat head id value holds is; fresh = tt }
+  opened_starts seat registers.Nil value holds is = record { own = at_place seat _ _ _; awaits = refl; way = tt; fresh = tt }
+  opened_starts seat (registers.Number n) value holds is = record { own = at_place seat _ _ _; awaits = refl; way = tt; fresh = tt }
+  opened_starts seat (registers.Object head id) value holds is = record { own = at_place seat _ _ _; awaits = refl; way = sets_out seat head id value holds is; fresh = tt }
 
   -- any other call stands at its first step
   pub starts_other : (heap : Heap) (seat : Seat) (command : Command) → (IsRecord command → ⊥) → IsServed command → seat.command ≡ command
@@ -88,4 +84,4 @@ module _ (g : Graph) (cells : ℕ → List Cell) (made : List Id) (owner : ℕ �
   starts_other heap seat (commands.New d fields) other served is holds = absurd (other tt)
   starts_other heap seat (commands.Array d cells) other served is holds = absurd served
   starts_other heap seat commands.Collect other served is holds = absurd served
-  starts_other heap seat _ other served is holds = record { own = at_place seat _ _ _ _; awaits = refl; way = tt; fresh = tt }
+  starts_other heap seat _ other served is holds = record { own = at_place seat _ _ _; awaits = refl; way = tt; fresh = tt }

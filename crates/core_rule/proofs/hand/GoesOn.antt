@@ -66,6 +66,6 @@ pub record StaysMaking (old new : Seat) : Type 0 where
 pub same_goes_on : (heap : Heap) (seat : Seat) → StaysMaking seat (gather_next heap seat)
 same_goes_on heap seat =
     goes_on_cases (λ s. StaysMaking seat s) heap seat
-    (λ enough. record { same = same_data seat _ _ _ _ _ _ _ _ _ _; making = Storing; placed = refl })
-    (λ few left. record { same = same_data seat _ _ _ _ _ _ _ _ _ _; making = Gathering; placed = refl })
-    (λ few tried. record { same = same_data seat _ _ _ _ _ _ _ _ _ _; making = refusal_place seat.hand; placed = refl })
+    (λ enough. record { same = same_data seat _ _ _ _ _ _ _ _ _; making = Storing; placed = refl })
+    (λ few left. record { same = same_data seat _ _ _ _ _ _ _ _ _; making = Gathering; placed = refl })
+    (λ few tried. record { same = same_data seat _ _ _ _ _ _ _ _ _; making = refusal_place seat.hand; placed = refl })

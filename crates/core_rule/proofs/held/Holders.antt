@@ -30,7 +30,7 @@ use Rattle.core_rule.proofs.hand.Bodies.{body_own}
 use Rattle.core_rule.proofs.held.Alive.{IsAlive, own_alive, kept_alive, head_alive}
 use Rattle.core_rule.proofs.owners.Handed.{none_or_some}
 use Rattle.core_rule.proofs.owners.OwnerLemmas.{own_once}
-use Rattle.core_rule.proofs.ways.KeptWords.{row_there}
+use Rattle.core_rule.proofs.ways.KeptWords.{row_ahead}
 use Rattle.core_rule.proofs.ways.LoadedObjects.{held_kept}
 
 module _ (heap : Heap) (state : State) (book : Book) (rule : Rule heap state book) (number : ℕ) (here : number < heap.seats) where
@@ -65,19 +65,14 @@ module _ (heap : Heap) (state : State) (book : Book) (rule : Rule heap state boo
       (held_kept book.made book.owner book.fragments (register_in seat.registers held.register) (register_value g number held.register) (stands.names.registers held.register held.counts) f held.holds)
 
   -- what its call has reached
-  start_alive : SetsOut book.made book.owner book.fragments seat → seat.links ≡ row_of (field_of seat.command) → AliveNow seat.reached
-  start_alive start whole =
-      let first : row_of (field_of seat.command) - seat.links ≡ 0 = omega (arith, whole) in
-      kept_alive (book.owner seat.reached) start.index 0 (ap book.owner (start.way.here ∙ ap (fragment_at (book.fragments start.index)) first) ∙ start.way.kept)
+  start_alive : SetsOut book.made book.owner book.fragments seat → AliveNow seat.reached
+  start_alive start = kept_alive (book.owner seat.reached) start.index 0 (ap book.owner start.way.here ∙ start.way.kept)
 
   reached_alive : Finds cells book.made book.owner book.fragments seat → AliveNow seat.reached
   reached_alive finds =
       let heap_stands = rule.heap_stands in
-      let i : ℕ = finds.index in
-      let k : ℕ = row_of (field_of seat.command) - seat.links in
-      let row = row_there heap state.words g book.made book.owner book.fragments rule.machine.limits heap_stands.control_words heap_stands.ids heap_stands.objects i finds.way.below finds.way.kept
-      (field_of seat.command) finds.within in
-      kept_alive (book.owner seat.reached) i k (ap book.owner finds.way.here ∙ (heap_stands.objects.kept i finds.way.below finds.way.kept).owned k (omega (arith, row)))
+      let ahead = row_ahead heap state.words g book.made book.owner book.fragments rule.machine.limits heap_stands.control_words heap_stands.ids heap_stands.objects seat finds in
+      kept_alive (book.owner seat.reached) finds.index finds.row (ap book.owner finds.way.here ∙ (heap_stands.objects.kept finds.index finds.way.below finds.way.kept).owned finds.row (omega (arith, ahead)))
 
   -- and loaded
   loaded_alive : LoadedKept book.made book.owner book.fragments seat → (f : ℕ) → head_of seat.loaded ≡ Some f → AliveNow f
@@ -102,7 +97,7 @@ module _ (heap : Heap) (state : State) (book : Book) (rule : Rule heap state boo
 
   access_alive : (f : ℕ) (place : Access) → FitsWay seat (places.Access place) → WayStands cells book.made book.owner book.fragments seat (places.Access place)
       → Awaits g book.made book.owner book.fragments number seat (places.Access place) stands.told.list.awaited → AccessHolds seat place f → AliveNow f
-  access_alive f LoadingMeta fits way awaits holds = either f (start_alive way fits.whole_way) (nothing_loaded fits.none_loaded) holds
+  access_alive f LoadingMeta fits way awaits holds = either f (start_alive way) (nothing_loaded fits.none_loaded) holds
   access_alive f Walking fits way awaits holds = either f (reached_alive way) (nothing_loaded fits.none_loaded) holds
   access_alive f Getting fits way awaits holds = either f (reached_alive way) (nothing_loaded fits.1) holds
   access_alive f Naming fits way awaits holds = named_alive f awaits holds

@@ -1,5 +1,5 @@
 -- The roots of a call: what its way and its registers lead to.
-use Rattle.std.proofs.Common.{◌≡◌, ℕ, ◌+◌, ◌-◌, ◌<◌, List, length, Some, IfSome, refl, sym, ap, ◌∙◌, subst, arith}
+use Rattle.std.proofs.Common.{◌≡◌, ℕ, ◌+◌, ◌<◌, List, length, Some, IfSome, refl, sym, ap, ◌∙◌, subst, arith}
 use Rattle.heap_model.specs.declared.command.Command.{Command}
 use Rattle.heap_model.specs.declared.command.Command.TheVariants as commands
 use Rattle.heap_model.specs.declared.heap.Heap.{Heap}
@@ -11,9 +11,9 @@ use Rattle.core_machine.specs.declared.place.Access.{Access}
 use Rattle.core_machine.specs.declared.place.Place.TheVariants as places
 use Rattle.core_machine.specs.declared.seat.register.Register.{Register}
 use Rattle.core_machine.specs.declared.seat.register.Register.TheVariants as registers
-use Rattle.core_machine.specs.seat.Access.{access_start, row_of}
-use Rattle.core_machine.specs.seat.AccessMoves.{field_part_of}
-use Rattle.core_machine.specs.seat.Commands.{IsRecord, IsServed, field_of}
+use Rattle.core_machine.specs.seat.Access.{access_start}
+use Rattle.core_machine.specs.seat.FitsAccess.{IsFieldPart}
+use Rattle.core_machine.specs.seat.Commands.{IsRecord, IsServed}
 use Rattle.core_machine.specs.seat.Fits.{IsLocal}
 use Rattle.core_machine.specs.seat.Local.{local_registers}
 use Rattle.core_machine.specs.seat.Registers.{register_in, register_head}
@@ -29,12 +29,12 @@ use Rattle.core_rule.specs.Owners.{born_bit}
 use Rattle.core_rule.specs.Paths.{IsReached}
 use Rattle.core_rule.specs.Rule.{Rule}
 use Rattle.core_rule.specs.Ways.{Finds}
-use Rattle.core_rule.proofs.cycle.Barriers.{field_lead, part_below}
+use Rattle.core_rule.proofs.cycle.Barriers.{later_lead}
 use Rattle.core_rule.proofs.entries.AtRest.{seat_fits}
 use Rattle.core_rule.proofs.marking.Marks.{IsOffWay, comes_further, roots_off_way}
 use Rattle.core_rule.proofs.marking.RegisterRoots.{OfHeads, heads_put}
 use Rattle.core_rule.proofs.ways.Chains.{chain_leads}
-use Rattle.core_rule.proofs.ways.KeptWords.{link_found, row_there}
+use Rattle.core_rule.proofs.ways.KeptWords.{link_ahead, row_ahead}
 use Rattle.core_rule.proofs.ways.LoadedObjects.{KeptHead}
 
 module _ (P : ℕ → Type 0) where
@@ -85,24 +85,23 @@ module _ (heap : Heap) (state : State) (book : Book) (number : ℕ) (rule : Rule
 
   module _ (marks : IsInMarking state.collector) (comes : IsReachedNow heap state book seat.reached) where
     -- so it comes to the next fragment of the way
-    pub link_comes : 0 < seat.links → Finds (cells_at g book.made) book.made book.owner book.fragments seat → IsReachedNow heap state book (link_of (at heap state.words (Word seat.reached 0)))
-    link_comes more finds =
+    pub link_comes : (links part : ℕ) → 0 < links → Finds (cells_at g book.made) book.made book.owner book.fragments (record seat { links = links; part = part })
+        → IsReachedNow heap state book (link_of (at heap state.words (Word seat.reached 0)))
+    link_comes links part more finds =
         let stands = rule.heap_stands in
+        let on : Seat = record seat { links = links; part = part } in
         let i : ℕ = finds.index in
-        let k : ℕ = row_of (field_of seat.command) - seat.links in
-        let there = row_there heap state.words g book.made book.owner book.fragments rule.machine.limits stands.control_words stands.ids stands.objects
-        i finds.way.below finds.way.kept (field_of seat.command) finds.within in
-        let next : k + 1 < length (book.fragments i) = omega (arith, more, there, finds.way.ahead) in
-        let found : link_of (at heap state.words (Word seat.reached 0)) ≡ fragment_at (book.fragments i) (k + 1)
-        = ap (λ f. link_of (at heap state.words (Word f 0))) finds.way.here
-        ∙ link_found heap state.words g book.made book.owner book.fragments rule.machine.limits stands.control_words stands.ids stands.objects i finds.way.below finds.way.kept k next in
-        subst (IsReachedNow heap state book) (sym found)
+        let k : ℕ = finds.row in
+        let next : k + 1 < length (book.fragments i)
+        = omega (arith, more, row_ahead heap state.words g book.made book.owner book.fragments rule.machine.limits stands.control_words stands.ids stands.objects on finds) in
+        subst (IsReachedNow heap state book)
+        (sym (link_ahead heap state.words g book.made book.owner book.fragments rule.machine.limits stands.control_words stands.ids stands.objects on finds more))
         (comes_further heap state book rule marks (fragment_at (book.fragments i) k) 0 (fragment_at (book.fragments i) (k + 1))
         (ap born_bit ((stands.objects.kept i finds.way.below finds.way.kept).owned (k + 1) next)) (subst (IsReachedNow heap state book) finds.way.here comes)
         (chain_leads heap state.words g book.made book.owner book.fragments rule.machine.limits stands.control_words stands.ids stands.owners stands.objects i k finds.way.below finds.way.kept next))
 
     -- and to the object that the call's field refers to
-    pub field_comes : (f : ℕ) → KeptHead book.made book.owner book.fragments f → head_of (at heap state.words (Word seat.reached (field_part_of seat))) ≡ Some f → IsReachedNow heap state book f
-    field_comes f head leads =
-        comes_further heap state book rule marks seat.reached (field_part_of seat) f (ap born_bit (ap book.owner head.is ∙ head.kept)) comes
-        record { within = (seat_fits rule number here).way.reached_within; below = part_below seat; to = field_lead seat (at heap state.words (Word seat.reached (field_part_of seat))) ∙ leads }
+    pub field_comes : IsFieldPart seat.part → (f : ℕ) → KeptHead book.made book.owner book.fragments f → head_of (at heap state.words (Word seat.reached seat.part)) ≡ Some f → IsReachedNow heap state book f
+    field_comes field f head leads =
+        comes_further heap state book rule marks seat.reached seat.part f (ap born_bit (ap book.owner head.is ∙ head.kept)) comes
+        record { within = (seat_fits rule number here).way.reached_within; below = field.below; to = later_lead seat.part (at heap state.words (Word seat.reached seat.part)) field.some ∙ leads }

@@ -42,17 +42,16 @@ module _ (made : List Id) (owner : ℕ → Owner) (colour : ℕ → Colour) (fra
 
   module _ (seat : Seat) (held : (r : ℕ) → IfSome (register_head (register_in seat.registers r)) (IsMarked colour)) (loaded : IfSome (head_of seat.loaded) (IsMarked colour)) where
     -- the object of a way is that of a register
-    way_later : (index : ℕ) → OnWay made owner fragments seat index → OnWay made later fragments seat index
-    way_later index way = record {
+    way_later : (index row : ℕ) → OnWay made owner fragments seat index row → OnWay made later fragments seat index row
+    way_later index row way = record {
       below = way.below;
       kept = kept_later index way.kept (of_some (IsMarked colour) _ _ (ap register_head way.holds) (held (object_of seat.command)));
       holds = way.holds;
-      ahead = way.ahead;
       here = way.here;
     }
 
     finds_later : (cells : ℕ → List Cell) → Finds cells made owner fragments seat → Finds cells made later fragments seat
-    finds_later cells finds = record { index = finds.index; way = way_later finds.index finds.way; within = finds.within }
+    finds_later cells finds = record { index = finds.index; row = finds.row; way = way_later finds.index finds.row finds.way; field = finds.field }
 
     -- what it has loaded is kept
     old_later : LoadedKept made owner fragments seat → LoadedKept made later fragments seat
@@ -65,7 +64,7 @@ module _ (made : List Id) (owner : ℕ → Owner) (colour : ℕ → Colour) (fra
 
     -- so its way stands at its place
     pub ways_later : (cells : ℕ → List Cell) (place : Place) → WayStands cells made owner fragments seat place → WayStands cells made later fragments seat place
-    ways_later cells (places.Access LoadingMeta) way = record { index = way.index; way = way_later way.index way.way }
+    ways_later cells (places.Access LoadingMeta) way = record { index = way.index; way = way_later way.index 0 way.way }
     ways_later cells (places.Access Walking) way = finds_later cells way
     ways_later cells (places.Access Getting) way = finds_later cells way
     ways_later cells (places.Access LoadingOld) way = finds_later cells way

@@ -7,7 +7,7 @@ use Rattle.heap_model.specs.account.PhaseCounts.{phase}
 use Rattle.core_machine.specs.declared.place.Place.TheVariants as places
 use Rattle.core_machine.specs.declared.place.Access.TheVariants.{Swapping}
 use Rattle.core_machine.specs.machine.Machine.{State, seat_at}
-use Rattle.core_machine.specs.seat.AccessMoves.{field_part_of, new_register_of}
+use Rattle.core_machine.specs.seat.AccessMoves.{new_register_of}
 use Rattle.core_machine.specs.seat.Seat.{Seat}
 use Rattle.core_rule.specs.Book.{Book, object_head}
 use Rattle.core_rule.specs.Colours.{IsMarked, IsBetween, WordPointsTo}
@@ -18,8 +18,7 @@ use Rattle.core_rule.specs.Rule.{Rule}
 use Rattle.core_rule.proofs.words.Addresses.{fragment_other, part_other}
 use Rattle.core_rule.proofs.ways.AtObject.{is_near}
 use Rattle.core_rule.proofs.colours.LeadsFrames.{leads_same}
-use Rattle.core_rule.proofs.cycle.Barriers.{part_below}
-use Rattle.core_rule.proofs.cycle.SwapCycle.{words_swapped, leads_now}
+use Rattle.core_rule.proofs.cycle.SwapCycle.{swap_part, words_swapped, leads_now}
 use Rattle.core_rule.proofs.marking.Marks.{Leaves, leaves_words}
 
 module _ (heap : Heap) (state : State) (book : Book) (number : ℕ) (rule : Rule heap state book) (here : number < heap.seats)
@@ -28,7 +27,7 @@ module _ (heap : Heap) (state : State) (book : Book) (number : ℕ) (rule : Rule
   seat = seat_at state number
 
   -- while the collector marks, what the field leads to is marked
-  taken_marked : state.collector.phase % 7 ≡ 3 → (g : ℕ) → WordPointsTo heap state.words seat.reached (field_part_of seat) g → IsMarked book.colour g
+  taken_marked : state.collector.phase % 7 ≡ 3 → (g : ℕ) → WordPointsTo heap state.words seat.reached seat.part g → IsMarked book.colour g
   taken_marked marking g leads =
       let same : state.collector.phase ≡ phase book.history = rule.collector_stands.phase_told in
       let making : IsBetween 2 5 (phase book.history) = record { from = omega (arith, same, marking); upto = omega (arith, same, marking) } in
@@ -36,7 +35,7 @@ module _ (heap : Heap) (state : State) (book : Book) (number : ℕ) (rule : Rule
         | inl now ↦ record { from = omega (arith, same, marking, now); upto = omega (arith, same, marking, now) }
         | inr before ↦ record { from = omega (arith, same, marking, before); upto = omega (arith, same, marking, before) }
       ] in
-      let watched : DeletionBarrier heap state.words book.colour seat.reached (field_part_of seat) None
+      let watched : DeletionBarrier heap state.words book.colour seat.reached seat.part None
       = subst (λ x. WhileAccess (FieldStands heap state.words book.colour seat) x) place ((rule.seats_stand number here).cycle.flight.set making snapped) in
       elim (watched g leads) as (λ _. IsMarked book.colour g) [
         | inl none ↦ cc
@@ -51,9 +50,9 @@ module _ (heap : Heap) (state : State) (book : Book) (number : ℕ) (rule : Rule
     -- each other word leads where it led
     leads_later : state.collector.phase % 7 ≡ 3 → (f part g : ℕ) → WordPointsTo heap state.words f part g → WordPointsTo heap now f part g ⊎ IsMarked book.colour g
     leads_later marking f part g leads = elim (cases_eq f seat.reached) as (λ _. WordPointsTo heap now f part g ⊎ IsMarked book.colour g) [
-      | inr apart ↦ inl (leads_same heap now state.words f part g (sym (fragment_other heap state.words word seat.reached (field_part_of seat) f part (part_below seat) leads.below apart)) leads)
-      | inl same ↦ elim (cases_eq part (field_part_of seat)) as (λ _. WordPointsTo heap now f part g ⊎ IsMarked book.colour g) [
-        | inr apart ↦ inl (leads_same heap now state.words f part g (sym (part_other heap state.words word seat.reached (field_part_of seat) f part apart same)) leads)
+      | inr apart ↦ inl (leads_same heap now state.words f part g (sym (fragment_other heap state.words word seat.reached seat.part f part (swap_part heap state book number rule here place).below leads.below apart)) leads)
+      | inl same ↦ elim (cases_eq part seat.part) as (λ _. WordPointsTo heap now f part g ⊎ IsMarked book.colour g) [
+        | inr apart ↦ inl (leads_same heap now state.words f part g (sym (part_other heap state.words word seat.reached seat.part f part apart same)) leads)
         | inl there ↦ inr (taken_marked marking g (subst (λ p. WordPointsTo heap state.words seat.reached p g) there (subst (λ x. WordPointsTo heap state.words x part g) same leads)))
       ]
     ]

@@ -19,7 +19,7 @@ use Rattle.core_machine.specs.collector.Collector.{turn_at}
 use Rattle.core_machine.specs.machine.Machine.{State, seat_at, entries_shown, Begins, Steps, Turns, entries}
 use Rattle.core_machine.specs.Moves.{move_at, is_last_birth, last_birth_move, birth_move, takes_some}
 use Rattle.core_machine.specs.seat.HandshakeMoves.{poll_adds}
-use Rattle.core_machine.specs.seat.AccessMoves.{field_part_of, got_shows, reply_entries_if}
+use Rattle.core_machine.specs.seat.AccessMoves.{got_shows, reply_entries_if}
 use Rattle.core_machine.specs.table.Layout.{at}
 use Rattle.core_machine.specs.declared.table.address.Address.TheVariants.{Word}
 use Rattle.core_machine.specs.seat.Seat.{Seat}
@@ -78,7 +78,7 @@ module _ (heap : Heap) (state : State) (colour : ℕ → Colour) where
         by false = none_marked
     shown_marked places.Local placed = one_marked _ tt
     shown_marked (places.Access LoadingMeta) placed = meta_marked number (seat_at state number) _
-    shown_marked (places.Access Getting) placed = get_marked number (seat_at state number) (at heap state.words (Word (seat_at state number).reached (field_part_of (seat_at state number)))) _
+    shown_marked (places.Access Getting) placed = get_marked number (seat_at state number) (at heap state.words (Word (seat_at state number).reached (seat_at state number).part)) _
     shown_marked (places.Access Swapping) placed = one_marked _ tt
     shown_marked (places.Polling Asking) placed = poll_marked number (seat_at state number) _
     shown_marked (places.Polling Answering) placed =

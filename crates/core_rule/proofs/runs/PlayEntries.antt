@@ -31,7 +31,7 @@ use Rattle.core_machine.specs.machine.Machine.{State, seat_at, entries_shown, fo
 use Rattle.core_machine.specs.seat.Making.{last_group_of, next_object_id}
 use Rattle.core_machine.specs.Moves.{move_at, takes_some, full_entry, last_birth_move, birth_move}
 use Rattle.core_machine.specs.seat.Access.{meta_reply_of}
-use Rattle.core_machine.specs.seat.AccessMoves.{reply_entries_if, got_shows, field_part_of}
+use Rattle.core_machine.specs.seat.AccessMoves.{reply_entries_if, got_shows}
 use Rattle.core_machine.specs.seat.Registers.{register_in, value_of, is_same_value}
 use Rattle.core_machine.specs.seat.Seat.{Seat, need}
 use Rattle.core_machine.specs.seat.Local.{answer_of, local_reply_of}
@@ -151,8 +151,8 @@ adds_play heap state book number (places.Access LoadingMeta) rule here placed al
     (meta_plain (seat_at state number).command (at heap state.words (Word (seat_at state number).reached 0)))
 adds_play heap state book number (places.Access Walking) rule here placed alone = nothing heap book.history number
 adds_play heap state book number (places.Access Getting) rule here placed alone = gets heap book.history number (seat_at state number) state.words
-    (at heap state.words (Word (seat_at state number).reached (field_part_of (seat_at state number))))
-    (head_of (at heap state.words (Word (seat_at state number).reached (field_part_of (seat_at state number)))))
+    (at heap state.words (Word (seat_at state number).reached (seat_at state number).part))
+    (head_of (at heap state.words (Word (seat_at state number).reached (seat_at state number).part)))
 adds_play heap state book number (places.Access Swapping) rule here placed alone = says heap book.history number (seat_at state number).command _ tt
 adds_play heap state book number (places.Polling Asking) rule here placed alone = polls heap book.history number (seat_at state number).command (at heap state.words Phase == (seat_at state number).answered) (at heap state.words Phase)
 adds_play heap state book number (places.Polling Answering) rule here placed alone = answers heap book.history number (seat_at state number).command (seat_at state number).asked

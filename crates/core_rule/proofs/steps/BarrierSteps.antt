@@ -14,7 +14,6 @@ use Rattle.core_machine.specs.declared.place.Access.TheVariants.{ShadingNew, Swa
 use Rattle.core_machine.specs.seat.Commands.{target_of}
 use Rattle.core_machine.specs.machine.Machine.{State, seat_at}
 use Rattle.core_machine.specs.seat.Access.{has_barrier_of, new_place_of}
-use Rattle.core_machine.specs.seat.AccessMoves.{field_part_of}
 use Rattle.core_machine.specs.seat.Registers.{register_in}
 use Rattle.core_machine.specs.seat.Seat.{Seat}
 use Rattle.core_machine.specs.machine.Value.{IsMachine}
@@ -78,16 +77,16 @@ module _ (heap : Heap) (state : State) (book : Book) (number : ℕ) (rule : Rule
 
   -- a load that leads on
   pub loads_on : (loaded : ℕ) (next : Access) → Unnamed next
-      → AccessStands (cells_at g book.made) book.made book.owner book.fragments (went seat seat.registers seat.reached seat.links loaded (places.Access next) []) next
-      → (IsBetween 2 5 p → FieldStands heap state.words book.colour (went seat seat.registers seat.reached seat.links loaded (places.Access next) []) next)
-      → ShadedStands book.colour (went seat seat.registers seat.reached seat.links loaded (places.Access next) []) next
-      → CallGoesOn (went seat seat.registers seat.reached seat.links loaded (places.Access next) []) next
-      → IsMachine heap (loaded_state heap state number (Word seat.reached (field_part_of seat)) (went seat seat.registers seat.reached seat.links loaded (places.Access next) []))
-      → Keeps heap (loaded_state heap state number (Word seat.reached (field_part_of seat)) (went seat seat.registers seat.reached seat.links loaded (places.Access next) [])) book book.begun []
+      → AccessStands (cells_at g book.made) book.made book.owner book.fragments (went seat seat.registers seat.reached seat.links seat.part loaded (places.Access next) []) next
+      → (IsBetween 2 5 p → FieldStands heap state.words book.colour (went seat seat.registers seat.reached seat.links seat.part loaded (places.Access next) []) next)
+      → ShadedStands book.colour (went seat seat.registers seat.reached seat.links seat.part loaded (places.Access next) []) next
+      → CallGoesOn (went seat seat.registers seat.reached seat.links seat.part loaded (places.Access next) []) next
+      → IsMachine heap (loaded_state heap state number (Word seat.reached seat.part) (went seat seat.registers seat.reached seat.links seat.part loaded (places.Access next) []))
+      → Keeps heap (loaded_state heap state number (Word seat.reached seat.part) (went seat seat.registers seat.reached seat.links seat.part loaded (places.Access next) [])) book book.begun []
   loads_on loaded next names way field shaded comes machine =
       let stands = rule.seats_stand number here in
-      let new : Seat = went seat seat.registers seat.reached seat.links loaded (places.Access next) [] in
-      load_goes heap state book number rule here (Word seat.reached (field_part_of seat)) seat.registers seat.reached seat.links loaded (places.Access next) [] machine
+      let new : Seat = went seat seat.registers seat.reached seat.links seat.part loaded (places.Access next) [] in
+      load_goes heap state book number rule here (Word seat.reached seat.part) seat.registers seat.reached seat.links seat.part loaded (places.Access next) [] machine
       (λ r unawaited. holds_all r)
       (list_more g book.made book.owner book.fragments number seat book.history busy stands.told.list g book.history new [] [] [] refl refl (sym (append-nil (filter (is_of number) book.history))) (names new))
       way
@@ -106,8 +105,8 @@ module _ (heap : Heap) (state : State) (book : Book) (number : ℕ) (rule : Rule
     shaded_state next = record state { words = words_shaded heap state book number rule here f head.index head.kept head.is; seats = slice_set state.seats number next }
 
     -- what the field leads to is as before
-    pub leads_back : (x : ℕ) → WordPointsTo heap (words_shaded heap state book number rule here f head.index head.kept head.is) seat.reached (field_part_of seat) x
-        → WordPointsTo heap state.words seat.reached (field_part_of seat) x
+    pub leads_back : (x : ℕ) → WordPointsTo heap (words_shaded heap state book number rule here f head.index head.kept head.is) seat.reached seat.part x
+        → WordPointsTo heap state.words seat.reached seat.part x
     leads_back x leads = leads_control heap state.words (f / 16) _ (omega (arith, shade_within heap state book number rule here f head.index head.kept head.is)) _ _ x leads
 
     -- a shade that leads on

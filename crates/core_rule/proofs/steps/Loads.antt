@@ -49,9 +49,9 @@ use Rattle.core_rule.proofs.cycle.CycleFrames.{leaves_same}
 use Rattle.core_rule.proofs.cycle.Unwatched.{IsUnwatchedAt, cycle_unwatched}
 
 -- the seat with other registers, elsewhere on its way, and with more entries
-abbrev pub went : Seat → List Register → ℕ → ℕ → ℕ → Place → List Entry → Seat
-went seat registers reached links loaded place added =
-    record seat { registers = registers; reached = reached; links = links; loaded = loaded; place = place; mine = seat.mine ++ added }
+abbrev pub went : Seat → List Register → ℕ → ℕ → ℕ → ℕ → Place → List Entry → Seat
+went seat registers reached links part loaded place added =
+    record seat { registers = registers; reached = reached; links = links; part = part; loaded = loaded; place = place; mine = seat.mine ++ added }
 
 -- the state after a load, which writes back what it found
 abbrev pub loaded_state : Heap → State → ℕ → Address → Seat → State
@@ -60,21 +60,21 @@ loaded_state heap state number a seat = record state { words = put heap state.wo
 -- a call that has its way alone is over where its way is
 pub over_went : (heap : Heap) (state : State) (book : Book) (number : ℕ) (a : Address) (registers : List Register) (added shown : List Entry)
     → IsAtRest (seat_at state number) → IsSilent (seat_at state number)
-    → (IsMachine heap (loaded_state heap state number a (went (seat_at state number) registers 0 0 0 places.Idle added))
-    → Keeps heap (loaded_state heap state number a (went (seat_at state number) registers 0 0 0 places.Idle added)) book book.begun shown)
+    → (IsMachine heap (loaded_state heap state number a (went (seat_at state number) registers 0 0 0 0 places.Idle added))
+    → Keeps heap (loaded_state heap state number a (went (seat_at state number) registers 0 0 0 0 places.Idle added)) book book.begun shown)
     → IsMachine heap (loaded_state heap state number a (with_entries (after_call (record (seat_at state number) { registers = registers })) added))
     → Keeps heap (loaded_state heap state number a (with_entries (after_call (record (seat_at state number) { registers = registers })) added)) book book.begun shown
 over_went heap state book number a registers added shown rest silent keeps =
     let seat : Seat = seat_at state number in
-    let same : with_entries (after_call (record seat { registers = registers })) added ≡ went seat registers 0 0 0 places.Idle added
+    let same : with_entries (after_call (record seat { registers = registers })) added ≡ went seat registers 0 0 0 0 places.Idle added
     = ap (λ (s : Seat). record s { registers = registers; mine = seat.mine ++ added }) (over_way seat rest silent) in
     subst (λ (s : Seat). IsMachine heap (loaded_state heap state number a s) → Keeps heap (loaded_state heap state number a s) book book.begun shown) (sym same) keeps
 
 module _ (heap : Heap) (state : State) (book : Book) (number : ℕ) (rule : Rule heap state book) (here : number < heap.seats) (a : Address)
-    (registers : List Register) (reached links loaded : ℕ) (place : Place) (added : List Entry)
-    (machine : IsMachine heap (loaded_state heap state number a (went (seat_at state number) registers reached links loaded place added))) where
+    (registers : List Register) (reached links part loaded : ℕ) (place : Place) (added : List Entry)
+    (machine : IsMachine heap (loaded_state heap state number a (went (seat_at state number) registers reached links part loaded place added))) where
   abbrev new : Seat
-  new = went (seat_at state number) registers reached links loaded place added
+  new = went (seat_at state number) registers reached links part loaded place added
 
   -- the words are written back
   same_machine : IsMachine heap (record state { words = state.words; seats = slice_set state.seats number new })

@@ -49,9 +49,9 @@ module _ (heap : Heap) (state : State) (book : Book) (number : ℕ) (rule : Rule
   at_rest = rw place at (seat_fits rule number here).at_place
 
   -- its way's object is that of the graph's register
-  pub way_object : ((d r : ℕ) → ¬ IsAwaited (seat_at state number).place d r) → (index : ℕ) → OnWay book.made book.owner book.fragments (seat_at state number) index
+  pub way_object : ((d r : ℕ) → ¬ IsAwaited (seat_at state number).place d r) → (index row : ℕ) → OnWay book.made book.owner book.fragments (seat_at state number) index row
       → register_value (graph_of heap book.history) number (object_of (seat_at state number).command) ≡ values.Object (id_at book.made index)
-  way_object free index way =
+  way_object free index row way =
       let seat : Seat = seat_at state number in
       let r : ℕ = object_of seat.command in
       held_object book.made book.owner book.fragments (slice_index_or seat.registers r registers.Nil) _ _ _ way.holds

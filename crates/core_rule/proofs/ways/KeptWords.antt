@@ -1,4 +1,4 @@
--- What the words of a kept object tell.
+-- What the words of a kept object tell, and those on the way to a field of it.
 use Rattle.std.proofs.Common.{◌≡◌, ℕ, zero, suc, ◌+◌, ◌*◌, ◌^◌, ◌<◌, false, eqb, inl, inr, List, length, slice_get, Some, refl, ap, ◌∙◌, arith}
 use Rattle.std.proofs.lemmas.Bool.{cases_lt}
 use Rattle.std.proofs.lemmas.List.{get_or_past}
@@ -17,10 +17,13 @@ use Rattle.core_machine.specs.table.Layout.{at}
 use Rattle.core_machine.specs.table.Decode.{link_of, length_of, id_of}
 use Rattle.core_machine.specs.table.Newborn.{record_meta, link_after}
 use Rattle.core_machine.specs.seat.Access.{row_of, part_of}
+use Rattle.core_machine.specs.seat.Commands.{field_of}
+use Rattle.core_machine.specs.seat.Seat.{Seat}
 use Rattle.core_rule.specs.Book.{fragment_at, id_at, object_head}
 use Rattle.core_rule.specs.ControlWords.{Bits}
 use Rattle.core_rule.specs.Objects.{AreMade, Objects, KeptObject, NamesKept, IsKept, cells_at, value_word, object_word}
 use Rattle.core_rule.specs.Owners.{Owner, Kept}
+use Rattle.core_rule.specs.Ways.{Finds}
 use Rattle.core_rule.proofs.ways.Rows.{field_back, part_within, cell_there, row_within}
 use Rattle.core_rule.proofs.ways.Told.{HasRoom, length_in-meta, link_in-meta, link_in-link, id_in-name}
 
@@ -103,3 +106,25 @@ module _ (heap : Heap) (words : List ℕ) (g : Graph) (made : List Id) (owner : 
     field_found i cell there =
         the_object.stored (row_of i) (part_of i) (row_there i (slice_get_within _ i cell there)) (part_within i)
         ∙ cell_word_of _ _ _ _ i cell there
+
+  module _ (ids : AreMade g made) (objects : Objects heap words g made owner fragments) (seat : Seat) (finds : Finds (cells_at g made) made owner fragments seat) where
+    -- the object has the row to which a way leads
+    pub row_ahead : finds.row + seat.links < length (fragments finds.index)
+    row_ahead = omega (arith, finds.field.leads, row_there ids objects finds.index finds.way.below finds.way.kept (field_of seat.command) finds.field.within)
+
+    -- where links lead on, the first of them leads to the next row
+    pub link_ahead : 0 < seat.links → link_of (at heap words (Word seat.reached 0)) ≡ fragment_at (fragments finds.index) (finds.row + 1)
+    link_ahead more = ap (λ f. link_of (at heap words (Word f 0))) finds.way.here
+        ∙ link_found ids objects finds.index finds.way.below finds.way.kept finds.row (omega (arith, more, row_ahead))
+
+    -- where none does, the way stands at the field
+    pub field_reached : seat.links ≡ 0 → Word seat.reached seat.part ≡ Word (fragment_at (fragments finds.index) (row_of (field_of seat.command))) (part_of (field_of seat.command))
+    field_reached arrived = cc (finds.way.here, finds.field.there, row)
+      where
+        row : finds.row ≡ row_of (field_of seat.command)
+        row = omega (arith, finds.field.leads, arrived)
+
+    -- and its cell is found
+    pub cell_reached : seat.links ≡ 0 → (cell : Cell) → slice_get (cells_at g made finds.index) (field_of seat.command) ≡ Some cell
+        → at heap words (Word seat.reached seat.part) ≡ value_word (object_head made fragments) cell.value cell.stamp
+    cell_reached arrived cell there = ap (at heap words) (field_reached arrived) ∙ field_found ids objects finds.index finds.way.below finds.way.kept (field_of seat.command) cell there

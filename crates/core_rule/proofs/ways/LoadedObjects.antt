@@ -1,6 +1,6 @@
 -- What a set has loaded, and what its register holds, is a kept object's first fragment.
 use Rattle.std.specs.Prelude.{slice_get, slice_index_or}
-use Rattle.std.proofs.Common.{◌≡◌, ℕ, zero, suc, ◌-◌, ◌<◌, List, [], ◌∷◌, length, get_or, Some, refl, sym, ap, ◌∙◌, arith}
+use Rattle.std.proofs.Common.{◌≡◌, ℕ, zero, suc, ◌<◌, List, [], ◌∷◌, length, get_or, Some, refl, sym, ap, ◌∙◌, arith}
 use Rattle.std.proofs.lemmas.Option.{slice_get-get_or}
 use Rattle.heap_model.specs.declared.graph.cell.Cell.{Cell}
 use Rattle.heap_model.specs.declared.heap.Heap.{Heap}
@@ -15,17 +15,15 @@ use Rattle.core_machine.specs.declared.seat.register.Register.TheVariants as reg
 use Rattle.core_machine.specs.seat.Commands.{field_of}
 use Rattle.core_machine.specs.table.Layout.{at}
 use Rattle.core_machine.specs.table.Decode.{head_of}
-use Rattle.core_machine.specs.seat.Access.{row_of, part_of}
-use Rattle.core_machine.specs.seat.AccessMoves.{field_part_of}
 use Rattle.core_machine.specs.seat.Registers.{register_head as head_of_register, heads_of}
 use Rattle.core_machine.specs.seat.Seat.{Seat}
 use Rattle.core_rule.specs.Book.{fragment_at, object_number, object_head}
 use Rattle.core_rule.specs.ControlWords.{Bits}
-use Rattle.core_rule.specs.Objects.{AreMade, Objects, NamesKept, IsKept, value_word, cells_at}
+use Rattle.core_rule.specs.Objects.{AreMade, Objects, NamesKept, IsKept, cells_at}
 use Rattle.core_rule.specs.Owners.{Owner}
 use Rattle.core_rule.specs.Registers.{HoldsValue}
 use Rattle.core_rule.specs.Ways.{Finds}
-use Rattle.core_rule.proofs.ways.KeptWords.{has_room, field_found}
+use Rattle.core_rule.proofs.ways.KeptWords.{has_room, cell_reached}
 use Rattle.core_rule.proofs.ways.Told.{named_head, head_in-value}
 
 -- the first fragment of a kept object
@@ -66,16 +64,12 @@ module _ (heap : Heap) (words : List ℕ) (g : Graph) (made : List Id) (owner : 
     (limits : IsHeap heap) (bits : Bits heap words owner) (ids : AreMade g made) (objects : Objects heap words g made owner fragments) where
   -- what the field of a set refers to
   pub loaded_kept : (seat : Seat) → seat.links ≡ 0 → Finds (cells_at g made) made owner fragments seat
-      → (f : ℕ) → head_of (at heap words (Word seat.reached (field_part_of seat))) ≡ Some f → KeptHead made owner fragments f
+      → (f : ℕ) → head_of (at heap words (Word seat.reached seat.part)) ≡ Some f → KeptHead made owner fragments f
   loaded_kept seat arrived finds f is =
       let field : ℕ = field_of seat.command in
       let cell : Cell = get_or (cells_at g made finds.index) field unset in
-      let there : slice_get (cells_at g made finds.index) field ≡ Some cell = slice_get-get_or (cells_at g made finds.index) field unset finds.within in
+      let there : slice_get (cells_at g made finds.index) field ≡ Some cell = slice_get-get_or (cells_at g made finds.index) field unset finds.field.within in
       let named = objects.named finds.index field finds.way.below finds.way.kept cell there in
-      let whole : row_of field - seat.links ≡ row_of field = omega (arith, arrived) in
-      let word : at heap words (Word seat.reached (field_part_of seat)) ≡ value_word (object_head made fragments) cell.value cell.stamp
-      = ap (λ x. at heap words (Word x (part_of field))) (finds.way.here ∙ ap (fragment_at (fragments finds.index)) whole)
-      ∙ field_found heap words g made owner fragments limits bits ids objects finds.index finds.way.below finds.way.kept field cell there in
       named_kept made owner fragments cell.value named.0 f
       (sym (head_in-value (object_head made fragments) cell.value cell.stamp (has_room heap words g made owner fragments limits bits cell.value named.0) named.1)
-      ∙ ap head_of (sym word) ∙ is)
+      ∙ ap head_of (sym (cell_reached heap words g made owner fragments limits bits ids objects seat finds arrived cell there)) ∙ is)

@@ -1,5 +1,5 @@
 -- The way after a fragment's first word was found.
-use Rattle.std.proofs.Common.{◌≡◌, ℕ, ◌+◌, ◌-◌, ◌<◌, false, eqb, inl, inr, List, None, IsSome, sym, ap, ◌∙◌, subst, arith, true}
+use Rattle.std.proofs.Common.{◌≡◌, ℕ, ◌+◌, ◌-◌, ◌<◌, false, eqb, inl, inr, List, None, IsSome, ap, subst, arith, true}
 use Rattle.std.proofs.lemmas.Bool.{false≢true, cond_both, eqb-true, eqb-false}
 use Rattle.std.proofs.lemmas.Bool.Decides.{eqb_tells}
 use Rattle.heap_model.specs.declared.graph.cell.Cell.{Cell}
@@ -12,18 +12,16 @@ use Rattle.core_machine.specs.declared.table.address.Address.TheVariants.{Word}
 use Rattle.core_machine.specs.declared.place.Place.TheVariants as places
 use Rattle.core_machine.specs.declared.place.Access.{Access}
 use Rattle.core_machine.specs.declared.place.Access.TheVariants.{Walking, Getting, Swapping, LoadingOld}
-use Rattle.core_machine.specs.seat.Commands.{field_of}
 use Rattle.core_machine.specs.table.Layout.{at}
 use Rattle.core_machine.specs.table.Decode.{head_of, link_of}
-use Rattle.core_machine.specs.seat.Access.{row_of, has_barrier_of, way_place_of, after_link, after_walk, at_access}
+use Rattle.core_machine.specs.seat.Access.{has_barrier_of, way_place_of, after_link, after_walk, at_access}
 use Rattle.core_machine.specs.seat.Seat.{Seat}
 use Rattle.core_machine.proofs.seat_lemmas.FieldPlaces.{field_cases}
-use Rattle.core_rule.specs.Book.{fragment_at}
 use Rattle.core_rule.specs.ControlWords.{Bits}
 use Rattle.core_rule.specs.Objects.{AreMade, Objects, cells_at}
 use Rattle.core_rule.specs.Owners.{Owner}
 use Rattle.core_rule.specs.Ways.{Finds, LoadedKept, OldKept, AccessStands}
-use Rattle.core_rule.proofs.ways.KeptWords.{link_found, row_there}
+use Rattle.core_rule.proofs.ways.KeptWords.{link_ahead}
 use Rattle.core_rule.proofs.cycle.Unwatched.{IsUnwatched}
 
 -- so the way leads to one of four places
@@ -67,8 +65,9 @@ module _ (cells : ℕ → List Cell) (made : List Id) (owner : ℕ → Owner) (f
       → Finds cells made owner fragments (record seat { loaded = loaded; place = places.Access place; mine = mine })
   finds_at seat loaded place mine finds = record {
     index = finds.index;
-    way = record { below = finds.way.below; kept = finds.way.kept; holds = finds.way.holds; ahead = finds.way.ahead; here = finds.way.here };
-    within = finds.within;
+    row = finds.row;
+    way = record { below = finds.way.below; kept = finds.way.kept; holds = finds.way.holds; here = finds.way.here };
+    field = finds.field;
   }
 
 module _ (heap : Heap) (words : List ℕ) (g : Graph) (made : List Id) (owner : ℕ → Owner) (fragments : ℕ → List ℕ)
@@ -77,21 +76,14 @@ module _ (heap : Heap) (words : List ℕ) (g : Graph) (made : List Id) (owner : 
   pub finds_on : (seat : Seat) (loaded : ℕ) (place : Access) (mine : List Entry) → 0 < seat.links → Finds (cells_at g made) made owner fragments seat
       → Finds (cells_at g made) made owner fragments
       (record seat { reached = link_of (at heap words (Word seat.reached 0)); links = seat.links - 1; loaded = loaded; place = places.Access place; mine = mine })
-  finds_on seat loaded place mine more finds =
-      let index : ℕ = finds.index in
-      let row : ℕ = row_of (field_of seat.command) in
-      let there = row_there heap words g made owner fragments limits bits ids objects index finds.way.below finds.way.kept (field_of seat.command) finds.within in
-      let next : row - (seat.links - 1) ≡ row - seat.links + 1 = omega (arith, more, finds.way.ahead) in
-      record {
-        index = index;
-        way = record {
-          below = finds.way.below;
-          kept = finds.way.kept;
-          holds = finds.way.holds;
-          ahead = omega (arith, finds.way.ahead);
-          here = ap (λ f. link_of (at heap words (Word f 0))) finds.way.here
-              ∙ link_found heap words g made owner fragments limits bits ids objects index finds.way.below finds.way.kept (row - seat.links) (omega (arith, more, there, finds.way.ahead))
-              ∙ ap (fragment_at (fragments index)) (sym next);
-        };
-        within = finds.within;
-      }
+  finds_on seat loaded place mine more finds = record {
+    index = finds.index;
+    row = finds.row + 1;
+    way = record {
+      below = finds.way.below;
+      kept = finds.way.kept;
+      holds = finds.way.holds;
+      here = link_ahead heap words g made owner fragments limits bits ids objects seat finds more;
+    };
+    field = record { within = finds.field.within; leads = omega (arith, more, finds.field.leads); there = finds.field.there };
+  }

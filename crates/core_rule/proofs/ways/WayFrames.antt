@@ -21,22 +21,22 @@ pub record ObjectStays (cells now_cells : ℕ → List Cell) (made now_made : Li
 
 module _ (cells now_cells : ℕ → List Cell) (made now_made : List Id) (owner now_owner : ℕ → Owner) (fragments now_fragments : ℕ → List ℕ)
     (stay : (i : ℕ) → i < length made → IsKept owner fragments i → ObjectStays cells now_cells made now_made owner now_owner fragments now_fragments i) where
-  way_stays : (seat : Seat) (index : ℕ) → OnWay made owner fragments seat index → OnWay now_made now_owner now_fragments seat index
-  way_stays seat index way =
+  way_stays : (seat : Seat) (index row : ℕ) → OnWay made owner fragments seat index row → OnWay now_made now_owner now_fragments seat index row
+  way_stays seat index row way =
       let one = stay index way.below way.kept in
       record {
         below = one.below;
         kept = one.kept;
         holds = rw (one.fragments_stay, one.id) way.holds;
-        ahead = way.ahead;
         here = rw one.fragments_stay way.here;
       }
 
   finds_stays : (seat : Seat) → Finds cells made owner fragments seat → Finds now_cells now_made now_owner now_fragments seat
   finds_stays seat finds = record {
     index = finds.index;
-    way = way_stays seat finds.index finds.way;
-    within = rw (stay finds.index finds.way.below finds.way.kept).cells_stay finds.within;
+    row = finds.row;
+    way = way_stays seat finds.index finds.row finds.way;
+    field = rw (stay finds.index finds.way.below finds.way.kept).cells_stay finds.field;
   }
 
   loaded_stays : (seat : Seat) → LoadedKept made owner fragments seat → LoadedKept now_made now_owner now_fragments seat
@@ -46,7 +46,7 @@ module _ (cells now_cells : ℕ → List Cell) (made now_made : List Id) (owner 
 
   -- a seat's way stays at its place
   pub ways_stay : (seat : Seat) (place : Place) → WayStands cells made owner fragments seat place → WayStands now_cells now_made now_owner now_fragments seat place
-  ways_stay seat (places.Access LoadingMeta) way = record { index = way.index; way = way_stays seat way.index way.way }
+  ways_stay seat (places.Access LoadingMeta) way = record { index = way.index; way = way_stays seat way.index 0 way.way }
   ways_stay seat (places.Access Walking) way = finds_stays seat way
   ways_stay seat (places.Access Getting) way = finds_stays seat way
   ways_stay seat (places.Access LoadingOld) way = finds_stays seat way

@@ -1,5 +1,5 @@
 -- Loading a field keeps the rule.
-use Rattle.std.proofs.Common.{◌≡◌, ℕ, ◌-◌, ◌<◌, false, List, [], ◌∷◌, length, get_or, slice_get, slice_set, slice_index_or, Option, Some, None, refl, sym, ap, ◌∙◌, subst, arith}
+use Rattle.std.proofs.Common.{◌≡◌, ℕ, ◌<◌, false, List, [], ◌∷◌, length, get_or, slice_get, slice_set, slice_index_or, Option, Some, None, refl, sym, ap, ◌∙◌, subst, arith}
 use Rattle.std.proofs.lemmas.Bool.{eq-eqb}
 use Rattle.std.proofs.lemmas.Option.{slice_get-get_or}
 use Rattle.heap_model.specs.declared.graph.cell.Cell.{Cell}
@@ -27,13 +27,13 @@ use Rattle.core_machine.specs.seat.FitsAccess.{SeatIsAtGet, IsGet}
 use Rattle.core_machine.specs.table.Layout.{at}
 use Rattle.core_machine.specs.table.Decode.{head_of, id_of, stamp_of, plain_of}
 use Rattle.core_machine.specs.machine.Machine.{State, seat_at}
-use Rattle.core_machine.specs.seat.Access.{row_of, part_of, after_get}
-use Rattle.core_machine.specs.seat.AccessMoves.{get_move, field_part_of, got_adds, got_shows, reply_entries}
+use Rattle.core_machine.specs.seat.Access.{after_get}
+use Rattle.core_machine.specs.seat.AccessMoves.{get_move, got_adds, got_shows, reply_entries}
 use Rattle.core_machine.specs.seat.Registers.{value_of, register_head}
 use Rattle.core_machine.specs.seat.Seat.{Seat, with_entries}
 use Rattle.core_machine.specs.machine.Value.{IsMachine}
 use Rattle.core_rule.proofs.entries.AtRest.{seat_fits, spent_own, few_own}
-use Rattle.core_rule.specs.Book.{Book, fragment_at, id_at, object_number, object_head}
+use Rattle.core_rule.specs.Book.{Book, id_at, object_number, object_head}
 use Rattle.core_rule.specs.Gathers.{IsAnswered}
 use Rattle.core_rule.specs.Marking.{IsInMarking}
 use Rattle.core_rule.specs.Objects.{NamesKept, cells_at, value_word}
@@ -46,7 +46,7 @@ use Rattle.core_rule.proofs.graph.GraphRegisters.{registers_length}
 use Rattle.core_rule.proofs.lists.Options.{some_holds, none_holds}
 use Rattle.core_rule.proofs.marking.CallRoots.{IsReachedNow, at_call, roots_on_way, roots_over, field_comes}
 use Rattle.core_rule.proofs.marking.RegisterRoots.{heads_put}
-use Rattle.core_rule.proofs.ways.KeptWords.{has_room, field_found, name_found}
+use Rattle.core_rule.proofs.ways.KeptWords.{has_room, name_found, cell_reached}
 use Rattle.core_rule.proofs.steps.Loads.{went_cycle, went, loaded_state, load_tells, over_went}
 use Rattle.core_rule.proofs.graph.Numbering.{id_at-number_of}
 use Rattle.core_rule.proofs.graph.ObjectReplies.{accepts_got, graph_got, keeps_got, target_within}
@@ -74,10 +74,10 @@ module _ (heap : Heap) (state : State) (book : Book) (number : ℕ) (rule : Rule
   -- a number or nil stands in the register
   filled_keeps : (new : Register) (stamp : ℕ) → register_head new ≡ None → HoldsValue book.made book.owner book.fragments new (value_of new)
       → Accepts (graph_of heap book.history) (Said number (seat_at state number).command (Got (value_of new) stamp))
-      → IsMachine heap (loaded_state heap state number (Word (seat_at state number).reached (field_part_of (seat_at state number)))
-      (went (seat_at state number) (slice_set (seat_at state number).registers (target_of (seat_at state number).command) new) 0 0 0 places.Idle (reply_entries number (seat_at state number) (Got (value_of new) stamp))))
-      → Keeps heap (loaded_state heap state number (Word (seat_at state number).reached (field_part_of (seat_at state number)))
-      (went (seat_at state number) (slice_set (seat_at state number).registers (target_of (seat_at state number).command) new) 0 0 0 places.Idle (reply_entries number (seat_at state number) (Got (value_of new) stamp))))
+      → IsMachine heap (loaded_state heap state number (Word (seat_at state number).reached (seat_at state number).part)
+      (went (seat_at state number) (slice_set (seat_at state number).registers (target_of (seat_at state number).command) new) 0 0 0 0 places.Idle (reply_entries number (seat_at state number) (Got (value_of new) stamp))))
+      → Keeps heap (loaded_state heap state number (Word (seat_at state number).reached (seat_at state number).part)
+      (went (seat_at state number) (slice_set (seat_at state number).registers (target_of (seat_at state number).command) new) 0 0 0 0 places.Idle (reply_entries number (seat_at state number) (Got (value_of new) stamp))))
       book book.begun (reply_entries number (seat_at state number) (Got (value_of new) stamp))
   filled_keeps new stamp none holds accepts machine =
       let seat : Seat = seat_at state number in
@@ -85,7 +85,7 @@ module _ (heap : Heap) (state : State) (book : Book) (number : ℕ) (rule : Rule
       let stands = rule.seats_stand number here in
       let reply : Reply = Got (value_of new) stamp in
       let entry : Entry = Said number seat.command reply in
-      load_tells heap state book number rule here (Word seat.reached (field_part_of seat)) (slice_set seat.registers (target_of seat.command) new) 0 0 0 places.Idle (entry ∷ []) machine
+      load_tells heap state book number rule here (Word seat.reached seat.part) (slice_set seat.registers (target_of seat.command) new) 0 0 0 0 places.Idle (entry ∷ []) machine
       seat.command reply refl (with_register g number (target_of seat.command) (value_of new)) (graph_got g number (value_of new) stamp seat.command a_get)
       (put_only g number (target_of seat.command) (value_of new) present) accepts
       (keeps_got heap false book.history number (spent_own heap state book number rule here (at_rest heap state book number rule here Getting place)) (few_own heap state book number rule here (at_rest heap state book number rule here Getting place)) (value_of new) stamp seat.command a_get)
@@ -93,18 +93,18 @@ module _ (heap : Heap) (state : State) (book : Book) (number : ℕ) (rule : Rule
       (list_more g book.made book.owner book.fragments number seat book.history (subst IsAnswered place) stands.told.list (with_register g number (target_of seat.command) (value_of new)) _ _ (entry ∷ []) [] (entry ∷ []) refl refl
       (own_entries number book.history entry (eq-eqb number number refl)) refl)
       tt tt (no_leave_told number number seat.command reply (λ leaves. subst IsGet leaves a_get))
-      (went_cycle heap state book number rule here (Word seat.reached (field_part_of seat)) (slice_set seat.registers (target_of seat.command) new) 0 0 0 places.Idle (entry ∷ []) machine tt)
-      (λ marks roots. roots_over (IsReachedNow heap state book) (went seat (slice_set seat.registers (target_of seat.command) new) 0 0 0 places.Idle (entry ∷ [])) tt
+      (went_cycle heap state book number rule here (Word seat.reached seat.part) (slice_set seat.registers (target_of seat.command) new) 0 0 0 0 places.Idle (entry ∷ []) machine tt)
+      (λ marks roots. roots_over (IsReachedNow heap state book) (went seat (slice_set seat.registers (target_of seat.command) new) 0 0 0 0 places.Idle (entry ∷ [])) tt
       (heads_put (IsReachedNow heap state book) seat.registers (target_of seat.command) new in_seat (none_holds (IsReachedNow heap state book) (register_head new) none) roots.registers))
 
   -- a reference awaits its object's name, and the history has the reply
   pending_keeps : (found : ℕ) (id : Id) → NamesKept book.made book.owner book.fragments (values.Object id) → head_of found ≡ Some (object_head book.made book.fragments id)
       → (IsInMarking state.collector → IsReachedNow heap state book (seat_at state number).reached → IsReachedNow heap state book (object_head book.made book.fragments id))
       → Accepts (graph_of heap book.history) (Said number (seat_at state number).command (Got (values.Object id) (stamp_of found)))
-      → IsMachine heap (loaded_state heap state number (Word (seat_at state number).reached (field_part_of (seat_at state number)))
-      (went (seat_at state number) (seat_at state number).registers (seat_at state number).reached (seat_at state number).links found (places.Access Naming) []))
-      → Keeps heap (loaded_state heap state number (Word (seat_at state number).reached (field_part_of (seat_at state number)))
-      (went (seat_at state number) (seat_at state number).registers (seat_at state number).reached (seat_at state number).links found (places.Access Naming) []))
+      → IsMachine heap (loaded_state heap state number (Word (seat_at state number).reached (seat_at state number).part)
+      (went (seat_at state number) (seat_at state number).registers (seat_at state number).reached (seat_at state number).links (seat_at state number).part found (places.Access Naming) []))
+      → Keeps heap (loaded_state heap state number (Word (seat_at state number).reached (seat_at state number).part)
+      (went (seat_at state number) (seat_at state number).registers (seat_at state number).reached (seat_at state number).links (seat_at state number).part found (places.Access Naming) []))
       book book.begun (reply_entries number (seat_at state number) (Got (values.Object id) (stamp_of found)))
   pending_keeps found id kept loads comes accepts machine =
       let seat : Seat = seat_at state number in
@@ -114,7 +114,7 @@ module _ (heap : Heap) (state : State) (book : Book) (number : ℕ) (rule : Rule
       let stands = rule.seats_stand number here in
       let reply : Reply = Got value (stamp_of found) in
       let entry : Entry = Said number seat.command reply in
-      load_tells heap state book number rule here (Word seat.reached (field_part_of seat)) seat.registers seat.reached seat.links found (places.Access Naming) [] machine
+      load_tells heap state book number rule here (Word seat.reached seat.part) seat.registers seat.reached seat.links seat.part found (places.Access Naming) [] machine
       seat.command reply refl (with_register g number d value) (graph_got g number value (stamp_of found) seat.command a_get) (put_only g number d value present) accepts
       (keeps_got heap false book.history number (spent_own heap state book number rule here (at_rest heap state book number rule here Getting place)) (few_own heap state book number rule here (at_rest heap state book number rule here Getting place)) value (stamp_of found) seat.command a_get)
       (λ r unawaited. subst (λ x. HoldsValue book.made book.owner book.fragments (slice_index_or seat.registers r registers.Nil) x) (sym (put_rest g number d value present r unawaited)) (held r))
@@ -122,8 +122,8 @@ module _ (heap : Heap) (state : State) (book : Book) (number : ℕ) (rule : Rule
       (own_entries number book.history entry (eq-eqb number number refl))
       (record { id = id; kept = kept; loads = loads; held = put_target g number d value present in_graph; told = refl }))
       tt tt (no_leave_told number number seat.command reply (λ leaves. subst IsGet leaves a_get))
-      (went_cycle heap state book number rule here (Word seat.reached (field_part_of seat)) seat.registers seat.reached seat.links found (places.Access Naming) [] machine tt)
-      (λ marks roots. roots_on_way (IsReachedNow heap state book) seat (went seat seat.registers seat.reached seat.links found (places.Access Naming) []) Naming refl refl
+      (went_cycle heap state book number rule here (Word seat.reached seat.part) seat.registers seat.reached seat.links seat.part found (places.Access Naming) [] machine tt)
+      (λ marks roots. roots_on_way (IsReachedNow heap state book) seat (went seat seat.registers seat.reached seat.links seat.part found (places.Access Naming) []) Naming refl refl
       (some_holds (IsReachedNow heap state book) (head_of found) (object_head book.made book.fragments id) loads (comes marks (at_call (IsReachedNow heap state book) seat Getting place roots))) roots)
 
 -- loading a field keeps the rule
@@ -133,7 +133,7 @@ get_keeps heap state book number rule here place machine =
     let g : Graph = graph_of heap book.history in
     let words : List ℕ = state.words in
     let field : ℕ = field_of seat.command in
-    let found : ℕ = at heap words (Word seat.reached (field_part_of seat)) in
+    let found : ℕ = at heap words (Word seat.reached seat.part) in
     let head = object_head book.made book.fragments in
     let stands = rule.seats_stand number here in
     let heap_stands = rule.heap_stands in
@@ -144,26 +144,24 @@ get_keeps heap state book number rule here place machine =
     let index : ℕ = finds.index in
     let way = finds.way in
     let cell : Cell = get_or (cells_at g book.made index) field unset in
-    let there : slice_get (cells_at g book.made index) field ≡ Some cell = slice_get-get_or (cells_at g book.made index) field unset finds.within in
+    let there : slice_get (cells_at g book.made index) field ≡ Some cell = slice_get-get_or (cells_at g book.made index) field unset finds.field.within in
     let named = heap_stands.objects.named index field way.below way.kept cell there in
     let room : HasRoom head cell.value = has_room heap words g book.made book.owner book.fragments rule.machine.limits bits cell.value named.0 in
-    let arrived : row_of field - seat.links ≡ row_of field = omega (arith, gets.2) in
     let word : found ≡ value_word head cell.value cell.stamp
-    = ap (λ f. at heap words (Word f (part_of field))) (way.here ∙ ap (fragment_at (book.fragments index)) arrived)
-    ∙ field_found heap words g book.made book.owner book.fragments rule.machine.limits bits heap_stands.ids heap_stands.objects index way.below way.kept field cell there in
+    = cell_reached heap words g book.made book.owner book.fragments rule.machine.limits bits heap_stands.ids heap_stands.objects seat finds gets.2.arrived cell there in
     let stamp : stamp_of found ≡ cell.stamp = ap stamp_of word ∙ stamp_in-value head cell.value cell.stamp room named.1 in
     let plain : plain_of found ≡ register_plain cell.value = ap plain_of word ∙ plain_in-value head cell.value cell.stamp room named.1 in
     let loads : head_of found ≡ named_head head cell.value = ap head_of word ∙ head_in-value head cell.value cell.stamp room named.1 in
     let accepted : Accepts g (Said number seat.command (Got cell.value (stamp_of found)))
     = subst (λ s. Accepts g (Said number seat.command (Got cell.value s))) (sym stamp)
     (accepts_got g number (id_at book.made index) seat.command gets.0.in_range (is_present heap state book number rule here Getting place)
-    (heap_stands.ids.in_graph index way.below) (way_object heap state book number rule here Getting place (λ d r. subst (λ p. IsAwaited p d r) place) index way)
+    (heap_stands.ids.in_graph index way.below) (way_object heap state book number rule here Getting place (λ d r. subst (λ p. IsAwaited p d r) place) index finds.row way)
     gets.1 cell there) in
-    let goal = λ (o : Option ℕ). IsMachine heap (loaded_state heap state number (Word seat.reached (field_part_of seat)) (with_entries (after_get seat found o) (got_adds number seat found o)))
-    → Keeps heap (loaded_state heap state number (Word seat.reached (field_part_of seat)) (with_entries (after_get seat found o) (got_adds number seat found o))) book book.begun (got_shows heap number seat words found o) in
+    let goal = λ (o : Option ℕ). IsMachine heap (loaded_state heap state number (Word seat.reached seat.part) (with_entries (after_get seat found o) (got_adds number seat found o)))
+    → Keeps heap (loaded_state heap state number (Word seat.reached seat.part) (with_entries (after_get seat found o) (got_adds number seat found o))) book book.begun (got_shows heap number seat words found o) in
     let filled = filled_keeps heap state book number rule here place gets.1 gets.0.in_range (plain_of found) (stamp_of found) in
     let told : List Entry = reply_entries number seat (Got (value_of (plain_of found)) (stamp_of found)) in
-    let ends = over_went heap state book number (Word seat.reached (field_part_of seat)) (slice_set seat.registers (target_of seat.command) (plain_of found)) told told
+    let ends = over_went heap state book number (Word seat.reached seat.part) (slice_set seat.registers (target_of seat.command) (plain_of found)) told told
     (rw place at (seat_fits rule number here).at_place) (rw place at (seat_fits rule number here).answer_at_place) in
     let by_value : (value : Value) → cell.value ≡ value → goal (named_head head value) = λ value. elim value as (λ v. cell.value ≡ v → goal (named_head head v)) [
       | values.Nil ↦ λ e. let is : plain_of found ≡ registers.Nil = plain ∙ ap register_plain e in
@@ -177,9 +175,9 @@ get_keeps heap state book number rule here place machine =
           let name : id_of (at heap words (Word (head id) 1)) ≡ id
           = name_found heap words g book.made book.owner book.fragments rule.machine.limits bits heap_stands.ids heap_stands.objects (object_number book.made id) kept.0 kept.1
           ∙ id_at-number_of book.made id kept.0 in
-          subst (λ x. Keeps heap (loaded_state heap state number (Word seat.reached (field_part_of seat)) (with_entries (after_get seat found (Some (head id))) [])) book book.begun (reply_entries number seat (Got (values.Object x) (stamp_of found)))) (sym name)
+          subst (λ x. Keeps heap (loaded_state heap state number (Word seat.reached seat.part) (with_entries (after_get seat found (Some (head id))) [])) book book.begun (reply_entries number seat (Got (values.Object x) (stamp_of found)))) (sym name)
           (pending_keeps heap state book number rule here place gets.1 gets.0.in_range found id kept (loads ∙ ap (named_head head) e)
-          (λ marks comes. field_comes heap state book number rule here marks comes (head id) record { index = object_number book.made id; below = kept.0; kept = kept.1; is = refl } (loads ∙ ap (named_head head) e))
+          (λ marks comes. field_comes heap state book number rule here marks comes gets.2.field_part (head id) record { index = object_number book.made id; below = kept.0; kept = kept.1; is = refl } (loads ∙ ap (named_head head) e))
           (subst (λ v. Accepts g (Said number seat.command (Got v (stamp_of found)))) e accepted) machine)
     ] in
     subst goal (sym loads) (by_value cell.value refl) machine

@@ -41,26 +41,26 @@ module _ (heap : Heap) (state : State) (book : Book) (number : ℕ) (rule : Rule
   found_first = at heap state.words (Word (seat_at state number).reached 0)
 
   -- a seat that goes on to this place
-  goes_to : (reached links : ℕ) (next : Seat) → has_barrier_of next ≡ has_barrier_of (seat_at state number)
+  goes_to : (reached links part : ℕ) (next : Seat) → has_barrier_of next ≡ has_barrier_of (seat_at state number)
       → Finds (cells_at (graph_of heap book.history) book.made) book.made book.owner book.fragments
-      (went (seat_at state number) (seat_at state number).registers reached links (seat_at state number).loaded (places.Access (way_place_of next)) [])
+      (went (seat_at state number) (seat_at state number).registers reached links part (seat_at state number).loaded (places.Access (way_place_of next)) [])
       → (IsInMarking state.collector → IsReachedNow heap state book (seat_at state number).reached → IsReachedNow heap state book reached)
       → IsMachine heap (loaded_state heap state number (Word (seat_at state number).reached 0)
-      (went (seat_at state number) (seat_at state number).registers reached links (seat_at state number).loaded (places.Access (way_place_of next)) []))
+      (went (seat_at state number) (seat_at state number).registers reached links part (seat_at state number).loaded (places.Access (way_place_of next)) []))
       → Keeps heap (loaded_state heap state number (Word (seat_at state number).reached 0)
-      (went (seat_at state number) (seat_at state number).registers reached links (seat_at state number).loaded (places.Access (way_place_of next)) [])) book book.begun []
-  goes_to reached links next same finds comes machine =
+      (went (seat_at state number) (seat_at state number).registers reached links part (seat_at state number).loaded (places.Access (way_place_of next)) [])) book book.begun []
+  goes_to reached links part next same finds comes machine =
       let seat : Seat = seat_at state number in
       let g : Graph = graph_of heap book.history in
       let stands = rule.seats_stand number here in
-      let new : Seat = went seat seat.registers reached links seat.loaded (places.Access (way_place_of next)) [] in
-      load_goes heap state book number rule here (Word seat.reached 0) seat.registers reached links seat.loaded (places.Access (way_place_of next)) [] machine
+      let new : Seat = went seat seat.registers reached links part seat.loaded (places.Access (way_place_of next)) [] in
+      load_goes heap state book number rule here (Word seat.reached 0) seat.registers reached links part seat.loaded (places.Access (way_place_of next)) [] machine
       (λ r unawaited. stands.names.registers r (free (target_of seat.command) r))
       (list_more g book.made book.owner book.fragments number seat book.history busy stands.told.list g book.history new [] [] [] refl refl (sym (append-nil (filter (is_of number) book.history)))
       (way_cases (λ place. Awaits g book.made book.owner book.fragments number new (places.Access place) []) next refl refl (λ on. refl) (λ off. refl)))
       (way_stands (cells_at g book.made) book.made book.owner book.fragments new next unloaded finds)
       (began_on book.history number (book.begun number) seat.place (places.Access (way_place_of next)) busy stands.told.began)
-      (went_cycle heap state book number rule here (Word seat.reached 0) seat.registers reached links seat.loaded (places.Access (way_place_of next)) [] machine
+      (went_cycle heap state book number rule here (Word seat.reached 0) seat.registers reached links part seat.loaded (places.Access (way_place_of next)) [] machine
       (subst (λ b. IsUnwatched b (way_place_of next)) same (way_unwatched next)))
       (λ marks roots.
       let there = comes marks (reaches roots) in
@@ -68,20 +68,20 @@ module _ (heap : Heap) (state : State) (book : Book) (number : ℕ) (rule : Rule
       (way_cases (AtCall (IsReachedNow heap state book) new) next there there (λ on. there) (λ off. there)) roots)
 
   -- the way goes on, or the field's fragment is reached
-  pub onward_keeps : Finds (cells_at (graph_of heap book.history) book.made) book.made book.owner book.fragments (seat_at state number)
-      → IsMachine heap (loaded_state heap state number (Word (seat_at state number).reached 0) (with_entries (after_walk (seat_at state number) found_first) []))
-      → Keeps heap (loaded_state heap state number (Word (seat_at state number).reached 0) (with_entries (after_walk (seat_at state number) found_first) [])) book book.begun []
-  onward_keeps finds =
-      let seat : Seat = seat_at state number in
+  pub onward_keeps : (links part : ℕ) → Finds (cells_at (graph_of heap book.history) book.made) book.made book.owner book.fragments (record (seat_at state number) { links = links; part = part })
+      → IsMachine heap (loaded_state heap state number (Word (seat_at state number).reached 0) (with_entries (after_walk (record (seat_at state number) { links = links; part = part }) found_first) []))
+      → Keeps heap (loaded_state heap state number (Word (seat_at state number).reached 0) (with_entries (after_walk (record (seat_at state number) { links = links; part = part }) found_first) [])) book book.begun []
+  onward_keeps links part finds =
+      let seat : Seat = record (seat_at state number) { links = links; part = part } in
       let g : Graph = graph_of heap book.history in
       onward_cases (λ s. IsMachine heap (loaded_state heap state number (Word seat.reached 0) (with_entries s []))
       → Keeps heap (loaded_state heap state number (Word seat.reached 0) (with_entries s [])) book book.begun []) seat found_first
-      (λ arrived. goes_to seat.reached seat.links seat refl
+      (λ arrived. goes_to seat.reached links part seat refl
       (finds_at (cells_at g book.made) book.made book.owner book.fragments seat seat.loaded (way_place_of seat) _ finds) (λ marks comes. comes))
-      (λ more. goes_to (link_of found_first) (seat.links - 1) (after_link seat found_first) refl
+      (λ more. goes_to (link_of found_first) (links - 1) part (after_link seat found_first) refl
       (finds_on heap state.words g book.made book.owner book.fragments rule.machine.limits rule.heap_stands.control_words rule.heap_stands.ids rule.heap_stands.objects
       seat seat.loaded (way_place_of (after_link seat found_first)) _ more finds)
-      (λ marks comes. link_comes heap state book number rule here marks comes more finds))
+      (λ marks comes. link_comes heap state book number rule here marks comes links part more finds))
 
 -- walking a link keeps the rule
 pub walk_keeps : StepKeeps (places.Access Walking) (λ heap number. walk_move)
@@ -90,4 +90,4 @@ walk_keeps heap state book number rule here place machine =
     = rw place at (rule.seats_stand number here).names.way in
     let walks : SeatIsOnWay (seat_at state number) = rw place at (seat_fits rule number here).way_at_place in
     onward_keeps heap state book number rule here (subst IsAnswered place) (λ d r. subst (λ p. IsAwaited p d r) place)
-    walks.none_loaded (at_call (IsReachedNow heap state book) (seat_at state number) Walking place) finds machine
+    walks.none_loaded (at_call (IsReachedNow heap state book) (seat_at state number) Walking place) (seat_at state number).links (seat_at state number).part finds machine

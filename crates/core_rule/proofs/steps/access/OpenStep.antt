@@ -1,5 +1,5 @@
 -- Loading an object's length keeps the rule.
-use Rattle.std.proofs.Common.{◌≡◌, ℕ, ◌-◌, ◌<◌, ◌≤◌, ltb, false, [], ◌∷◌, length, Option, Some, None, refl, sym, ap, ◌∙◌, subst, arith}
+use Rattle.std.proofs.Common.{◌≡◌, ℕ, ◌<◌, ◌≤◌, ltb, false, [], ◌∷◌, length, Option, Some, None, refl, sym, ap, ◌∙◌, subst, arith}
 use Rattle.std.proofs.lemmas.Bool.{cond_both, ltb-true, ltb-false, eq-eqb}
 use Rattle.heap_model.specs.declared.command.Command.{Command}
 use Rattle.heap_model.specs.declared.command.Command.TheVariants as commands
@@ -24,12 +24,12 @@ use Rattle.core_machine.specs.seat.FitsAccess.{NamesObject, NamesField, SeatIsAt
 use Rattle.core_machine.specs.table.Layout.{at}
 use Rattle.core_machine.specs.table.Decode.{length_of}
 use Rattle.core_machine.specs.machine.Machine.{State, seat_at}
-use Rattle.core_machine.specs.seat.Access.{row_of, meta_reply_of, after_meta}
+use Rattle.core_machine.specs.seat.Access.{row_of, part_of, meta_reply_of, after_meta}
 use Rattle.core_machine.specs.seat.AccessMoves.{open_move, reply_entries, reply_entries_if}
 use Rattle.core_machine.specs.seat.Seat.{Seat, with_entries}
 use Rattle.core_machine.specs.machine.Value.{IsMachine}
 use Rattle.core_rule.proofs.entries.AtRest.{seat_fits, spent_own, few_own}
-use Rattle.core_rule.specs.Book.{Book, id_at, fragment_at}
+use Rattle.core_rule.specs.Book.{Book, id_at}
 use Rattle.core_rule.specs.Gathers.{IsAnswered}
 use Rattle.core_rule.specs.Objects.{cells_at}
 use Rattle.core_rule.specs.Registers.{IsAwaited}
@@ -68,22 +68,22 @@ module _ (heap : Heap) (state : State) (book : Book) (number : ℕ) (rule : Rule
       → KeepsSpace heap false book.history (Said number (seat_at state number).command reply)
       → is_leave_of number (Said number (seat_at state number).command reply) ≡ false
       → IsMachine heap (loaded_state heap state number (Word (seat_at state number).reached 0)
-      (went (seat_at state number) (seat_at state number).registers 0 0 0 places.Idle (reply_entries number (seat_at state number) reply)))
+      (went (seat_at state number) (seat_at state number).registers 0 0 0 0 places.Idle (reply_entries number (seat_at state number) reply)))
       → Keeps heap (loaded_state heap state number (Word (seat_at state number).reached 0)
-      (went (seat_at state number) (seat_at state number).registers 0 0 0 places.Idle (reply_entries number (seat_at state number) reply))) book book.begun (reply_entries number (seat_at state number) reply)
+      (went (seat_at state number) (seat_at state number).registers 0 0 0 0 places.Idle (reply_entries number (seat_at state number) reply))) book book.begun (reply_entries number (seat_at state number) reply)
   met_keeps reply nothing stays accepts keeps stays_here machine =
       let seat : Seat = seat_at state number in
       let g : Graph = graph_of heap book.history in
       let stands = rule.seats_stand number here in
       let entry : Entry = Said number seat.command reply in
-      load_tells heap state book number rule here (Word seat.reached 0) seat.registers 0 0 0 places.Idle (entry ∷ []) machine seat.command reply nothing g stays (only_none g number)
+      load_tells heap state book number rule here (Word seat.reached 0) seat.registers 0 0 0 0 places.Idle (entry ∷ []) machine seat.command reply nothing g stays (only_none g number)
       accepts keeps
       (λ r unawaited. stands.names.registers r (subst (λ p. IsAwaited p (target_of seat.command) r) place))
       (list_more g book.made book.owner book.fragments number seat book.history (subst IsAnswered place) stands.told.list g _ _ (entry ∷ []) [] (entry ∷ []) refl refl
       (own_entries number book.history entry (eq-eqb number number refl)) refl)
       tt tt stays_here
-      (went_cycle heap state book number rule here (Word seat.reached 0) seat.registers 0 0 0 places.Idle (entry ∷ []) machine tt)
-      (λ marks. roots_off_way (IsReachedNow heap state book) seat (went seat seat.registers 0 0 0 places.Idle (entry ∷ [])) refl tt)
+      (went_cycle heap state book number rule here (Word seat.reached 0) seat.registers 0 0 0 0 places.Idle (entry ∷ []) machine tt)
+      (λ marks. roots_off_way (IsReachedNow heap state book) seat (went seat seat.registers 0 0 0 0 places.Idle (entry ∷ [])) refl tt)
 
 -- loading the length keeps the rule
 pub open_keeps : StepKeeps (places.Access LoadingMeta) (λ heap. open_move)
@@ -97,14 +97,12 @@ open_keeps heap state book number rule here place machine =
     let index : ℕ = out.index in
     let way = out.way in
     let id : Id = id_at book.made index in
-    let none_walked : row_of (field_of seat.command) - seat.links ≡ 0 = omega (arith, opens.whole_way) in
-    let at_head : seat.reached ≡ fragment_at (book.fragments index) 0 = way.here ∙ ap (fragment_at (book.fragments index)) none_walked in
     let size : length_of found ≡ length (cells_at g book.made index)
-    = ap (λ f. length_of (at heap state.words (Word f 0))) at_head
+    = ap (λ f. length_of (at heap state.words (Word f 0))) way.here
     ∙ length_found heap state.words g book.made book.owner book.fragments rule.machine.limits rule.heap_stands.control_words rule.heap_stands.ids rule.heap_stands.objects index way.below way.kept in
     let present = is_present heap state book number rule here LoadingMeta place in
     let made = rule.heap_stands.ids.in_graph index way.below in
-    let held = way_object heap state book number rule here LoadingMeta place (λ d r. subst (λ p. IsAwaited p d r) place) index way in
+    let held = way_object heap state book number rule here LoadingMeta place (λ d r. subst (λ p. IsAwaited p d r) place) index 0 way in
     let enough = spent_own heap state book number rule here (at_rest heap state book number rule here LoadingMeta place) in
     let little = few_own heap state book number rule here (at_rest heap state book number rule here LoadingMeta place) in
     let leaves_none = λ (reply : Reply). no_leave_told number number seat.command reply (λ leaves. subst NamesObject leaves opens.names) in
@@ -116,7 +114,12 @@ open_keeps heap state book number rule here place machine =
     (subst (λ n. Accepts g (Said number seat.command (replies.Length n))) (sym size) (accepts_length g number id seat.command opens.works.in_range present made held len))
     (keeps_length heap false book.history number enough little (length_of found) seat.command len) (leaves_none (replies.Length (length_of found)))))
     (λ field more. onward_keeps heap state book number rule here (subst IsAnswered place) (λ d r. subst (λ p. IsAwaited p d r) place)
-    opens.none_loaded (at_call (IsReachedNow heap state book) seat LoadingMeta place) (record { index = index; way = way; within = omega (arith, more, size) }))
+    opens.none_loaded (at_call (IsReachedNow heap state book) seat LoadingMeta place) (row_of (field_of seat.command)) (part_of (field_of seat.command)) record {
+      index = index;
+      row = 0;
+      way = record { below = way.below; kept = way.kept; holds = way.holds; here = way.here };
+      field = record { within = omega (arith, more, size); leads = omega arith; there = refl };
+    })
     (λ field past. ends replies.NoField (met_keeps heap state book number rule here place replies.NoField refl (graph_no_field g number seat.command field)
     (accepts_no_field g number id seat.command opens.works.in_range present made held field (omega (arith, past, size)))
     (keeps_no_field heap false book.history number enough little seat.command field) (leaves_none replies.NoField)))

@@ -11,7 +11,7 @@ use Rattle.core_machine.specs.seat.FitsAccess.{SeatIsAtSet}
 use Rattle.core_machine.specs.table.Decode.{head_of}
 use Rattle.core_machine.specs.machine.Machine.{seat_at}
 use Rattle.core_machine.specs.seat.Access.{has_barrier_of}
-use Rattle.core_machine.specs.seat.AccessMoves.{shade_new_move, field_part_of, new_register_of}
+use Rattle.core_machine.specs.seat.AccessMoves.{shade_new_move, new_register_of}
 use Rattle.core_machine.specs.seat.Registers.{register_head}
 use Rattle.core_machine.specs.seat.Seat.{Seat}
 use Rattle.core_rule.specs.Book.{Colour}
@@ -44,7 +44,7 @@ shade_new_keeps heap state book number rule here place machine =
     (holds_all heap state book number rule here ShadingNew place (λ answered. answered) (λ d r awaited. awaited) (source_of seat.command)) f some in
     let coloured : ℕ → Colour = with_mark book.colour f in
     let back = leads_back heap state book number rule here ShadingNew place (λ answered. answered) (λ d r awaited. awaited) f head fits.1 in
-    let watched : IsBetween 2 5 p → IsBetween 2 5 seat.answered → DeletionBarrier heap state.words book.colour seat.reached (field_part_of seat) None
+    let watched : IsBetween 2 5 p → IsBetween 2 5 seat.answered → DeletionBarrier heap state.words book.colour seat.reached seat.part None
     = subst (λ x. IsBetween 2 5 p → IsBetween 2 5 seat.answered → WhileAccess (FieldStands heap state.words book.colour seat) x) place stands.cycle.flight.set in
     let was : IsBetween 1 5 p → IfSome (head_of seat.loaded) (IsMarked book.colour)
     = subst (λ x. IsBetween 1 5 p → WhileAccess (ShadedStands book.colour seat) x) place stands.cycle.flight.shaded in
@@ -53,7 +53,7 @@ shade_new_keeps heap state book number rule here place machine =
       λ (some : IsSome (head_of seat.loaded)). loaded_at book.made book.owner book.fragments seat Swapping (seat.mine ++ []) (way.1 some),
     )
     (λ making snapped. watches_stay heap state.words (words_shaded heap state book number rule here f head.index head.kept head.is) book.colour coloured (mark_keeps book.colour f)
-    seat.reached (field_part_of seat) (λ x lead. inl (back x lead)) None (watched making snapped))
+    seat.reached seat.part (λ x lead. inl (back x lead)) None (watched making snapped))
     (λ making is_on. (
       if_some (IsMarked book.colour) (IsMarked coloured) (mark_keeps book.colour f) (head_of seat.loaded) (was making),
       some_holds (IsMarked coloured) (register_head (new_register_of seat)) f some (mark_marks book.colour f),

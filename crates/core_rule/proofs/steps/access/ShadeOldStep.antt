@@ -10,7 +10,7 @@ use Rattle.core_machine.specs.seat.FitsAccess.{SeatIsAtSet}
 use Rattle.core_machine.specs.table.Decode.{head_of}
 use Rattle.core_machine.specs.machine.Machine.{seat_at}
 use Rattle.core_machine.specs.seat.Access.{has_barrier_of}
-use Rattle.core_machine.specs.seat.AccessMoves.{shade_old_move, loaded_head_of, new_register_of, field_part_of}
+use Rattle.core_machine.specs.seat.AccessMoves.{shade_old_move, loaded_head_of, new_register_of}
 use Rattle.core_machine.specs.seat.Registers.{register_head}
 use Rattle.core_machine.specs.seat.Seat.{Seat}
 use Rattle.core_machine.specs.machine.Value.{IsMachine}
@@ -48,13 +48,13 @@ shade_old_keeps heap state book number rule here place machine =
     let at_next = λ (next : Access). finds_at (cells_at g book.made) book.made book.owner book.fragments seat seat.loaded next (seat.mine ++ []) way.0 in
     let kept_at = λ (next : Access) (some : IsSome (head_of seat.loaded)). loaded_at book.made book.owner book.fragments seat next (seat.mine ++ []) way.1 in
     let marked : IfSome (head_of seat.loaded) (IsMarked coloured) = some_holds (IsMarked coloured) (head_of seat.loaded) f loads (mark_marks book.colour f) in
-    let watched : IsBetween 2 5 p → IsBetween 2 5 seat.answered → DeletionBarrier heap state.words book.colour seat.reached (field_part_of seat) (head_of seat.loaded)
+    let watched : IsBetween 2 5 p → IsBetween 2 5 seat.answered → DeletionBarrier heap state.words book.colour seat.reached seat.part (head_of seat.loaded)
     = subst (λ x. IsBetween 2 5 p → IsBetween 2 5 seat.answered → WhileAccess (FieldStands heap state.words book.colour seat) x) place stands.cycle.flight.set in
     let comes : IsInMarking state.collector → seat.answered ≡ state.collector.phase → IsReachedNow heap state book f
     = λ marks answered. of_some (IsReachedNow heap state book) (head_of seat.loaded) f loads (at_call (IsReachedNow heap state book) seat ShadingOld place (rule.marks_stand.roots number here marks answered)).1 in
     let reached = λ (marks : IsInMarking state.collector) (roots : OfRoots (IsReachedNow heap state book) seat). (at_call (IsReachedNow heap state book) seat ShadingOld place roots).0 in
     let field : IsBetween 2 5 p → IsBetween 2 5 seat.answered → (x : ℕ)
-    → WordPointsTo heap (words_shaded heap state book number rule here f head.index head.kept head.is) seat.reached (field_part_of seat) x → (None ≡ Some x) ⊎ IsMarked coloured x
+    → WordPointsTo heap (words_shaded heap state book number rule here f head.index head.kept head.is) seat.reached seat.part x → (None ≡ Some x) ⊎ IsMarked coloured x
     = λ making snapped x lead. elim (watched making snapped x (back x lead)) [
       | inl same ↦ let as_loaded : f ≡ x = cc (loads, same) in inr (subst (IsMarked coloured) as_loaded (mark_marks book.colour f))
       | inr was ↦ inr (mark_keeps book.colour f x was)

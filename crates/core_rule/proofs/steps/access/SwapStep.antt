@@ -1,5 +1,5 @@
 -- The swap of a set keeps the rule.
-use Rattle.std.proofs.Common.{◌≡◌, ℕ, ◌+◌, ◌-◌, ◌*◌, ◌^◌, ◌<◌, false, List, get_or, slice_get, Option, Some, Result, Ok, refl, sym, ap, ◌∙◌, subst, arith}
+use Rattle.std.proofs.Common.{◌≡◌, ℕ, ◌+◌, ◌^◌, ◌<◌, false, List, get_or, slice_get, Option, Some, Result, Ok, refl, sym, ap, ◌∙◌, subst, arith}
 use Rattle.std.proofs.lemmas.Option.{slice_get-get_or}
 use Rattle.heap_model.specs.declared.graph.cell.Cell.{Cell}
 use Rattle.heap_model.specs.declared.command.Command.{Command}
@@ -22,18 +22,19 @@ use Rattle.heap_model.specs.account.Phases.{ShowsPhases}
 use Rattle.heap_model.specs.graph.Replies.{Says}
 use Rattle.heap_model.specs.graph.Replies as says
 use Rattle.heap_model.specs.graph.Graph.{Graph, Node, unset}
+use Rattle.core_machine.specs.declared.table.address.Address.{Address}
 use Rattle.core_machine.specs.declared.table.address.Address.TheVariants.{Word}
 use Rattle.core_machine.specs.declared.place.Place.TheVariants as places
 use Rattle.core_machine.specs.declared.place.Access.TheVariants.{Swapping}
 use Rattle.core_machine.specs.seat.Commands.{object_of, source_of, field_of, target_of}
 use Rattle.core_machine.specs.seat.Fits.{IsAtRest, IsSilent}
 use Rattle.core_machine.specs.seat.FitsAccess.{IsSet, SeatIsAtSet as FitsSets}
-use Rattle.core_machine.specs.table.Layout.{at, put}
+use Rattle.core_machine.specs.table.Layout.{at, put, InTable}
 use Rattle.core_machine.specs.table.Decode.{stamp_of}
 use Rattle.core_machine.specs.machine.Machine.{seat_at}
 use Rattle.core_machine.specs.Move.{seat_after}
-use Rattle.core_machine.specs.seat.Access.{has_barrier_of, row_of}
-use Rattle.core_machine.specs.seat.AccessMoves.{swap_move, field_part_of, new_word_of}
+use Rattle.core_machine.specs.seat.Access.{has_barrier_of, row_of, part_of}
+use Rattle.core_machine.specs.seat.AccessMoves.{swap_move, new_word_of}
 use Rattle.core_machine.specs.seat.Registers.{register_in}
 use Rattle.core_machine.specs.seat.Seat.{Seat, HasNumberLeft}
 use Rattle.core_rule.specs.Book.{fragment_at, id_at, object_head}
@@ -46,6 +47,7 @@ use Rattle.core_rule.proofs.graph.CellSet.{Sets, sets_cell}
 use Rattle.core_rule.proofs.objects.CellWords.{stamp_of_value, register_is_value, register_names}
 use Rattle.core_rule.proofs.cycle.CycleHistory.{cycle_own}
 use Rattle.core_rule.proofs.entries.Legality.{legal_more, keeps_said}
+use Rattle.core_rule.proofs.ways.KeptWords.{field_reached}
 use Rattle.core_rule.proofs.objects.ObjectsSet.{made_node, ids_set, lengths_stay, found_is, objects_set, set_unkept}
 use Rattle.core_rule.proofs.entries.PhaseEntries.{no_leave_told}
 use Rattle.core_rule.proofs.steps.ReplyStep.{reply_keeps}
@@ -111,13 +113,12 @@ swap_keeps heap state book number rule here place machine =
     let ids : AreMade g book.made = rule.heap_stands.ids in
     let there = made_node (node g id) (ids.in_graph n finds.way.below) in
     let old : Cell = get_or cells i unset in
-    let old_there : slice_get cells i ≡ Some old = slice_get-get_or cells i unset finds.within in
-    let part : ℕ = field_part_of seat in
-    let fragment : ℕ = fragment_at (book.fragments n) (row_of i) in
-    let at_row : row_of i - seat.links ≡ row_of i = omega (arith, fits.0.2) in
-    let arrived : seat.reached ≡ fragment = finds.way.here ∙ ap (fragment_at (book.fragments n)) at_row in
+    let old_there : slice_get cells i ≡ Some old = slice_get-get_or cells i unset finds.field.within in
+    let field : Address = Word (fragment_at (book.fragments n) (row_of i)) (part_of i) in
+    let arrived : Word seat.reached seat.part ≡ field
+    = field_reached heap state.words g book.made book.owner book.fragments rule.machine.limits rule.heap_stands.control_words ids objects seat finds fits.0.2.arrived in
     let word : ℕ = new_word_of number seat in
-    let found : ℕ = at heap state.words (Word seat.reached part) in
+    let found : ℕ = at heap state.words (Word seat.reached seat.part) in
     let stamp : ℕ = stamp_of found in
     let cell : Cell = record { value = register_value g number (source_of seat.command); stamp = set_stamp number ((graph_seat g number).sets + 1) } in
     let refers : register_value g number (object_of seat.command) ≡ values.Object id
@@ -129,8 +130,8 @@ swap_keeps heap state book number rule here place machine =
     let numbered : seat.sets + 1 < 2 ^ 26 = set_numbered seat.command a_set seat.made seat.sets fits.0.0.numbered in
     let few : (graph_seat g number).sets + 1 < 2 ^ 26 = omega (arith, numbered, stands.told.counts.stamped) in
     let old_stamp : stamp ≡ old.stamp
-    = ap (λ f. stamp_of (at heap state.words (Word f part))) arrived
-    ∙ ap stamp_of (found_is heap state.words g now number book.made book.owner book.fragments n i cell word ids objects finds.way.below finds.way.kept sets finds.within old old_there)
+    = ap (λ a. stamp_of (at heap state.words a)) arrived
+    ∙ ap stamp_of (found_is heap state.words g now number book.made book.owner book.fragments n i cell word ids objects finds.way.below finds.way.kept sets finds.field.within old old_there)
     ∙ stamp_of_value (object_head book.made book.fragments) old.value old.stamp (objects.named n i finds.way.below finds.way.kept old old_there).1 in
     let cells_there : slice_get there.0.cells i ≡ Some old = ap (λ (o : Option Node). slice_get (cells_in o) i) (sym there.1) ∙ old_there in
     let is_word : word ≡ value_word (object_head book.made book.fragments) cell.value cell.stamp
@@ -139,21 +140,21 @@ swap_keeps heap state book number rule here place machine =
     let small : cell.stamp < 2 ^ 32 = omega (arith, few, here, rule.machine.limits.seats_fit) in
     let names : NamesKept book.made book.owner book.fragments cell.value × (cell.stamp < 2 ^ 32)
     = (register_names book.made book.owner book.fragments (register_in seat.registers (source_of seat.command)) cell.value (holds (source_of seat.command)), small) in
-    let inside : fragment < 16 * heap.groups = subst (λ f. f < 16 * heap.groups) arrived (seat_fits rule number here).way.reached_within in
-    reply_keeps heap state book number (put heap state.words (Word seat.reached part) word) (seat_after (swap_move number seat) found) seat.command (replies.Was stamp) rule here machine
+    let inside : InTable heap field = subst (InTable heap) arrived ((seat_fits rule number here).way.reached_within, fits.0.2.field_part.below) in
+    reply_keeps heap state book number (put heap state.words (Word seat.reached seat.part) word) (seat_after (swap_move number seat) found) seat.command (replies.Was stamp) rule here machine
     refl rest (all_told stands.told.list (rw place at stands.told.list.awaits))
     (legal_more heap false book.history (entries.Said number seat.command (replies.Was stamp)) rule.heap_stands.legal
     (present, fits.0.0.in_range, set_says seat.command a_set g number id there.0 old stamp refers there.1 cells_there old_stamp few)
     (keeps_said heap false book.history number seat.command (replies.Was stamp) refl tt tt (set_shows seat.command a_set heap book.history number stamp)
     (spent_own heap state book number rule here rest) (omega (arith, set_most seat.command a_set, few_own heap state book number rule here rest))))
-    (subst (λ f. SameUnkept heap book.owner state.words (put heap state.words (Word f part) word)) (sym arrived)
-    (set_unkept heap state.words g now number book.made book.owner book.fragments n i cell word ids objects finds.way.below finds.way.kept sets finds.within))
+    (subst (λ a. SameUnkept heap book.owner state.words (put heap state.words a word)) (sym arrived)
+    (set_unkept heap state.words g now number book.made book.owner book.fragments n i cell word ids objects finds.way.below finds.way.kept sets finds.field.within))
     record {
-      ids = ids_set heap state.words g now number book.made book.owner book.fragments n i cell word ids objects finds.way.below finds.way.kept sets finds.within;
-      objects = subst (λ f. Objects heap (put heap state.words (Word f part) word) now book.made book.owner book.fragments) (sym arrived)
-          (objects_set heap state.words g now number book.made book.owner book.fragments n i cell word ids objects finds.way.below finds.way.kept sets finds.within
-          rule.machine.table inside is_word names);
-      lengths = lengths_stay heap state.words g now number book.made book.owner book.fragments n i cell word ids objects finds.way.below finds.way.kept sets finds.within;
+      ids = ids_set heap state.words g now number book.made book.owner book.fragments n i cell word ids objects finds.way.below finds.way.kept sets finds.field.within;
+      objects = subst (λ a. Objects heap (put heap state.words a word) now book.made book.owner book.fragments) (sym arrived)
+          (objects_set heap state.words g now number book.made book.owner book.fragments n i cell word ids objects finds.way.below finds.way.kept sets finds.field.within
+          rule.machine.table inside.0 is_word names);
+      lengths = lengths_stay heap state.words g now number book.made book.owner book.fragments n i cell word ids objects finds.way.below finds.way.kept sets finds.field.within;
       others = sets.others;
     }
     record {
@@ -166,12 +167,12 @@ swap_keeps heap state book number rule here place machine =
       registers = λ r. subst (λ (vs : List Value). HoldsValue book.made book.owner book.fragments (register_in seat.registers r) (get_or vs r values.Nil)) (sym sets.registers) (holds r);
     }
     (heap_swapped heap state book number rule here place cell.value cell.stamp (holds (source_of seat.command)) names.0 small word is_word)
-    (cycle_own heap (put heap state.words (Word seat.reached part) word) book.owner book.colour book.history (entries.Said number seat.command (replies.Was stamp)) refl number
+    (cycle_own heap (put heap state.words (Word seat.reached seat.part) word) book.owner book.colour book.history (entries.Said number seat.command (replies.Was stamp)) refl number
     (seat_after (swap_move number seat) found)
-    (cycle_apart heap state.words (put heap state.words (Word seat.reached part) word) book.owner book.owner book.colour book.colour (phase book.history) (last_answer number book.history) (has_left number book.history)
+    (cycle_apart heap state.words (put heap state.words (Word seat.reached seat.part) word) book.owner book.owner book.colour book.colour (phase book.history) (last_answer number book.history) (has_left number book.history)
     number seat (seat_after (swap_move number seat) found) record { answered = refl; left = refl; asked = sym silent.none_asked } tt
     (answer_swapped heap state book number rule here place cell.value cell.stamp (holds (source_of seat.command)) names.0 small word is_word number here) stands.cycle.births stands.cycle)
     refl (no_leave_told number number seat.command (replies.Was stamp) (λ leaves. subst IsSet leaves a_set)))
     (leaves_swapped heap state book number rule here place cell.value cell.stamp (holds (source_of seat.command)) names.0 small word is_word)
-    (marks_off_way heap state book rule number here (put heap state.words (Word seat.reached part) word) (with_entry book (entries.Said number seat.command (replies.Was stamp)))
+    (marks_off_way heap state book rule number here (put heap state.words (Word seat.reached seat.part) word) (with_entry book (entries.Said number seat.command (replies.Was stamp)))
     (seat_after (swap_move number seat) found) (leaves_swap heap state book number rule here place cell.value cell.stamp (holds (source_of seat.command)) names.0 small word is_word) refl refl tt)
