@@ -6,29 +6,39 @@ use Rattle.core_machine.specs.declared.collector.stage.Stage.TheVariants as stag
 use Rattle.core_rule.specs.Book.{Colour, White, Grey, Black, fragment_at}
 use Rattle.core_rule.specs.Colours.{IsMarked, WordPointsTo}
 use Rattle.core_rule.specs.Flight.{DeletionBarrier}
-use Rattle.core_rule.specs.Marking.{IsPart, MayMark, IsSeen, ComesAfter, ScanStands, PassStands, AfterMarking, MarkingStands}
-use Rattle.core_rule.specs.Owners.{Owner, Kept, Dead, born_bit}
+use Rattle.core_rule.specs.Marking.{IsPart, MayMark, IsSeen, ComesAfter, ScanStands, PassStands, AfterMarking, IsSettled, AreFreed, AreDead, AreCleared, SweepStands, MarkingStands}
+use Rattle.core_rule.specs.Owners.{Owner, Free, Taken, Borne, Kept, Dead, born_bit, dead_bit}
 use Rattle.core_rule.specs.Paths.{IsWhite, Edge, IsReached}
 use Rattle.core_rule.proofs.marking.Paths.{path_stays}
 use Rattle.core_rule.proofs.owners.OwnerLemmas.{born_once}
 
--- the born fragments have their colours, and stay born; what is kept stays so, and nothing more is to be freed; none that wasn't born is grey; and in
--- the phase of marking what is born now is black, and the words of born fragments lead where they led but for what is marked
-pub record LeavesMarking (heap : Heap) (words now : List ℕ) (owner later : ℕ → Owner) (colour coloured : ℕ → Colour) (fragments bodies : ℕ → List ℕ) (marks : Type 0) : Type 0 where
+-- the born fragments have their colours, and stay born; what is kept stays so, and nothing more is to be freed; none that wasn't born is grey; in the
+-- phase of marking the words of born fragments lead where they led but for what is marked; from then to the end of the sweep what is born now is black;
+-- and while marks are cleared what is white stays so
+pub record LeavesMarking (heap : Heap) (words now : List ℕ) (owner later : ℕ → Owner) (colour coloured : ℕ → Colour) (fragments bodies : ℕ → List ℕ) (marks settles clears : Type 0) : Type 0 where
   pub born : (f : ℕ) → born_bit (owner f) ≡ 1 → (born_bit (later f) ≡ 1) × (coloured f ≡ colour f)
   pub kept : (f i k : ℕ) → owner f ≡ Kept i k → (later f ≡ Kept i k) × (bodies i ≡ fragments i)
   pub dead : (f i k : ℕ) → owner f ≡ Dead i k → later f ≡ Dead i k
   pub was_dead : (f i k : ℕ) → later f ≡ Dead i k → owner f ≡ Dead i k
   pub fresh : (f : ℕ) → born_bit (owner f) ≡ 0 → coloured f ≢ Grey
-  pub dark : marks → (f : ℕ) → born_bit (owner f) ≡ 0 → born_bit (later f) ≡ 1 → coloured f ≡ Black
+  pub dark : settles → (f : ℕ) → born_bit (owner f) ≡ 0 → born_bit (later f) ≡ 1 → coloured f ≡ Black
+  pub light : clears → (f : ℕ) → colour f ≡ White → coloured f ≡ White
   pub back : marks → (f part g : ℕ) → born_bit (owner f) ≡ 1 → WordPointsTo heap now f part g → WordPointsTo heap words f part g ⊎ IsMarked coloured g
   pub on : marks → (f part g : ℕ) → born_bit (owner f) ≡ 1 → WordPointsTo heap words f part g → WordPointsTo heap now f part g ⊎ IsMarked colour g
 
 -- this is so at each stage of marking
 abbrev pub OnlyMarks : Type 0 → Stage → Type 0
-OnlyMarks marks stages.Looking = Unit {0}
-OnlyMarks marks stages.Advancing = Unit {0}
-OnlyMarks marks _ = marks
+OnlyMarks marks (stages.Passing group found) = marks
+OnlyMarks marks (stages.Scanning scan) = marks
+OnlyMarks marks (stages.Shading scan target next) = marks
+OnlyMarks marks (stages.Blackening scan) = marks
+OnlyMarks marks _ = Unit {0}
+
+-- and this while marks are cleared
+abbrev pub OnlyClears : Type 0 → Stage → Type 0
+OnlyClears clears (stages.Clearing group kept) = clears
+OnlyClears clears (stages.Ending kept) = clears
+OnlyClears clears _ = Unit {0}
 
 -- a fragment is born or not
 pub born_or_not : (o : Owner) → (born_bit o ≡ 0) ⊎ (born_bit o ≡ 1)
@@ -37,8 +47,8 @@ born_or_not o = by (born_bit o) (born_once o)
     by : (n : ℕ) → n ≤ 1 → (n ≡ 0) ⊎ (n ≡ 1)
     by n few = grind (arith, few)
 
-module _ (heap : Heap) (words now : List ℕ) (owner later : ℕ → Owner) (colour coloured : ℕ → Colour) (fragments bodies : ℕ → List ℕ) (marks : Type 0)
-    (leaves : LeavesMarking heap words now owner later colour coloured fragments bodies marks)
+module _ (heap : Heap) (words now : List ℕ) (owner later : ℕ → Owner) (colour coloured : ℕ → Colour) (fragments bodies : ℕ → List ℕ) (marks settles clears : Type 0)
+    (leaves : LeavesMarking heap words now owner later colour coloured fragments bodies marks settles clears)
     (marked_born : (f : ℕ) → IsMarked colour f → born_bit (owner f) ≡ 1) where
   same_colour : (f : ℕ) → born_bit (owner f) ≡ 1 → coloured f ≡ colour f
   same_colour f born = (leaves.born f born).1
@@ -119,16 +129,16 @@ module _ (heap : Heap) (words now : List ℕ) (owner later : ℕ → Owner) (col
           white_on (λ x g grey leads white. grey_on x grey) edge_on f path)
     ]
 
-    after_stays : AfterMarking owner colour → AfterMarking later coloured
-    after_stays after = record {
-      no_grey = λ f grey. after.no_grey f (grey_was f grey);
-      white_dead = λ f white. elim (born_or_not (owner f)) as (λ _. (i : ℕ) × (k : ℕ) × (later f ≡ Dead i k)) [
-        | inl unborn ↦ absurd (let dark = leaves.dark is_marking f unborn white.born in let light = white.unmarked in cc)
-        | inr born ↦ let was = after.white_dead f record { unmarked = sym (same_colour f born) ∙ white.unmarked; born = born } in
-            (was.0, was.1, leaves.dead f was.0 was.1 was.2)
-      ];
-      dead_white = λ f i k is. let was = leaves.was_dead f i k is in same_colour f (ap born_bit was) ∙ after.dead_white f i k was;
-    }
+  after_stays : settles → AfterMarking owner colour → AfterMarking later coloured
+  after_stays known after = record {
+    no_grey = λ f grey. after.no_grey f (grey_was f grey);
+    white_dead = λ f white. elim (born_or_not (owner f)) as (λ _. (i : ℕ) × (k : ℕ) × (later f ≡ Dead i k)) [
+      | inl unborn ↦ absurd (let dark = leaves.dark known f unborn white.born in let light = white.unmarked in cc)
+      | inr born ↦ let was = after.white_dead f record { unmarked = sym (same_colour f born) ∙ white.unmarked; born = born } in
+          (was.0, was.1, leaves.dead f was.0 was.1 was.2)
+    ];
+    dead_white = λ f i k is. let was = leaves.was_dead f i k is in same_colour f (ap born_bit was) ∙ after.dead_white f i k was;
+  }
 
   scan_stays : (stage : Stage) → OnlyMarks marks stage → ScanStands heap words owner colour fragments stage → ScanStands heap now later coloured bodies stage
   scan_stays (stages.Scanning scan) is stands = seen_on is scan.fragment scan.part stands
@@ -141,12 +151,55 @@ module _ (heap : Heap) (words now : List ℕ) (owner later : ℕ → Owner) (col
   pass_stays (stages.Passing group false) stands = λ f grey. let found = stands f (grey_was f grey) in (found.0, grey_on found.0 found.1, found.2)
   pass_stays _ stands = tt
 
+  freed_stays : (group : ℕ) → AreFreed owner group → AreFreed later group
+  freed_stays group freed f i k below is = freed f i k below (leaves.was_dead f i k is)
+
+  dead_same : (f : ℕ) → dead_bit (later f) ≡ dead_bit (owner f)
+  dead_same f = by (owner f) refl (later f) refl
+    where
+      by : (o : Owner) → owner f ≡ o → (n : Owner) → later f ≡ n → dead_bit n ≡ dead_bit o
+      by (Dead i k) is n now_is = ap dead_bit (sym now_is ∙ leaves.dead f i k is)
+      by o is (Dead i k) now_is = ap dead_bit (sym (leaves.was_dead f i k now_is) ∙ is)
+      by Free is Free now_is = refl
+      by Free is (Taken r) now_is = refl
+      by Free is (Borne r) now_is = refl
+      by Free is (Kept i k) now_is = refl
+      by (Taken q) is Free now_is = refl
+      by (Taken q) is (Taken r) now_is = refl
+      by (Taken q) is (Borne r) now_is = refl
+      by (Taken q) is (Kept i k) now_is = refl
+      by (Borne q) is Free now_is = refl
+      by (Borne q) is (Taken r) now_is = refl
+      by (Borne q) is (Borne r) now_is = refl
+      by (Borne q) is (Kept i k) now_is = refl
+      by (Kept j m) is Free now_is = refl
+      by (Kept j m) is (Taken r) now_is = refl
+      by (Kept j m) is (Borne r) now_is = refl
+      by (Kept j m) is (Kept i k) now_is = refl
+
+  dead_stays : (group bits : ℕ) → AreDead owner group bits → AreDead later group bits
+  dead_stays group bits are place below = are place below ∙ sym (dead_same (16 * group + place))
+
+  cleared_stays : clears → (group : ℕ) → AreCleared colour group → AreCleared coloured group
+  cleared_stays known group cleared f below = leaves.light known f (cleared f below)
+
+  sweep_stays : (phase : ℕ) (stage : Stage) → OnlyClears clears stage → SweepStands heap owner colour phase stage → SweepStands heap later coloured phase stage
+  sweep_stays phase (stages.Sweeping group) is stands = freed_stays group stands
+  sweep_stays phase (stages.Examining group dead place) is stands = (freed_stays group stands.0, dead_stays group dead stands.1)
+  sweep_stays phase (stages.Freeing group dead) is stands = (freed_stays group stands.0, dead_stays group dead stands.1)
+  sweep_stays phase (stages.Clearing group kept) is stands = cleared_stays is group stands
+  sweep_stays phase (stages.Ending kept) is stands = cleared_stays is heap.groups stands
+  sweep_stays phase stages.Advancing is stands = λ swept. freed_stays heap.groups (stands swept)
+  sweep_stays phase _ is stands = tt
+
   -- all of it stands as before
-  pub marking_stays : (stage : Stage) → OnlyMarks marks stage → MarkingStands heap words owner colour fragments stage → MarkingStands heap now later coloured bodies stage
-  marking_stays stage is stands = record {
+  pub marking_stays : (phase : ℕ) (stage : Stage) → OnlyMarks marks stage → OnlyClears clears stage → (IsSettled phase stage → settles)
+      → MarkingStands heap words owner colour fragments phase stage → MarkingStands heap now later coloured bodies phase stage
+  marking_stays phase stage is clear known stands = record {
     grey = λ f grey. part_on f (stands.grey f (grey_was f grey));
     scan = scan_stays stage is stands.scan;
     pass = pass_stays stage stands.pass;
+    sweep_stands = sweep_stays phase stage clear stands.sweep_stands;
     alive = λ goes_on f i k is_dead. stands.alive goes_on f i k (leaves.was_dead f i k is_dead);
-    after = λ ended. after_stays (subst (OnlyMarks marks) ended is) (stands.after ended);
+    after = λ settled. after_stays (known settled) (stands.after settled);
   }
