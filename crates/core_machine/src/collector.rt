@@ -1,6 +1,6 @@
-ghost use Rattle.std.specs.Prelude.{◌≡◌, ◌+◌, ◌-◌, ◌<◌, ◌≤◌, ◌^◌, length, OnOk, OnErr};
+ghost use Rattle.std.specs.Prelude.{◌≡◌, ◌+◌, ◌-◌, ◌<◌, ◌≤◌, ◌^◌, ◌++◌, [], ◌∷◌, length, OnOk, OnErr};
 ghost use Rattle.core_machine.specs.declared.step.Step.TheVariants.{Turning as Turns};
-ghost use Rattle.core_machine.specs.collector.Collector.{opening_collector, next_turn, collector_after, has_answered_of, advance_turn, look_answer, after_look, after_counted_look};
+ghost use Rattle.core_machine.specs.collector.Collector.{opening_collector, next_turn, collector_after, has_answered_of, first_work as first_work_of, after_advance, advance_turn, free_turn, end_turn, look_answer, after_look, after_counted_look};
 ghost use Rattle.core_machine.specs.seat.Fits.{CollectorFits};
 ghost use Rattle.core_machine.specs.table.Decode.{FoundPointsWithin};
 ghost use Rattle.core_machine.specs.table.Operation.{address_of};
@@ -8,10 +8,11 @@ ghost use Rattle.heap_model.specs.Heap.{IsHeap};
 
 use crate::collector::marking::pass_on;
 use crate::collector::stage::{Scan, Stage};
+use crate::collector::sweeping::{cleared, examine_from, sweep_on, swept};
 use crate::log::Log;
 use crate::step::TurningStep;
 use heap_model::limits::GROUP_FRAGMENTS;
-use heap_model::phase_plan::{CYCLE_PHASES, MARKING};
+use heap_model::phase_plan::{CLEARING, CYCLE_PHASES, MARKING, SWEEP};
 use heap_model::{Entry, Heap, Memory, Turn};
 use heap_words::LEFT;
 use std::alloc::Global;
@@ -19,6 +20,7 @@ use std::marker::Model;
 
 pub(crate) mod marking;
 pub(crate) mod stage;
+pub(crate) mod sweeping;
 
 /// What is kept of the collector: the phase, how far its turns are in it, and its entries.
 #[derive(Drop)]
@@ -70,7 +72,8 @@ impl CollectorParty {
 
     /// The step of its next turn.
     pub fn due(&self, heap: &Heap) -> TurningStep
-        requires { self.now.collector.phase < 2 ^ 64 - 1 }
+        requires limits { IsHeap heap.now }
+        requires fits { CollectorFits heap.now self.now.collector }
         ensures { Turns result ≡ (next_turn heap.now self.now.collector).step }
     {
         match self.stage {
@@ -81,7 +84,15 @@ impl CollectorParty {
             }
             Stage::Shading { target, .. } => TurningStep::MarkShade { fragment: target },
             Stage::Blackening(Scan { fragment, .. }) => TurningStep::Blacken { fragment },
-            Stage::Marked => TurningStep::GroupLoad { group: 0 },
+            Stage::Sweeping { group } => TurningStep::GroupLoad { group },
+            Stage::Examining { group, place, .. } => TurningStep::MetaLoad {
+                fragment: GROUP_FRAGMENTS * group + u16::from(place),
+            },
+            Stage::Freeing { group, dead } => TurningStep::Free { group, bits: dead },
+            Stage::Clearing { group, .. } => TurningStep::Clear { group },
+            Stage::Ending { .. } => TurningStep::EndAdvance {
+                phase: self.phase + 1,
+            },
             Stage::Advancing => TurningStep::AdvanceStore {
                 phase: self.phase + 1,
             },
@@ -124,27 +135,71 @@ impl CollectorParty {
         if self.looked < seats {
             return;
         }
-        if self.phase % CYCLE_PHASES == MARKING {
-            self.stage = Stage::Passing {
+        self.stage = self.first_work();
+    }
+
+    /// What the phase is for begins; where there is nothing to do the next phase does.
+    fn first_work(&self) -> Stage
+        ensures { result ≡ first_work_of self.now.collector.phase }
+    {
+        match self.phase % CYCLE_PHASES {
+            MARKING => Stage::Passing {
                 group: 0,
                 found: false,
-            };
-        } else {
-            self.stage = Stage::Advancing;
+            },
+            SWEEP => Stage::Sweeping { group: 0 },
+            CLEARING => Stage::Clearing { group: 0, kept: 0 },
+            _ => Stage::Advancing,
         }
     }
 
-    /// The next phase has begun.
-    fn advance(&mut self)
+    /// The next phase begins, and this entry tells of it.
+    fn begin_phase(&mut self, entry: Entry)
         requires may { self.old.collector.phase < 2 ^ 64 - 2 }
         requires spare { 0 < self.old.spare }
-        ensures collector { self.new.collector ≡ collector_after (advance_turn self.old.collector) 0 }
+        ensures collector { self.new.collector ≡ record (after_advance self.old.collector) { log = self.old.collector.log ++ entry ∷ [] } }
         ensures spare { self.old.spare ≤ self.new.spare + 1 }
     {
         self.phase += 1;
         self.stage = Stage::Looking;
         self.looked = 0;
-        self.log.push(Entry::Advance(self.phase));
+        self.log.push(entry);
+    }
+
+    /// The group's dead fragments are freed.
+    fn free(&mut self, heap: &Heap, group: u16, dead: u16)
+        requires group { group < heap.now.groups }
+        requires spare { 0 < self.old.spare }
+        ensures collector { self.new.collector ≡ collector_after (free_turn heap.now self.old.collector group dead) 0 }
+        ensures spare { self.old.spare ≤ self.new.spare + 1 }
+    {
+        self.stage = sweep_on(heap, group);
+        self.log.push(Entry::Frees(dead.count_ones()));
+    }
+
+    /// The next phase of the cycle begins.
+    fn advance(&mut self) -> Turn
+        requires may { self.old.collector.phase < 2 ^ 64 - 2 }
+        requires spare { 0 < self.old.spare }
+        ensures collector { self.new.collector ≡ collector_after (advance_turn self.old.collector) 0 }
+        ensures answer { result ≡ (advance_turn self.old.collector).answer 0 }
+        ensures spare { self.old.spare ≤ self.new.spare + 1 }
+    {
+        self.begin_phase(Entry::Advance(self.phase + 1));
+        Turn::Stepped
+    }
+
+    /// The cycle ends.
+    fn end(&mut self, kept: u64) -> Turn
+        requires may { self.old.collector.phase < 2 ^ 64 - 2 }
+        requires spare { 0 < self.old.spare }
+        ensures collector { self.new.collector ≡ collector_after (end_turn self.old.collector kept) 0 }
+        ensures answer { result ≡ (end_turn self.old.collector kept).answer 0 }
+        ensures spare { self.old.spare ≤ self.new.spare + 1 }
+    {
+        let cycle = self.phase / CYCLE_PHASES;
+        self.begin_phase(Entry::Ends { cycle, kept });
+        Turn::Ended { cycle, kept }
     }
 
     /// Learns the word that its turn found. Each phase has an entry, so there is always a number left for the next one.
@@ -166,14 +221,15 @@ impl CollectorParty {
             }
             Stage::Scanning(scan) => self.stage = scan.seen(found),
             Stage::Shading { scan, next, .. } => self.stage = scan.shaded(next),
-            Stage::Blackening(Scan { fragment, .. }) => {
-                self.stage = Stage::Passing {
-                    group: fragment / GROUP_FRAGMENTS,
-                    found: true,
-                };
+            Stage::Blackening(scan) => self.stage = scan.done(),
+            Stage::Sweeping { group } => self.stage = swept(heap, group, found),
+            Stage::Examining { group, dead, place } => {
+                self.stage = examine_from(heap, group, dead, place + 1);
             }
-            Stage::Marked => (),
-            Stage::Advancing => self.advance(),
+            Stage::Freeing { group, dead } => self.free(heap, group, dead),
+            Stage::Clearing { group, kept } => self.stage = cleared(heap, group, kept, found),
+            Stage::Ending { kept } => return self.end(kept),
+            Stage::Advancing => return self.advance(),
         }
         Turn::Stepped
     }

@@ -4,7 +4,9 @@ ghost use Rattle.core_machine.specs.table.Operation.{address_of, operation_of, m
 use crate::step::operation::Operation;
 use crate::table::address::Address;
 use heap_model::limits::GROUP_FRAGMENTS;
-use heap_words::{ALL_TAKEN, LEFT, all_but, birth_bits, blacken_bit, shade_bit};
+use heap_words::{
+    ALL_TAKEN, LEFT, MARKS_CLEARED, all_but, birth_bits, blacken_bit, free_mask, shade_bit,
+};
 
 pub(crate) mod operation;
 
@@ -79,6 +81,14 @@ pub enum TurningStep {
     MarkShade { fragment: u16 },
     /// A fragment is told to be scanned.
     Blacken { fragment: u16 },
+    /// The first word of a dead fragment is loaded.
+    MetaLoad { fragment: u16 },
+    /// These fragments are taken no longer, nor part of an object. Bit `j` of `bits` is fragment `j` of the group.
+    Free { group: u16, bits: u16 },
+    /// No fragment of the group is marked any longer, nor scanned.
+    Clear { group: u16 },
+    /// The cycle ends: the phase after it begins.
+    EndAdvance { phase: u64 },
 }
 
 impl Step {
@@ -194,12 +204,15 @@ impl TurningStep {
     {
         match *self {
             TurningStep::LookLoad { seat } => Address::Answer(seat),
-            TurningStep::AdvanceStore { .. } => Address::Phase,
-            TurningStep::GroupLoad { group } => Address::Control(group),
+            TurningStep::AdvanceStore { .. } | TurningStep::EndAdvance { .. } => Address::Phase,
+            TurningStep::GroupLoad { group }
+            | TurningStep::Free { group, .. }
+            | TurningStep::Clear { group } => Address::Control(group),
             TurningStep::ScanLoad { fragment, part } => Address::Word { fragment, part },
             TurningStep::MarkShade { fragment } | TurningStep::Blacken { fragment } => {
                 Address::Control(fragment / GROUP_FRAGMENTS)
             }
+            TurningStep::MetaLoad { fragment } => Address::Word { fragment, part: 0 },
         }
     }
 
@@ -209,10 +222,15 @@ impl TurningStep {
         match *self {
             TurningStep::LookLoad { .. }
             | TurningStep::GroupLoad { .. }
-            | TurningStep::ScanLoad { .. } => Operation::Load,
-            TurningStep::AdvanceStore { phase } => Operation::Store(phase),
+            | TurningStep::ScanLoad { .. }
+            | TurningStep::MetaLoad { .. } => Operation::Load,
+            TurningStep::AdvanceStore { phase } | TurningStep::EndAdvance { phase } => {
+                Operation::Store(phase)
+            }
             TurningStep::MarkShade { fragment } => Operation::Or(shade_bit(fragment)),
             TurningStep::Blacken { fragment } => Operation::Or(blacken_bit(fragment)),
+            TurningStep::Free { bits, .. } => Operation::And(free_mask(bits)),
+            TurningStep::Clear { .. } => Operation::And(MARKS_CLEARED),
         }
     }
 }

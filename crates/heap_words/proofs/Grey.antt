@@ -1,30 +1,13 @@
 -- The lowest grey fragment of a group.
 use Rattle.std.proofs.Common.{zero, suc, ◌≡◌, ℕ, ◌+◌, ◌-◌, ◌*◌, ◌/◌, ◌%◌, ◌^◌, ◌<◌, ◌≤◌, Bool, true, false, cond, eqb, min, Some, None, refl, sym, ap, subst, ◌∙◌, inl, inr, bit_and, w16, arith}
 use Rattle.std.specs.Int.{bit_at, trailing_zeros}
-use Rattle.std.specs.List.{find, range_with_len}
-use Rattle.std.proofs.lemmas.Bool.Decides.{eqb_tells}
 use Rattle.std.proofs.lemmas.Nat.{shr-shr, and_le_l}
 use Rattle.std.proofs.lemmas.Nat.Bits.{bit_at_and, bit_at_not, bit_at-lt, bit_at-zero, bit_at_cat_low, bit_at-trailing_zeros}
 use Rattle.heap_words.specs.Control.{is_grey, lowest_grey_of}
-
--- the first number from a on that passes
-find_first : (p : ℕ → Bool) (a n t : ℕ) → a ≤ t → t < a + n → p t ≡ true → ((i : ℕ) → a ≤ i → i < t → p i ≡ false) → find p (range_with_len a n) ≡ Some t
-find_first p a zero t from below passes none = absurd (omega arith)
-find_first p a (suc n) t from below passes none =
-    elim (eqb_tells a t) as (λ _. find p (range_with_len a (suc n)) ≡ Some t) [
-      | inl here ↦ let yes_ : p a ≡ true = subst (λ i. p i ≡ true) (sym here.1) passes in rw yes_ (ap (λ i. Some i) here.1)
-      | inr there ↦
-          let no_ : p a ≡ false = none a (omega arith) (omega (arith, there.1)) in
-          rw no_ (find_first p (a + 1) n t (omega (arith, there.1)) (omega arith) passes (λ i l. none i (omega arith)))
-    ]
-
--- none of the numbers passes
-find_none : (p : ℕ → Bool) (a n : ℕ) → ((i : ℕ) → a ≤ i → i < a + n → p i ≡ false) → find p (range_with_len a n) ≡ None
-find_none p a zero none = refl
-find_none p a (suc n) none = let no_ : p a ≡ false = none a (omega arith) (omega arith) in rw no_ (find_none p (a + 1) n (λ i l u. none i (omega arith) (omega arith)))
+use Rattle.heap_words.proofs.Finding.{find_first, find_none}
 
 -- a bit of a word's part
-part_bit : (word from i : ℕ) → i < 16 → bit_at (word / 2 ^ from % 2 ^ 16) i ≡ bit_at word (from + i)
+pub part_bit : (word from i : ℕ) → i < 16 → bit_at (word / 2 ^ from % 2 ^ 16) i ≡ bit_at word (from + i)
 part_bit word from i within =
     let whole : word / 2 ^ from ≡ word / 2 ^ from / 2 ^ 16 * 2 ^ 16 + word / 2 ^ from % 2 ^ 16 = omega arith in
     sym (bit_at_cat_low (word / 2 ^ from / 2 ^ 16) 16 (word / 2 ^ from % 2 ^ 16) i within)

@@ -1,4 +1,4 @@
-use Rattle.std.specs.Prelude.{ℕ, ◌+◌, ◌-◌, ◌*◌, ◌%◌, ◌^◌, ◌==◌, Bool, true, false, if◌then◌else◌, Option, bit_and}
+use Rattle.std.specs.Prelude.{ℕ, ◌+◌, ◌-◌, ◌*◌, ◌/◌, ◌%◌, ◌^◌, ◌==◌, Bool, true, false, if◌then◌else◌, Option, bit_and, count_ones}
 use Rattle.std.specs.Int.{bit_at}
 use Rattle.std.specs.List.{find, range_with_len}
 
@@ -42,3 +42,23 @@ is_grey word fragment = if bit_at word (32 + fragment % 16) == 1 then bit_at wor
 -- the lowest of a group's sixteen places whose fragment is grey, if one is
 abbrev pub lowest_grey_of : ℕ → Option ℕ
 lowest_grey_of word = find (is_grey word) (range_with_len 0 16)
+
+-- all bits of a word but the taken and the born ones of these fragments
+abbrev pub free_mask_of : ℕ → ℕ
+free_mask_of bits = 2 ^ 64 - 1 - (bits * 2 ^ 16 + bits)
+
+-- all bits of a word but the marked and the scanned ones
+abbrev pub marks_cleared : ℕ
+marks_cleared = 2 ^ 32 - 1
+
+-- how many fragments of a group are taken
+abbrev pub taken_count_of : ℕ → ℕ
+taken_count_of word = count_ones (word % 2 ^ 16)
+
+-- the fragments of a group that are born and not marked, each by its place
+abbrev pub dead_bits_of : ℕ → ℕ
+dead_bits_of word = bit_and (word / 2 ^ 16 % 2 ^ 16) (2 ^ 16 - 1 - word / 2 ^ 32 % 2 ^ 16)
+
+-- the first of the sixteen places from this one on whose bit is set, if one is
+abbrev pub next_place_of : ℕ → ℕ → Option ℕ
+next_place_of bits from = find (λ place. bit_at bits place == 1) (range_with_len from (16 - from))

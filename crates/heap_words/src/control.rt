@@ -1,10 +1,13 @@
 ghost use Rattle.std.specs.Prelude.{◌≡◌};
-ghost use Rattle.heap_words.specs.Control.{place_bit_of, is_clear as is_clear_in, all_but_of, birth_bits_of, shade_bit_of, blacken_bit_of, lowest_grey_of};
+ghost use Rattle.heap_words.specs.Control.{place_bit_of, is_clear as is_clear_in, all_but_of, birth_bits_of, shade_bit_of, blacken_bit_of, lowest_grey_of, free_mask_of, dead_bits_of, next_place_of, taken_count_of};
 
 use crate::group::Group;
 
 /// The taken bits of all sixteen fragments of a group.
 pub const ALL_TAKEN: u64 = 0xffff;
+
+/// All bits of a control word but the marked and the scanned ones.
+pub const MARKS_CLEARED: u64 = 0xffff_ffff;
 
 /// The bit of a fragment among the sixteen of its group.
 #[tactic(auto, using(crate::proofs::Fields::place_shift))]
@@ -65,4 +68,41 @@ pub fn lowest_grey(word: u64) -> Option<u16>
         return None;
     }
     Some(grey.trailing_zeros() as u16)
+}
+
+/// All bits of a control word but the taken and the born ones of these fragments.
+pub fn free_mask(bits: u16) -> u64
+    ensures { result ≡ free_mask_of bits }
+{
+    let taken = u64::from(bits);
+    !((taken << 16) + taken)
+}
+
+/// How many fragments of the group are taken.
+pub fn taken_count(word: u64) -> u32
+    ensures { result ≡ taken_count_of word }
+{
+    Group::read(word).taken.count_ones()
+}
+
+/// The fragments of a group that are born and not marked, each by its place.
+pub fn dead_bits(word: u64) -> u16
+    ensures { result ≡ dead_bits_of word }
+{
+    let group = Group::read(word);
+    group.born & !group.marked
+}
+
+/// The first place from this one on whose bit is set.
+pub fn next_place(bits: u16, from: u8) -> Option<u8>
+    ensures { result ≡ next_place_of bits from }
+{
+    if from >= 16 {
+        return None;
+    }
+    let rest = bits >> from;
+    if rest == 0 {
+        return None;
+    }
+    Some(from + rest.trailing_zeros() as u8)
 }

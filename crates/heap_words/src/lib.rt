@@ -15,7 +15,8 @@ mod tests;
 
 pub use cell::Cell;
 pub use control::{
-    ALL_TAKEN, all_but, birth_bits, blacken_bit, is_clear, lowest_grey, place_bit, shade_bit,
+    ALL_TAKEN, MARKS_CLEARED, all_but, birth_bits, blacken_bit, dead_bits, free_mask, is_clear,
+    lowest_grey, next_place, place_bit, shade_bit, taken_count,
 };
 pub use group::Group;
 pub use kind::Kind;

@@ -1,17 +1,18 @@
 -- What is true of the collector's own data.
 use Rattle.std.specs.Prelude.{ℕ, ◌≡◌, ◌≢◌, ◌+◌, ◌-◌, ◌*◌, ◌%◌, ◌<◌, ◌≤◌, ◌^◌, length}
+use Rattle.std.specs.Int.{bit_at}
 use Rattle.heap_model.specs.declared.heap.Heap.{Heap}
 use Rattle.heap_model.specs.Limits.{group_fragments}
-use Rattle.heap_model.specs.PhasePlan.{cycle_phases, marking}
+use Rattle.heap_model.specs.PhasePlan.{cycle_phases, marking, sweep, clearing}
 use Rattle.core_machine.specs.collector.Collector.{Collector}
 use Rattle.core_machine.specs.declared.collector.stage.Scan.{Scan}
 use Rattle.core_machine.specs.declared.collector.stage.Stage.{Stage}
 use Rattle.core_machine.specs.declared.collector.stage.Stage.TheVariants as stages
 
--- every seat has answered, and the phase isn't one in which marking is to be done
+-- every seat has answered, and the phase isn't the last one of a cycle
 pub record HasLooked (seats phase looked : ℕ) : Type 0 where
   pub all : looked ≡ seats
-  pub goes_on : phase % cycle_phases ≢ marking
+  pub goes_on : phase % cycle_phases ≢ clearing
 
 -- every seat has answered, and marking is what this phase is for
 pub record IsMarking (seats phase looked : ℕ) : Type 0 where
@@ -46,6 +47,38 @@ pub record IsBlackening (heap : Heap) (phase looked : ℕ) (scan : Scan) : Type 
   pub fragment_within : scan.fragment < group_fragments * heap.groups
   pub few_steps : scan.steps ≤ 8
 
+-- the sweep stands before a group of the heap
+pub record IsSweeping (heap : Heap) (phase looked group : ℕ) : Type 0 where
+  pub all : looked ≡ heap.seats
+  pub for_sweep : phase % cycle_phases ≡ sweep
+  pub group_within : group < heap.groups
+
+-- the sweep stands before a dead fragment of a group
+pub record IsExamining (heap : Heap) (phase looked group dead place : ℕ) : Type 0 where
+  pub sweeps : IsSweeping heap phase looked group
+  pub dead_within : dead < 2 ^ 16
+  pub place_within : place < 16
+  pub is_dead : bit_at dead place ≡ 1
+
+-- the sweep has looked at a group's dead fragments, of which there are some
+pub record IsFreeing (heap : Heap) (phase looked group dead : ℕ) : Type 0 where
+  pub sweeps : IsSweeping heap phase looked group
+  pub dead_within : dead < 2 ^ 16
+  pub some_dead : dead ≢ 0
+
+-- the clearing stands before a group of the heap, and has counted no more fragments than those before it have
+pub record IsClearing (heap : Heap) (phase looked group kept : ℕ) : Type 0 where
+  pub all : looked ≡ heap.seats
+  pub for_clearing : phase % cycle_phases ≡ clearing
+  pub group_within : group < heap.groups
+  pub kept_within : kept ≤ group_fragments * group
+
+-- every group is cleared, and no more fragments than the heap has were counted
+pub record IsEnding (heap : Heap) (phase looked kept : ℕ) : Type 0 where
+  pub all : looked ≡ heap.seats
+  pub for_clearing : phase % cycle_phases ≡ clearing
+  pub kept_within : kept ≤ group_fragments * heap.groups
+
 -- while it looks it stands before a seat of the heap; at every other stage it has looked
 abbrev pub FitsStage : Heap → ℕ → ℕ → Stage → Type 0
 FitsStage heap phase looked stages.Looking = looked < heap.seats
@@ -53,7 +86,11 @@ FitsStage heap phase looked (stages.Passing group found) = IsPassing heap phase 
 FitsStage heap phase looked (stages.Scanning scan) = IsScanning heap phase looked scan
 FitsStage heap phase looked (stages.Shading scan target next) = IsShading heap phase looked scan target next
 FitsStage heap phase looked (stages.Blackening scan) = IsBlackening heap phase looked scan
-FitsStage heap phase looked stages.Marked = IsMarking heap.seats phase looked
+FitsStage heap phase looked (stages.Sweeping group) = IsSweeping heap phase looked group
+FitsStage heap phase looked (stages.Examining group dead place) = IsExamining heap phase looked group dead place
+FitsStage heap phase looked (stages.Freeing group dead) = IsFreeing heap phase looked group dead
+FitsStage heap phase looked (stages.Clearing group kept) = IsClearing heap phase looked group kept
+FitsStage heap phase looked (stages.Ending kept) = IsEnding heap phase looked kept
 FitsStage heap phase looked stages.Advancing = HasLooked heap.seats phase looked
 
 -- the collector's own data fit together

@@ -8,10 +8,10 @@ use Rattle.core_machine.specs.declared.collector.stage.Stage.TheVariants as stag
 use Rattle.core_machine.specs.table.Decode.{is_meta}
 pub use Rattle.heap_words.specs.Control.{lowest_grey_of}
 
--- how a pass that has seen the last group goes on: where it found something another one begins, else marking has ended
+-- how a pass that has seen the last group goes on: where it found something another one begins, else marking has ended and so the phase is done
 abbrev pub after_last_group : Bool → Stage
 after_last_group true = stages.Passing 0 false
-after_last_group false = stages.Marked
+after_last_group false = stages.Advancing
 
 -- the next group's turn comes
 abbrev pub after_group : Heap → ℕ → Bool → Stage

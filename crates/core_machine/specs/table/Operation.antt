@@ -1,7 +1,7 @@
 -- Which word each step touches, and what it does with it.
 use Rattle.std.specs.Prelude.{ℕ, ◌/◌, bit_and, bit_or}
 use Rattle.heap_words.specs.declared.phase.TheConstants.{LEFT}
-pub use Rattle.heap_words.specs.Control.{all_taken, all_but_of, word_without_taken, birth_bits_of, shade_bit_of, blacken_bit_of}
+pub use Rattle.heap_words.specs.Control.{all_taken, all_but_of, word_without_taken, birth_bits_of, shade_bit_of, blacken_bit_of, free_mask_of, marks_cleared}
 use Rattle.heap_model.specs.Limits.{group_fragments}
 use Rattle.core_machine.specs.declared.table.address.Address.{Address}
 use Rattle.core_machine.specs.declared.table.address.Address.TheVariants as addresses
@@ -48,6 +48,10 @@ turning_address (turning.GroupLoad group) = addresses.Control group
 turning_address (turning.ScanLoad fragment part) = addresses.Word fragment part
 turning_address (turning.MarkShade fragment) = addresses.Control (fragment / group_fragments)
 turning_address (turning.Blacken fragment) = addresses.Control (fragment / group_fragments)
+turning_address (turning.MetaLoad fragment) = addresses.Word fragment 0
+turning_address (turning.Free group bits) = addresses.Control group
+turning_address (turning.Clear group) = addresses.Control group
+turning_address (turning.EndAdvance phase) = addresses.Phase
 
 -- the word that a step touches
 abbrev pub address_of : Step → Address
@@ -87,6 +91,10 @@ turning_operation (turning.GroupLoad group) = Load
 turning_operation (turning.ScanLoad fragment part) = Load
 turning_operation (turning.MarkShade fragment) = Or (shade_bit_of fragment)
 turning_operation (turning.Blacken fragment) = Or (blacken_bit_of fragment)
+turning_operation (turning.MetaLoad fragment) = Load
+turning_operation (turning.Free group bits) = And (free_mask_of bits)
+turning_operation (turning.Clear group) = And marks_cleared
+turning_operation (turning.EndAdvance phase) = Store phase
 
 -- what a step does with its word
 abbrev pub operation_of : Step → Operation

@@ -1,7 +1,9 @@
-ghost use Rattle.std.specs.Prelude.{◌≡◌, ◌+◌, ◌*◌, ◌<◌, ◌≤◌, ◌^◌, IfSome};
+ghost use Rattle.std.specs.Prelude.{◌≡◌, ◌+◌, ◌*◌, ◌/◌, ◌<◌, ◌≤◌, ◌^◌, IfSome, true};
 ghost use Rattle.heap_model.specs.Heap.{IsHeap};
 ghost use Rattle.core_machine.specs.collector.Marking.{lowest_grey_of, after_last_group, after_group, after_pass, part_after, scan_step, scan_at, after_scan_load};
 ghost use Rattle.core_machine.specs.table.Decode.{pointer_in};
+ghost use Rattle.core_machine.specs.declared.collector.stage.Stage.TheVariants.{Passing};
+ghost use Rattle.heap_model.specs.Limits.{group_fragments};
 
 use crate::collector::stage::{Scan, Stage};
 use crate::table::decode::{is_meta, lead_in};
@@ -9,7 +11,7 @@ use heap_model::Heap;
 use heap_model::limits::GROUP_FRAGMENTS;
 use heap_words::lowest_grey;
 
-/// A pass has seen the last group: another one begins where it found something.
+/// A pass has seen the last group: another one begins where it found something, else the phase is done.
 fn next_pass(found: bool) -> Stage
     ensures { result ≡ after_last_group found }
 {
@@ -19,7 +21,7 @@ fn next_pass(found: bool) -> Stage
             found: false,
         }
     } else {
-        Stage::Marked
+        Stage::Advancing
     }
 }
 
@@ -116,5 +118,15 @@ impl Scan {
         ensures { result ≡ scan_at (scan_step self.now) next }
     {
         self.stepped().at(next)
+    }
+
+    /// All its words were seen to: its group's turn comes again.
+    pub fn done(&self) -> Stage
+        ensures { result ≡ Passing (self.now.fragment / group_fragments) true }
+    {
+        Stage::Passing {
+            group: self.fragment / GROUP_FRAGMENTS,
+            found: true,
+        }
     }
 }

@@ -22,8 +22,16 @@ pub enum Stage {
     Shading { scan: Scan, target: u16, next: u8 },
     /// All words of the fragment are seen to: it is told to be scanned.
     Blackening(Scan),
-    /// Marking has ended: nothing is left to do.
-    Marked,
+    /// A group's control word is loaded for what is dead in it.
+    Sweeping { group: u16 },
+    /// The first word of a dead fragment of the group is loaded.
+    Examining { group: u16, dead: u16, place: u8 },
+    /// The group's dead fragments are freed.
+    Freeing { group: u16, dead: u16 },
+    /// A group's marks are cleared; so many fragments were taken in the groups before it.
+    Clearing { group: u16, kept: u64 },
+    /// All groups are cleared: the cycle ends.
+    Ending { kept: u64 },
     /// Every seat has answered, and the phase's work is done: the next phase begins.
     Advancing,
 }

@@ -1,0 +1,49 @@
+-- The turns of the sweep and of the clearing, by which a cycle ends.
+use Rattle.std.specs.Prelude.{ℕ, ◌+◌, ◌-◌, ◌*◌, ◌/◌, ◌<◌, ◌^◌, [], ◌∷◌, count_ones}
+use Rattle.heap_model.specs.declared.calls.collector_calls.Turn.TheVariants.{Stepped, Ended}
+use Rattle.heap_model.specs.declared.entry.Entry.TheVariants.{Frees, Ends}
+use Rattle.heap_model.specs.declared.heap.Heap.{Heap}
+use Rattle.heap_model.specs.Limits.{group_fragments}
+use Rattle.heap_model.specs.PhasePlan.{cycle_phases}
+use Rattle.core_machine.specs.declared.collector.stage.Stage.TheVariants as stages
+use Rattle.core_machine.specs.declared.step.Step.TheVariants.{Turning}
+use Rattle.core_machine.specs.declared.step.TurningStep.TheVariants as turning
+use Rattle.core_machine.specs.collector.Sweeping.{dead_bits_of, next_place_of, taken_count_of, after_swept, after_examined, after_cleared}
+use Rattle.core_machine.specs.collector.Turn.{Collector, Turn, after_advance, work_turn}
+
+-- a group's control word is loaded for what is dead in it
+abbrev pub sweep_turn : Heap → Collector → ℕ → Turn
+sweep_turn heap collector group =
+    work_turn (turning.GroupLoad group)
+    (λ word. record collector { stage = after_examined heap group (dead_bits_of word) (next_place_of (dead_bits_of word) 0) })
+
+-- the first word of a dead fragment is loaded: whatever it is, the next one's turn comes
+abbrev pub examine_turn : Heap → Collector → ℕ → ℕ → ℕ → Turn
+examine_turn heap collector group dead place =
+    work_turn (turning.MetaLoad (group_fragments * group + place))
+    (λ word. record collector { stage = after_examined heap group dead (next_place_of dead (place + 1)) })
+
+-- the group's dead fragments are freed
+abbrev pub free_turn : Heap → Collector → ℕ → ℕ → Turn
+free_turn heap collector group dead = record {
+  step = Turning (turning.Free group dead);
+  told = λ word. record collector { stage = after_swept heap group };
+  adds = Frees (count_ones dead) ∷ [];
+  answer = λ word. Stepped;
+  may = Unit {0};
+}
+
+-- a group's marks are cleared, and its taken fragments are counted in the word as it was found
+abbrev pub clear_turn : Heap → Collector → ℕ → ℕ → Turn
+clear_turn heap collector group kept =
+    work_turn (turning.Clear group) (λ word. record collector { stage = after_cleared heap group (kept + taken_count_of word) })
+
+-- the cycle ends; below the last two numbers of a word there is one left for the next phase
+abbrev pub end_turn : Collector → ℕ → Turn
+end_turn collector kept = record {
+  step = Turning (turning.EndAdvance (collector.phase + 1));
+  told = λ word. after_advance collector;
+  adds = Ends (collector.phase / cycle_phases) kept ∷ [];
+  answer = λ word. Ended (collector.phase / cycle_phases) kept;
+  may = collector.phase < 2 ^ 64 - 2;
+}

@@ -1,0 +1,63 @@
+ghost use Rattle.std.specs.Prelude.{◌≡◌, ◌+◌, ◌*◌, ◌<◌, ◌≤◌, ◌^◌};
+ghost use Rattle.heap_model.specs.Heap.{IsHeap};
+ghost use Rattle.heap_model.specs.Limits.{group_fragments};
+ghost use Rattle.core_machine.specs.collector.Sweeping.{dead_bits_of, next_place_of, taken_count_of, after_swept, after_examined, after_cleared};
+
+use crate::collector::stage::Stage;
+use heap_model::Heap;
+use heap_words::{dead_bits, next_place, taken_count};
+
+/// The group is swept: the next group's turn comes, and behind the last one the phase is done.
+pub fn sweep_on(heap: &Heap, group: u16) -> Stage
+    requires { group < heap.now.groups }
+    ensures { result ≡ after_swept heap.now group }
+{
+    let groups = heap.groups;
+    if group + 1 < groups {
+        Stage::Sweeping { group: group + 1 }
+    } else {
+        Stage::Advancing
+    }
+}
+
+/// The first dead fragment from this place on is looked at; where there is none the dead ones are freed.
+pub fn examine_from(heap: &Heap, group: u16, dead: u16, from: u8) -> Stage
+    requires { group < heap.now.groups }
+    ensures { result ≡ after_examined heap.now group dead (next_place_of dead from) }
+{
+    if let Some(place) = next_place(dead, from) {
+        return Stage::Examining { group, dead, place };
+    }
+    if dead == 0 {
+        return sweep_on(heap, group);
+    }
+    Stage::Freeing { group, dead }
+}
+
+/// The group has this control word: its dead fragments are looked at first.
+pub fn swept(heap: &Heap, group: u16, word: u64) -> Stage
+    requires { group < heap.now.groups }
+    ensures { result ≡ after_examined heap.now group (dead_bits_of word) (next_place_of (dead_bits_of word) 0) }
+{
+    examine_from(heap, group, dead_bits(word), 0)
+}
+
+/// The marks of the group that had this control word are cleared: the next group's turn comes, and behind the last one
+/// the cycle ends.
+pub fn cleared(heap: &Heap, group: u16, kept: u64, word: u64) -> Stage
+    requires limits { IsHeap heap.now }
+    requires group { group < heap.now.groups }
+    requires kept { kept ≤ group_fragments * group }
+    ensures { result ≡ after_cleared heap.now group (kept + taken_count_of word) }
+{
+    let groups = heap.groups;
+    let kept = kept + u64::from(taken_count(word));
+    if group + 1 < groups {
+        Stage::Clearing {
+            group: group + 1,
+            kept,
+        }
+    } else {
+        Stage::Ending { kept }
+    }
+}
