@@ -26,7 +26,6 @@ module _ (heap : Heap) (words : List ℕ) (number n : ℕ) (small : number < 16)
       → HeapInCycle heap words phase owner colour fragments → HeapInCycle heap now phase owner colour fragments
   heap_cycle_answer phase owner colour fragments cycle = record {
     word = at-put_apart heap words (Answer number) Phase n (λ e. omega (arith, e)) ∙ cycle.word;
-    so_far = cycle.so_far;
     marks = marks_same heap words now colour fragments_answer.controls cycle.marks;
     coloured = coloured_stays heap words now owner owner colour fragments phase
         (λ marking f part x born leads. inl (leads_same heap words now f part x (fragments_answer.parts f part) leads)) (λ f marked born. born) (λ f i k keeps. keeps) cycle.coloured;

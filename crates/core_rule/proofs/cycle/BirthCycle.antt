@@ -72,7 +72,6 @@ module _ (heap : Heap) (state : State) (book : Book) (number : ℕ) (rule : Rule
       let black : Bool = bears_black_of seat in
       record {
         word = phase_after_control heap state.words _ g ∙ cycle.word;
-        so_far = cycle.so_far;
         marks = marks_birth heap state.words book.colour g seat.hand black rule.machine.table group_born (hand_once book.owner number seat.reserve seat.hand seat.body stands.own.holding)
             (was_white heap state.words words_born book.owner later book.colour (last_part seat) black unborn cycle.coloured.born) cycle.marks;
         coloured = birth_coloured heap state.words words_born book.owner later book.colour (last_part seat) black unborn cycle.coloured.born book.fragments fragments (phase book.history)

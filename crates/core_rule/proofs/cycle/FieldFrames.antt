@@ -63,7 +63,6 @@ module _ (heap : Heap) (words : List ℕ) (owner : ℕ → Owner) (colour : ℕ 
   pub heap_store : (fragments : ℕ → List ℕ) → HeapInCycle heap words now owner colour fragments → HeapInCycle heap (put heap words (Word f part) word) now owner colour fragments
   heap_store fragments cycle = record {
     word = at-put_apart heap words (Word f part) Phase word (λ e. omega (arith, e)) ∙ cycle.word;
-    so_far = cycle.so_far;
     marks = marks_same heap words (put heap words (Word f part) word) colour (λ group below. control_after_word heap words word f part group below) cycle.marks;
     coloured = coloured_stays heap words (put heap words (Word f part) word) owner owner colour fragments now leads_store (λ x marked born. born) (λ x i k keeps. keeps) cycle.coloured;
   }

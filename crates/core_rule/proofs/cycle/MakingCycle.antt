@@ -58,7 +58,6 @@ pub heap_hands : (heap : Heap) (words : List ℕ) (owner : ℕ → Owner) (colou
     → HeapInCycle heap words now owner colour fragments → HeapInCycle heap (put heap words (Control g) word) now (owner_after o owner fs) colour fragments
 heap_hands heap words owner colour fragments now g word o fs below unborn none same marks cycle = record {
   word = phase_after_control heap words word g ∙ cycle.word;
-  so_far = cycle.so_far;
   marks = marks;
   coloured = coloured_stays heap words (put heap words (Control g) word) owner (owner_after o owner fs) colour fragments now
       (λ marking f part x born leads. inl (leads_control heap words g word below f part x leads))

@@ -80,7 +80,6 @@ module _ (heap : Heap) (state : State) (book : Book) (number : ℕ) (rule : Rule
       let cycle = rule.heap_stands.cycle in
       record {
         word = at-put_apart heap state.words (Word seat.reached seat.part) Phase word (λ e. omega (arith, e)) ∙ cycle.word;
-        so_far = cycle.so_far;
         marks = marks_same heap state.words words_swapped book.colour (λ group below. control_after_word heap state.words word seat.reached seat.part group below) cycle.marks;
         coloured = coloured_stays heap state.words words_swapped book.owner book.owner book.colour book.fragments p leads_now (λ x marked born. born) (λ x i k keeps. keeps) cycle.coloured;
       }

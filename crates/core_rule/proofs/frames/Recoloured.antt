@@ -45,7 +45,6 @@ module _ (heap : Heap) (state : State) (book : Book) (rule : Rule heap state boo
     used = old.used;
     cycle = record {
       word = at-put_apart heap state.words (Control g) Phase n (λ e. omega (arith, e)) ∙ old.cycle.word;
-      so_far = old.cycle.so_far;
       marks = new.marks;
       coloured = new.right;
     };

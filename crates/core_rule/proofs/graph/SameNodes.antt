@@ -37,4 +37,5 @@ module _ (g now : Graph) (made : List Id) (same : SameNodes g now) where
       kept = λ i below is. rw (cells_stay i) (objects.kept i below is);
       named = λ i j below is cell there. objects.named i j below is cell (sym (ap (λ cells. slice_get cells j) (cells_stay i)) ∙ there);
       back = objects.back;
+      board = objects.board;
     }

@@ -21,7 +21,7 @@ use Rattle.core_rule.proofs.colours.Births.{AreBorne, birth_colour, births_are}
 use Rattle.core_rule.proofs.colours.LastColours.{kept_bears, body_coloured}
 use Rattle.core_rule.proofs.cycle.BirthCycle.{words_born, group_born, some_born}
 use Rattle.core_rule.proofs.entries.AtRest.{seat_fits, in_flight}
-use Rattle.core_rule.proofs.marking.MakingMarks.{leaves_kept, dark_now}
+use Rattle.core_rule.proofs.marking.MakingMarks.{leaves_kept, dark_now, pale_now}
 use Rattle.core_rule.proofs.marking.Marks.{MarksGoOn, Leaves, heap_marks_on, comes_on}
 use Rattle.core_rule.proofs.marking.RegisterRoots.{heads_put}
 use Rattle.core_rule.proofs.entries.RecordCommands.{ranges_made}
@@ -73,7 +73,7 @@ module _ (heap : Heap) (state : State) (book : Book) (number : ℕ) (rule : Rule
   leaves : Leaves heap state book rule words now
   leaves =
       leaves_kept heap state book rule (last_group_of seat.hand) _ (group_born heap state book number rule here place) (length book.made) seat.body (last_part seat) (bears_black_of seat)
-      (dark_now heap state book rule number here present)
+      (dark_now heap state book rule number here present) (pale_now heap state book rule number here present)
       (kept_bears book.owner book.colour number seat.reserve seat.hand seat.body (rule.seats_stand number here).own.holding (some_born heap state book number rule here place)
       (last_group_of seat.hand) (length book.made) last (bears_black_of seat) births)
       (λ f there. ap born_bit (part_held book.owner number seat.reserve seat.hand seat.body (rule.seats_stand number here).own.holding (last_group_of seat.hand) f there))
@@ -86,7 +86,7 @@ module _ (heap : Heap) (state : State) (book : Book) (number : ℕ) (rule : Rule
       let black : now.colour (fragment_at seat.body 0) ≡ birth_colour (bears_black_of seat)
       = body_coloured book.owner book.colour number seat.reserve seat.hand seat.body (rule.seats_stand number here).own.holding (some_born heap state book number rule here place)
       (last_group_of seat.hand) (length book.made) last (bears_black_of seat) births (fragment_at seat.body 0) (tally_at seat.body 0 (some_born heap state book number rule here place)) in
-      let dark : now.colour (fragment_at seat.body 0) ≡ Black = black ∙ ap birth_colour (dark_now heap state book rule number here present third) in
+      let dark : now.colour (fragment_at seat.body 0) ≡ Black = black ∙ ap birth_colour (dark_now heap state book rule number here present (record { from = omega (arith, third); upto = omega (arith, third) })) in
       absurd (cc (white, dark))
 
   -- so marking goes on

@@ -15,8 +15,9 @@ use Rattle.core_rule.specs.Rule.{Rule}
 use Rattle.core_rule.proofs.colours.BirthColours.{painted, painted_in, painted_cases}
 use Rattle.core_rule.proofs.colours.Births.{birth_colour}
 use Rattle.core_rule.proofs.colours.LeadsFrames.{leads_same, leads_control, control_leads}
-use Rattle.core_rule.proofs.cycle.Barriers.{window_black}
+use Rattle.core_rule.proofs.cycle.Barriers.{window_black, black_window}
 use Rattle.core_rule.proofs.marking.MarkingFrames.{LeavesMarking}
+use Rattle.core_rule.proofs.marking.Marks.{IsLastAnswered, all_answered}
 use Rattle.core_rule.proofs.owners.Handed.{handed_cases, handed_out, none_or_some}
 use Rattle.core_rule.proofs.owners.OwnerLemmas.{born_once}
 use Rattle.core_rule.proofs.owners.Keeping.{kept_by, with_object, object_old, kept_cases, kept_stays}
@@ -34,25 +35,43 @@ never_grey : (black : Bool) → birth_colour black ≢ Grey
 never_grey true is = cc
 never_grey false is = cc
 
--- in the phase of marking births are black
-pub black_now : (phase : ℕ) (seat : Seat) → phase % 7 ≡ 3 → IsNear phase seat.answered → bears_black_of seat ≡ true
-black_now phase seat third near = window_black seat (elim near [
-  | inl same ↦ record { from = omega (arith, third, same); upto = omega (arith, third, same) }
-  | inr before ↦ record { from = omega (arith, third, before); upto = omega (arith, third, before) }
+-- from marking to the sweep births are black
+pub black_now : (phase : ℕ) (seat : Seat) → IsBetween 3 5 phase → IsNear phase seat.answered → bears_black_of seat ≡ true
+black_now phase seat between near = window_black seat (elim near [
+  | inl same ↦ record { from = omega (arith, between.from, same); upto = omega (arith, between.upto, same) }
+  | inr before ↦ record { from = omega (arith, between.from, between.upto, before); upto = omega (arith, between.from, between.upto, before) }
 ])
+
+-- once a seat has answered the last phase they are white
+pub white_then : (seat : Seat) → seat.answered % 7 ≡ 6 → bears_black_of seat ≡ false
+white_then seat last = by (bears_black_of seat) refl
+  where
+    by : (black : Bool) → bears_black_of seat ≡ black → black ≡ false
+    by false is = refl
+    by true is = let between = black_window seat is in absurd (omega (arith, between.upto, last))
 
 module _ (heap : Heap) (state : State) (book : Book) (rule : Rule heap state book) where
   abbrev marks : Type 0
   marks = state.collector.phase % 7 ≡ 3
+
+  abbrev settles : Type 0
+  settles = IsBetween 3 5 state.collector.phase
+
+  abbrev clears : Type 0
+  clears = IsLastAnswered heap state.collector
 
   -- nothing that isn't born is grey
   unborn_grey : (f : ℕ) → born_bit (book.owner f) ≡ 0 → book.colour f ≢ Grey
   unborn_grey f unborn grey = let born = rule.heap_stands.cycle.coloured.born f (λ white. absurd (cc (grey, white))) in omega (arith, unborn, born)
 
   -- so what a seat bears then is black
-  pub dark_now : (number : ℕ) (here : number < heap.seats) → (seat_at state number).left ≡ false → marks → bears_black_of (seat_at state number) ≡ true
-  dark_now number here present third =
-      black_now (phase book.history) (seat_at state number) (subst (λ p. p % 7 ≡ 3) rule.collector_stands.phase_told third) ((rule.seats_stand number here).cycle.answers_told.near present)
+  pub dark_now : (number : ℕ) (here : number < heap.seats) → (seat_at state number).left ≡ false → settles → bears_black_of (seat_at state number) ≡ true
+  dark_now number here present known =
+      black_now (phase book.history) (seat_at state number) (subst (IsBetween 3 5) rule.collector_stands.phase_told known) ((rule.seats_stand number here).cycle.answers_told.near present)
+
+  -- and white once all have answered the last phase
+  pub pale_now : (number : ℕ) (here : number < heap.seats) → (seat_at state number).left ≡ false → clears → bears_black_of (seat_at state number) ≡ false
+  pale_now number here present clear = white_then (seat_at state number) (ap (λ p. p % 7) (all_answered heap state book rule clear.all number here present) ∙ clear.last)
 
   module _ (g n : ℕ) (below : g < heap.groups) (o : Owner) (fs : List ℕ) (unborn : (f : ℕ) → 1 ≤ tally f fs → born_bit (book.owner f) ≡ 0) (undead : (i k : ℕ) → o ≢ Dead i k) where
     abbrev later : ℕ → Owner
@@ -65,31 +84,33 @@ module _ (heap : Heap) (state : State) (book : Book) (rule : Rule heap state boo
     was_dead f i k = handed_cases (λ x. x ≡ Dead i k → book.owner f ≡ Dead i k) o book.owner fs f (λ there is. absurd (undead i k is)) (λ away is. is)
 
     -- they go to nobody or to a seat that hasn't borne them
-    pub leaves_handed : born_bit o ≡ 0 → LeavesMarking heap state.words (put heap state.words (Control g) n) book.owner later book.colour book.colour book.fragments book.fragments marks
+    pub leaves_handed : born_bit o ≡ 0 → LeavesMarking heap state.words (put heap state.words (Control g) n) book.owner later book.colour book.colour book.fragments book.fragments marks settles clears
     leaves_handed none = record {
       born = λ f born. (stays (λ x. born_bit x ≡ 1) f born born, refl);
       kept = λ f i k is. (stays (λ x. x ≡ Kept i k) f (kept_born (book.owner f) i k is) is, refl);
       dead = λ f i k is. stays (λ x. x ≡ Dead i k) f (dead_born (book.owner f) i k is) is;
       was_dead = was_dead;
       fresh = unborn_grey;
-      dark = λ marks f fresh. handed_cases (λ x. born_bit x ≡ 1 → book.colour f ≡ Black) o book.owner fs f (λ there born. absurd (omega (arith, born, none))) (λ away born. absurd (omega (arith, born, fresh)));
+      dark = λ known f fresh. handed_cases (λ x. born_bit x ≡ 1 → book.colour f ≡ Black) o book.owner fs f (λ there born. absurd (omega (arith, born, none))) (λ away born. absurd (omega (arith, born, fresh)));
+      light = λ clear f white. white;
       back = λ marks f part x born leads. inl (leads_control heap state.words g n below f part x leads);
       on = λ marks f part x born leads. inl (control_leads heap state.words g n below f part x leads);
     }
 
     -- they are born, and not yet an object's
-    pub leaves_borne : (black : Bool) → (marks → black ≡ true)
-        → LeavesMarking heap state.words (put heap state.words (Control g) n) book.owner later book.colour (painted (birth_colour black) book.colour fs) book.fragments book.fragments marks
-    leaves_borne black dark = record {
+    pub leaves_borne : (black : Bool) → (settles → black ≡ true) → (clears → black ≡ false)
+        → LeavesMarking heap state.words (put heap state.words (Control g) n) book.owner later book.colour (painted (birth_colour black) book.colour fs) book.fragments book.fragments marks settles clears
+    leaves_borne black dark pale = record {
       born = λ f born. (stays (λ x. born_bit x ≡ 1) f born born, painted_cases (λ c. c ≡ book.colour f) (birth_colour black) book.colour fs f (λ there. absurd (omega (arith, born, unborn f there))) (λ away. refl));
       kept = λ f i k is. (stays (λ x. x ≡ Kept i k) f (kept_born (book.owner f) i k is) is, refl);
       dead = λ f i k is. stays (λ x. x ≡ Dead i k) f (dead_born (book.owner f) i k is) is;
       was_dead = was_dead;
       fresh = λ f fresh. painted_cases (λ c. c ≢ Grey) (birth_colour black) book.colour fs f (λ there. never_grey black) (λ away. unborn_grey f fresh);
-      dark = λ marks f fresh born. elim (in_or_out f) as (λ _. painted (birth_colour black) book.colour fs f ≡ Black) [
-        | inl there ↦ painted_in (birth_colour black) book.colour fs f there ∙ ap birth_colour (dark marks)
+      dark = λ known f fresh born. elim (in_or_out f) as (λ _. painted (birth_colour black) book.colour fs f ≡ Black) [
+        | inl there ↦ painted_in (birth_colour black) book.colour fs f there ∙ ap birth_colour (dark known)
         | inr away ↦ absurd (omega (arith, fresh, subst (λ x. born_bit x ≡ 1) (kept_out f away) born))
       ];
+      light = λ clear f white. painted_cases (λ c. c ≡ White) (birth_colour black) book.colour fs f (λ there. ap birth_colour (pale clear)) (λ away. white);
       back = λ marks f part x born leads. inl (leads_control heap state.words g n below f part x leads);
       on = λ marks f part x born leads. inl (control_leads heap state.words g n below f part x leads);
     }
@@ -102,14 +123,15 @@ module _ (heap : Heap) (state : State) (book : Book) (rule : Rule heap state boo
 
   -- a word of a fragment that isn't born is written
   pub leaves_stored : (f part word : ℕ) → part < 4 → born_bit (book.owner f) ≡ 0
-      → LeavesMarking heap state.words (put heap state.words (Word f part) word) book.owner book.owner book.colour book.colour book.fragments book.fragments marks
+      → LeavesMarking heap state.words (put heap state.words (Word f part) word) book.owner book.owner book.colour book.colour book.fragments book.fragments marks settles clears
   leaves_stored f part word fits unborn = record {
     born = λ x born. (born, refl);
     kept = λ x i k is. (is, refl);
     dead = λ x i k is. is;
     was_dead = λ x i k is. is;
     fresh = unborn_grey;
-    dark = λ marks x fresh born. absurd (omega (arith, fresh, born));
+    dark = λ known x fresh born. absurd (omega (arith, fresh, born));
+    light = λ clear x white. white;
     back = λ marks x p g born leads. inl (leads_same heap state.words (put heap state.words (Word f part) word) x p g (elsewhere x p born leads.below) leads);
     on = λ marks x p g born leads. inl (leads_same heap (put heap state.words (Word f part) word) state.words x p g (sym (elsewhere x p born leads.below)) leads);
   }
@@ -119,12 +141,12 @@ module _ (heap : Heap) (state : State) (book : Book) (rule : Rule heap state boo
           (λ same. let bit : born_bit (book.owner x) ≡ born_bit (book.owner f) = ap (λ y. born_bit (book.owner y)) same in omega (arith, bit, born, unborn))
 
   -- a seat's object is born, and keeps its fragments
-  pub leaves_kept : (g n : ℕ) → g < heap.groups → (number : ℕ) (body fs : List ℕ) (black : Bool) → (marks → black ≡ true)
+  pub leaves_kept : (g n : ℕ) → g < heap.groups → (number : ℕ) (body fs : List ℕ) (black : Bool) → (settles → black ≡ true) → (clears → black ≡ false)
       → ((f : ℕ) → born_bit (kept_by number body book.owner f) ≡ born_bit (book.owner f) + tally f fs) → ((f : ℕ) → 1 ≤ tally f fs → born_bit (book.owner f) ≡ 0)
       → ((f i k : ℕ) → 1 ≤ tally f body → book.owner f ≢ Kept i k) → ((f i k : ℕ) → 1 ≤ tally f body → book.owner f ≢ Dead i k) → ((f i k : ℕ) → book.owner f ≡ Kept i k → i ≢ number)
       → LeavesMarking heap state.words (put heap state.words (Control g) n) book.owner (kept_by number body book.owner) book.colour (painted (birth_colour black) book.colour fs)
-      book.fragments (with_object book.fragments number body) marks
-  leaves_kept g n below number body fs black dark bears unborn unkept undead apart = record {
+      book.fragments (with_object book.fragments number body) marks settles clears settles clears
+  leaves_kept g n below number body fs black dark pale bears unborn unkept undead apart = record {
     born = λ f born. (
       omega (arith, bears f, born, born_once (kept_by number body book.owner f)),
       painted_cases (λ c. c ≡ book.colour f) (birth_colour black) book.colour fs f (λ there. absurd (omega (arith, born, unborn f there))) (λ away. refl),
@@ -133,7 +155,8 @@ module _ (heap : Heap) (state : State) (book : Book) (rule : Rule heap state boo
     dead = λ f i k is. kept_cases number body book.owner (λ x. x ≡ Dead i k) f (λ there. absurd (undead f i k there is)) (λ away. is);
     was_dead = λ f i k. kept_cases number body book.owner (λ x. x ≡ Dead i k → book.owner f ≡ Dead i k) f (λ there is. absurd (no_dead f is)) (λ away is. is);
     fresh = λ f fresh. painted_cases (λ c. c ≢ Grey) (birth_colour black) book.colour fs f (λ there. never_grey black) (λ away. unborn_grey f fresh);
-    dark = λ marks f fresh born. painted_in (birth_colour black) book.colour fs f (omega (arith, bears f, fresh, born)) ∙ ap birth_colour (dark marks);
+    dark = λ known f fresh born. painted_in (birth_colour black) book.colour fs f (omega (arith, bears f, fresh, born)) ∙ ap birth_colour (dark known);
+    light = λ clear f white. painted_cases (λ c. c ≡ White) (birth_colour black) book.colour fs f (λ there. ap birth_colour (pale clear)) (λ away. white);
     back = λ marks f part x born leads. inl (leads_control heap state.words g n below f part x leads);
     on = λ marks f part x born leads. inl (control_leads heap state.words g n below f part x leads);
   }

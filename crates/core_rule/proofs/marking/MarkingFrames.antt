@@ -7,10 +7,10 @@ use Rattle.core_rule.specs.Book.{Colour, White, Grey, Black, fragment_at}
 use Rattle.core_rule.specs.Colours.{IsMarked, WordPointsTo}
 use Rattle.core_rule.specs.Flight.{DeletionBarrier}
 use Rattle.core_rule.specs.Marking.{IsPart, MayMark, IsSeen, ComesAfter, ScanStands, PassStands, AfterMarking, IsSettled, AreFreed, AreDead, AreCleared, SweepStands, MarkingStands}
-use Rattle.core_rule.specs.Owners.{Owner, Free, Taken, Borne, Kept, Dead, born_bit, dead_bit}
+use Rattle.core_rule.specs.Owners.{Owner, Kept, Dead, born_bit, dead_bit}
 use Rattle.core_rule.specs.Paths.{IsWhite, Edge, IsReached}
 use Rattle.core_rule.proofs.marking.Paths.{path_stays}
-use Rattle.core_rule.proofs.owners.OwnerLemmas.{born_once}
+use Rattle.core_rule.proofs.owners.OwnerLemmas.{born_once, dead_once, is_dead, bits_same}
 
 -- the born fragments have their colours, and stay born; what is kept stays so, and nothing more is to be freed; none that wasn't born is grey; in the
 -- phase of marking the words of born fragments lead where they led but for what is marked; from then to the end of the sweep what is born now is black;
@@ -155,27 +155,9 @@ module _ (heap : Heap) (words now : List ℕ) (owner later : ℕ → Owner) (col
   freed_stays group freed f i k below is = freed f i k below (leaves.was_dead f i k is)
 
   dead_same : (f : ℕ) → dead_bit (later f) ≡ dead_bit (owner f)
-  dead_same f = by (owner f) refl (later f) refl
-    where
-      by : (o : Owner) → owner f ≡ o → (n : Owner) → later f ≡ n → dead_bit n ≡ dead_bit o
-      by (Dead i k) is n now_is = ap dead_bit (sym now_is ∙ leaves.dead f i k is)
-      by o is (Dead i k) now_is = ap dead_bit (sym (leaves.was_dead f i k now_is) ∙ is)
-      by Free is Free now_is = refl
-      by Free is (Taken r) now_is = refl
-      by Free is (Borne r) now_is = refl
-      by Free is (Kept i k) now_is = refl
-      by (Taken q) is Free now_is = refl
-      by (Taken q) is (Taken r) now_is = refl
-      by (Taken q) is (Borne r) now_is = refl
-      by (Taken q) is (Kept i k) now_is = refl
-      by (Borne q) is Free now_is = refl
-      by (Borne q) is (Taken r) now_is = refl
-      by (Borne q) is (Borne r) now_is = refl
-      by (Borne q) is (Kept i k) now_is = refl
-      by (Kept j m) is Free now_is = refl
-      by (Kept j m) is (Taken r) now_is = refl
-      by (Kept j m) is (Borne r) now_is = refl
-      by (Kept j m) is (Kept i k) now_is = refl
+  dead_same f = bits_same (dead_bit (owner f)) (dead_bit (later f)) (dead_once (owner f)) (dead_once (later f))
+      (λ one. let was = is_dead (owner f) one in ap dead_bit (leaves.dead f was.0 was.1 was.2))
+      (λ one. let now_dead = is_dead (later f) one in ap dead_bit (leaves.was_dead f now_dead.0 now_dead.1 now_dead.2))
 
   dead_stays : (group bits : ℕ) → AreDead owner group bits → AreDead later group bits
   dead_stays group bits are place below = are place below ∙ sym (dead_same (16 * group + place))

@@ -1,7 +1,8 @@
 -- What a seat's step has to leave of marking.
-use Rattle.std.proofs.Common.{◌≡◌, ◌≢◌, ℕ, ◌<◌, ◌%◌, false, List, inl, refl, sym, ◌∙◌, arith}
+use Rattle.std.proofs.Common.{◌≡◌, ◌≢◌, ℕ, ◌<◌, ◌%◌, false, List, inl, inr, refl, sym, ◌∙◌, arith}
 use Rattle.heap_model.specs.declared.heap.Heap.{Heap}
 use Rattle.heap_model.specs.account.PhaseCounts.{phase}
+use Rattle.core_machine.specs.collector.Collector.{Collector}
 use Rattle.core_machine.specs.declared.collector.stage.Stage.{Stage}
 use Rattle.core_machine.specs.declared.collector.stage.Stage.TheVariants as stages
 use Rattle.core_machine.specs.collector.FitsTurns.{FitsStage}
@@ -13,17 +14,17 @@ use Rattle.core_machine.specs.machine.Machine.{State, seat_at}
 use Rattle.core_machine.specs.seat.Registers.{register_in, register_head}
 use Rattle.core_machine.specs.seat.Seat.{Seat}
 use Rattle.core_machine.specs.table.Decode.{head_of}
-use Rattle.core_rule.specs.Book.{Book, Grey}
+use Rattle.core_rule.specs.Book.{Book, Colour, White, Grey}
 use Rattle.core_rule.specs.Colours.{WordPointsTo, IsBetween}
 use Rattle.core_rule.specs.Flight.{WhileAccess}
-use Rattle.core_rule.specs.Marking.{MarkingStands, IsInMarking, AtCall, OfRoots, RootsAreReached}
-use Rattle.core_rule.specs.Owners.{born_bit}
+use Rattle.core_rule.specs.Marking.{IsPart, ScanStands, PassStands, SweepStands, MarkingStands, IsSettled, IsInMarking, AtCall, OfRoots, RootsAreReached}
+use Rattle.core_rule.specs.Owners.{Owner, Dead, born_bit}
 use Rattle.core_rule.specs.Paths.{IsReached}
 use Rattle.core_rule.specs.Rule.{Rule}
 use Rattle.core_rule.proofs.cycle.CycleFrames.{while_access}
 use Rattle.core_rule.proofs.lists.Options.{if_some}
 use Rattle.core_rule.proofs.marking.Paths.{reached_on}
-use Rattle.core_rule.proofs.marking.MarkingFrames.{LeavesMarking, OnlyMarks, marking_stays, reached_stays}
+use Rattle.core_rule.proofs.marking.MarkingFrames.{LeavesMarking, OnlyMarks, OnlyClears, marking_stays, reached_stays}
 
 -- what is true of each root goes on to be
 pub roots_more : (P Q : ℕ → Type 0) → ((f : ℕ) → P f → Q f) → (seat : Seat) → OfRoots P seat → OfRoots Q seat
@@ -60,20 +61,67 @@ roots_off_way P seat next same off roots = record {
 
 -- a seat's step leaves what is true of marking, and each root that it comes to; and it comes to the seat's own roots
 pub record MarksGoOn (heap : Heap) (state : State) (book now : Book) (words : List ℕ) (next : Seat) : Type 0 where
-  pub heap_on : MarkingStands heap words now.owner now.colour now.fragments state.collector.stage
+  pub heap_on : MarkingStands heap words now.owner now.colour now.fragments state.collector.phase state.collector.stage
   pub reached_on : IsInMarking state.collector → (f : ℕ) → IsReached heap state.words book.owner book.colour f → IsReached heap words now.owner now.colour f
   pub own_on : RootsAreReached heap words now.owner now.colour state.collector next
 
+-- all have answered the cycle's last phase
+pub record IsLastAnswered (heap : Heap) (collector : Collector) : Type 0 where
+  pub all : collector.looked ≡ heap.seats
+  pub last : collector.phase % 7 ≡ 6
+
+-- from the end of marking to the end of the sweep the phase is one of three
+pub settled_phase : (phase : ℕ) (stage : Stage) → IsSettled phase stage → IsBetween 3 5 phase
+settled_phase phase stage (inl third) = record { from = omega (arith, third.0); upto = omega (arith, third.0) }
+settled_phase phase stage (inr (inl copies)) = record { from = omega (arith, copies); upto = omega (arith, copies) }
+settled_phase phase stage (inr (inr sweeps)) = record { from = omega (arith, sweeps); upto = omega (arith, sweeps) }
+
+-- while it marks, marking hasn't ended
+pub unsettled : (phase : ℕ) (stage : Stage) → phase % 7 ≡ 3 → stage ≢ stages.Advancing → ¬ IsSettled phase stage
+unsettled phase stage third goes (inl ended) = goes ended.1
+unsettled phase stage third goes (inr (inl copies)) = omega (arith, third, copies)
+unsettled phase stage third goes (inr (inr sweeps)) = omega (arith, third, sweeps)
+
+-- what stands at a stage of marking: nothing is to be freed yet
+pub marks_at : (heap : Heap) (words : List ℕ) (owner : ℕ → Owner) (colour : ℕ → Colour) (fragments : ℕ → List ℕ) (phase : ℕ) (stage : Stage) → phase % 7 ≡ 3 → stage ≢ stages.Advancing
+    → ((f : ℕ) → colour f ≡ Grey → IsPart owner f) → ScanStands heap words owner colour fragments stage → PassStands colour stage → SweepStands heap owner colour phase stage
+    → ((f i k : ℕ) → owner f ≢ Dead i k) → MarkingStands heap words owner colour fragments phase stage
+marks_at heap words owner colour fragments phase stage third goes grey scan pass sweep alive = record {
+  grey = grey;
+  scan = scan;
+  pass = pass;
+  sweep_stands = sweep;
+  alive = λ going. alive;
+  after = λ settled. absurd (unsettled phase stage third goes settled);
+}
+
 module _ (heap : Heap) (state : State) (book : Book) (rule : Rule heap state book) where
+  -- in the phase of marking, until that has ended, nothing is to be freed
+  pub none_dead : state.collector.phase % 7 ≡ 3 → state.collector.stage ≢ stages.Advancing → (f i k : ℕ) → book.owner f ≢ Dead i k
+  none_dead third goes = rule.marks_stand.heap_marks.alive (unsettled state.collector.phase state.collector.stage third goes)
+
   -- what is true at a stage of marking is true in its phase alone
   only_marks : (stage : Stage) → FitsStage heap state.collector.phase state.collector.looked stage → OnlyMarks (state.collector.phase % 7 ≡ 3) stage
-  only_marks stages.Looking fits = tt
-  only_marks stages.Advancing fits = tt
   only_marks (stages.Passing group found) fits = fits.marks.for_marking
   only_marks (stages.Scanning scan) fits = fits.marks.for_marking
   only_marks (stages.Shading scan target next) fits = fits.marks.for_marking
   only_marks (stages.Blackening scan) fits = fits.marks.for_marking
-  only_marks stages.Marked fits = fits.for_marking
+  only_marks _ fits = tt
+
+  -- and what is true while marks are cleared in the last phase, which all have answered
+  only_clears : (stage : Stage) → FitsStage heap state.collector.phase state.collector.looked stage → OnlyClears (IsLastAnswered heap state.collector) stage
+  only_clears (stages.Clearing group kept) fits = record { all = fits.all; last = fits.for_clearing }
+  only_clears (stages.Ending kept) fits = record { all = fits.all; last = fits.for_clearing }
+  only_clears _ fits = tt
+
+  -- where not all have answered the last phase no marks are cleared
+  pub no_clears : ¬ IsLastAnswered heap state.collector → OnlyClears ⊥ state.collector.stage
+  no_clears never = by state.collector.stage (only_clears state.collector.stage rule.machine.collector_fit.at_stage)
+    where
+      by : (stage : Stage) → OnlyClears (IsLastAnswered heap state.collector) stage → OnlyClears ⊥ stage
+      by (stages.Clearing group kept) last = absurd (never last)
+      by (stages.Ending kept) last = absurd (never last)
+      by _ last = tt
 
   -- marking comes to what a fragment leads to that it comes to
   pub comes_further : IsInMarking state.collector → (f part g : ℕ) → born_bit (book.owner g) ≡ 1 → IsReached heap state.words book.owner book.colour f
@@ -95,6 +143,7 @@ module _ (heap : Heap) (state : State) (book : Book) (rule : Rule heap state boo
   -- what a step leaves of marking that marks no object's fragment
   abbrev pub Leaves : List ℕ → Book → Type 0
   Leaves words now = LeavesMarking heap state.words words book.owner now.owner book.colour now.colour book.fragments now.fragments (state.collector.phase % 7 ≡ 3)
+      (IsBetween 3 5 state.collector.phase) (IsLastAnswered heap state.collector)
 
   -- all that is born is as it was, and each word leads where it led
   pub leaves_words : (words : List ℕ) → ((f part g : ℕ) → WordPointsTo heap words f part g → WordPointsTo heap state.words f part g)
@@ -105,7 +154,8 @@ module _ (heap : Heap) (state : State) (book : Book) (rule : Rule heap state boo
     dead = λ f i k dead. dead;
     was_dead = λ f i k dead. dead;
     fresh = λ f unborn grey. unborn_grey f unborn grey;
-    dark = λ marks f unborn born. absurd (omega (arith, unborn, born));
+    dark = λ known f unborn born. absurd (omega (arith, unborn, born));
+    light = λ clears f white. white;
     back = λ marks f part g born leads. inl (back f part g leads);
     on = λ marks f part g born leads. inl (on f part g leads);
   }
@@ -115,16 +165,18 @@ module _ (heap : Heap) (state : State) (book : Book) (rule : Rule heap state boo
 
   module _ (words : List ℕ) (now : Book) (leaves : Leaves words now) where
     -- so the heap's part of marking stands
-    pub heap_marks_on : MarkingStands heap words now.owner now.colour now.fragments state.collector.stage
+    pub heap_marks_on : MarkingStands heap words now.owner now.colour now.fragments state.collector.phase state.collector.stage
     heap_marks_on =
-        marking_stays heap state.words words book.owner now.owner book.colour now.colour book.fragments now.fragments (state.collector.phase % 7 ≡ 3) leaves
-        rule.heap_stands.cycle.coloured.born state.collector.stage (only_marks state.collector.stage rule.machine.collector_fit.at_stage) rule.marks_stand.heap_marks
+        marking_stays heap state.words words book.owner now.owner book.colour now.colour book.fragments now.fragments (state.collector.phase % 7 ≡ 3)
+        (IsBetween 3 5 state.collector.phase) (IsLastAnswered heap state.collector) leaves rule.heap_stands.cycle.coloured.born state.collector.phase state.collector.stage
+        (only_marks state.collector.stage rule.machine.collector_fit.at_stage) (only_clears state.collector.stage rule.machine.collector_fit.at_stage)
+        (settled_phase state.collector.phase state.collector.stage) rule.marks_stand.heap_marks
 
     -- and marking comes to what it came to
     pub comes_on : IsInMarking state.collector → (f : ℕ) → IsReached heap state.words book.owner book.colour f → IsReached heap words now.owner now.colour f
     comes_on marks =
-        reached_stays heap state.words words book.owner now.owner book.colour now.colour book.fragments now.fragments (state.collector.phase % 7 ≡ 3) leaves
-        rule.heap_stands.cycle.coloured.born marks.phase
+        reached_stays heap state.words words book.owner now.owner book.colour now.colour book.fragments now.fragments (state.collector.phase % 7 ≡ 3)
+        (IsBetween 3 5 state.collector.phase) (IsLastAnswered heap state.collector) leaves rule.heap_stands.cycle.coloured.born marks.phase
 
   module _ (number : ℕ) (here : number < heap.seats) where
     -- the roots of a seat that goes on are among those that marking came to

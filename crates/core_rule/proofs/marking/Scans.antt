@@ -20,7 +20,7 @@ use Rattle.core_machine.specs.table.Layout.{at}
 use Rattle.core_machine.specs.table.Newborn.{link_after}
 use Rattle.core_rule.specs.Book.{Book, Colour, Grey, fragment_at, id_at, object_head}
 use Rattle.core_rule.specs.Colours.{IsMarked, WordPointsTo, IsBetween}
-use Rattle.core_rule.specs.Marking.{IsPart, MayMark, IsSeen, ComesAfter, ScanStands, PassStands}
+use Rattle.core_rule.specs.Marking.{IsPart, MayMark, IsSeen, ComesAfter, ScanStands, PassStands, SweepStands}
 use Rattle.core_rule.specs.Objects.{IsKept, KeptObject, name_of, is_cell, cells_at}
 use Rattle.core_rule.specs.Owners.{Owner, Kept}
 use Rattle.core_rule.specs.Rule.{Rule}
@@ -44,8 +44,11 @@ scan_stands heap words owner colour fragments scan part seen = scan_cases (ScanS
 pub scan_passes : (colour : ℕ → Colour) (scan : Scan) (part : ℕ) → PassStands colour (scan_at scan part)
 scan_passes colour scan part = scan_cases (PassStands colour) scan part tt (λ behind. tt)
 
-pub scan_on_marks : (scan : Scan) (part : ℕ) → scan_at scan part ≢ stages.Marked
-scan_on_marks scan part = scan_cases (λ stage. stage ≢ stages.Marked) scan part (λ e. cc) (λ behind e. cc)
+pub scan_sweeps : (heap : Heap) (owner : ℕ → Owner) (colour : ℕ → Colour) (phase : ℕ) (scan : Scan) (part : ℕ) → SweepStands heap owner colour phase (scan_at scan part)
+scan_sweeps heap owner colour phase scan part = scan_cases (SweepStands heap owner colour phase) scan part tt (λ behind. tt)
+
+pub scan_on_marks : (scan : Scan) (part : ℕ) → scan_at scan part ≢ stages.Advancing
+scan_on_marks scan part = scan_cases (λ stage. stage ≢ stages.Advancing) scan part (λ e. cc) (λ behind e. cc)
 
 -- a first word is no cell
 no_cell : (n : ℕ) → is_cell (suc n) 0 ≢ true

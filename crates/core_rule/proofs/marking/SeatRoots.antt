@@ -23,7 +23,7 @@ use Rattle.core_rule.proofs.marking.GoneRoots.{gone_roots}
 use Rattle.core_rule.proofs.marking.Marks.{roots_more}
 
 module _ (heap : Heap) (state : State) (book : Book) (rule : Rule heap state book) (marks : IsMarking heap.seats state.collector.phase state.collector.looked)
-    (goes_on : state.collector.stage ≢ stages.Marked) (none : (f : ℕ) → book.colour f ≢ Grey) (number : ℕ) (here : number < heap.seats) where
+    (goes_on : state.collector.stage ≢ stages.Advancing) (none : (f : ℕ) → book.colour f ≢ Grey) (number : ℕ) (here : number < heap.seats) where
   abbrev seat : Seat
   seat = seat_at state number
 

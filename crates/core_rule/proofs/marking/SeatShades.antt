@@ -16,7 +16,8 @@ use Rattle.core_rule.specs.Paths.{IsReached}
 use Rattle.core_rule.specs.Rule.{Rule}
 use Rattle.core_rule.proofs.colours.LeadsFrames.{leads_control, control_leads}
 use Rattle.core_rule.proofs.colours.ShadeColours.{with_mark}
-use Rattle.core_rule.proofs.marking.Marks.{MarksGoOn, RootsGoOn, roots_more, all_answered}
+use Rattle.core_rule.proofs.marking.Marks.{MarksGoOn, RootsGoOn, roots_more, all_answered, no_clears}
+use Rattle.core_rule.proofs.marking.MarkingFrames.{OnlyClears}
 use Rattle.core_rule.proofs.marking.Paths.{shade_reached}
 use Rattle.core_rule.proofs.marking.ShadeMarks.{marking_shaded}
 
@@ -40,14 +41,17 @@ module _ (heap : Heap) (state : State) (book : Book) (rule : Rule heap state boo
   -- where it comes to the fragment, all of it goes on
   pub marks_shaded : (number : ℕ) (here : number < heap.seats) (next : Seat) → IsPart book.owner f → (seat_at state number).left ≡ false → next.answered ≡ (seat_at state number).answered
       → (IsInMarking state.collector → (seat_at state number).answered ≡ state.collector.phase → IsReached heap state.words book.owner book.colour f)
-      → RootsGoOn heap state book rule number here next → MarksGoOn heap state book (record book { colour = with_mark book.colour f }) words_marked next
-  marks_shaded number here next part present same comes roots = record {
-    heap_on = marking_shaded heap state.words words_marked book.owner book.colour book.fragments f part leads_back state.collector.stage passing rule.marks_stand.heap_marks;
+      → RootsGoOn heap state book rule number here next → ((seat_at state number).answered % 7 ≢ 6) → MarksGoOn heap state book (record book { colour = with_mark book.colour f }) words_marked next
+  marks_shaded number here next part present same comes roots early = record {
+    heap_on = marking_shaded heap state.words words_marked book.owner book.colour book.fragments f part leads_back state.collector.phase state.collector.stage unclear passing rule.marks_stand.heap_marks;
     reached_on = λ marks. comes_shaded;
     own_on = λ marks answered. roots_more (IsReached heap state.words book.owner book.colour) (IsReached heap words_marked book.owner (with_mark book.colour f)) comes_shaded next
         (roots marks (rule.marks_stand.roots number here marks (sym same ∙ answered)));
   }
     where
+      unclear : OnlyClears ⊥ state.collector.stage
+      unclear = no_clears heap state book rule (λ last. early (ap (λ p. p % 7) (all_answered heap state book rule last.all number here present) ∙ last.last))
+
       passing : (group : ℕ) → state.collector.stage ≡ stages.Passing group false → IsReached heap state.words book.owner book.colour f
       passing group is =
           let fits : IsPassing heap state.collector.phase state.collector.looked group = rw is at rule.machine.collector_fit.at_stage in

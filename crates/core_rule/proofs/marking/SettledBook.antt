@@ -22,13 +22,14 @@ use Rattle.core_rule.proofs.entries.AtRest.{seat_fits}
 use Rattle.core_rule.proofs.gather.GatherMoves.{gathers_same}
 use Rattle.core_rule.proofs.hand.HandMoves.{holding_stays}
 use Rattle.core_rule.proofs.owners.Seated.{borne_by_seat}
+use Rattle.core_rule.proofs.marking.Marks.{none_dead}
 use Rattle.core_rule.proofs.marking.SeatRoots.{answered_marking, all_roots_marked, loaded_marked}
 use Rattle.core_rule.proofs.marking.Settled.{settled_owner, settled_book, settled_holds, settled_same, settled_was, settled_dead, settled_borne, settled_white}
 use Rattle.core_rule.proofs.marking.SettledObjects.{objects_later}
 use Rattle.core_rule.proofs.marking.SettledSeats.{holds_later, ways_later, awaits_later}
 
 module _ (heap : Heap) (state : State) (book : Book) (rule : Rule heap state book) (marks : IsMarking heap.seats state.collector.phase state.collector.looked)
-    (goes_on : state.collector.stage ≢ stages.Marked) (none : (f : ℕ) → book.colour f ≢ Grey) where
+    (goes_on : state.collector.stage ≢ stages.Advancing) (none : (f : ℕ) → book.colour f ≢ Grey) where
   abbrev now : Book
   now = settled_book book
 
@@ -58,7 +59,6 @@ module _ (heap : Heap) (state : State) (book : Book) (rule : Rule heap state boo
         used = used_same heap book.owner now.owner book.history (same taken_bit (λ i k. refl)) stands.used;
         cycle = record {
           word = stands.cycle.word;
-          so_far = stands.cycle.so_far;
           marks = stands.cycle.marks;
           coloured = coloured_stays heap state.words state.words book.owner now.owner book.colour book.fragments (phase book.history) (λ making f part g born leads. inl leads)
               (λ f marked born. same born_bit (λ i k. refl) f ∙ born) (λ f i k is. (settled_was (book.owner f) (book.colour f) i k is).0) stands.cycle.coloured;
@@ -130,16 +130,17 @@ module _ (heap : Heap) (state : State) (book : Book) (rule : Rule heap state boo
     no_grey = none;
     white_dead = white_is_dead;
     dead_white = λ f i k is. elim (settled_dead (book.owner f) (book.colour f) i k is) as (λ _. book.colour f ≡ White) [
-      | inl before ↦ absurd (rule.marks_stand.heap_marks.alive goes_on f i k before)
+      | inl before ↦ absurd (none_dead heap state book rule marks.for_marking goes_on f i k before)
       | inr white ↦ white
     ];
   }
 
-  pub marking_settles : MarkingStands heap state.words now.owner book.colour book.fragments stages.Marked
+  pub marking_settles : MarkingStands heap state.words now.owner book.colour book.fragments state.collector.phase stages.Advancing
   marking_settles = record {
     grey = λ f grey. absurd (none f grey);
     scan = tt;
     pass = tt;
-    alive = λ going. absurd (going refl);
+    sweep_stands = λ swept. absurd (omega (arith, swept, marks.for_marking));
+    alive = λ going. absurd (going (inl (marks.for_marking, refl)));
     after = λ ended. after_settles;
   }

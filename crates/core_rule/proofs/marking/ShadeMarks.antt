@@ -6,11 +6,12 @@ use Rattle.core_machine.specs.declared.collector.stage.Stage.{Stage}
 use Rattle.core_machine.specs.declared.collector.stage.Stage.TheVariants as stages
 use Rattle.core_rule.specs.Book.{Colour, White, Grey, fragment_at}
 use Rattle.core_rule.specs.Colours.{IsMarked, WordPointsTo}
-use Rattle.core_rule.specs.Marking.{IsPart, MayMark, IsSeen, ScanStands, PassStands, AfterMarking, MarkingStands}
+use Rattle.core_rule.specs.Marking.{IsPart, MayMark, IsSeen, ScanStands, PassStands, AfterMarking, SweepStands, MarkingStands}
 use Rattle.core_rule.specs.Owners.{Owner, Kept, Dead, born_bit}
 use Rattle.core_rule.specs.Paths.{Guarded, from_grey, from_white, IsReached}
 use Rattle.core_rule.proofs.colours.ShadeColours.{with_mark, mark_away, mark_keeps}
 use Rattle.core_rule.proofs.cycle.CycleFrames.{watches_stay}
+use Rattle.core_rule.proofs.marking.MarkingFrames.{OnlyClears}
 use Rattle.core_rule.proofs.marking.Paths.{white_or_marked, grey_on, same_marked}
 
 -- a path begins at a grey fragment
@@ -101,13 +102,27 @@ module _ (heap : Heap) (words now : List ℕ) (owner : ℕ → Owner) (colour : 
         | inr marked ↦ absurd (mark_keeps colour m f marked white)
       ]
 
-  -- all of it stands
-  pub marking_shaded : (stage : Stage) → ((group : ℕ) → stage ≡ stages.Passing group false → IsReached heap words owner colour m)
-      → MarkingStands heap words owner colour fragments stage → MarkingStands heap now owner shaded fragments stage
-  marking_shaded stage comes stands = record {
+  sweep_shaded : (phase : ℕ) (stage : Stage) → ((P : Type 0) → OnlyClears P stage → P) → SweepStands heap owner colour phase stage → SweepStands heap owner shaded phase stage
+  sweep_shaded phase stage clear stands = tt
+
+  -- of a sweep nothing changes
+  sweep_shaded : (phase : ℕ) (stage : Stage) → OnlyClears ⊥ stage → SweepStands heap owner colour phase stage → SweepStands heap owner shaded phase stage
+  sweep_shaded phase (stages.Sweeping group) unclear stands = stands
+  sweep_shaded phase (stages.Examining group dead place) unclear stands = stands
+  sweep_shaded phase (stages.Freeing group dead) unclear stands = stands
+  sweep_shaded phase (stages.Clearing group kept) unclear stands = absurd unclear
+  sweep_shaded phase (stages.Ending kept) unclear stands = absurd unclear
+  sweep_shaded phase stages.Advancing unclear stands = stands
+  sweep_shaded phase _ unclear stands = tt
+
+  -- all of it stands, where no marks are cleared
+  pub marking_shaded : (phase : ℕ) (stage : Stage) → OnlyClears ⊥ stage → ((group : ℕ) → stage ≡ stages.Passing group false → IsReached heap words owner colour m)
+      → MarkingStands heap words owner colour fragments phase stage → MarkingStands heap now owner shaded fragments phase stage
+  marking_shaded phase stage unclear comes stands = record {
     grey = grey_part stands.grey;
     scan = scan_shaded stage stands.scan;
     pass = pass_shaded stage comes stands.pass;
+    sweep_stands = sweep_shaded phase stage unclear stands.sweep_stands;
     alive = stands.alive;
-    after = λ ended. after_shaded (stands.after ended);
+    after = λ settled. after_shaded (stands.after settled);
   }

@@ -26,6 +26,7 @@ module _ (heap : Heap) (words now : List ℕ) (g : Graph) (made : List Id) (owne
     };
     named = old.named;
     back = old.back;
+    board = old.board;
   }
 
 -- a control word changes
@@ -85,4 +86,5 @@ module _ (owner now : ℕ → Owner) (same : SameKept owner now) (made : List Id
     };
     named = λ i j below is cell there. let one = old.named i j below (same.was _ _ _ is) cell there in (names_kept cell.value one.0, one.1);
     back = λ f i k is. let one = old.back f i k (same.was f i k is) in (one.0, same.stays _ _ _ one.1, one.2, one.3);
+    board = old.board;
   }

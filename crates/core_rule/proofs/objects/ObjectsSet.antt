@@ -177,6 +177,7 @@ module _ (heap : Heap) (words : List ℕ) (g now : Graph) (number : ℕ) (made :
         | inr apart ↦ named_rest j m less apart is c there
       ];
       back = old.back;
+      board = old.board;
     }
 
   -- no word but an object's changes

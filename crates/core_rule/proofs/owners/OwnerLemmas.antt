@@ -24,6 +24,22 @@ born_once (Borne number) = omega arith
 born_once (Kept i k) = omega arith
 born_once (Dead i k) = omega arith
 
+pub dead_once : (o : Owner) → dead_bit o ≤ 1
+dead_once (Dead i k) = omega arith
+dead_once _ = omega arith
+
+-- what is to be freed has been an object's
+pub is_dead : (o : Owner) → dead_bit o ≡ 1 → (i : ℕ) × (k : ℕ) × (o ≡ Dead i k)
+is_dead (Dead i k) one = (i, k, refl)
+is_dead _ one = absurd (omega (arith, one))
+
+-- two bits of which each is one where the other is are the same
+pub bits_same : (a b : ℕ) → a ≤ 1 → b ≤ 1 → (a ≡ 1 → b ≡ 1) → (b ≡ 1 → a ≡ 1) → b ≡ a
+bits_same zero zero few less on back = refl
+bits_same zero (suc b) few less on back = let one = back (omega (arith, less)) in omega (arith, one)
+bits_same (suc a) zero few less on back = let one = on (omega (arith, few)) in omega (arith, one)
+bits_same (suc a) (suc b) few less on back = omega (arith, few, less)
+
 -- each fragment is taken or free
 pub taken_or_free : (o : Owner) → 1 ≡ taken_bit o + free_bit o
 taken_or_free Free = refl
@@ -55,11 +71,13 @@ own_keeps_none number i k o own e = let none : holds_bit number o + bears_bit nu
 
 -- the board's first part is no seat's
 pub boards_not_held : (number : ℕ) (o : Owner) → IsBoards o → holds_bit number o ≡ 0
+boards_not_held number Free boards = refl
 boards_not_held number (Kept i k) boards = refl
 boards_not_held number (Dead i k) boards = refl
 boards_not_held number _ boards = absurd boards
 
 pub own_not_boards : (number : ℕ) (o : Owner) → IsOwn number o → ¬ IsBoards o
+own_not_boards number Free own boards = omega (arith, own)
 own_not_boards number (Kept i k) own boards = omega (arith, own)
 own_not_boards number (Dead i k) own boards = omega (arith, own)
 own_not_boards number _ own boards = boards

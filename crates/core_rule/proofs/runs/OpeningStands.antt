@@ -104,7 +104,6 @@ opening_rule heap state fits machine opens = record {
     legal = record { objects = tt; space = tt };
     cycle = record {
       word = opens.words_open Phase tt;
-      so_far = omega arith;
       marks = opening_marks heap state.words fits.some_group opens.words_open;
       coloured = record {
         rest = λ rests f. refl;

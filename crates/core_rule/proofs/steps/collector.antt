@@ -1,6 +1,5 @@
 -- Kinds of the collector, a file for each.
 pub mod PassStep
-pub mod MarkedStep
 pub mod AdvanceStep
 pub mod ColourTurn
 pub mod BlackenStep
@@ -19,4 +18,3 @@ turn_keeps_at (stages.Shading scan target next) = MarkShadeStep.mark_shade_keeps
 turn_keeps_at (stages.Blackening scan) = BlackenStep.blacken_keeps scan
 turn_keeps_at stages.Advancing = AdvanceStep.advance_keeps
 turn_keeps_at (stages.Passing group found) = PassStep.pass_keeps group found
-turn_keeps_at stages.Marked = MarkedStep.marked_keeps

@@ -87,7 +87,6 @@ module _ (heap : Heap) (state : State) (book : Book) (rule : Rule heap state boo
       (subst (λ p. HeapInCycle heap words p book.owner book.colour book.fragments) (sym grown)
       record {
         word = at-put_same heap state.words Phase next rule.machine.table tt ∙ told;
-        so_far = omega (arith, early);
         marks = marks_same heap state.words words book.colour (fragments_phase heap state.words next).controls cycle.marks;
         coloured = coloured_next heap state.words words book.owner book.colour book.fragments (phase book.history) early leads_on cycle.coloured;
       }) rule.heap_stands

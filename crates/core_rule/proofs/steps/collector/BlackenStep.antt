@@ -21,6 +21,7 @@ use Rattle.core_rule.proofs.colours.OneBit.{bits_marked}
 use Rattle.core_rule.proofs.colours.BlackenColours.{with_scan, scan_away, scan_keeps, scan_grey, marks_blacken, coloured_blacken}
 use Rattle.core_rule.proofs.colours.LeadsFrames.{control_leads}
 use Rattle.core_rule.proofs.frames.Recoloured.{Recolours}
+use Rattle.core_rule.proofs.marking.Marks.{marks_at, none_dead}
 use Rattle.core_rule.proofs.marking.Paths.{path_stays}
 use Rattle.core_rule.proofs.steps.collector.ColourTurn.{colour_turns}
 use Rattle.core_rule.proofs.steps.TurnSteps.{StageKeeps}
@@ -76,14 +77,9 @@ module _ (heap : Heap) (state : State) (book : Book) (rule : Rule heap state boo
         | inr other ↦ scan_away book.colour f y other.1 ∙ grey
       ]
 
-  marks : MarkingStands heap words book.owner coloured book.fragments (stages.Passing (f / 16) true)
-  marks = record {
-    grey = λ x grey. rule.marks_stand.heap_marks.grey x (scan_grey book.colour f x grey);
-    scan = tt;
-    pass = tt;
-    alive = λ still. rule.marks_stand.heap_marks.alive (λ ended. absurd (cc (blackening, ended)));
-    after = λ ended. absurd (cc ended);
-  }
+  marks : MarkingStands heap words book.owner coloured book.fragments state.collector.phase (stages.Passing (f / 16) true)
+  marks = marks_at heap words book.owner coloured book.fragments state.collector.phase (stages.Passing (f / 16) true) fits.marks.for_marking (λ e. cc)
+      (λ x grey. rule.marks_stand.heap_marks.grey x (scan_grey book.colour f x grey)) tt tt tt (none_dead heap state book rule fits.marks.for_marking (λ ended. absurd (cc (blackening, ended))))
 
 pub blacken_keeps : (scan : Scan) → StageKeeps (stages.Blackening scan)
 blacken_keeps scan heap state book rule blackening machine =

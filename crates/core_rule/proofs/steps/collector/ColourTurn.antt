@@ -32,7 +32,7 @@ agrees_at heap state book rule stage =
 
 module _ (heap : Heap) (state : State) (book : Book) (rule : Rule heap state book) (from stage : Stage) (was : state.collector.stage ≡ from) where
   -- until marking has ended a stage leads on to another one, and each root that was reached is
-  pub roots_at : (words : List ℕ) (coloured : ℕ → Colour) → from ≢ stages.Marked
+  pub roots_at : (words : List ℕ) (coloured : ℕ → Colour) → from ≢ stages.Advancing
       → ((f : ℕ) → IsReached heap state.words book.owner book.colour f → IsReached heap words book.owner coloured f)
       → (r : ℕ) → r < heap.seats → RootsAreReached heap words book.owner coloured (quiet (at_stage state.collector stage)) (seat_at state r)
   roots_at words coloured goes reached r below marks answered =
@@ -42,8 +42,8 @@ module _ (heap : Heap) (state : State) (book : Book) (rule : Rule heap state boo
   -- a turn that colours
   pub colour_turns : (g n : ℕ) (below : g < heap.groups) (coloured : ℕ → Colour) → Recolours heap (put heap state.words (Control g) n) book coloured
       → IsMachine heap (after_turn state (put heap state.words (Control g) n) (quiet (at_stage state.collector stage)))
-      → MarkingStands heap (put heap state.words (Control g) n) book.owner coloured book.fragments stage
-      → from ≢ stages.Marked
+      → MarkingStands heap (put heap state.words (Control g) n) book.owner coloured book.fragments state.collector.phase stage
+      → from ≢ stages.Advancing
       → ((f : ℕ) → IsReached heap state.words book.owner book.colour f → IsReached heap (put heap state.words (Control g) n) book.owner coloured f)
       → Keeps heap (after_turn state (put heap state.words (Control g) n) (quiet (at_stage state.collector stage))) book book.begun []
   colour_turns g n below coloured new machine marks goes reached =
@@ -54,7 +54,7 @@ module _ (heap : Heap) (state : State) (book : Book) (rule : Rule heap state boo
 
   -- a turn that loads
   pub load_turns_on : (a : Address) → IsMachine heap (after_turn state (put heap state.words a (at heap state.words a)) (quiet (at_stage state.collector stage)))
-      → MarkingStands heap state.words book.owner book.colour book.fragments stage → from ≢ stages.Marked
+      → MarkingStands heap state.words book.owner book.colour book.fragments state.collector.phase stage → from ≢ stages.Advancing
       → Keeps heap (after_turn state (put heap state.words a (at heap state.words a)) (quiet (at_stage state.collector stage))) book book.begun []
   load_turns_on a machine marks goes =
       load_turns heap state book a (at_stage state.collector stage) rule machine record { log = rule.collector_stands.log; phase_told = rule.collector_stands.phase_told; looked = rule.collector_stands.looked }

@@ -74,7 +74,7 @@ module _ (heap : Heap) (state : State) (book : Book) (rule : Rule heap state boo
   MarksNow collector = MarksStand heap (after_turn state state.words collector) book.owner book.colour book.fragments
 
   -- of marking nothing changes, wherever it goes on
-  marks_at : (stage : Stage) (looked : ℕ) → stage ≢ stages.Marked → ScanStands heap state.words book.owner book.colour book.fragments stage → PassStands book.colour stage
+  marks_at : (stage : Stage) (looked : ℕ) → stage ≢ stages.Advancing → ScanStands heap state.words book.owner book.colour book.fragments stage → PassStands book.colour stage
       → MarksNow (record state.collector { stage = stage; looked = looked })
   marks_at stage looked goes_on scan pass = record {
     heap_marks = record {

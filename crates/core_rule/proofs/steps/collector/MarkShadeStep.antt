@@ -16,8 +16,9 @@ use Rattle.core_rule.specs.Rule.{Rule}
 use Rattle.core_rule.proofs.colours.OneBit.{bits_marked}
 use Rattle.core_rule.proofs.colours.ShadeColours.{with_mark, mark_keeps, mark_marks, mark_away, marks_shade, coloured_shade}
 use Rattle.core_rule.proofs.frames.Recoloured.{Recolours}
+use Rattle.core_rule.proofs.marking.Marks.{marks_at, none_dead}
 use Rattle.core_rule.proofs.marking.Paths.{grey_on}
-use Rattle.core_rule.proofs.marking.Scans.{scan_stands, scan_passes, scan_on_marks, seen_next}
+use Rattle.core_rule.proofs.marking.Scans.{scan_stands, scan_passes, scan_sweeps, scan_on_marks, seen_next}
 use Rattle.core_rule.proofs.marking.SeatShades.{words_marked, leads_back, comes_shaded}
 use Rattle.core_rule.proofs.marking.ShadeMarks.{grey_part}
 use Rattle.core_rule.proofs.steps.collector.ColourTurn.{colour_turns}
@@ -78,14 +79,11 @@ module _ (heap : Heap) (state : State) (book : Book) (rule : Rule heap state boo
         | inr marked ↦ mark_keeps book.colour m g marked
       ]) scanned.3
 
-  marks : MarkingStands heap words book.owner coloured book.fragments (scan_at (scan_step scan) next)
-  marks = record {
-    grey = grey_part heap state.words words book.owner book.colour book.fragments m part_of (λ x p g leads. leads_back heap state book rule m fits.target_within x p g leads) rule.marks_stand.heap_marks.grey;
-    scan = scan_stands heap words book.owner coloured book.fragments (scan_step scan) next seen;
-    pass = scan_passes coloured (scan_step scan) next;
-    alive = λ still. rule.marks_stand.heap_marks.alive (λ ended. absurd (cc (shading, ended)));
-    after = λ ended. absurd (scan_on_marks (scan_step scan) next ended);
-  }
+  marks : MarkingStands heap words book.owner coloured book.fragments state.collector.phase (scan_at (scan_step scan) next)
+  marks = marks_at heap words book.owner coloured book.fragments state.collector.phase (scan_at (scan_step scan) next) fits.marks.for_marking (scan_on_marks (scan_step scan) next)
+      (grey_part heap state.words words book.owner book.colour book.fragments m part_of (λ x p g leads. leads_back heap state book rule m fits.target_within x p g leads) rule.marks_stand.heap_marks.grey)
+      (scan_stands heap words book.owner coloured book.fragments (scan_step scan) next seen) (scan_passes coloured (scan_step scan) next)
+      (scan_sweeps heap book.owner coloured state.collector.phase (scan_step scan) next) (none_dead heap state book rule fits.marks.for_marking (λ ended. absurd (cc (shading, ended))))
 
 pub mark_shade_keeps : (scan : Scan) (m next : ℕ) → StageKeeps (stages.Shading scan m next)
 mark_shade_keeps scan m next heap state book rule shading machine =

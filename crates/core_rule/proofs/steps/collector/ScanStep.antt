@@ -13,9 +13,10 @@ use Rattle.core_machine.specs.table.Decode.{pointer_in}
 use Rattle.core_machine.specs.table.Layout.{at}
 use Rattle.core_rule.specs.Book.{Book}
 use Rattle.core_rule.specs.Colours.{IsBetween}
-use Rattle.core_rule.specs.Marking.{IsSeen, IsPart, ScanStands, PassStands, MarkingStands}
+use Rattle.core_rule.specs.Marking.{IsSeen, IsPart, ScanStands, PassStands, SweepStands, MarkingStands}
 use Rattle.core_rule.specs.Rule.{Rule}
-use Rattle.core_rule.proofs.marking.Scans.{scan_stands, scan_passes, scan_on_marks, may_mark, comes_after, seen_next}
+use Rattle.core_rule.proofs.marking.Marks.{marks_at, none_dead}
+use Rattle.core_rule.proofs.marking.Scans.{scan_stands, scan_passes, scan_sweeps, scan_on_marks, may_mark, comes_after, seen_next}
 use Rattle.core_rule.proofs.steps.collector.ColourTurn.{load_turns_on}
 use Rattle.core_rule.proofs.steps.TurnSteps.{StageKeeps}
 
@@ -42,22 +43,17 @@ module _ (heap : Heap) (state : State) (book : Book) (rule : Rule heap state boo
   cycle = let third = fits.marks.for_marking in let same = rule.collector_stands.phase_told in record { from = omega (arith, third, same); upto = omega (arith, third, same) }
 
   -- the pass and what was born stand, wherever the scan goes on
-  marks_after : (stage : Stage) → stage ≢ stages.Marked → ScanStands heap state.words book.owner book.colour book.fragments stage → PassStands book.colour stage
-      → MarkingStands heap state.words book.owner book.colour book.fragments stage
-  marks_after stage goes scans passes = record {
-    grey = rule.marks_stand.heap_marks.grey;
-    scan = scans;
-    pass = passes;
-    alive = λ still. rule.marks_stand.heap_marks.alive (λ ended. absurd (cc (scanning, ended)));
-    after = λ ended. absurd (goes ended);
-  }
+  marks_after : (stage : Stage) → stage ≢ stages.Advancing → ScanStands heap state.words book.owner book.colour book.fragments stage → PassStands book.colour stage
+      → SweepStands heap book.owner book.colour state.collector.phase stage → MarkingStands heap state.words book.owner book.colour book.fragments state.collector.phase stage
+  marks_after stage goes scans passes sweeps = marks_at heap state.words book.owner book.colour book.fragments state.collector.phase stage fits.marks.for_marking goes
+      rule.marks_stand.heap_marks.grey scans passes sweeps (none_dead heap state book rule fits.marks.for_marking (λ ended. absurd (cc (scanning, ended))))
 
   -- what the word leads to, if it leads anywhere, is marked next
-  loaded : (found : Option ℕ) → pointer_in scan.part word ≡ found → MarkingStands heap state.words book.owner book.colour book.fragments (after_scan_load scan next found)
+  loaded : (found : Option ℕ) → pointer_in scan.part word ≡ found → MarkingStands heap state.words book.owner book.colour book.fragments state.collector.phase (after_scan_load scan next found)
   loaded None is = marks_after (after_scan_load scan next None) (scan_on_marks (scan_step scan) next)
       (scan_stands heap state.words book.owner book.colour book.fragments (scan_step scan) next
       (seen_next heap state book rule f part_of state.words book.colour scan.part next (λ p g leads. leads) seen (λ g leads. absurd (cc (is, leads.to))) (comes_after heap state book rule f part_of scan.part)))
-      (scan_passes book.colour (scan_step scan) next)
+      (scan_passes book.colour (scan_step scan) next) (scan_sweeps heap book.owner book.colour state.collector.phase (scan_step scan) next)
   loaded (Some m) is = marks_after (stages.Shading (scan_step scan) m next) (λ e. cc) (
     seen,
     (λ g leads. inl (sym is ∙ leads.to)),

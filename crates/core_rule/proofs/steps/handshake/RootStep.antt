@@ -81,3 +81,4 @@ root_keeps heap state book number rule here place machine =
     (births_stay book.owner book.owner book.colour (with_mark book.colour f) number seat.answered (λ x borne. (borne, borne_unshaded heap state book number rule here f head.index head.kept head.is number x borne)) stands.cycle.births) stands.cycle)
     (λ marks answered. absurd (omega (arith, asks.next, asks.now, rule.collector_stands.phase_told, answered)))
     (λ marks. roots_off_way (IsReached heap state.words book.owner book.colour) seat new refl tt)
+    (λ last. omega (arith, asks.next, is_third, last))

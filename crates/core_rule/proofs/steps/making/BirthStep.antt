@@ -21,7 +21,7 @@ use Rattle.core_rule.specs.Owners.{Owner, Borne, born_bit, owner_after}
 use Rattle.core_rule.specs.Rule.{Rule}
 use Rattle.core_rule.proofs.cycle.FieldFrames.{watched_born}
 use Rattle.core_rule.proofs.frames.SeatFrames.{same_party, told_nothing, kept_owners, seat_left, registers_owners}
-use Rattle.core_rule.proofs.marking.MakingMarks.{leaves_borne, dark_now}
+use Rattle.core_rule.proofs.marking.MakingMarks.{leaves_borne, dark_now, pale_now}
 use Rattle.core_rule.proofs.marking.Marks.{marks_off_way}
 use Rattle.core_rule.proofs.steps.Assemble.{in_flight, seat_steps, MoveKeeps, seat_fits}
 use Rattle.core_rule.proofs.colours.Births.{birth_colour, births_are, are_births}
@@ -117,4 +117,5 @@ birth_keeps heap state book number rule here place more machine =
     } other)
     (marks_off_way heap state book rule number here words (record book { owner = owner; colour = colour }) (seat_after (birth_move seat) found)
     (leaves_borne heap state book rule g word below (Borne number) part (λ f there. ap born_bit (held f there)) (λ i k e. cc) black
-    (dark_now heap state book rule number here (in_flight rule number here (λ idle. absurd (cc (place, idle)))))) refl refl (rw place tt))
+    (dark_now heap state book rule number here (in_flight rule number here (λ idle. absurd (cc (place, idle)))))
+    (pale_now heap state book rule number here (in_flight rule number here (λ idle. absurd (cc (place, idle)))))) refl refl (rw place tt))
