@@ -2,6 +2,7 @@ mod calls;
 mod fields;
 mod making;
 mod marking;
+mod sweeping;
 mod texts;
 mod trial;
 mod turns;

@@ -66,6 +66,10 @@ fn turning_text(alloc: Global, step: TurningStep) -> Result<String, AllocError> 
         TurningStep::ScanLoad { fragment, part } => format!(in alloc; "scan {fragment}.{part}"),
         TurningStep::MarkShade { fragment } => format!(in alloc; "mark {fragment}"),
         TurningStep::Blacken { fragment } => format!(in alloc; "blacken {fragment}"),
+        TurningStep::MetaLoad { fragment } => format!(in alloc; "meta {fragment}"),
+        TurningStep::Free { group, bits } => format!(in alloc; "free {group} {bits:x}"),
+        TurningStep::Clear { group } => format!(in alloc; "clear {group}"),
+        TurningStep::EndAdvance { phase } => format!(in alloc; "end {phase}"),
     }
 }
 
