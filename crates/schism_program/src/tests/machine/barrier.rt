@@ -1,7 +1,7 @@
 use super::trial::tries;
 use std::test::Fail;
 
-/// A set takes the last reference to an unmarked object out of a field, while the collector scans.
+/// A set takes an unmarked object out of the one field that leads to it, while the collector scans.
 ///
 /// The fragments of group 0 are the board's (0 to 10) and those of four records of seat 0, one each: 11, to which the board's
 /// field 0 leads; 12, to which only field 0 of 11 leads; 13, to which nothing leads; and 14, made after the seat's answer to
