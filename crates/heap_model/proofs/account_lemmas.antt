@@ -11,4 +11,6 @@ pub mod SwungLemmas
 pub mod Telling
 pub mod TellsMore
 pub mod Turns
+pub mod TurnedRules
 pub mod Windows
+pub mod WithoutTurned

@@ -12,4 +12,5 @@ pub mod SeatBooks
 pub mod Space
 pub mod Sums
 pub mod Sweep
+pub mod Turned
 pub mod Windows

@@ -19,6 +19,7 @@ mod applying;
 mod counts;
 mod cycle;
 pub(crate) mod effect;
+pub(crate) mod laws;
 mod noting;
 mod phases;
 mod seat;

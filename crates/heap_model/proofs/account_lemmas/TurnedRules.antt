@@ -1,0 +1,247 @@
+-- Each entry of a play keeps the rules with answers to commands of the collector before it or without them.
+use Rattle.std.proofs.Common.{◌≡◌, ℕ, ◌+◌, ◌*◌, ◌%◌, ◌<◌, ◌≤◌, List, [], ◌∷◌, ◌++◌, refl, sym, ap, ◌∙◌, subst, arith, Bool, true, false, cond, Contains, append_assoc, append-nil, sum_by}
+use Rattle.std.specs.List.{range_with_len}
+use Rattle.std.proofs.lemmas.List.Sums.{sum_by-cons}
+use Rattle.std.proofs.lemmas.List.Elements.{filter-append}
+use Rattle.heap_model.specs.declared.heap.Heap.{Heap}
+use Rattle.heap_model.specs.declared.id.Id.{Id}
+use Rattle.heap_model.specs.declared.command.Command.{Command}
+use Rattle.heap_model.specs.declared.command.Command.TheVariants as commands
+use Rattle.heap_model.specs.declared.reply.Reply.{Reply}
+use Rattle.heap_model.specs.declared.reply.Reply.TheVariants as replies
+use Rattle.heap_model.specs.declared.entry.Entry.{Entry}
+use Rattle.heap_model.specs.declared.entry.Entry.TheVariants as entries
+use Rattle.heap_model.specs.account.Effects.{effect_of, is_of}
+use Rattle.heap_model.specs.account.Space.{fragments_gained, fragments_lost, words_granted, words_returned, taken_of, spent_of, fragments_unborn}
+use Rattle.heap_model.specs.account.Windows.{is_reply_to, begins_phase, begins_cycle, up_to_reply, since_reply, up_to_cycle, since_cycle}
+use Rattle.heap_model.specs.account.PhaseCounts.{phase, last_answer, has_left, is_leave_of, AllAnswered, BeganSince}
+use Rattle.heap_model.specs.account.Phases.{IsBehind, ShowsPhases, ShowsRightly, AnswersPhase, BeginsPhase}
+use Rattle.heap_model.specs.account.Refusals.{ShowsSpace, ShowsSpine, RefusesRightly, RefusesSpine}
+use Rattle.heap_model.specs.account.Cycles.{graph_of, brings, all_bring, bound, spine_bound, IsWithinBounds, EndsCycle}
+use Rattle.heap_model.specs.account.Sweep.{HasSwung, IsArray, Sweeps}
+use Rattle.heap_model.specs.account.Account.{KeepsSpace, KeepsSpaceAfter, IsLegal, TakesAndGives, MakesOfOwn}
+use Rattle.heap_model.specs.account.Turned.{is_of_heap, without_turned, AnswersRightly, AllAnswerRightly, TurnedMayStand}
+use Rattle.heap_model.specs.graph.Graph.{Graph, opening}
+use Rattle.heap_model.specs.graph.Growth.{after_entry}
+use Rattle.heap_model.specs.graph.Legal.{AcceptsAll}
+use Rattle.heap_model.specs.graph.Sizes.{fragments_of_all, spine_words_of_all}
+use Rattle.heap_model.proofs.account_lemmas.WithoutTurned.{same_sum, same_any, same_up_to, same_after, same_graph, contains_more, contains_still}
+
+-- the counts are the same
+module _ (history : List Entry) where
+  gained : fragments_gained (without_turned history) ≡ fragments_gained history
+  gained = omega (arith, same_sum (λ e. (effect_of e).taken) (λ c r. refl) history)
+
+  lost : fragments_lost (without_turned history) ≡ fragments_lost history
+  lost = omega (arith, same_sum (λ e. (effect_of e).given) (λ c r. refl) history, same_sum (λ e. (effect_of e).freed) (λ c r. refl) history)
+
+  granted : words_granted (without_turned history) ≡ words_granted history
+  granted = same_sum (λ e. (effect_of e).words) (λ c r. refl) history
+
+  returned : words_returned (without_turned history) ≡ words_returned history
+  returned = same_sum (λ e. (effect_of e).returned) (λ c r. refl) history
+
+  here : phase (without_turned history) ≡ phase history
+  here = same_sum (λ e. (effect_of e).phases) (λ c r. refl) history
+
+  module _ (number : ℕ) where
+    took : taken_of number (without_turned history) ≡ taken_of number history
+    took = same_sum _ (λ c r. refl) history
+
+    spent : spent_of number (without_turned history) ≡ spent_of number history
+    spent =
+        omega (arith, same_sum (λ e. cond (is_of number e) (effect_of e).given 0) (λ c r. refl) history, same_sum (λ e. cond (is_of number e) (effect_of e).born 0) (λ c r. refl) history)
+
+    answered : last_answer number (without_turned history) ≡ last_answer number history
+    answered = same_sum _ (λ c r. refl) history
+
+    gone : has_left number (without_turned history) ≡ has_left number history
+    gone = same_any (is_leave_of number) (λ c r. refl) history
+
+  graphs : (heap : Heap) → graph_of heap (without_turned history) ≡ graph_of heap history
+  graphs heap = same_graph (opening heap) history
+
+-- what a cycle leaves is the same
+module _ (history : List Entry) where
+  cycle_begun : up_to_cycle (without_turned history) ≡ without_turned (up_to_cycle history)
+  cycle_begun = same_up_to begins_cycle (λ c r. refl) history
+
+  cycle_since : since_cycle (without_turned history) ≡ without_turned (since_cycle history)
+  cycle_since = same_after begins_cycle (λ c r. refl) history
+
+  unborn : (number : ℕ) → fragments_unborn number (without_turned history) ≡ fragments_unborn number history
+  unborn number = rw (took history number, spent history number) refl
+
+bring : (history : List Entry) (number : ℕ) → brings number (without_turned history) ≡ brings number history
+bring history number =
+    rw (same_up_to (is_reply_to number) (λ c r. refl) history, same_after (is_reply_to number) (λ c r. refl) history)
+    (omega (arith, unborn (up_to_reply number history) number, took (since_reply number history) number))
+
+bring_all : (heap : Heap) (history : List Entry) → all_bring heap (without_turned history) ≡ all_bring heap history
+bring_all heap history = among (range_with_len 0 heap.seats)
+  where
+    among : (numbers : List ℕ) → sum_by (λ number. brings number (without_turned history)) numbers ≡ sum_by (λ number. brings number history) numbers
+    among [] = refl
+    among (number ∷ numbers) =
+        omega (arith, sum_by-cons (λ n. brings n (without_turned history)) number numbers, sum_by-cons (λ n. brings n history) number numbers, bring history number, among numbers)
+
+module _ (heap : Heap) (history : List Entry) where
+  graph_then : graph_of heap (up_to_cycle (without_turned history)) ≡ graph_of heap (up_to_cycle history)
+  graph_then = ap (graph_of heap) (cycle_begun history) ∙ graphs (up_to_cycle history) heap
+
+  bounds : (reached : List Id) → bound heap reached (without_turned history) ≡ bound heap reached history
+  bounds reached = omega (
+    arith,
+    ap (λ g. fragments_of_all g reached) graph_then,
+    ap (all_bring heap) (cycle_begun history),
+    bring_all heap (up_to_cycle history),
+    ap (λ es. sum_by (λ e. (effect_of e).taken) es) (cycle_since history),
+    same_sum (λ e. (effect_of e).taken) (λ c r. refl) (since_cycle history),
+  )
+
+  spine_bounds : (reached : List Id) → spine_bound heap reached (without_turned history) ≡ spine_bound heap reached history
+  spine_bounds reached = omega (
+    arith,
+    ap (λ g. spine_words_of_all g reached) graph_then,
+    ap (λ es. words_granted es) (cycle_since history),
+    granted (since_cycle history),
+  )
+
+  all_answered : AllAnswered heap (without_turned history) → AllAnswered heap history
+  all_answered all number below present = sym (answered history number) ∙ all number below (gone history number ∙ present) ∙ here history
+
+  ends_cycle : (entry : Entry) → EndsCycle heap (without_turned history) entry → EndsCycle heap history entry
+  ends_cycle (entries.Ends cycle kept) ((at, all), leaves) = ((sym (here history) ∙ at, all_answered all), record {
+    within = λ begun reach.
+        let within = leaves.within begun (rw graph_then reach) in
+        record {
+          used = omega (arith, within.used, gained history, lost history, bounds begun);
+          spine = omega (arith, within.spine, granted history, returned history, spine_bounds begun);
+          at_most = omega (arith, within.at_most, bounds begun);
+        };
+    reached = λ both reach.
+        subst (λ g. fragments_of_all g both ≤ kept) (graphs history heap) (leaves.reached both (rw (graph_then, graphs history heap) reach));
+  })
+  ends_cycle _ ends = tt
+
+  behind : (number answer p : ℕ) → IsBehind number answer p (without_turned history) → IsBehind number answer p history
+  behind number answer p is = record {
+    present = sym (gone history number) ∙ is.present;
+    answered = sym (answered history number) ∙ is.answered;
+    here = sym (here history) ∙ is.here;
+  }
+
+  began_since : (number cycle : ℕ) → BeganSince number cycle (without_turned history) → BeganSince number cycle history
+  began_since number cycle began =
+      let begin : Entry = entries.Advance (7 * cycle + 1) in
+      contains_more (since_reply number history) begin (subst (λ es. Contains es begin) (same_after (is_reply_to number) (λ c r. refl) history) began)
+
+  shows_phases : (number : ℕ) (command : Command) (reply : Reply) → ShowsPhases heap true (without_turned history) number command reply → ShowsPhases heap true history number command reply
+  shows_phases number commands.Poll (replies.Phase p) (now, last) = (now ∙ here history, last ∙ answered history number)
+  shows_phases number commands.Collect (replies.Cycle cycle) (ended, began) =
+      ((ended.0, contains_more history (entries.Ends cycle ended.0) ended.1), began_since number cycle began)
+  shows_phases number commands.Collect (replies.Waits other answer p) (below, apart, less, is) = (below, apart, less, behind other answer p is)
+  shows_phases number _ _ shows = tt
+
+  shows_space : (number : ℕ) (command : Command) (reply : Reply) → ShowsSpace heap true (without_turned history) number command reply → ShowsSpace heap true history number command reply
+  shows_space number command (replies.Full need found) (needed, less, finds) =
+      (needed, less, omega (arith, finds, gained history, lost history, took history number, spent history number))
+  shows_space number command _ shows = tt
+
+  shows_spine : (number : ℕ) (command : Command) (reply : Reply) → ShowsSpine heap true (without_turned history) number command reply → ShowsSpine heap true history number command reply
+  shows_spine number command (replies.SpineFull need shown) (needed, less, finds) = (needed, less, omega (arith, finds, granted history, returned history))
+  shows_spine number command _ shows = tt
+
+  swung_still : (id : Id) → HasSwung id history → HasSwung id (without_turned history)
+  swung_still id has =
+      subst (λ es. Contains es (entries.Swings id)) (sym (same_after begins_phase (λ c r. refl) history)) (contains_still _ (entries.Swings id) refl has)
+
+  takes_still : (entry : Entry) → TakesAndGives heap (without_turned history) entry → TakesAndGives heap history entry
+  takes_still (entries.Takes number count) (some, enough) = (some, omega (arith, enough, gained history, lost history))
+  takes_still (entries.GivesBack number count) (some, enough) = (some, omega (arith, enough, took history number, spent history number))
+  takes_still _ takes = tt
+
+  makes_still : (entry : Entry) → MakesOfOwn (without_turned history) entry → MakesOfOwn history entry
+  makes_still (entries.Said number command reply) (enough, little) =
+      (omega (arith, enough, took history number, spent history number), omega (arith, little, took history number, spent history number))
+  makes_still _ makes = tt
+
+  refuses_still : (entry : Entry) → RefusesRightly heap true (without_turned history) entry → RefusesRightly heap true history entry
+  refuses_still (entries.Said number command reply) refuses = shows_space number command reply refuses
+  refuses_still _ refuses = tt
+
+  refuses_spine_still : (entry : Entry) → RefusesSpine heap true (without_turned history) entry → RefusesSpine heap true history entry
+  refuses_spine_still (entries.Said number command reply) refuses = shows_spine number command reply refuses
+  refuses_spine_still _ refuses = tt
+
+  answers_still : (entry : Entry) → AnswersPhase (without_turned history) entry → AnswersPhase history entry
+  answers_still (entries.Answers number p) (now, next) = (now ∙ here history, next ∙ ap (λ n. n + 1) (answered history number))
+  answers_still _ answers = tt
+
+  begins_still : (entry : Entry) → BeginsPhase heap (without_turned history) entry → BeginsPhase heap history entry
+  begins_still (entries.Advance p) (next, no_rest, all) = (next ∙ ap (λ n. n + 1) (here history), no_rest, all_answered all)
+  begins_still _ begins = tt
+
+  sweeps_still : (entry : Entry) → Sweeps heap (without_turned history) entry → Sweeps heap history entry
+  sweeps_still (entries.Frees count) (when, some, enough) =
+      (ap (λ n. n % 7) (sym (here history)) ∙ when, some, omega (arith, enough, gained history, lost history))
+  sweeps_still (entries.Returns count) (when, some, enough) =
+      (ap (λ n. n % 7) (sym (here history)) ∙ when, some, omega (arith, enough, granted history, returned history))
+  sweeps_still (entries.Swings id) (when, array, first) =
+      (ap (λ n. n % 7) (sym (here history)) ∙ when, subst (λ g. IsArray g id) (graphs history heap) array, λ has. first (swung_still id has))
+  sweeps_still _ sweeps = tt
+
+  shows_still : (entry : Entry) → is_of_heap entry ≡ true → ShowsRightly heap true (without_turned history) entry → ShowsRightly heap true history entry
+  shows_still (entries.Said number command reply) is shows = shows_phases number command reply shows
+  shows_still (entries.Turned command reply) is shows = cc is
+  shows_still _ is shows = tt
+
+  -- so an entry that keeps the rules without such answers keeps them with them
+  keeps_still : (entry : Entry) → is_of_heap entry ≡ true → KeepsSpace heap true (without_turned history) entry → KeepsSpace heap true history entry
+  keeps_still entry is keeps = record {
+    takes = takes_still entry keeps.takes;
+    makes = makes_still entry keeps.makes;
+    refuses = refuses_still entry keeps.refuses;
+    refuses_spine = refuses_spine_still entry keeps.refuses_spine;
+    answers = answers_still entry keeps.answers;
+    begins = begins_still entry keeps.begins;
+    sweeps = sweeps_still entry keeps.sweeps;
+    ends = ends_cycle entry keeps.ends;
+    shows = shows_still entry is keeps.shows;
+  }
+
+objects_still : (g : Graph) (history : List Entry) → AcceptsAll g (without_turned history) → AcceptsAll g history
+objects_still g [] accepts = tt
+objects_still g (entries.Turned command reply ∷ history) accepts = (tt, objects_still g history accepts)
+objects_still g (entry ∷ history) accepts = (accepts.0, objects_still (after_entry g entry) history accepts.1)
+
+turned_keeps : (heap : Heap) (before : List Entry) (entry : Entry) → is_of_heap entry ≡ false → AnswersRightly heap before entry → KeepsSpace heap true before entry
+turned_keeps heap before (entries.Turned command reply) is shows =
+    record { takes = tt; makes = tt; refuses = tt; refuses_spine = tt; answers = tt; begins = tt; sweeps = tt; ends = tt; shows = shows }
+turned_keeps heap before _ is shows = cc is
+
+space_still : (heap : Heap) (before history : List Entry) → KeepsSpaceAfter heap true (without_turned before) (without_turned history) → AllAnswerRightly heap before history
+    → KeepsSpaceAfter heap true before history
+space_still heap before [] keeps right = tt
+space_still heap before (entry ∷ history) keeps right = by (is_of_heap entry) refl keeps (space_still heap (before ++ entry ∷ []) history)
+  where
+    more : (b : Bool) → is_of_heap entry ≡ b → without_turned (before ++ entry ∷ []) ≡ without_turned before ++ cond b (entry ∷ []) []
+    more b is = filter-append is_of_heap before (entry ∷ []) ∙ ap (λ x. without_turned before ++ cond x (entry ∷ []) []) is
+
+    by : (b : Bool) → is_of_heap entry ≡ b → KeepsSpaceAfter heap true (without_turned before) (cond b (entry ∷ without_turned history) (without_turned history))
+        → (KeepsSpaceAfter heap true (without_turned (before ++ entry ∷ [])) (without_turned history) → AllAnswerRightly heap (before ++ entry ∷ []) history → KeepsSpaceAfter heap true (before ++ entry ∷ []) history)
+        → KeepsSpaceAfter heap true before (entry ∷ history)
+    by true is kept rest = (
+      keeps_still heap before entry is kept.0,
+      rest (subst (λ es. KeepsSpaceAfter heap true es (without_turned history)) (sym (more true is)) kept.1) right.1,
+    )
+    by false is kept rest = (
+      turned_keeps heap before entry is right.0,
+      rest (subst (λ es. KeepsSpaceAfter heap true es (without_turned history)) (sym (more false is ∙ append-nil (without_turned before))) kept) right.1,
+    )
+
+pub turned_may_stand : TurnedMayStand
+turned_may_stand heap history legal right = record {
+  objects = objects_still (opening heap) history legal.objects;
+  space = space_still heap [] history legal.space right;
+}

@@ -1,0 +1,30 @@
+-- What the collector's commands were answered, among the other entries of a play.
+use Rattle.std.specs.Prelude.{Bool, true, false, List, [], ◌∷◌, ◌++◌, filter}
+use Rattle.heap_model.specs.declared.heap.Heap.{Heap}
+use Rattle.heap_model.specs.declared.entry.Entry.{Entry}
+use Rattle.heap_model.specs.declared.entry.Entry.TheVariants as entries
+use Rattle.heap_model.specs.account.Account.{IsLegal}
+use Rattle.heap_model.specs.account.Phases.{TurnShows}
+
+-- the entry is no answer to a command of the collector
+abbrev pub is_of_heap : Entry → Bool
+is_of_heap (entries.Turned command reply) = false
+is_of_heap _ = true
+
+-- the entries without the answers to commands of the collector
+abbrev pub without_turned : List Entry → List Entry
+without_turned history = filter is_of_heap history
+
+-- where the entry is an answer to a command of the collector, it shows what is so after the entries before it
+abbrev pub AnswersRightly : Heap → List Entry → Entry → Type 0
+AnswersRightly heap before (entries.Turned command reply) = TurnShows heap before reply
+AnswersRightly heap before _ = Unit {0}
+
+-- so does each of these entries, after those before it
+abbrev pub AllAnswerRightly : Heap → List Entry → List Entry → Type 0
+AllAnswerRightly heap before [] = Unit {0}
+AllAnswerRightly heap before (entry ∷ rest) = AnswersRightly heap before entry × AllAnswerRightly heap (before ++ entry ∷ []) rest
+
+-- answers to commands of the collector may be put between the entries of a play, each where it shows what is so, and all stays legal
+abbrev pub TurnedMayStand : Type 0
+TurnedMayStand = (heap : Heap) (history : List Entry) → IsLegal heap true (without_turned history) → AllAnswerRightly heap [] history → IsLegal heap true history
