@@ -9,3 +9,4 @@ pub mod PlayRuns
 pub mod BornWords
 pub mod MarkedAnswers
 pub mod Waits
+pub mod ComingTurns

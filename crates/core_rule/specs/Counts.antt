@@ -1,5 +1,5 @@
 -- What a seat has of its own is what the history says.
-use Rattle.std.specs.Prelude.{◌≡◌, ℕ, ◌+◌, ◌*◌, Bool, List, [], ◌∷◌, ◌++◌, length, filter, is_none, Some}
+use Rattle.std.specs.Prelude.{◌≡◌, ℕ, ◌+◌, ◌*◌, List, [], ◌∷◌, ◌++◌, length, filter, Some}
 use Rattle.heap_model.specs.declared.heap.Heap.{Heap}
 use Rattle.heap_model.specs.declared.id.Id.{Id}
 use Rattle.heap_model.specs.declared.id.Value.TheVariants as values
@@ -8,7 +8,7 @@ use Rattle.heap_model.specs.declared.entry.Entry.{Entry}
 use Rattle.heap_model.specs.declared.entry.Entry.TheVariants.{Said}
 use Rattle.heap_model.specs.graph.Objects.{graph_seat, register_value}
 use Rattle.heap_model.specs.graph.Graph.{Graph}
-use Rattle.heap_model.specs.account.Noting.{seat_of}
+pub use Rattle.heap_model.specs.account.Noting.{is_collectors}
 use Rattle.heap_model.specs.account.Space.{fragments_gained, fragments_lost, taken_of, spent_of}
 use Rattle.heap_model.specs.account.Effects.{is_of}
 use Rattle.core_machine.specs.declared.place.Place.{Place}
@@ -22,10 +22,6 @@ use Rattle.core_rule.specs.Book.{object_head}
 use Rattle.core_rule.specs.Objects.{NamesKept}
 use Rattle.core_rule.specs.Owners.{Owner, taken_bit}
 use Rattle.core_rule.specs.Holding.{fragments_in_hand}
-
--- the entry is the collector's
-abbrev pub is_collectors : Entry → Bool
-is_collectors entry = is_none (seat_of entry)
 
 -- a get has loaded a reference to a kept object: the graph's register has it, and the history has the reply, which the seat's own list awaits
 pub record IsAwaitingName (g : Graph) (made : List Id) (owner : ℕ → Owner) (fragments : ℕ → List ℕ) (number : ℕ) (seat : Seat) (awaited : List Entry) : Type 0 where

@@ -1,15 +1,18 @@
 -- The laws over every list of events.
-use Rattle.std.specs.Prelude.{◌≡◌, ◌≢◌, ℕ, ◌+◌, ◌*◌, ◌%◌, ◌<◌, true, List, [], ◌∷◌, ◌++◌, length, All}
+use Rattle.std.specs.Prelude.{◌≡◌, ◌≢◌, ℕ, ◌+◌, ◌*◌, ◌%◌, ◌<◌, true, List, [], ◌∷◌, ◌++◌, length, filter, All}
 use Rattle.heap_model.specs.declared.heap.Heap.{Heap}
 use Rattle.heap_model.specs.declared.entry.Entry.{Entry}
 use Rattle.heap_model.specs.declared.entry.Entry.TheVariants.{Answers}
 use Rattle.heap_model.specs.Heap.{IsHeap}
+use Rattle.std.specs.List.{AllByRecursion}
 use Rattle.heap_model.specs.account.Account.{IsLegal}
-use Rattle.heap_model.specs.account.PhaseCounts.{last_answer}
+use Rattle.heap_model.specs.account.Noting.{is_collectors}
+use Rattle.heap_model.specs.account.PhaseCounts.{phase, last_answer}
 use Rattle.heap_model.specs.PhasePlan.{cycle_phases, marking}
 use Rattle.heap_model.specs.account.Phases.{IsBehind}
 use Rattle.heap_model.specs.account.Space.{fragments_gained, fragments_lost}
 use Rattle.heap_model.specs.declared.calls.collector_calls.Turn.TheVariants.{Waits}
+use Rattle.heap_model.specs.calls.CollectorCalls.{CollectorState, ComesTo}
 use Rattle.core_machine.specs.declared.place.Place.TheVariants.{Idle}
 use Rattle.core_machine.specs.machine.Calls.{free_count}
 use Rattle.core_machine.specs.collector.Collector.{next_turn}
@@ -72,6 +75,18 @@ abbrev pub EachWaitIsBehind : Type 0
 EachWaitIsBehind = (heap : Heap) (state : State) (book : Book) (seat answer p : ℕ) → Rule heap state book
     → (next_turn heap state.collector).answer (found_by heap state (next_turn heap state.collector).step) ≡ Waits seat answer p
     → (seat < heap.seats) × IsBehind seat answer p book.history × (answer + 1 ≡ p)
+
+-- the collector's entries and its phase are those that the history tells
+pub record IsToldBy (history : List Entry) (collector : CollectorState) : Type 0 where
+  pub log_told : collector.log ≡ filter is_collectors history
+  pub phase_told : collector.phase ≡ phase history
+
+-- what a turn adds is the collector's, and the turn comes to what a turn of a collector may come to
+abbrev pub EachTurnComesTo : Type 0
+EachTurnComesTo = (heap : Heap) (state : State) (book : Book) (old new : CollectorState) → Rule heap state book → Can heap state Turns
+    → IsToldBy book.history old → IsToldBy (book.history ++ entries heap state Turns) new
+    → AllByRecursion (λ entry. is_collectors entry ≡ true) (entries heap state Turns)
+    × ComesTo old new ((next_turn heap state.collector).answer (found_by heap state (next_turn heap state.collector).step))
 
 -- where the entry is an answer to a phase in which marking begins, each of the seat's registers that holds an object has a marked one
 abbrev pub HasMarkedRoots : State → (ℕ → Colour) → Entry → Type 0

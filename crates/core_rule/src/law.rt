@@ -1,4 +1,4 @@
-ghost use Rattle.core_rule.specs.Laws.{EachEventKeeps, EveryRunKeeps, WholeCallsPlay, FreeIsUnused, EachBirthHasItsColour, EachAnswerIsMarked, EachWaitIsBehind};
+ghost use Rattle.core_rule.specs.Laws.{EachEventKeeps, EveryRunKeeps, WholeCallsPlay, FreeIsUnused, EachBirthHasItsColour, EachAnswerIsMarked, EachWaitIsBehind, EachTurnComesTo};
 
 /// The rule holds after every list of begins, steps and turns of the collector, over every heap.
 pub fn law_every_run()
@@ -9,4 +9,5 @@ pub fn law_every_run()
     ensures births { EachBirthHasItsColour }
     ensures answers { EachAnswerIsMarked }
     ensures waits { EachWaitIsBehind }
+    ensures turns { EachTurnComesTo }
 {}

@@ -70,7 +70,7 @@ plain_keeps heap before _ (saying number command reply plain) keeps = record {
 }
 
 -- each entry of a legal history keeps the rules after those before it
-keeps_there : (heap : Heap) (play : Bool) (before history rest : List Entry) (entry : Entry) → KeepsSpaceAfter heap play before (history ++ entry ∷ rest)
+pub keeps_there : (heap : Heap) (play : Bool) (before history rest : List Entry) (entry : Entry) → KeepsSpaceAfter heap play before (history ++ entry ∷ rest)
     → KeepsSpace heap play (before ++ history) entry
 keeps_there heap play before [] rest entry kept = subst (λ es. KeepsSpace heap play es entry) (sym (append-nil before)) kept.0
 keeps_there heap play before (first ∷ history) rest entry kept =

@@ -20,7 +20,7 @@ use Rattle.heap_model.specs.account.Refusals.{ShowsSpace, ShowsSpine, RefusesRig
 use Rattle.heap_model.specs.account.Cycles.{graph_of, brings, all_bring, bound, spine_bound, IsWithinBounds, EndsCycle}
 use Rattle.heap_model.specs.account.Sweep.{HasSwung, IsArray, Sweeps}
 use Rattle.heap_model.specs.account.Account.{KeepsSpace, KeepsSpaceAfter, IsLegal, TakesAndGives, MakesOfOwn}
-use Rattle.heap_model.specs.account.Turned.{is_of_heap, without_turned, AnswersRightly, AllAnswerRightly, TurnedMayStand}
+use Rattle.heap_model.specs.account.Turned.{is_of_heap, without_turned, AnswersRightly, AllAnswerRightly, TurnedMayStand, TurnedCountNothing, TurnedHoldNobody}
 use Rattle.heap_model.specs.graph.Graph.{Graph, opening}
 use Rattle.heap_model.specs.graph.Growth.{after_entry}
 use Rattle.heap_model.specs.graph.Legal.{AcceptsAll}
@@ -60,6 +60,16 @@ module _ (history : List Entry) where
 
   graphs : (heap : Heap) → graph_of heap (without_turned history) ≡ graph_of heap history
   graphs heap = same_graph (opening heap) history
+
+pub turned_count_nothing : TurnedCountNothing
+turned_count_nothing history = record { gained_stay = gained history; lost_stay = lost history; granted_stay = granted history; returned_stay = returned history }
+
+pub turned_hold_nobody : TurnedHoldNobody
+turned_hold_nobody number answer p history is = record {
+  present = sym (gone history number) ∙ is.present;
+  answered = sym (answered history number) ∙ is.answered;
+  here = sym (here history) ∙ is.here;
+}
 
 -- what a cycle leaves is the same
 module _ (history : List Entry) where
@@ -111,25 +121,21 @@ module _ (heap : Heap) (history : List Entry) where
   all_answered all number below present = sym (answered history number) ∙ all number below (gone history number ∙ present) ∙ here history
 
   ends_cycle : (entry : Entry) → EndsCycle heap (without_turned history) entry → EndsCycle heap history entry
-  ends_cycle (entries.Ends cycle kept) ((at, all), leaves) = ((sym (here history) ∙ at, all_answered all), record {
-    within = λ begun reach.
-        let within = leaves.within begun (rw graph_then reach) in
-        record {
-          used = omega (arith, within.used, gained history, lost history, bounds begun);
-          spine = omega (arith, within.spine, granted history, returned history, spine_bounds begun);
-          at_most = omega (arith, within.at_most, bounds begun);
-        };
-    reached = λ both reach.
-        subst (λ g. fragments_of_all g both ≤ kept) (graphs history heap) (leaves.reached both (rw (graph_then, graphs history heap) reach));
-  })
+  ends_cycle (entries.Ends cycle kept) ((at, all), leaves) = (
+    (sym (here history) ∙ at, all_answered all),
+    record {
+      within = λ begun reach.
+          let within = leaves.within begun (rw graph_then reach) in
+          record {
+            used = omega (arith, within.used, gained history, lost history, bounds begun);
+            spine = omega (arith, within.spine, granted history, returned history, spine_bounds begun);
+            at_most = omega (arith, within.at_most, bounds begun);
+          };
+      reached = λ both reach.
+          subst (λ g. fragments_of_all g both ≤ kept) (graphs history heap) (leaves.reached both (rw (graph_then, graphs history heap) reach));
+    },
+  )
   ends_cycle _ ends = tt
-
-  behind : (number answer p : ℕ) → IsBehind number answer p (without_turned history) → IsBehind number answer p history
-  behind number answer p is = record {
-    present = sym (gone history number) ∙ is.present;
-    answered = sym (answered history number) ∙ is.answered;
-    here = sym (here history) ∙ is.here;
-  }
 
   began_since : (number cycle : ℕ) → BeganSince number cycle (without_turned history) → BeganSince number cycle history
   began_since number cycle began =
@@ -140,7 +146,7 @@ module _ (heap : Heap) (history : List Entry) where
   shows_phases number commands.Poll (replies.Phase p) (now, last) = (now ∙ here history, last ∙ answered history number)
   shows_phases number commands.Collect (replies.Cycle cycle) (ended, began) =
       ((ended.0, contains_more history (entries.Ends cycle ended.0) ended.1), began_since number cycle began)
-  shows_phases number commands.Collect (replies.Waits other answer p) (below, apart, less, is) = (below, apart, less, behind other answer p is)
+  shows_phases number commands.Collect (replies.Waits other answer p) (below, apart, less, is) = (below, apart, less, turned_hold_nobody other answer p history is)
   shows_phases number _ _ shows = tt
 
   shows_space : (number : ℕ) (command : Command) (reply : Reply) → ShowsSpace heap true (without_turned history) number command reply → ShowsSpace heap true history number command reply

@@ -82,7 +82,7 @@ contains_still (first ∷ history) entry stays has = subst (λ es. Contains es e
   | inl here ↦ Contains-append_left (without_turned (first ∷ [])) (without_turned history) entry (elim (Contains-push_cases [] first entry here) [
     | inl none ↦ absurd (let lt = none.1 in omega (arith, lt))
     | inr same ↦ subst (λ e. Contains (without_turned (e ∷ [])) entry) (sym same)
-      (subst (λ b. Contains (cond b (entry ∷ []) []) entry) (sym stays) (Contains-push [] entry))
+        (subst (λ b. Contains (cond b (entry ∷ []) []) entry) (sym stays) (Contains-push [] entry))
   ])
   | inr later ↦ Contains-append_right (without_turned (first ∷ [])) (without_turned history) entry (contains_still history entry stays later)
 ])

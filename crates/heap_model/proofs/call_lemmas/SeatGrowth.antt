@@ -18,7 +18,7 @@ use Rattle.heap_model.specs.graph.Growth.{after_entry, after_reply, graph_after}
 use Rattle.heap_model.specs.Needs.{array_fragments, record_fragments}
 use Rattle.heap_model.specs.graph.Objects.{absent_graph_seat, graph_seat, register_value}
 use Rattle.heap_model.specs.calls.SeatCalls.{AnswersBefore, ArrayBefore, ClaimsBefore, ComesBefore, gives_of, takes_of}
-use Rattle.heap_model.specs.calls.SeatLaws.{EachCallCounts, EachCallGrows}
+use Rattle.heap_model.specs.calls.SeatLaws.{EachCallCounts, EachCallGrows, EachCallSparesOthers, CountsAsBefore}
 use Rattle.heap_model.specs.calls.SeatState.{own_graph, own_graph_seat}
 use Rattle.heap_model.specs.graph.Graph.{fresh, Node, GraphSeat, Graph, opening}
 
@@ -70,12 +70,6 @@ record GoesOn (stays : Type 0) (old new : GraphSeat) : Type 0 where
   pub made : length new.objects ≤ length old.objects + 1
   pub set_more : new.sets ≤ old.sets + 1
 
--- as it was but for its registers and its objects' cells
-record SameCounts (old new : GraphSeat) : Type 0 where
-  pub present : new.left ≡ old.left
-  pub made : length new.objects ≡ length old.objects
-  pub set_same : new.sets ≡ old.sets
-
 -- another seat in its place is there, if any was
 with_cases : (g : Graph) (number : ℕ) (p : GraphSeat) → (graph_seat (with_graph_seat g number p) number ≡ p) ⊎ (graph_seat (with_graph_seat g number p) number ≡ graph_seat g number)
 with_cases g number p = elim (cases_lt number (length g.seats)) [
@@ -98,26 +92,26 @@ goes_on_put stays g number d value = goes_on_with stays g number _ record { pres
 goes_on_add : (stays : Type 0) (g : Graph) (number d : ℕ) (object : Node) → GoesOn stays (graph_seat g number) (graph_seat (add g number d object) number)
 goes_on_add stays g number d object = goes_on_with stays g number _ record { present = λ there. refl; made = omega (arith, length-append (graph_seat g number).objects (object ∷ [])); set_more = omega arith }
 
-same_counts_write : (g : Graph) (number : ℕ) (value : Value) (i : ℕ) (cell : Cell) → SameCounts (graph_seat g number) (graph_seat (write g value i cell) number)
-same_counts_write g number Nil i cell = record { present = refl; made = refl; set_same = refl }
-same_counts_write g number (Number n) i cell = record { present = refl; made = refl; set_same = refl }
-same_counts_write g number (Object Board) i cell = record { present = refl; made = refl; set_same = refl }
+same_counts_write : (g : Graph) (number : ℕ) (value : Value) (i : ℕ) (cell : Cell) → CountsAsBefore (graph_seat g number) (graph_seat (write g value i cell) number)
+same_counts_write g number Nil i cell = record { leaves_same = refl; made_same = refl; sets_same = refl }
+same_counts_write g number (Number n) i cell = record { leaves_same = refl; made_same = refl; sets_same = refl }
+same_counts_write g number (Object Board) i cell = record { leaves_same = refl; made_same = refl; sets_same = refl }
 same_counts_write g number (Object (Made q count)) i cell =
     let p = with_object_cell (graph_seat g q) count i cell in
-    let same : SameCounts (graph_seat g q) p = record { present = refl; made = length-set (graph_seat g q).objects count _; set_same = refl } in
+    let same : CountsAsBefore (graph_seat g q) p = record { leaves_same = refl; made_same = length-set (graph_seat g q).objects count _; sets_same = refl } in
     elim (cases_eq number q) [
-      | inl here ↦ subst (λ n. SameCounts (graph_seat g n) (graph_seat (with_graph_seat g q p) n)) (sym here) (elim (with_cases g q p) [
-        | inl new ↦ subst (SameCounts (graph_seat g q)) (sym new) same
-        | inr old ↦ subst (SameCounts (graph_seat g q)) (sym old) record { present = refl; made = refl; set_same = refl }
+      | inl here ↦ subst (λ n. CountsAsBefore (graph_seat g n) (graph_seat (with_graph_seat g q p) n)) (sym here) (elim (with_cases g q p) [
+        | inl new ↦ subst (CountsAsBefore (graph_seat g q)) (sym new) same
+        | inr old ↦ subst (CountsAsBefore (graph_seat g q)) (sym old) record { leaves_same = refl; made_same = refl; sets_same = refl }
       ])
-      | inr other ↦ subst (SameCounts (graph_seat g number)) (sym (get_or-set_other g.seats q number p absent_graph_seat other)) record { present = refl; made = refl; set_same = refl }
+      | inr other ↦ subst (CountsAsBefore (graph_seat g number)) (sym (get_or-set_other g.seats q number p absent_graph_seat other)) record { leaves_same = refl; made_same = refl; sets_same = refl }
     ]
 
-goes_on_then : (stays : Type 0) (old now new : GraphSeat) → GoesOn stays old now → SameCounts now new → GoesOn stays old new
+goes_on_then : (stays : Type 0) (old now new : GraphSeat) → GoesOn stays old now → CountsAsBefore now new → GoesOn stays old new
 goes_on_then stays old now new goes same = record {
-  present = λ there. same.present ∙ goes.present there;
-  made = omega (arith, same.made, goes.made);
-  set_more = omega (arith, same.set_same, goes.set_more);
+  present = λ there. same.leaves_same ∙ goes.present there;
+  made = omega (arith, same.made_same, goes.made);
+  set_more = omega (arith, same.sets_same, goes.set_more);
 }
 
 goes_on_said : (g : Graph) (number : ℕ) (command : Command) (reply : Reply) → GoesOn (command ≢ commands.Leave) (graph_seat g number) (graph_seat (after_reply g number command reply) number)
@@ -139,3 +133,31 @@ each_call_counts old new command reply adds =
     ap (λ g. graph_seat g new.number) (each_call_grows old new command reply adds) ∙ ap (graph_seat (after_reply (own_graph old) old.number command reply)) adds.number in
     let goes = subst (GoesOn (command ≢ commands.Leave) (own_graph_seat old)) (sym seat) (goes_on_said (own_graph old) old.number command reply) in
     record { present_stays = goes.present; made_more = goes.made; sets_more = goes.set_more }
+
+-- another seat in one place leaves those in the others
+spared : (g : Graph) (number other : ℕ) (p : GraphSeat) → other ≢ number → CountsAsBefore (graph_seat g other) (graph_seat (with_graph_seat g number p) other)
+spared g number other p apart =
+    subst (CountsAsBefore (graph_seat g other)) (sym (get_or-set_other g.seats number other p absent_graph_seat apart)) record { leaves_same = refl; made_same = refl; sets_same = refl }
+
+as_before_then : (old now new : GraphSeat) → CountsAsBefore old now → CountsAsBefore now new → CountsAsBefore old new
+as_before_then old now new first then_ = record {
+  leaves_same = then_.leaves_same ∙ first.leaves_same;
+  made_same = then_.made_same ∙ first.made_same;
+  sets_same = then_.sets_same ∙ first.sets_same;
+}
+
+spared_said : (g : Graph) (number other : ℕ) (command : Command) (reply : Reply) → other ≢ number → CountsAsBefore (graph_seat g other) (graph_seat (after_reply g number command reply) other)
+spared_said g number other (commands.New d fields) (replies.Made id) apart = spared g number other _ apart
+spared_said g number other (commands.Array d cells) (replies.Made id) apart = spared g number other _ apart
+spared_said g number other (commands.Get d r i) (replies.Got value stamp) apart = spared g number other _ apart
+spared_said g number other (commands.Set r i v) (replies.Was stamp) apart =
+    as_before_then (graph_seat g other) (graph_seat (count_set g number) other) _ (spared g number other _ apart) (same_counts_write (count_set g number) other (register_value g number r) i _)
+spared_said g number other (commands.Num d n) reply apart = spared g number other _ apart
+spared_said g number other (commands.Nil d) reply apart = spared g number other _ apart
+spared_said g number other (commands.Copy d r) reply apart = spared g number other _ apart
+spared_said g number other commands.Leave reply apart = spared g number other _ apart
+spared_said g number other command reply apart = record { leaves_same = refl; made_same = refl; sets_same = refl }
+
+pub each_call_spares_others : EachCallSparesOthers
+each_call_spares_others old new command reply other adds apart =
+    subst (λ g. CountsAsBefore (graph_seat (own_graph old) other) (graph_seat g other)) (sym (each_call_grows old new command reply adds)) (spared_said (own_graph old) old.number other command reply apart)

@@ -1,5 +1,5 @@
 -- What the account keeps once an entry is counted.
-use Rattle.std.specs.Prelude.{◌≡◌, ℕ, ◌+◌, ◌<◌, Bool, false, if◌then◌else◌, nat_lt, List, [], slice_index_or, Option, Some, None, is_some, IfSome}
+use Rattle.std.specs.Prelude.{◌≡◌, ℕ, ◌+◌, ◌<◌, Bool, false, if◌then◌else◌, nat_lt, List, [], slice_index_or, Option, Some, None, is_none, is_some, IfSome}
 use Rattle.heap_model.specs.declared.entry.Entry.{Entry}
 use Rattle.heap_model.specs.declared.entry.Entry.TheVariants as entries
 use Rattle.heap_model.specs.declared.heap.Heap.{Heap}
@@ -19,6 +19,10 @@ seat_of (entries.Takes number count) = Some number
 seat_of (entries.GivesBack number count) = Some number
 seat_of (entries.Answers number phase) = Some number
 seat_of _ = None
+
+-- the entry is no seat's, but the collector's
+abbrev pub is_collectors : Entry → Bool
+is_collectors entry = is_none (seat_of entry)
 
 -- the seat of the entry, where it has one, is one of these
 abbrev pub IsSeatBelow : ℕ → Entry → Type 0

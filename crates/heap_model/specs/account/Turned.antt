@@ -1,10 +1,11 @@
 -- What the collector's commands were answered, among the other entries of a play.
-use Rattle.std.specs.Prelude.{Bool, true, false, List, [], ◌∷◌, ◌++◌, filter}
+use Rattle.std.specs.Prelude.{◌≡◌, ℕ, Bool, true, false, List, [], ◌∷◌, ◌++◌, filter}
 use Rattle.heap_model.specs.declared.heap.Heap.{Heap}
 use Rattle.heap_model.specs.declared.entry.Entry.{Entry}
 use Rattle.heap_model.specs.declared.entry.Entry.TheVariants as entries
 use Rattle.heap_model.specs.account.Account.{IsLegal}
-use Rattle.heap_model.specs.account.Phases.{TurnShows}
+use Rattle.heap_model.specs.account.Phases.{IsBehind, TurnShows}
+use Rattle.heap_model.specs.account.Space.{fragments_gained, fragments_lost, words_granted, words_returned}
 
 -- the entry is no answer to a command of the collector
 abbrev pub is_of_heap : Entry → Bool
@@ -28,3 +29,18 @@ AllAnswerRightly heap before (entry ∷ rest) = AnswersRightly heap before entry
 -- answers to commands of the collector may be put between the entries of a play, each where it shows what is so, and all stays legal
 abbrev pub TurnedMayStand : Type 0
 TurnedMayStand = (heap : Heap) (history : List Entry) → IsLegal heap true (without_turned history) → AllAnswerRightly heap [] history → IsLegal heap true history
+
+-- they change no count of fragments or spine words
+pub record CountsStay (history : List Entry) : Type 0 where
+  pub gained_stay : fragments_gained (without_turned history) ≡ fragments_gained history
+  pub lost_stay : fragments_lost (without_turned history) ≡ fragments_lost history
+  pub granted_stay : words_granted (without_turned history) ≡ words_granted history
+  pub returned_stay : words_returned (without_turned history) ≡ words_returned history
+
+-- so it is in each history
+abbrev pub TurnedCountNothing : Type 0
+TurnedCountNothing = (history : List Entry) → CountsStay history
+
+-- and a seat that is behind without them is behind with them
+abbrev pub TurnedHoldNobody : Type 0
+TurnedHoldNobody = (number answer p : ℕ) (history : List Entry) → IsBehind number answer p (without_turned history) → IsBehind number answer p history

@@ -9,6 +9,8 @@ use Rattle.heap_model.specs.declared.id.Value.TheVariants.{Object}
 use Rattle.heap_model.specs.declared.reply.Reply.{Reply}
 use Rattle.heap_model.specs.Command.{IsCommand}
 use Rattle.heap_model.specs.graph.Growth.{after_reply}
+use Rattle.heap_model.specs.graph.Graph.{GraphSeat}
+use Rattle.heap_model.specs.graph.Objects.{graph_seat}
 use Rattle.heap_model.specs.Heap.{IsHeap}
 use Rattle.heap_model.specs.Needs.{need_of}
 use Rattle.heap_model.specs.calls.SeatCalls.{ComesBefore, Adds}
@@ -55,3 +57,14 @@ pub record CountsUp (old new : SeatState) (command : Command) : Type 0 where
 -- each call counts up so
 abbrev pub EachCallCounts : Type 0
 EachCallCounts = (old new : SeatState) (command : Command) (reply : Reply) → Adds old new command reply → CountsUp old new command
+
+-- the seat has left where it had, and made no object and did no set
+pub record CountsAsBefore (old new : GraphSeat) : Type 0 where
+  pub leaves_same : new.left ≡ old.left
+  pub made_same : length new.objects ≡ length old.objects
+  pub sets_same : new.sets ≡ old.sets
+
+-- a call leaves all other seats so
+abbrev pub EachCallSparesOthers : Type 0
+EachCallSparesOthers = (old new : SeatState) (command : Command) (reply : Reply) (other : ℕ) → Adds old new command reply → other ≢ old.number
+    → CountsAsBefore (graph_seat (own_graph old) other) (graph_seat (own_graph new) other)

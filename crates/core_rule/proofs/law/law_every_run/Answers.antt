@@ -5,6 +5,7 @@ use Rattle.core_rule.proofs.runs.MarkedAnswers.{each_answer_is_marked}
 use Rattle.core_rule.proofs.runs.Waits.{each_wait_is_behind}
 use Rattle.core_rule.proofs.runs.OpeningStands.{opening_stands}
 use Rattle.core_rule.proofs.runs.PlayRuns.{whole_calls_play}
+use Rattle.core_rule.proofs.runs.ComingTurns.{each_turn_comes_to}
 use Rattle.core_rule.proofs.runs.Runs.{each_event_keeps, every_run_keeps}
 use Rattle.core_rule.proofs.steps.Steps.{each_step_keeps, each_begin_keeps, each_turn_keeps}
 use Rattle.core_rule.proofs.law.law_every_run.Goals as goal
@@ -29,3 +30,6 @@ returns-clause-answers c = each_answer_is_marked
 
 pub returns-clause-waits : goal.returns-clause-waits
 returns-clause-waits c = each_wait_is_behind
+
+pub returns-clause-turns : goal.returns-clause-turns
+returns-clause-turns c = each_turn_comes_to (each_event_keeps machine_after each_step_keeps each_begin_keeps each_turn_keeps)

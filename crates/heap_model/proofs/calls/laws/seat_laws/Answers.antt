@@ -1,7 +1,7 @@
 -- The laws of a seat's calls.
 use Rattle.heap_model.proofs.call_lemmas.BoardLemmas.{board_stays}
 use Rattle.heap_model.proofs.call_lemmas.SeatCallLemmas.{each_call_is_short, each_call_leaves_room}
-use Rattle.heap_model.proofs.call_lemmas.SeatGrowth.{each_call_counts, each_call_grows}
+use Rattle.heap_model.proofs.call_lemmas.SeatGrowth.{each_call_counts, each_call_grows, each_call_spares_others}
 use Rattle.heap_model.proofs.calls.laws.seat_laws.Goals as goal
 
 pub returns-clause-short : goal.returns-clause-short
@@ -18,3 +18,6 @@ returns-clause-grows c = each_call_grows
 
 pub returns-clause-counts : goal.returns-clause-counts
 returns-clause-counts c = each_call_counts
+
+pub returns-clause-others : goal.returns-clause-others
+returns-clause-others c = each_call_spares_others
