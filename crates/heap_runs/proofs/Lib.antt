@@ -1,0 +1,2 @@
+pub mod OneSeat
+pub mod Runs
