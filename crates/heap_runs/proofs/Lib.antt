@@ -1,2 +1,12 @@
+pub mod Bounds
+pub mod Calling
+pub mod Collectors
+pub mod MachineCalls
+pub mod MachineTurns
+pub mod Noting
 pub mod OneSeat
+pub mod Opened
 pub mod Runs
+pub mod Standing
+pub mod TurnFacts
+pub mod TurnedMachine

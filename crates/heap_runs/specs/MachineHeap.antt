@@ -6,6 +6,7 @@ use Rattle.heap_model.specs.declared.entry.Entry.{Entry}
 use Rattle.heap_model.specs.declared.entry.Entry.TheVariants.{Said}
 use Rattle.heap_model.specs.declared.reply.Reply.{Reply}
 use Rattle.heap_model.specs.declared.calls.collector_calls.Turn.{Turn}
+use Rattle.heap_model.specs.Heap.{IsHeap}
 use Rattle.core_machine.specs.seat.Commands.{IsRecord}
 use Rattle.core_machine.specs.machine.Calls.{PlaysCall, AnswersNew, IsPlaceRefusal, LeavesAll}
 use Rattle.core_machine.specs.machine.Machine.{State, Event, Turns, Can, Run, next_turn, found_by, state_after, state_after_all, entries, history}
@@ -32,8 +33,9 @@ play_state_of whole = record {
   last_turn = whole.last_turn;
 }
 
--- whole calls, one after another, and turns between them lead from the opening of the heap to this state, and these are their entries
+-- whole calls, one after another, and turns between them lead from the opening of a heap within the limits to this state, and these are their entries
 pub record WholeCalls (heap : Heap) (state : State) (told : List Entry) : Type 0 where
+  pub limits : IsHeap heap
   pub opening : State
   pub opens : IsOpening heap opening
   pub events : List Event
@@ -51,6 +53,14 @@ pub record IsBetweenCalls (heap : Heap) (state : State) (told : List Entry) : Ty
 pub record HasRoom (machine : MachineValue) (listed spare : ℕ) : Type 0 where
   pub own_room : spare ≤ spare_of machine (length machine.state.seats)
   pub listed_room : spare ≤ listed
+
+-- nothing happened: the machine's state, the entries and the turns are as before
+pub record StandsStill (old new : MachineHeapValue) : Type 0 where
+  pub heap_stays : new.machine.heap ≡ old.machine.heap
+  pub state_stays : new.machine.state ≡ old.machine.state
+  pub entries_stay : new.entries ≡ old.entries
+  pub turns_stay : new.turns ≡ old.turns
+  pub last_stays : new.last_turn ≡ old.last_turn
 
 -- the call is the machine's: its steps and its entries are those of a whole call there, and what it refuses changes nothing there
 pub record CallsMachine (old new : MachineHeapValue) (number : ℕ) (command : Command) (reply : Reply) : Type 0 where

@@ -1,6 +1,5 @@
 -- What the turns of one command of the collector come to.
-use Rattle.std.specs.Prelude.{◌≡◌, ◌≢◌, ℕ, ◌+◌, ◌-◌, ◌<◌, ◌≤◌, ◌^◌, min, List, [], ◌∷◌, ◌++◌, length}
-use Rattle.std.specs.List.{AllByRecursion}
+use Rattle.std.specs.Prelude.{◌≡◌, ℕ, zero, suc, ◌+◌, ◌-◌, ◌<◌, ◌^◌, min}
 use Rattle.heap_model.specs.declared.command.TurnCommand.{TurnCommand}
 use Rattle.heap_model.specs.declared.command.TurnCommand.TheVariants as commands
 use Rattle.heap_model.specs.declared.reply.TurnReply.{TurnReply}
@@ -15,31 +14,37 @@ abbrev pub GoesOnward : Turn → Type 0
 GoesOnward (turns.Waits number answer p) = ⊥
 GoesOnward _ = Unit {0}
 
--- these turns were made, one after another
-abbrev pub TakesTurns : PlayState → List Turn → PlayState → Type 0
-TakesTurns old [] new = new ≡ old
-TakesTurns old (turn ∷ made) new = (now : PlayState) × TakesTurn old now turn × TakesTurns now made new
+-- so many turns were made, one after another, and none waited
+abbrev pub TakesTurns : ℕ → PlayState → PlayState → Type 0
+TakesTurns zero old new = new ≡ old
+TakesTurns (suc n) old new = (now : PlayState) × (turn : Turn) × TakesTurns n old now × TakesTurn now new turn × GoesOnward turn
 
--- so many turns were made and none waited, or the last of no more turns was the first that waited
-abbrev pub ComesToReply : ℕ → List Turn → TurnReply → Type 0
-ComesToReply n made replies.Done = (length made ≡ n) × AllByRecursion GoesOnward made
-ComesToReply n made (replies.Waits number answer p) =
-    (earlier : List Turn) × (made ≡ earlier ++ turns.Waits number answer p ∷ []) × AllByRecursion GoesOnward earlier × (length made ≤ n)
-ComesToReply n made (replies.Cycle cycle) = ⊥
-
--- the turns are counted, as far as they are
+-- the number of turns rose by so many, or it stands at its last value
 abbrev pub CountsTurns : PlayState → PlayState → ℕ → Type 0
-CountsTurns old new n = new.turns ≡ min (old.turns + n) (2 ^ 64 - 1)
+CountsTurns old new n = min new.turns (2 ^ 64 - 1) ≡ min (old.turns + n) (2 ^ 64 - 1)
 
--- the turns that the command asks for were made up to the first that waits, the reply says which, and what it shows is so
-pub record ServesTurns (old new : PlayState) (n : ℕ) (reply : TurnReply) : Type 0 where
-  pub made : List Turn
-  pub taken : TakesTurns old made new
-  pub comes : ComesToReply n made reply
-  pub counted : CountsTurns old new (length made)
-  pub shows : TurnShows new.heap new.entries reply
+-- so many turns were made, and none waited
+pub record HasTurned (old new : PlayState) (n : ℕ) : Type 0 where
+  pub taken : TakesTurns n old new
+  pub counted : CountsTurns old new n
 
--- the command is one for turns by their number, as far as it is served
+-- fewer turns than these were made of which none waited, and then one that did: it shows a seat that is behind
+pub record HasWaited (old new : PlayState) (n number answer p : ℕ) : Type 0 where
+  pub earlier : ℕ
+  pub fewer : earlier < n
+  pub now : PlayState
+  pub turned : HasTurned old now earlier
+  pub waits : TakesTurn now new (turns.Waits number answer p)
+  pub counted : CountsTurns old new (earlier + 1)
+  pub shows : TurnShows new.heap new.entries (replies.Waits number answer p)
+
+-- the turns were made, or the reply shows the first that waited, the last among them
+abbrev pub ServesTurns : PlayState → PlayState → ℕ → TurnReply → Type 0
+ServesTurns old new n replies.Done = HasTurned old new n
+ServesTurns old new n (replies.Waits number answer p) = HasWaited old new n number answer p
+ServesTurns old new n (replies.Cycle cycle) = ⊥
+
+-- a command for turns by their number was served; no other is so far
 abbrev pub ServesCommand : PlayState → PlayState → TurnCommand → TurnReply → Type 0
 ServesCommand old new (commands.Turns n) reply = ServesTurns old new n reply
 ServesCommand old new commands.Cycle reply = ⊥

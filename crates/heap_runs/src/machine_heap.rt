@@ -2,7 +2,7 @@ ghost use Rattle.std.specs.Prelude.{◌≡◌, ◌≤◌, ◌<◌, IfOk, OnOk, O
 ghost use Rattle.heap_model.specs.Heap.{IsHeap};
 ghost use Rattle.heap_model.specs.account.PhaseCounts.{phase};
 ghost use Rattle.heap_runs.specs.PlayHeap.{PlayState, IsPlayed, MayCall, AnswersCall, TakesTurn};
-ghost use Rattle.heap_runs.specs.MachineHeap.{play_state_of, IsFresh, CallsMachine, TurnsMachine};
+ghost use Rattle.heap_runs.specs.MachineHeap.{play_state_of, IsFresh, StandsStill, CallsMachine, TurnsMachine};
 
 use crate::note::note_all;
 use crate::play_heap::PlayHeap;
@@ -56,10 +56,44 @@ impl MachineHeap {
     }
 }
 
+impl MachineHeap {
+    /// Makes room for what a turn may add.
+    fn make_ready(&mut self) -> Result<(), Memory>
+        ensures still { StandsStill self.old self.new }
+        ensures more { self.old.spare ≤ self.new.spare }
+        ensures room { OnOk result (2 ≤ self.new.spare) }
+        ensures memory { OnErr result (self.old.spare < 2) }
+    {
+        if self.spare < 2 {
+            self.room(2)?;
+        }
+        Ok(())
+    }
+
+    /// Makes a turn, for which there is room.
+    fn make_turn(&mut self) -> Turn
+        requires room { 2 ≤ self.old.spare }
+        ensures turn { TakesTurn (play_state_of self.old) (play_state_of self.new) result }
+        ensures machine { TurnsMachine self.old self.new result }
+    {
+        law_every_run();
+        let collector = self.machine.heap().seats;
+        let before = self.machine.log(collector).len();
+        let turn = self.machine.play_turn();
+        let (_, told) = self.machine.log(collector).split_at(before);
+        self.spare = self.spare.saturating_sub(told.len());
+        note_all(&mut self.entries, told);
+        self.turns = self.turns.saturating_add(1);
+        self.last_turn = Some(turn);
+        turn
+    }
+}
+
 impl PlayHeap for MachineHeap {
     ghost state = { play_state_of };
 
     fn call(&mut self, seat: u8, command: &Command) -> Result<Reply, Memory>
+        requires may { MayCall (play_state_of self.old) seat command.now }
         ensures answers { IfOk result (AnswersCall (play_state_of self.old) (play_state_of self.new) seat command.now) }
         ensures machine { IfOk result (CallsMachine self.old self.new seat command.now) }
     {
@@ -81,22 +115,17 @@ impl PlayHeap for MachineHeap {
         ensures memory { OnErr result ((play_state_of self.old).spare < 2) }
         ensures machine { IfOk result (TurnsMachine self.old self.new) }
     {
-        law_every_run();
-        if self.spare < 2 {
-            self.room(2)?;
-        }
-        let collector = self.machine.heap().seats;
-        let before = self.machine.log(collector).len();
-        let turn = self.machine.play_turn();
-        let (_, told) = self.machine.log(collector).split_at(before);
-        self.spare = self.spare.saturating_sub(told.len());
-        note_all(&mut self.entries, told);
-        self.turns = self.turns.saturating_add(1);
-        self.last_turn = Some(turn);
-        Ok(turn)
+        self.make_ready()?;
+        Ok(self.make_turn())
     }
 
-    fn room(&mut self, n: usize) -> Result<(), Memory> {
+    fn room(&mut self, n: usize) -> Result<(), Memory>
+        ensures same { play_state_of self.new ≡ record (play_state_of self.old) { spare = (play_state_of self.new).spare } }
+        ensures more { (play_state_of self.old).spare ≤ (play_state_of self.new).spare }
+        ensures room { OnOk result (n ≤ (play_state_of self.new).spare) }
+        ensures memory { OnErr result (play_state_of self.new ≡ play_state_of self.old) }
+        ensures machine { StandsStill self.old self.new }
+    {
         let collector = self.machine.heap().seats;
         self.machine.room(collector, n)?;
         self.entries.reserve(n)?;

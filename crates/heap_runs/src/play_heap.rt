@@ -12,8 +12,8 @@ pub trait PlayHeap {
 
     /// Makes a whole call of the seat.
     fn call(&mut self, seat: u8, command: &Command) -> Result<Reply, Memory>
-        requires { MayCall (state self.old) seat command.now }
-        ensures { IfOk result (AnswersCall (state self.old) (state self.new) seat command.now) };
+        requires may { MayCall (state self.old) seat command.now }
+        ensures answers { IfOk result (AnswersCall (state self.old) (state self.new) seat command.now) };
 
     /// Makes one turn of the collector, which is one operation on one word of the heap.
     fn turn(&mut self) -> Result<Turn, Memory>
