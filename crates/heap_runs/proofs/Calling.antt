@@ -1,20 +1,22 @@
 -- A machine between calls after one call more.
 use Rattle.std.proofs.Common.{◌≡◌, ◌≢◌, ℕ, ◌+◌, ◌*◌, ◌<◌, ◌≤◌, false, List, [], ◌∷◌, ◌++◌, length, inl, inr, refl, sym, ap, subst, ◌∙◌, arith}
 use Rattle.std.proofs.lemmas.Bool.Decides.{eqb_tells, leb_tells}
+use Rattle.std.proofs.lemmas.List.{append_cancel_left}
+use Rattle.heap_model.proofs.account_lemmas.Snoc.{same_last}
 use Rattle.heap_model.specs.declared.heap.Heap.{Heap}
 use Rattle.heap_model.specs.declared.command.Command.{Command}
 use Rattle.heap_model.specs.declared.command.Command.TheVariants as commands
 use Rattle.heap_model.specs.declared.entry.Entry.{Entry}
 use Rattle.heap_model.specs.declared.entry.Entry.TheVariants.{Said}
 use Rattle.heap_model.specs.declared.reply.Reply.{Reply}
-use Rattle.heap_model.specs.declared.reply.Reply.TheVariants.{Made}
+use Rattle.heap_model.specs.declared.reply.Reply.TheVariants.{Made, Done}
 use Rattle.heap_model.specs.declared.id.Id.TheVariants as heap_ids
 use Rattle.heap_model.specs.account.PhaseCounts.{last_answer}
 use Rattle.heap_model.specs.account.Space.{need_of, fragments_gained, fragments_lost, taken_of, spent_of}
-use Rattle.heap_model.specs.calls.SeatCalls.{ComesBefore, HasNumber, Adds}
+use Rattle.heap_model.specs.calls.SeatCalls.{ComesBefore, HasNumber, Adds, last_gives, leave_entries}
 use Rattle.heap_model.specs.calls.SeatReplies.{next_id}
 use Rattle.core_machine.specs.declared.place.Place.TheVariants.{Idle}
-use Rattle.core_machine.specs.machine.Calls.{call_events, PlaysCall, AnswersNew, free_count, within_reach}
+use Rattle.core_machine.specs.machine.Calls.{call_events, PlaysCall, AnswersNew, TellsLeave, free_count, within_reach}
 use Rattle.core_machine.specs.machine.Machine.{State, seat_at, Begins, Can, Event, Run, state_after_all, history}
 use Rattle.core_machine.specs.machine.Value.{MachineValue}
 use Rattle.core_machine.specs.seat.Commands.{IsRecord}
@@ -110,6 +112,7 @@ answers_call unused old new number command reply s between may calls spare turns
       };
       turns_stay = turns;
       last_stays = last;
+      left = λ leaves. leave_is_done leaves calls.call (calls.leave leaves);
       made = λ record_. (
         λ made. enough_where_made (calls.answer record_) made had free,
         λ enough. (calls.answer record_).made (omega (arith, enough, had, free))
@@ -117,6 +120,12 @@ answers_call unused old new number command reply s between may calls spare turns
       );
     }
   where
+    leave_is_done : command ≡ commands.Leave → (call : PlaysCall old.machine.heap old.machine.state new.machine.state number command reply) → TellsLeave old.machine.state new.machine.state number → reply ≡ Done
+    leave_is_done leaves call tells =
+        let mine = (seat_at old.machine.state number).mine in
+        let said = append_cancel_left mine (call.before ++ Said number command reply ∷ []) (leave_entries number (length (seat_at old.machine.state number).reserve)) (sym call.mine ∙ tells) in
+        cc (same_last call.before (last_gives number (length (seat_at old.machine.state number).reserve)) (Said number command reply) (Said number commands.Leave Done) said)
+
     enough_where_made : AnswersNew old.machine.heap old.machine.state new.machine.state number command reply → reply ≡ Made (next_id (seat_state_of (play_state_of old) number))
         → spent_of number old.entries + length (seat_at old.machine.state number).reserve ≡ taken_of number old.entries
         → free_count old.machine.heap old.machine.state.words + fragments_gained old.entries ≡ 16 * old.machine.heap.groups + fragments_lost old.entries

@@ -1,8 +1,13 @@
+pub mod Answering
+pub mod Beside
 pub mod Bounds
 pub mod Calling
 pub mod Collectors
+pub mod Following
+pub mod Leaves
 pub mod MachineCalls
 pub mod MachineTurns
+pub mod NextLine
 pub mod Noting
 pub mod OneSeat
 pub mod Opened
@@ -10,3 +15,4 @@ pub mod Runs
 pub mod Standing
 pub mod TurnFacts
 pub mod TurnedMachine
+pub mod Whole

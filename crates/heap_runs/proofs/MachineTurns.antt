@@ -3,6 +3,7 @@ use Rattle.std.proofs.Common.{◌≡◌, ℕ, ◌+◌, ◌≤◌, List, [], ◌�
 use Rattle.std.proofs.Math.Seq.{drop-append_seam}
 use Rattle.std.proofs.lemmas.List.Elements.{filter-append}
 use Rattle.heap_model.specs.declared.entry.Entry.{Entry}
+use Rattle.heap_model.specs.declared.entry.Entry.TheVariants.{Ends}
 use Rattle.heap_model.specs.account.Noting.{is_collectors}
 use Rattle.heap_model.specs.account.PhaseCounts.{phase}
 use Rattle.heap_model.specs.declared.calls.collector_calls.Turn.{Turn}
@@ -21,13 +22,14 @@ few_added : (old new : CollectorState) (turn : Turn) → ComesTo old new turn �
 few_added old new turns.Stepped (inl none) = omega (arith, ap (length {A = Entry}) none.0)
 few_added old new turns.Stepped (inr steps) = omega (arith, ap (length {A = Entry}) steps.2, length-append old.log (steps.0 ∷ []))
 few_added old new (turns.Waits number answer p) comes = omega (arith, ap (length {A = Entry}) comes.0.0)
-few_added old new (turns.Ended cycle kept) comes = omega (arith, ap (length {A = Entry}) comes.0, length-append old.log _)
+few_added old new (turns.Ended cycle kept) comes = omega (arith, ap (length {A = Entry}) comes.0, length-append old.log (Ends cycle kept ∷ []))
 
 -- the log has the turn's entries more, and these are one at most
 pub record TurnFacts (one two : MachineValue) (party : ℕ) : Type 0 where
   pub longer : length (log_of one party) ≤ length (log_of two party)
   pub told : drop (length (log_of one party)) (log_of two party) ≡ entries one.heap one.state Turns
   pub few : length (entries one.heap one.state Turns) ≤ 1
+  pub many : length (log_of two (length one.state.seats)) ≡ length (log_of one (length one.state.seats)) + length (entries one.heap one.state Turns)
 
 pub turn_facts : EachEventKeeps → EachTurnComesTo → (one two : MachineValue) (told : List Entry) (party : ℕ) → StandsFor one.heap one.state [] told → Can one.heap one.state Turns
     → two.state ≡ state_after one.heap one.state Turns → party ≡ length one.state.seats → TurnFacts one two party
@@ -49,4 +51,5 @@ turn_facts keeps each one two told party s can after is =
       longer = omega (arith, ap (length {A = Entry}) logs, length-append (log_of one party) added);
       told = rw logs (drop-append_seam (log_of one party) added);
       few = omega (arith, few_added old new _ comes.1, many);
+      many = rw (log_of_collector two (length one.state.seats) (ap (λ (t : State). length t.seats) (sym after)), log_of_collector one (length one.state.seats) refl) many;
     }

@@ -2,13 +2,14 @@
 use Rattle.std.specs.Prelude.{◌≡◌, ℕ, ◌≤◌, List, [], ◌∷◌, ◌++◌, length, Option}
 use Rattle.heap_model.specs.declared.heap.Heap.{Heap}
 use Rattle.heap_model.specs.declared.command.Command.{Command}
+use Rattle.heap_model.specs.declared.command.Command.TheVariants.{Leave}
 use Rattle.heap_model.specs.declared.entry.Entry.{Entry}
 use Rattle.heap_model.specs.declared.entry.Entry.TheVariants.{Said}
 use Rattle.heap_model.specs.declared.reply.Reply.{Reply}
 use Rattle.heap_model.specs.declared.calls.collector_calls.Turn.{Turn}
 use Rattle.heap_model.specs.Heap.{IsHeap}
 use Rattle.core_machine.specs.seat.Commands.{IsRecord}
-use Rattle.core_machine.specs.machine.Calls.{PlaysCall, AnswersNew, IsPlaceRefusal, LeavesAll}
+use Rattle.core_machine.specs.machine.Calls.{PlaysCall, AnswersNew, TellsLeave, IsPlaceRefusal, LeavesAll}
 use Rattle.core_machine.specs.machine.Machine.{State, Event, Turns, Can, Run, next_turn, found_by, state_after, state_after_all, entries, history}
 use Rattle.core_machine.specs.machine.Opening.{IsOpening}
 use Rattle.core_machine.specs.machine.Value.{MachineValue, spare_of}
@@ -68,6 +69,7 @@ pub record CallsMachine (old new : MachineHeapValue) (number : ℕ) (command : C
   pub call : PlaysCall old.machine.heap old.machine.state new.machine.state number command reply
   pub noted : new.entries ≡ old.entries ++ (call.before ++ Said number command reply ∷ [])
   pub answer : IsRecord command → AnswersNew old.machine.heap old.machine.state new.machine.state number command reply
+  pub leave : command ≡ Leave → TellsLeave old.machine.state new.machine.state number
   pub refused : IsPlaceRefusal reply → LeavesAll old.machine.state new.machine.state number
 
 -- the turn is the machine's: its step, its entry and its answer are those of the collector's turn there

@@ -3,9 +3,10 @@ use Rattle.std.specs.Prelude.{◌≡◌, ℕ, ◌+◌, ◌*◌, ◌<◌, ◌≤�
 use Rattle.std.specs.List.{AllByRecursion}
 use Rattle.heap_model.specs.declared.heap.Heap.{Heap}
 use Rattle.heap_model.specs.declared.command.Command.{Command}
+use Rattle.heap_model.specs.declared.command.Command.TheVariants.{Leave}
 use Rattle.heap_model.specs.declared.entry.Entry.{Entry}
 use Rattle.heap_model.specs.declared.reply.Reply.{Reply}
-use Rattle.heap_model.specs.declared.reply.Reply.TheVariants.{Made}
+use Rattle.heap_model.specs.declared.reply.Reply.TheVariants.{Made, Done}
 use Rattle.heap_model.specs.declared.calls.collector_calls.Turn.{Turn}
 use Rattle.heap_model.specs.declared.calls.collector_calls.Turn.TheVariants.{Waits}
 use Rattle.heap_model.specs.Command.{IsCommand}
@@ -62,11 +63,13 @@ abbrev pub IsEnough : PlayState → ℕ → Command → Type 0
 IsEnough state number command =
     need_of command + fragments_gained state.entries + spent_of number state.entries ≤ group_fragments * state.heap.groups + fragments_lost state.entries + taken_of number state.entries
 
--- the call added the entries that a call of the seat adds, the reply last, and made no turn; a record was made exactly where there was enough
+-- the call added the entries that a call of the seat adds, the reply last, and made no turn; a record was made exactly where there was
+-- enough, and a leave is done
 pub record AnswersCall (old new : PlayState) (number : ℕ) (command : Command) (reply : Reply) : Type 0 where
   pub adds : Adds (seat_state_of old number) (seat_state_of new number) command reply
   pub turns_stay : new.turns ≡ old.turns
   pub last_stays : new.last_turn ≡ old.last_turn
+  pub left : command ≡ Leave → reply ≡ Done
   pub made : IsRecord command → (reply ≡ Made (next_id (seat_state_of old number))) ↔ IsEnough old number command
 
 -- where the turn waits, the seat is there, and by the entries it hasn't left and has answered the phase before the one now last

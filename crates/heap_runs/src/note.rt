@@ -6,6 +6,7 @@ use heap_model::Entry;
 fn note(list: &mut Vec<Entry>, entry: Entry)
     requires { vec_len list.old < vec_capacity list.old }
     ensures items { list.new.items ≡ list.old.items ++ entry ∷ [] }
+    ensures len { vec_len list.new ≡ vec_len list.old + 1 }
     ensures capacity { vec_capacity list.old ≤ vec_capacity list.new }
 {
     let _ = list.push(entry);
@@ -15,6 +16,7 @@ fn note(list: &mut Vec<Entry>, entry: Entry)
 pub fn note_all(list: &mut Vec<Entry>, entries: &[Entry])
     requires { vec_len list.old + length entries.now ≤ vec_capacity list.old }
     ensures items { list.new.items ≡ list.old.items ++ entries.now }
+    ensures len { vec_len list.new ≡ vec_len list.old + length entries.now }
     ensures capacity { vec_capacity list.old ≤ vec_capacity list.new }
 {
     for entry in entries {
