@@ -1,3 +1,4 @@
+mod barrier;
 mod calls;
 mod fields;
 mod making;

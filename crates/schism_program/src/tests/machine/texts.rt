@@ -4,14 +4,19 @@ use std::alloc::{AllocError, Global};
 
 /// A step and the word that it found. Bits and words stand in hexadecimal digits.
 pub(super) fn step_text(alloc: Global, step: &Step, found: u64) -> Result<String, AllocError> {
-    let step = match *step {
-        Step::PollLoad => format!(in alloc; "load the phase")?,
-        Step::Making(step) => making_text(alloc, step)?,
-        Step::Access(step) => access_text(alloc, step)?,
-        Step::Handshake(step) => handshake_text(alloc, step)?,
-        Step::Turning(step) => turning_text(alloc, step)?,
-    };
+    let step = due_text(alloc, step)?;
     format!(in alloc; "{step} found {found:x}")
+}
+
+/// A step.
+pub(super) fn due_text(alloc: Global, step: &Step) -> Result<String, AllocError> {
+    match *step {
+        Step::PollLoad => format!(in alloc; "load the phase"),
+        Step::Making(step) => making_text(alloc, step),
+        Step::Access(step) => access_text(alloc, step),
+        Step::Handshake(step) => handshake_text(alloc, step),
+        Step::Turning(step) => turning_text(alloc, step),
+    }
 }
 
 fn making_text(alloc: Global, step: MakingStep) -> Result<String, AllocError> {
