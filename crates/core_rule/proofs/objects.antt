@@ -7,3 +7,4 @@ pub mod Newborn
 pub mod NamesGrowth
 pub mod ObjectsGrowth
 pub mod LastBirth
+pub mod BoardKept

@@ -1,7 +1,7 @@
 -- The laws of what is held, of any state and book that meet the rule.
 use Rattle.std.specs.Prelude.{◌≡◌, ℕ, ◌*◌, ◌<◌}
 use Rattle.heap_model.specs.declared.heap.Heap.{Heap}
-use Rattle.core_machine.specs.declared.collector.stage.Stage.TheVariants.{Marked}
+use Rattle.core_rule.specs.Marking.{IsSettled}
 use Rattle.core_machine.specs.machine.Machine.{State, Event, Can, state_after}
 use Rattle.core_rule.specs.Book.{Book}
 use Rattle.core_rule.specs.ControlWords.{IsTaken, IsBorn, IsMarkedIn}
@@ -18,7 +18,7 @@ abbrev pub NoClaimTakesHeld : Type 0
 NoClaimTakesHeld = (heap : Heap) (state : State) (book : Book) (event : Event) (f : ℕ) → Rule heap state book → Can heap state event
     → ¬ IsTaken heap state.words f → IsTaken heap (state_after heap state event).words f → ¬ IsHeld heap state f
 
--- once marking has ended, the marked bit of each held fragment that is born is set
+-- from the end of marking to the end of the sweep the marked bit of each held fragment that is born is set
 abbrev pub EachHeldIsMarked : Type 0
-EachHeldIsMarked = (heap : Heap) (state : State) (book : Book) (f : ℕ) → Rule heap state book → state.collector.stage ≡ Marked
+EachHeldIsMarked = (heap : Heap) (state : State) (book : Book) (f : ℕ) → Rule heap state book → IsSettled state.collector.phase state.collector.stage
     → IsHeld heap state f → IsBorn heap state.words f → IsMarkedIn heap state.words f

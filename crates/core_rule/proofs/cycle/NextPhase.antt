@@ -1,5 +1,5 @@
 -- What stands of a seat, and of the colours, once the next phase has begun.
-use Rattle.std.proofs.Common.{◌≡◌, ◌⊎◌, ℕ, ◌+◌, ◌<◌, Bool, true, false, List, inl, inr, refl, sym, ◌∙◌, subst, arith}
+use Rattle.std.proofs.Common.{◌≡◌, ◌⊎◌, ℕ, ◌+◌, ◌<◌, Bool, true, false, List, inl, inr, refl, sym, ◌∙◌, subst, arith, ◌%◌, ◌≢◌, ap}
 use Rattle.std.proofs.lemmas.Bool.Decides.{eqb_tells}
 use Rattle.heap_model.specs.declared.heap.Heap.{Heap}
 use Rattle.core_machine.specs.declared.table.address.Address.TheVariants.{Answer}
@@ -10,7 +10,7 @@ use Rattle.core_machine.specs.declared.place.Access.TheVariants.{ShadingNew, Swa
 use Rattle.core_machine.specs.seat.Fits.{Fits, FitsWay}
 use Rattle.core_machine.specs.table.Layout.{at}
 use Rattle.core_machine.specs.seat.Seat.{Seat}
-use Rattle.core_rule.specs.Book.{Colour}
+use Rattle.core_rule.specs.Book.{Colour, White}
 use Rattle.core_rule.specs.Colours.{WordPointsTo, IsBetween, Coloured}
 use Rattle.core_rule.specs.Cycle.{SeatInCycle}
 use Rattle.core_rule.specs.Flight.{FieldStands, ShadedStands, RootsStand, WhileAccess, WhilePolling}

@@ -1,5 +1,5 @@
 -- What stands of the heap and of each seat when fragments of a group that a seat holds are given back.
-use Rattle.std.proofs.Common.{◌≡◌, ◌≢◌, ℕ, ◌+◌, ◌<◌, ◌≤◌, false, List, [], ◌∷◌, ◌++◌, length, refl, ap, arith, ◌*◌}
+use Rattle.std.proofs.Common.{◌≡◌, ◌≢◌, ℕ, ◌+◌, ◌<◌, ◌≤◌, false, List, [], ◌∷◌, ◌++◌, length, refl, ap, arith, ◌*◌, subst}
 use Rattle.heap_model.specs.declared.entry.Entry.{Entry}
 use Rattle.heap_model.specs.declared.entry.Entry.TheVariants as entries
 use Rattle.heap_model.specs.declared.heap.Heap.{Heap}
@@ -17,7 +17,7 @@ use Rattle.core_machine.specs.seat.Seat.{Seat}
 use Rattle.core_rule.specs.Book.{Book}
 use Rattle.core_rule.specs.ControlWords.{Bits}
 use Rattle.core_rule.specs.Cycle.{SeatInCycle}
-use Rattle.core_rule.specs.Owners.{Owner, Free, Borne, Taken, born_bit, owner_after}
+use Rattle.core_rule.specs.Owners.{Owner, Free, Borne, Taken, born_bit, owner_after, IsBoards}
 use Rattle.core_rule.specs.Rule.{Rule, HeapStands, SeatStands}
 use Rattle.core_rule.proofs.marking.MakingMarks.{leaves_handed}
 use Rattle.core_rule.proofs.marking.Marks.{MarksGoOn, IsOffWay, marks_off_way}
@@ -80,7 +80,7 @@ module _ (heap : Heap) (state : State) (book : Book) (number : ℕ) (rule : Rule
       let stands = rule.heap_stands in
       record {
         control_words = bits;
-        owners = owners_handed heap.seats book.owner stands.owners Free fs tt (λ f there. rw (held f there) (λ none. none));
+        owners = owners_handed heap.seats book.owner stands.owners Free fs tt (λ there. subst IsBoards (held 0 there) stands.owners.board);
         ids = rw graph_given stands.ids;
         objects = rw graph_given (objects_owners book.owner owner kept_given book.made book.fragments heap words_given before
             (objects_control heap state.words before book.made book.owner book.fragments g word below stands.objects));

@@ -8,7 +8,8 @@ use Rattle.core_machine.specs.Moves.{bears_black_of}
 use Rattle.core_machine.specs.seat.Seat.{Seat}
 use Rattle.core_machine.specs.table.Fragments.{tally}
 use Rattle.core_machine.specs.table.Layout.{at, put}
-use Rattle.core_rule.specs.Book.{Book, Grey, Black}
+use Rattle.core_rule.specs.Book.{Book, Grey, Black, White}
+use Rattle.core_rule.specs.Colours.{IsBetween}
 use Rattle.core_rule.specs.Owners.{Owner, Kept, Dead, born_bit, owner_after}
 use Rattle.core_rule.specs.Phases.{IsNear}
 use Rattle.core_rule.specs.Rule.{Rule}
@@ -145,7 +146,7 @@ module _ (heap : Heap) (state : State) (book : Book) (rule : Rule heap state boo
       → ((f : ℕ) → born_bit (kept_by number body book.owner f) ≡ born_bit (book.owner f) + tally f fs) → ((f : ℕ) → 1 ≤ tally f fs → born_bit (book.owner f) ≡ 0)
       → ((f i k : ℕ) → 1 ≤ tally f body → book.owner f ≢ Kept i k) → ((f i k : ℕ) → 1 ≤ tally f body → book.owner f ≢ Dead i k) → ((f i k : ℕ) → book.owner f ≡ Kept i k → i ≢ number)
       → LeavesMarking heap state.words (put heap state.words (Control g) n) book.owner (kept_by number body book.owner) book.colour (painted (birth_colour black) book.colour fs)
-      book.fragments (with_object book.fragments number body) marks settles clears settles clears
+      book.fragments (with_object book.fragments number body) marks settles clears
   leaves_kept g n below number body fs black dark pale bears unborn unkept undead apart = record {
     born = λ f born. (
       omega (arith, bears f, born, born_once (kept_by number body book.owner f)),

@@ -1,6 +1,6 @@
 -- A seat marks a kept object's fragment: its step leaves marking.
 use Rattle.std.specs.Prelude.{bit_or}
-use Rattle.std.proofs.Common.{◌≡◌, ℕ, ◌*◌, ◌/◌, ◌<◌, List, false, sym, ◌∙◌, arith}
+use Rattle.std.proofs.Common.{◌≡◌, ℕ, ◌*◌, ◌/◌, ◌<◌, List, false, sym, ◌∙◌, arith, ◌%◌, ◌≢◌, ap}
 use Rattle.heap_model.specs.declared.heap.Heap.{Heap}
 use Rattle.core_machine.specs.declared.collector.stage.Stage.TheVariants as stages
 use Rattle.core_machine.specs.declared.table.address.Address.TheVariants.{Control}

@@ -100,4 +100,5 @@ module _ (heap : Heap) (state : State) (book : Book) (rule : Rule heap state boo
         let was = settled_was (book.owner f) (book.colour f) i k is in
         let one = rule.heap_stands.objects.back f i k was.0 in
         (one.0, settled_stays _ _ i 0 one.1 (first_marked heap state book rule third none f i k was.0 was.1), one.2, one.3);
+    board = rule.heap_stands.objects.board;
   }

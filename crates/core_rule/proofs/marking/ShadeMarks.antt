@@ -102,9 +102,6 @@ module _ (heap : Heap) (words now : List ℕ) (owner : ℕ → Owner) (colour : 
         | inr marked ↦ absurd (mark_keeps colour m f marked white)
       ]
 
-  sweep_shaded : (phase : ℕ) (stage : Stage) → ((P : Type 0) → OnlyClears P stage → P) → SweepStands heap owner colour phase stage → SweepStands heap owner shaded phase stage
-  sweep_shaded phase stage clear stands = tt
-
   -- of a sweep nothing changes
   sweep_shaded : (phase : ℕ) (stage : Stage) → OnlyClears ⊥ stage → SweepStands heap owner colour phase stage → SweepStands heap owner shaded phase stage
   sweep_shaded phase (stages.Sweeping group) unclear stands = stands

@@ -68,6 +68,7 @@ module _ (heap : Heap) (state : State) (book : Book) (number : ℕ) (rule : Rule
           was_dead = before.was_dead;
           fresh = before.fresh;
           dark = before.dark;
+          light = before.light;
           back = λ marking f part g born leads. leads_now heap state book number rule here place value stamp holds names small word is_word
               record { from = omega (arith, same, marking); upto = omega (arith, same, marking) } f part g born leads;
           on = λ marking f part g born leads. leads_later marking f part g leads;

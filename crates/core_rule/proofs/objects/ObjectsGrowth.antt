@@ -1,6 +1,8 @@
 -- The objects when one more is made of a seat's fragments.
 use Rattle.std.proofs.Common.{◌≡◌, ◌^◌, ◌≢◌, ℕ, zero, suc, ◌+◌, ◌<◌, ◌≤◌, false, List, [], ◌∷◌, ◌++◌, length, replicate, slice_get, Some, inl, inr, sym, ap, ◌∙◌, subst, arith, length-append}
+use Rattle.std.proofs.lemmas.Option.{slice_get_within}
 use Rattle.std.proofs.lemmas.List.{length-replicate}
+use Rattle.heap_model.specs.declared.id.Id.TheVariants.{Board}
 use Rattle.heap_model.specs.declared.graph.cell.Cell.{Cell}
 use Rattle.heap_model.specs.declared.heap.Heap.{Heap}
 use Rattle.heap_model.specs.declared.id.Id.{Id}
@@ -133,4 +135,5 @@ module _ (heap : Heap) (words : List ℕ) (g now : Graph) (made : List Id) (id :
       | inl here ↦ subst (λ x. Back f x k) (sym here.0) (new_back f k here.1 here.2)
       | inr before ↦ old_back f i k before
     ];
+    board = ap (λ fs. fragment_at fs 0) (object_old fragments (length made) body 0 (λ none. omega (arith, slice_get_within made 0 Board ids.board, none))) ∙ old.board;
   }

@@ -1,8 +1,8 @@
 -- A step that sets a fragment's born bit is a seat's birth, which gives the fragment the colour of the seat's births.
 use Rattle.std.specs.Int.{bit_at}
-use Rattle.std.proofs.Common.{◌≡◌, ◌≢◌, ℕ, ◌+◌, ◌*◌, ◌/◌, ◌%◌, ◌<◌, Bool, true, false, cond, if◌then◌else◌, max, List, bit_or, inl, inr, Some, refl, sym, ap, ◌∙◌, subst, arith}
+use Rattle.std.proofs.Common.{◌≡◌, ◌≢◌, ℕ, ◌+◌, ◌*◌, ◌/◌, ◌%◌, ◌<◌, Bool, true, false, cond, if◌then◌else◌, max, List, bit_or, inl, inr, Some, refl, sym, ap, ◌∙◌, subst, arith, bit_and}
 use Rattle.std.proofs.lemmas.Bool.Decides.{eqb_tells}
-use Rattle.std.proofs.lemmas.Nat.Bits.{bit_at-lt}
+use Rattle.std.proofs.lemmas.Nat.Bits.{bit_at-lt, bit_at_and}
 use Rattle.heap_model.specs.declared.heap.Heap.{Heap}
 use Rattle.heap_model.specs.account.PhaseCounts.{last_answer}
 use Rattle.heap_model.specs.PhasePlan.{black_births, sweep}
@@ -72,6 +72,13 @@ module _ (heap : Heap) (state : State) (book : Book) (rule : Rule heap state boo
   -- and has its born bit set anew
   bit_bears_none : (g word : ℕ) → bit_at word (16 + f % 16) ≡ bit_at (at heap words (Control g)) (16 + f % 16) → ¬ IsBorn heap (put heap words (Control g) word) f
   bit_bears_none g word same = control_bears g word (λ here set. unborn (subst (λ h. bit_at (at heap words (Control h)) (16 + f % 16) ≡ 1) (sym here) (sym same ∙ set)))
+
+  -- nor has one of which only some bits stay
+  masked_bears_none : (g mask word : ℕ) → word ≡ bit_and (at heap words (Control g)) mask → ¬ IsBorn heap (put heap words (Control g) word) f
+  masked_bears_none g mask word is = control_bears g word (λ here set.
+      let both = bit_at_and (at heap words (Control g)) mask (16 + f % 16) in
+      let was : bit_at (at heap words (Control g)) (16 + f % 16) ≡ 1 = omega (arith, both, ap (λ w. bit_at w (16 + f % 16)) (sym is) ∙ set, bit_at-lt (at heap words (Control g)) (16 + f % 16), bit_at-lt mask (16 + f % 16)) in
+      unborn (subst (λ h. bit_at (at heap words (Control h)) (16 + f % 16) ≡ 1) (sym here) was))
 
   -- the fragment was white
   unmarked : book.colour f ≡ White
@@ -162,6 +169,9 @@ module _ (heap : Heap) (state : State) (book : Book) (rule : Rule heap state boo
   turn_bears_none : (stage : Stage) → ¬ IsBorn heap (state_after_turn heap state (turn_at heap state.collector stage)).words f
   turn_bears_none stages.Advancing born = word_bears_none _ (at-put_apart heap words Phase (Control (f / 16)) _ (λ e. omega (arith, e))) born
   turn_bears_none (stages.Shading scan target next) born = bit_bears_none _ _ (bit_born _ 32 _ f (omega arith)) born
+  turn_bears_none (stages.Freeing group dead) born = masked_bears_none _ _ _ refl born
+  turn_bears_none (stages.Clearing group kept) born = masked_bears_none _ _ _ refl born
+  turn_bears_none (stages.Ending kept) born = word_bears_none _ (at-put_apart heap words Phase (Control (f / 16)) _ (λ e. omega (arith, e))) born
   turn_bears_none (stages.Blackening scan) born = bit_bears_none _ _ (bit_born _ 48 _ f (omega arith)) born
   turn_bears_none _ born = load_bears_none _ born
 

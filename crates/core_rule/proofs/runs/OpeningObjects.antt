@@ -114,4 +114,5 @@ module _ (heap : Heap) (words : List ℕ) (some : 1 ≤ heap.groups) (open_words
         subst (λ x. (x < length opening_made) × IsKept opening_owner opening_fragments x × (k < length (opening_fragments x)) × (f ≡ fragment_at (opening_fragments x) k)) object
         (omega arith, refl, omega (arith, part, below), part ∙ sym (board_at k (omega (arith, part, below)))))
         (λ past is. absurd (cc));
+    board = refl;
   }

@@ -1,5 +1,5 @@
 -- The rule holds when a heap opens.
-use Rattle.std.proofs.Common.{◌≡◌, ◌≢◌, ℕ, zero, suc, ◌+◌, ◌%◌, ◌<◌, inl, List, [], ◌∷◌, length, get_or, replicate, refl, sym, ap, ◌∙◌, subst, arith}
+use Rattle.std.proofs.Common.{◌≡◌, ◌≢◌, ℕ, zero, suc, ◌+◌, ◌%◌, ◌<◌, inl, List, [], ◌∷◌, length, get_or, replicate, refl, sym, ap, ◌∙◌, subst, arith, inr}
 use Rattle.std.proofs.lemmas.Bool.{lt-ltb}
 use Rattle.std.proofs.lemmas.List.FromFn.{get_or-map-range_with_len}
 use Rattle.heap_model.specs.declared.heap.Heap.{Heap}
@@ -12,6 +12,7 @@ use Rattle.core_machine.specs.declared.table.address.Address.TheVariants.{Answer
 use Rattle.core_machine.specs.declared.place.Place.TheVariants as places
 use Rattle.core_machine.specs.declared.seat.register.Register.{Register}
 use Rattle.core_machine.specs.declared.seat.register.Register.TheVariants as registers
+use Rattle.core_machine.specs.declared.collector.stage.Stage.TheVariants as stages
 use Rattle.core_machine.specs.collector.Collector.{Collector}
 use Rattle.core_machine.specs.table.Layout.{at}
 use Rattle.core_machine.specs.machine.Machine.{State, seat_at}
@@ -21,7 +22,7 @@ use Rattle.core_machine.specs.machine.Value.{IsMachine}
 use Rattle.core_machine.proofs.machine_lemmas.OpeningMachine.{opening_machine}
 use Rattle.core_rule.specs.Book.{Book, White}
 use Rattle.core_rule.specs.Laws.{StandsFor}
-use Rattle.core_rule.specs.Marking.{MarkingStands}
+use Rattle.core_rule.specs.Marking.{IsSettled, MarkingStands}
 use Rattle.core_rule.specs.Owners.{Dead, holds_bit, bears_bit}
 use Rattle.core_rule.specs.Phases.{CollectorAgrees}
 use Rattle.core_rule.specs.Registers.{Registers}
@@ -120,16 +121,22 @@ opening_rule heap state fits machine opens = record {
   collector_stands = subst (λ (c : Collector). CollectorAgrees heap c []) (sym opens.nothing_done)
       record { log = refl; phase_told = refl; looked = λ number less. absurd (omega (arith, less)) };
   marks_stand = record {
-    heap_marks = subst (λ (c : Collector). MarkingStands heap state.words opening_owner (λ f. White) opening_fragments c.stage) (sym opens.nothing_done) record {
+    heap_marks = subst (λ (c : Collector). MarkingStands heap state.words opening_owner (λ f. White) opening_fragments c.phase c.stage) (sym opens.nothing_done) record {
       grey = λ f grey. absurd (cc);
       scan = tt;
       pass = tt;
+      sweep_stands = tt;
       alive = λ goes_on f i k. opening_cases (λ o. o ≢ Dead i k) f (λ less is. cc) (λ past is. cc);
-      after = λ ended. absurd (cc);
+      after = λ settled. absurd (never settled);
     };
     roots = λ number below marks. absurd (subst (λ (c : Collector). c.phase % 7 ≢ 3) (sym opens.nothing_done) (λ e. omega (arith, e)) marks.phase);
   };
 }
+  where
+    never : ¬ IsSettled 0 stages.Looking
+    never (inl ended) = cc (ended.1)
+    never (inr (inl copies)) = omega (arith, copies)
+    never (inr (inr sweeps)) = omega (arith, sweeps)
 
 pub opening_stands : (heap : Heap) (state : State) → IsHeap heap → IsOpening heap state → StandsFor heap state [] []
 opening_stands heap state fits opens = record { book = opening_book; grown = refl; rule = opening_rule heap state fits (opening_machine heap state fits opens) opens }

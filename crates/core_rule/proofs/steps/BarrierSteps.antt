@@ -96,7 +96,6 @@ module _ (heap : Heap) (state : State) (book : Book) (number : ℕ) (rule : Rule
       record { set = λ making snapped. field making; shaded = λ making. shaded; roots = λ begins. tt }
       stands.cycle.births stands.cycle)
       (λ marks roots. roots_on_way (IsReachedNow heap state book) seat new next refl refl (comes marks roots) roots)
-        (λ last. omega (arith, (barrier_window seat on).upto, last))
 
   module _ (f : ℕ) (head : KeptHead book.made book.owner book.fragments f) (on : has_barrier_of seat ≡ true) where
     abbrev coloured : ℕ → Colour

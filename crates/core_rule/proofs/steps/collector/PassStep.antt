@@ -15,6 +15,7 @@ use Rattle.core_rule.specs.Book.{Book, Grey}
 use Rattle.core_rule.specs.Marking.{ScanStands, PassStands, SweepStands, MarkingStands}
 use Rattle.core_rule.specs.Phases.{CollectorAgrees}
 use Rattle.core_rule.specs.Rule.{Rule}
+use Rattle.core_rule.proofs.marking.Marks.{marks_at, none_dead}
 use Rattle.core_rule.proofs.marking.GreyPlaces.{lowest_is_grey, pass_further, nothing_grey, pass_anew, scan_anew}
 use Rattle.core_rule.proofs.marking.Settled.{settled_book}
 use Rattle.core_rule.proofs.marking.SettledBook.{heap_settles, seat_settles, marking_settles}

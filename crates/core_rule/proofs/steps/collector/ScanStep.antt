@@ -60,7 +60,7 @@ module _ (heap : Heap) (state : State) (book : Book) (rule : Rule heap state boo
     may_mark heap state book rule f part_of cycle seen.grey scan.part m record { within = fits.fragment_within; below = fits.part_within; to = is },
     comes_after heap state book rule f part_of scan.part,
   )
-      tt
+      tt tt
 
 pub scan_keeps : (scan : Scan) → StageKeeps (stages.Scanning scan)
 scan_keeps scan heap state book rule scanning machine =

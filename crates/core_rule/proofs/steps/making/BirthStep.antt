@@ -1,5 +1,5 @@
 -- A birth of some fragments of an object keeps the rule.
-use Rattle.std.proofs.Common.{◌≡◌, ◌≢◌, ℕ, ◌<◌, Bool, false, List, [], drop, bit_or, refl, sym, ap, ◌∙◌, arith}
+use Rattle.std.proofs.Common.{◌≡◌, ◌≢◌, ℕ, ◌<◌, Bool, false, List, [], drop, bit_or, refl, sym, ap, ◌∙◌, arith, subst}
 use Rattle.std.proofs.lemmas.List.{append-nil}
 use Rattle.heap_model.specs.declared.heap.Heap.{Heap}
 use Rattle.heap_model.specs.account.Cycles.{graph_of}
@@ -17,7 +17,7 @@ use Rattle.core_machine.specs.table.Operation.{birth_bits_of}
 use Rattle.core_machine.specs.seat.Seat.{Seat}
 use Rattle.core_rule.specs.Book.{Book, Colour, White, fragment_at}
 use Rattle.core_rule.specs.Colours.{IsMarked}
-use Rattle.core_rule.specs.Owners.{Owner, Borne, born_bit, owner_after}
+use Rattle.core_rule.specs.Owners.{Owner, Borne, born_bit, owner_after, IsBoards}
 use Rattle.core_rule.specs.Rule.{Rule}
 use Rattle.core_rule.proofs.cycle.FieldFrames.{watched_born}
 use Rattle.core_rule.proofs.frames.SeatFrames.{same_party, told_nothing, kept_owners, seat_left, registers_owners}
@@ -70,7 +70,7 @@ birth_keeps heap state book number rule here place more machine =
     record {
       control_words = birth_bits_after heap state.words book.owner g rule.machine.table below heap_stands.control_words seat.hand number
           (hand_once book.owner number seat.reserve seat.hand seat.body stands.own.holding) (hand_held book.owner number seat.reserve seat.hand seat.body stands.own.holding) (bears_black_of seat);
-      owners = owners_handed heap.seats book.owner heap_stands.owners (Borne number) part here (λ f there. rw (held f there) (λ none. none));
+      owners = owners_handed heap.seats book.owner heap_stands.owners (Borne number) part here (λ there. subst IsBoards (held 0 there) heap_stands.owners.board);
       ids = heap_stands.ids;
       objects = objects_owners book.owner owner kept book.made book.fragments heap (put heap state.words (Control g) word) (graph_of heap book.history)
           (objects_control heap state.words (graph_of heap book.history) book.made book.owner book.fragments g word below heap_stands.objects);

@@ -1,4 +1,5 @@
 -- A claim keeps the rule.
+use Rattle.core_rule.proofs.objects.BoardKept.{board_kept}
 use Rattle.std.specs.Int.{bit_at}
 use Rattle.std.proofs.Common.{◌≡◌, ◌≢◌, ℕ, ◌+◌, ◌*◌, ◌/◌, ◌%◌, ◌<◌, ◌≤◌, List, [], ◌++◌, length, drop, bit_or, refl, sym, ap, ◌∙◌, subst, arith}
 use Rattle.std.proofs.lemmas.List.{length-append}
@@ -68,6 +69,10 @@ module _ (heap : Heap) (words : List ℕ) (owner : ℕ → Owner) (g : ℕ) (who
       = clear_here g (at heap words (Control g)) f here ∙ free_by_bit (owner f) (bit_at (at heap words (Control g)) (f % 16)) (found_taken heap words owner g whole below bits f here) in
       omega (arith, less, free)
 
+-- what is kept isn't free
+no_board_free : (o : Owner) → o ≡ KeepsPart 0 0 → o ≡ Free → ⊥
+no_board_free o kept free = let both : KeepsPart 0 0 ≡ Free = sym kept ∙ free in absurd (cc)
+
 -- what was free is no object's
 free_kept : (owner : ℕ → Owner) (f i k : ℕ) → owner f ≡ Free → owner f ≢ KeepsPart i k
 free_kept owner f i k free kept = let both : Free ≡ KeepsPart i k = sym free ∙ kept in absurd (cc)
@@ -111,7 +116,7 @@ claim_keeps heap state book number rule here place machine =
     rule here machine refl tells.log
     record {
       control_words = claim_bits heap state.words book.owner g rule.machine.table below heap_stands.control_words number;
-      owners = owners_handed heap.seats book.owner heap_stands.owners (Taken number) fs here (λ f there. rw (free f there) (λ none. none));
+      owners = owners_handed heap.seats book.owner heap_stands.owners (Taken number) fs here (λ there. no_board_free (book.owner 0) (board_kept heap state book number rule here present (awaits_none Gathering seat.place (target_of seat.command) 0 place)) (free 0 there));
       ids = rw tells.graph heap_stands.ids;
       objects = rw tells.graph (objects_owners book.owner owner kept book.made book.fragments heap words g_of
           (objects_control heap state.words g_of book.made book.owner book.fragments g word below heap_stands.objects));

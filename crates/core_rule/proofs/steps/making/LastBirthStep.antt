@@ -103,7 +103,7 @@ last_birth_keeps heap state book number rule here place last machine =
       control_words = kept_bits heap state.words book.owner number seat.reserve seat.hand body group (length book.made) (bears_black_of seat) rule.machine.table below
           rule.heap_stands.control_words stands.own.holding some last;
       owners = owners_kept heap.seats book.owner rule.heap_stands.owners (length book.made) body
-          (λ f there. own_not_boards number (book.owner f) (body_own book.owner number seat.reserve seat.hand body stands.own.holding f there));
+          (λ there. own_not_boards number (book.owner 0) (body_own book.owner number seat.reserve seat.hand body stands.own.holding 0 there) rule.heap_stands.owners.board);
       ids = rw graph (ids_grown g grown book.made id (fresh false fields) ids more (omega (arith, here, rule.machine.limits.seats_fit), omega (arith, has.makes.numbered)));
       objects = rw graph (objects_control heap state.words grown now.made now.owner now.fragments group word below
           (objects_grown heap state.words g grown book.made id book.owner book.fragments fields body ids more new rule.heap_stands.objects));

@@ -1,0 +1,42 @@
+-- While a seat is there the board is kept, and begins with fragment 0.
+use Rattle.std.proofs.Common.{◌≡◌, ℕ, ◌<◌, false, List, length, refl, sym, ap, ◌∙◌, subst}
+use Rattle.std.proofs.lemmas.Option.{slice_get_within, get_or_from_slice_get}
+use Rattle.heap_model.specs.declared.heap.Heap.{Heap}
+use Rattle.heap_model.specs.declared.id.Id.{Id}
+use Rattle.heap_model.specs.declared.id.Id.TheVariants.{Board}
+use Rattle.heap_model.specs.declared.id.Value.TheVariants as values
+use Rattle.heap_model.specs.account.Cycles.{graph_of}
+use Rattle.heap_model.specs.graph.Objects.{graph_seat}
+use Rattle.heap_model.proofs.call_lemmas.BoardLemmas.{board_held}
+use Rattle.core_machine.specs.declared.seat.register.Register.{Register}
+use Rattle.core_machine.specs.declared.seat.register.Register.TheVariants as registers
+use Rattle.core_machine.specs.machine.Machine.{State, seat_at}
+use Rattle.core_machine.specs.seat.Commands.{target_of}
+use Rattle.core_machine.specs.seat.Registers.{register_in}
+use Rattle.core_rule.specs.Book.{Book, fragment_at, object_number}
+use Rattle.core_rule.specs.Objects.{NamesKept}
+use Rattle.core_rule.specs.Owners.{Owner, Kept}
+use Rattle.core_rule.specs.Registers.{HoldsValue, IsAwaited}
+use Rattle.core_rule.specs.Rule.{Rule}
+
+-- a register that holds the board names a kept one
+holds_kept : (made : List Id) (owner : ℕ → Owner) (fragments : ℕ → List ℕ) (held : Register) → HoldsValue made owner fragments held (values.Object Board)
+    → NamesKept made owner fragments (values.Object Board)
+holds_kept made owner fragments registers.Nil holds = absurd (cc holds)
+holds_kept made owner fragments (registers.Number n) holds = absurd (cc holds.0)
+holds_kept made owner fragments (registers.Object head id) holds = let same : values.Object Board ≡ values.Object id = holds.0 in let it : id ≡ Board = cc in
+    subst (λ x. NamesKept made owner fragments (values.Object x)) it holds.1
+
+pub board_kept : (heap : Heap) (state : State) (book : Book) (number : ℕ) (rule : Rule heap state book) (here : number < heap.seats)
+    → (graph_seat (graph_of heap book.history) number).left ≡ false → ¬ IsAwaited (seat_at state number).place (target_of (seat_at state number).command) 0
+    → book.owner 0 ≡ Kept 0 0
+board_kept heap state book number rule here present awake =
+    let stands = rule.heap_stands in
+    let value = board_held heap book.history number stands.legal.objects present in
+    let kept : NamesKept book.made book.owner book.fragments (values.Object Board)
+    = holds_kept book.made book.owner book.fragments (register_in (seat_at state number).registers 0)
+    (subst (HoldsValue book.made book.owner book.fragments (register_in (seat_at state number).registers 0)) value ((rule.seats_stand number here).names.registers 0 awake)) in
+    let some : 0 < length book.made = slice_get_within book.made 0 Board stands.ids.board in
+    let first : object_number book.made Board ≡ 0 = subst (λ id. object_number book.made id ≡ 0) (get_or_from_slice_get book.made 0 Board Board stands.ids.board) (stands.ids.distinct 0 some) in
+    let zeroth : book.owner (fragment_at (book.fragments 0) 0) ≡ Kept 0 0 = subst (λ i. book.owner (fragment_at (book.fragments i) 0) ≡ Kept i 0) first kept.1 in
+    subst (λ f. book.owner f ≡ Kept 0 0) stands.objects.board zeroth
