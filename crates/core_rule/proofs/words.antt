@@ -6,3 +6,5 @@ pub mod ClearLemmas
 pub mod ControlLemmas
 pub mod ControlSteps
 pub mod MarkBits
+pub mod SetBits
+pub mod SweepBits
