@@ -1,11 +1,13 @@
 -- The collector's own data go on fitting together, a file for each turn, and a turn leaves a machine.
 pub mod AdvanceTurn
 pub mod BlackenTurn
+pub mod ClearTurn
+pub mod EndTurn
 pub mod LookTurn
-pub mod MarkedTurn
 pub mod PassTurn
 pub mod ScanTurn
 pub mod ShadeTurn
+pub mod SweepTurn
 pub mod Turning
 pub mod Standing
 use Rattle.std.proofs.Common.{refl}
@@ -24,7 +26,11 @@ stands_at (stages.Passing group found) = PassTurn.pass_stands group found
 stands_at (stages.Scanning scan) = ScanTurn.scan_stands scan
 stands_at (stages.Shading scan target next) = ShadeTurn.shade_stands scan target next
 stands_at (stages.Blackening scan) = BlackenTurn.blacken_stands scan
-stands_at stages.Marked = MarkedTurn.marked_stands
+stands_at (stages.Sweeping group) = SweepTurn.sweep_stands group
+stands_at (stages.Examining group dead place) = SweepTurn.examine_stands group dead place
+stands_at (stages.Freeing group dead) = SweepTurn.free_stands group dead
+stands_at (stages.Clearing group kept) = ClearTurn.clear_stands group kept
+stands_at (stages.Ending kept) = EndTurn.end_stands kept
 stands_at stages.Advancing = AdvanceTurn.advance_stands
 
 -- the turn that is due

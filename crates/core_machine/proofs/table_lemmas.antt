@@ -4,7 +4,9 @@ pub mod Bits
 pub mod CellWords
 pub mod Clear
 pub mod Counting
+pub mod Dead
 pub mod Filters
+pub mod Finding
 pub mod Free
 pub mod Grey
 pub mod Leading

@@ -2,22 +2,29 @@
 use Rattle.std.specs.Prelude.{◌≡◌, ℕ, ◌+◌, ◌==◌, Bool, true, false, not, if◌then◌else◌, All, Option, Some, option_map, position}
 use Rattle.heap_model.specs.declared.command.Command.{Command}
 use Rattle.heap_model.specs.declared.command.Command.TheVariants.{Array, Collect, Leave}
+use Rattle.heap_model.specs.declared.command.TurnCommand.{TurnCommand}
+use Rattle.heap_model.specs.declared.command.TurnCommand.TheVariants as turns
 use Rattle.heap_model.specs.declared.heap.Heap.{Heap}
 use Rattle.script_text.specs.declared.script.Line.{Line}
-use Rattle.script_text.specs.declared.script.Line.TheVariants.{Seat}
+use Rattle.script_text.specs.declared.script.Line.TheVariants.{Seat, Turns}
 use Rattle.script_text.specs.declared.script.Script.{Script}
 
--- what needs neither spine words nor a collector
+-- what needs neither spine words nor a whole cycle of the collector
 abbrev pub is_built_command : Command → Bool
 is_built_command (Array d cells) = false
 is_built_command Collect = false
 is_built_command Leave = false
 is_built_command _ = true
 
--- a line of a seat with such a command
+-- turns of the collector by their number; there is no end of a cycle yet up to which they could be made
+abbrev pub is_built_turn : TurnCommand → Bool
+is_built_turn (turns.Turns n) = true
+is_built_turn turns.Cycle = false
+
+-- a line with such a command of a seat, or with such turns
 abbrev pub is_built_line : Line → Bool
 is_built_line (Seat seat command) = is_built_command command
-is_built_line _ = false
+is_built_line (Turns command) = is_built_turn command
 
 -- a heap without spine words
 abbrev pub is_built_heap : Heap → Bool

@@ -1,13 +1,13 @@
 -- The collector looks at a seat's answer.
-use Rattle.std.proofs.Common.{suc, ◌≡◌, ℕ, ◌+◌, ◌%◌, ◌<◌, inl, inr, refl, arith}
+use Rattle.std.proofs.Common.{suc, ◌≡◌, ℕ, ◌+◌, ◌%◌, ◌<◌, cond, eqb, inl, inr, refl, arith}
 use Rattle.std.proofs.lemmas.Bool.Decides.{eqb_tells, leb_tells}
 use Rattle.heap_model.specs.declared.heap.Heap.{Heap}
 use Rattle.heap_model.specs.Heap.{IsHeap}
 use Rattle.core_machine.specs.declared.collector.stage.Stage.TheVariants as stages
 use Rattle.core_machine.specs.declared.step.Step.TheVariants.{Turning}
 use Rattle.core_machine.specs.declared.step.TurningStep.TheVariants as turning
-use Rattle.core_machine.specs.collector.Collector.{Collector, has_answered_of, after_last_look, after_counted_look, after_look, look_answer}
-use Rattle.core_machine.specs.collector.FitsTurns.{CollectorFits}
+use Rattle.core_machine.specs.collector.Collector.{Collector, has_answered_of, first_work, after_last_look, after_counted_look, after_look, look_answer}
+use Rattle.core_machine.specs.collector.FitsTurns.{FitsStage, CollectorFits}
 use Rattle.core_machine.proofs.collector_lemmas.Standing.{StageStands, quiet_stands}
 use Rattle.core_machine.proofs.table_lemmas.Bits.{bool_tells}
 use Rattle.core_machine.proofs.table_lemmas.StepStands.{load_stands}
@@ -17,11 +17,20 @@ module _ (heap : Heap) (collector : Collector) (limits : IsHeap heap) (fits : Co
   fits_looking : (looked : ℕ) → looked < heap.seats → CollectorFits heap (record collector { looked = looked })
   fits_looking looked below = record { phase_within = fits.phase_within; phase_told = fits.phase_told; at_stage = rw looking below }
 
-  fits_looked_all : CollectorFits heap (after_last_look heap collector)
-  fits_looked_all = elim (eqb_tells (collector.phase % 7) 3) as (λ _. CollectorFits heap (after_last_look heap collector)) [
-    | inl third ↦ rw third.0 (record { phase_within = fits.phase_within; phase_told = fits.phase_told; at_stage = record { marks = record { all = refl; for_marking = third.1 }; group_within = limits.some_group } })
-    | inr other ↦ rw other.0 (record { phase_within = fits.phase_within; phase_told = fits.phase_told; at_stage = record { all = refl; goes_on = other.1 } })
+  fits_first_work : FitsStage heap collector.phase heap.seats (first_work collector.phase)
+  fits_first_work = elim (eqb_tells (collector.phase % 7) 3) as (λ _. FitsStage heap collector.phase heap.seats (first_work collector.phase)) [
+    | inl marks ↦ rw marks.0 (record { marks = record { all = refl; for_marking = marks.1 }; group_within = limits.some_group })
+    | inr other ↦ rw other.0 (elim (eqb_tells (collector.phase % 7) 5) as (λ _. FitsStage heap collector.phase heap.seats (cond (eqb (collector.phase % 7) 5) (stages.Sweeping 0) (cond (eqb (collector.phase % 7) 6) (stages.Clearing 0 0) stages.Advancing))) [
+      | inl sweeps ↦ rw sweeps.0 (record { all = refl; for_sweep = sweeps.1; group_within = limits.some_group })
+      | inr other_ ↦ rw other_.0 (elim (eqb_tells (collector.phase % 7) 6) as (λ _. FitsStage heap collector.phase heap.seats (cond (eqb (collector.phase % 7) 6) (stages.Clearing 0 0) stages.Advancing)) [
+        | inl clears ↦ rw clears.0 (record { all = refl; for_clearing = clears.1; group_within = limits.some_group; kept_within = omega arith })
+        | inr goes ↦ rw goes.0 (record { all = refl; goes_on = goes.1 })
+      ])
+    ])
   ]
+
+  fits_looked_all : CollectorFits heap (after_last_look heap collector)
+  fits_looked_all = record { phase_within = fits.phase_within; phase_told = fits.phase_told; at_stage = fits_first_work }
 
   fits_looked_on : CollectorFits heap (after_counted_look heap collector)
   fits_looked_on = elim (leb_tells (suc (collector.looked + 1)) heap.seats) as (λ _. CollectorFits heap (after_counted_look heap collector)) [

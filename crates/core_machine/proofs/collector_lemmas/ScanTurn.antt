@@ -9,7 +9,7 @@ use Rattle.core_machine.specs.declared.step.TurningStep.TheVariants as turning
 use Rattle.core_machine.specs.collector.Marking.{part_after, scan_step, scan_at, after_scan_load}
 use Rattle.core_machine.specs.collector.FitsTurns.{FitsStage, IsMarking, IsScanning}
 use Rattle.core_machine.specs.table.Decode.{is_meta, pointer_in, IsWithinHeap}
-use Rattle.core_machine.proofs.collector_lemmas.Standing.{StageStands, marking_stands, stage_fits}
+use Rattle.core_machine.proofs.collector_lemmas.Standing.{StageStands, work_stands, stage_fits}
 use Rattle.core_machine.proofs.table_lemmas.Bits.{bool_tells}
 use Rattle.core_machine.proofs.table_lemmas.StepStands.{load_stands}
 
@@ -47,7 +47,7 @@ fits_scan heap phase looked scan next (Some target) here before below led = reco
 
 pub scan_stands : (scan : Scan) → StageStands (stages.Scanning scan)
 scan_stands scan heap collector limits fits scanning here =
-    marking_stands heap (turning.ScanLoad scan.fragment scan.part) (λ word. record collector { stage = after_scan_load scan (part_after scan.part word) (pointer_in scan.part word) })
+    work_stands heap (turning.ScanLoad scan.fragment scan.part) (λ word. record collector { stage = after_scan_load scan (part_after scan.part word) (pointer_in scan.part word) })
     (load_stands heap (Turning (turning.ScanLoad scan.fragment scan.part)) refl (here.fragment_within, here.part_within))
     (λ word led. let after = after_part scan.part word here.part_within in
     stage_fits heap collector (after_scan_load scan (part_after scan.part word) (pointer_in scan.part word)) fits

@@ -1,13 +1,14 @@
 -- What is asked of each turn of the collector.
-use Rattle.std.proofs.Common.{◌≡◌, ℕ, [], length-append, arith}
+use Rattle.std.proofs.Common.{◌≡◌, ℕ, ◌-◌, ◌<◌, ◌^◌, [], ◌∷◌, ◌++◌, length-append, arith}
 use Rattle.heap_model.specs.declared.calls.collector_calls.Turn.{Turn as TurnAnswer}
 use Rattle.heap_model.specs.declared.calls.collector_calls.Turn.TheVariants.{Stepped}
+use Rattle.heap_model.specs.declared.entry.Entry.{Entry}
 use Rattle.heap_model.specs.declared.heap.Heap.{Heap}
 use Rattle.heap_model.specs.Heap.{IsHeap}
 use Rattle.core_machine.specs.declared.collector.stage.Stage.{Stage}
 use Rattle.core_machine.specs.declared.step.Step.TheVariants.{Turning}
 use Rattle.core_machine.specs.declared.step.TurningStep.{TurningStep}
-use Rattle.core_machine.specs.collector.Collector.{Collector, Turn, quiet_turn, marking_turn, turn_at, collector_after}
+use Rattle.core_machine.specs.collector.Collector.{Collector, Turn, after_advance, quiet_turn, work_turn, turn_at, collector_after}
 use Rattle.core_machine.specs.collector.FitsTurns.{FitsStage, CollectorFits}
 use Rattle.core_machine.specs.table.Decode.{FoundPointsWithin}
 use Rattle.core_machine.specs.table.Operation.{address_of}
@@ -40,7 +41,16 @@ pub stage_fits : (heap : Heap) (collector : Collector) (stage : Stage) → Colle
     → CollectorFits heap (record collector { stage = stage })
 stage_fits heap collector stage fits here = record { phase_within = fits.phase_within; phase_told = fits.phase_told; at_stage = here }
 
--- a turn of marking
-pub marking_stands : (heap : Heap) (step : TurningStep) (told : ℕ → Collector) → StepStands heap (Turning step)
-    → ((found : ℕ) → FoundPointsWithin heap (address_of (Turning step)) found → CollectorFits heap (told found)) → TurnStands heap (marking_turn step told)
-marking_stands heap step told stands fits = quiet_stands heap step told (λ found. Stepped) stands fits
+-- a turn of a phase's work that adds no entry
+pub work_stands : (heap : Heap) (step : TurningStep) (told : ℕ → Collector) → StepStands heap (Turning step)
+    → ((found : ℕ) → FoundPointsWithin heap (address_of (Turning step)) found → CollectorFits heap (told found)) → TurnStands heap (work_turn step told)
+work_stands heap step told stands fits = quiet_stands heap step told (λ found. Stepped) stands fits
+
+-- a turn that begins the next phase of which this entry tells
+pub begin_fits : (heap : Heap) (collector : Collector) (entry : Entry) → IsHeap heap → CollectorFits heap collector → collector.phase < 2 ^ 64 - 2
+    → CollectorFits heap (record (after_advance collector) { log = collector.log ++ entry ∷ [] })
+begin_fits heap collector entry limits fits may = record {
+  phase_within = omega (arith, may);
+  phase_told = omega (arith, fits.phase_told, length-append collector.log (entry ∷ []));
+  at_stage = omega (arith, limits.some_seat);
+}

@@ -5,7 +5,7 @@ use Rattle.std.specs.Int.RustNames.{count_ones}
 use Rattle.std.specs.Int.Count.{ones_in}
 use Rattle.std.proofs.lemmas.Bool.Decides.{eqb_tells, leb_tells}
 use Rattle.std.proofs.lemmas.List.{length-append}
-use Rattle.std.proofs.lemmas.Nat.{and_mask}
+use Rattle.std.proofs.lemmas.Nat.{and_mask, ones-le}
 use Rattle.std.proofs.Math.Nat.{pow-suc}
 use Rattle.std.proofs.lemmas.Nat.Bits.{bit_at-lt, bit_at-suc, bit_at_lowest, bit_at_and, bit_at_not, bit_at_ones}
 use Rattle.core_machine.specs.table.Fragments.{is_clear, clear_among, clear_in}
@@ -99,3 +99,8 @@ clear_zeros group word =
 -- and no more than sixteen
 pub few_zeros : (word : ℕ) → count_zeros w16 (word % 2 ^ 16) ≤ 16
 few_zeros word = let zeros = clear_zeros 0 word in let few = length-clear_among 0 word 16 in omega arith
+
+-- a group has at most sixteen taken fragments
+pub taken_few : (word : ℕ) → count_ones (word % 2 ^ 16) ≤ 16
+unfolding count_ones
+taken_few word = ones-le 16 (word % 2 ^ 16) (omega arith)

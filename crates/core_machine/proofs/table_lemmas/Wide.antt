@@ -1,8 +1,8 @@
 -- Every word that a step writes has 64 bits.
-use Rattle.std.proofs.Common.{suc, ℕ, ◌+◌, ◌*◌, ◌%◌, ◌^◌, ◌<◌, ◌≤◌, Bool, true, false, cond, eqb, List, length, get_or, inl, inr, bit_or, arith}
+use Rattle.std.proofs.Common.{suc, ℕ, ◌+◌, ◌*◌, ◌%◌, ◌^◌, ◌<◌, ◌≤◌, Bool, true, false, cond, eqb, List, length, get_or, inl, inr, bit_and, bit_or, arith}
 use Rattle.std.proofs.lemmas.Bool.Decides.{eqb_tells, leb_tells}
 use Rattle.std.proofs.lemmas.List.{get_or_past}
-use Rattle.std.proofs.lemmas.Nat.{or_lt}
+use Rattle.std.proofs.lemmas.Nat.{and_le_l, or_lt}
 use Rattle.std.proofs.Math.Nat.{pow-le-pow_right}
 use Rattle.heap_words.specs.declared.name.Name.{Name}
 use Rattle.heap_words.specs.Name.{name_word}
@@ -64,6 +64,10 @@ birth_wide true bits word small wide = or_lt 64 word (bits * 2 ^ 16 + bits * 2 ^
 pub set_numbered : (command : Command) (made sets : ℕ) → IsSet command → HasNumberLeft made sets command → sets + 1 < 2 ^ 26
 set_numbered (Set r i v) made sets a_set numbered = numbered
 set_numbered _ made sets a_set numbered = absurd a_set
+
+-- what is left of a word is no longer
+pub and_wide : (word bits : ℕ) → word < 2 ^ 64 → bit_and word bits < 2 ^ 64
+and_wide word bits wide = omega (arith, wide, and_le_l word bits)
 
 -- the bit of a shade is one of a word's
 pub shade_wide : (fragment word : ℕ) → word < 2 ^ 64 → bit_or word (shade_bit_of fragment) < 2 ^ 64

@@ -1,4 +1,4 @@
--- What stands of a seat, and of the colours, once the next phase has begun, up to a cycle's third.
+-- What stands of a seat, and of the colours, once the next phase has begun.
 use Rattle.std.proofs.Common.{◌≡◌, ◌⊎◌, ℕ, ◌+◌, ◌<◌, Bool, true, false, List, inl, inr, refl, sym, ◌∙◌, subst, arith}
 use Rattle.std.proofs.lemmas.Bool.Decides.{eqb_tells}
 use Rattle.heap_model.specs.declared.heap.Heap.{Heap}
@@ -20,21 +20,32 @@ use Rattle.core_rule.proofs.cycle.Barriers.{barrier_window}
 use Rattle.core_rule.proofs.cycle.CycleFrames.{while_access, field_stays}
 
 -- no fragment is black in the first phase, and none is marked before it
-pub coloured_next : (heap : Heap) (words now : List ℕ) (owner : ℕ → Owner) (colour : ℕ → Colour) (fragments : ℕ → List ℕ) (phase : ℕ) → phase < 3
+pub coloured_next : (heap : Heap) (words now : List ℕ) (owner : ℕ → Owner) (colour : ℕ → Colour) (fragments : ℕ → List ℕ) (phase : ℕ) → phase % 7 ≢ 6
     → ((f part g : ℕ) → WordPointsTo heap now f part g → WordPointsTo heap words f part g)
     → Coloured heap words owner colour fragments phase → Coloured heap now owner colour fragments (phase + 1)
-coloured_next heap words now owner colour fragments phase early leads stands = record {
-  rest = λ ended f. absurd (omega (arith, ended, early));
-  early = λ first f black. absurd (cc (black, stands.rest (omega (arith, first, early)) f));
+coloured_next heap words now owner colour fragments phase within leads stands = record {
+  rest = λ ended f. absurd (omega (arith, ended, within));
+  early = λ first f black. absurd (cc (black, stands.rest (omega (arith, first)) f));
   born = stands.born;
-  black = λ marking f part g black later. elim (eqb_tells phase 1) [
-    | inl first ↦ absurd (stands.early (omega (arith, first.1)) f black)
-    | inr other ↦ stands.black (record { from = omega (arith, marking.from, other.1, early); upto = omega (arith, early) }) f part g black (leads f part g later)
+  black = λ marking f part g black later. elim (eqb_tells (phase % 7) 1) [
+    | inl first ↦ absurd (stands.early first.1 f black)
+    | inr other ↦ stands.black (record { from = omega (arith, marking.from, marking.upto, other.1, within); upto = omega (arith, marking.from, marking.upto, within) }) f part g black (leads f part g later)
   ];
-  first = λ marking f i k keeps marked. elim (eqb_tells phase 0) [
-    | inl none ↦ absurd (marked (stands.rest (omega (arith, none.1)) f))
-    | inr other ↦ stands.first (record { from = omega (arith, other.1, early); upto = omega (arith, early) }) f i k keeps marked
+  first = λ marking f i k keeps marked. elim (eqb_tells (phase % 7) 0) [
+    | inl none ↦ absurd (marked (stands.rest none.1 f))
+    | inr other ↦ stands.first (record { from = omega (arith, other.1); upto = omega (arith, marking.from, marking.upto, within) }) f i k keeps marked
   ];
+}
+
+-- where nothing is marked any more the next phase is one of rest
+pub coloured_rest : (heap : Heap) (words now : List ℕ) (owner : ℕ → Owner) (colour : ℕ → Colour) (fragments : ℕ → List ℕ) (phase : ℕ) → phase % 7 ≡ 6
+    → ((f : ℕ) → colour f ≡ White) → Coloured heap words owner colour fragments phase → Coloured heap now owner colour fragments (phase + 1)
+coloured_rest heap words now owner colour fragments phase last white stands = record {
+  rest = λ ended. white;
+  early = λ first f black. absurd (cc (black, white f));
+  born = stands.born;
+  black = λ marking f part g black later. absurd (cc (black, white f));
+  first = λ marking f i k keeps marked. absurd (marked (white f));
 }
 
 -- a seat has left, and stands idle, or it hasn't
@@ -46,7 +57,7 @@ present_or_idle heap seat fits = by seat.left (λ gone. (fits.gone gone).idle)
     by false idle = inl refl
 
 -- without the barrier no set shades
-unshaded : (colour : ℕ → Colour) (seat : Seat) (place : Place) → FitsWay seat place → seat.answered ≡ 0 → WhileAccess (ShadedStands colour seat) place
+unshaded : (colour : ℕ → Colour) (seat : Seat) (place : Place) → FitsWay seat place → seat.answered % 7 ≡ 0 → WhileAccess (ShadedStands colour seat) place
 unshaded colour seat (places.Access ShadingNew) fits off = let on = barrier_window seat fits.1 in absurd (omega (arith, on.from, off))
 unshaded colour seat (places.Access Swapping) fits off = λ on. absurd (omega (arith, on.from, off))
 unshaded colour seat _ fits off = tt
@@ -66,11 +77,11 @@ module _ (seat : Seat) (phase : ℕ) where
   waits _ asks same = tt
 
 -- where every seat that is there has answered the phase, each seat's part stands when the next one begins
-pub cycle_next : (heap : Heap) (words now : List ℕ) (owner : ℕ → Owner) (colour : ℕ → Colour) (phase answers : ℕ) (gone : Bool) (number : ℕ) (seat : Seat) → phase < 3
+pub cycle_next : (heap : Heap) (words now : List ℕ) (owner : ℕ → Owner) (colour : ℕ → Colour) (phase answers : ℕ) (gone : Bool) (number : ℕ) (seat : Seat)
     → at heap now (Answer number) ≡ at heap words (Answer number) → ((f part g : ℕ) → WordPointsTo heap now f part g → WordPointsTo heap words f part g)
     → Fits heap seat → (gone ≡ false → answers ≡ phase)
     → SeatInCycle heap words phase answers gone owner colour number seat → SeatInCycle heap now (phase + 1) answers gone owner colour number seat
-cycle_next heap words now owner colour phase answers gone number seat early word leads fits done cycle =
+cycle_next heap words now owner colour phase answers gone number seat word leads fits done cycle =
     let told = cycle.answers_told in
     let has : seat.left ≡ false → seat.answered ≡ phase = λ present. sym told.told ∙ done (told.leaves ∙ present) in
     record {
@@ -93,9 +104,9 @@ cycle_next heap words now owner colour phase answers gone number seat early word
           | inr idle ↦ subst (WhileAccess (FieldStands heap now colour seat)) (sym idle) tt
         ];
         shaded = λ marking. elim (present_or_idle heap seat fits) [
-          | inl present ↦ elim (eqb_tells phase 0) [
-            | inl none ↦ unshaded colour seat seat.place fits.way_at_place (has present ∙ none.1)
-            | inr some ↦ cycle.flight.shaded record { from = omega (arith, some.1, early); upto = omega (arith, early) }
+          | inl present ↦ elim (eqb_tells (phase % 7) 0) [
+            | inl none ↦ unshaded colour seat seat.place fits.way_at_place (ap (λ p. p % 7) (has present) ∙ none.1)
+            | inr some ↦ cycle.flight.shaded record { from = omega (arith, some.1); upto = omega (arith, marking.from, marking.upto) }
           ]
           | inr idle ↦ subst (WhileAccess (ShadedStands colour seat)) (sym idle) tt
         ];

@@ -76,6 +76,11 @@ settled_phase phase stage (inl third) = record { from = omega (arith, third.0); 
 settled_phase phase stage (inr (inl copies)) = record { from = omega (arith, copies); upto = omega (arith, copies) }
 settled_phase phase stage (inr (inr sweeps)) = record { from = omega (arith, sweeps); upto = omega (arith, sweeps) }
 
+-- so it is at another stage of the same phase, but for the phase of marking
+pub settled_moves : (phase : ℕ) (from to : Stage) → (phase % 7 ≡ 3 → from ≢ stages.Advancing) → IsSettled phase from → IsSettled phase to
+settled_moves phase from to goes (inl ended) = absurd (goes ended.0 ended.1)
+settled_moves phase from to goes (inr later) = inr later
+
 -- while it marks, marking hasn't ended
 pub unsettled : (phase : ℕ) (stage : Stage) → phase % 7 ≡ 3 → stage ≢ stages.Advancing → ¬ IsSettled phase stage
 unsettled phase stage third goes (inl ended) = goes ended.1

@@ -1,6 +1,7 @@
 -- Kinds of the collector, a file for each.
 pub mod PassStep
 pub mod AdvanceStep
+pub mod PhaseTurn
 pub mod ColourTurn
 pub mod BlackenStep
 pub mod LookStep

@@ -14,14 +14,15 @@ use Rattle.core_machine.specs.seat.Fits.{FitsStage}
 use Rattle.core_machine.specs.table.Layout.{at}
 use Rattle.core_machine.specs.machine.Machine.{State, seat_at}
 use Rattle.core_rule.specs.Book.{Book}
-use Rattle.core_rule.specs.Marking.{ScanStands, PassStands}
+use Rattle.core_rule.specs.Marking.{ScanStands, PassStands, SweepStands}
 use Rattle.core_rule.specs.Rule.{Rule, MarksStand}
 use Rattle.core_rule.specs.Phases.{CollectorAgrees}
+use Rattle.core_rule.proofs.marking.Marks.{settled_moves}
 use Rattle.core_rule.proofs.steps.Assemble.{few_answers}
 use Rattle.core_rule.proofs.steps.TurnSteps.{StageKeeps, after_turn, load_turns}
 
 -- the word of a seat that hasn't left tells that it has answered the phase
-word_tells : (p answer : ℕ) → answer ≤ p → p ≤ 3 → has_answered_of p answer ≡ true → answer ≡ p
+word_tells : (p answer : ℕ) → answer ≤ p → p < LEFT → has_answered_of p answer ≡ true → answer ≡ p
 word_tells p answer near early seen = elim (eqb_tells answer p) [
   | inl same ↦ same.1
   | inr other ↦ elim (eqb_tells answer LEFT) [
@@ -38,13 +39,6 @@ module _ (heap : Heap) (collector : Collector) (history : List Entry) (stands : 
   stands_seen : (stage : Stage) (looked : ℕ) → HasSeen looked → CollectorAgrees heap (record collector { stage = stage; looked = looked }) history
   stands_seen stage looked seen = record { log = stands.log; phase_told = stands.phase_told; looked = seen }
 
-  -- it begins to mark, or goes on to the next phase
-  all_seen : HasSeen heap.seats → CollectorAgrees heap (after_last_look heap collector) history
-  all_seen all = elim (eqb_tells (collector.phase % 7) 3) as (λ _. CollectorAgrees heap (after_last_look heap collector) history) [
-    | inl third ↦ rw third.0 (stands_seen _ heap.seats all)
-    | inr other ↦ rw other.0 (stands_seen _ heap.seats all)
-  ]
-
   module _ (seen : has_left collector.looked history ≡ false → last_answer collector.looked history ≡ phase history) where
     -- the seats up to this one have answered
     more_seen : HasSeen (collector.looked + 1)
@@ -56,7 +50,7 @@ module _ (heap : Heap) (collector : Collector) (history : List Entry) (stands : 
     on_seen : CollectorAgrees heap (after_counted_look heap collector) history
     on_seen = elim (leb_tells (suc (collector.looked + 1)) heap.seats) as (λ _. CollectorAgrees heap (after_counted_look heap collector) history) [
       | inl more ↦ rw more.0 (stands_seen collector.stage (collector.looked + 1) more_seen)
-      | inr last ↦ rw last.0 (all_seen (λ number within below present. more_seen number (omega (arith, last.1, below)) below present))
+      | inr last ↦ rw last.0 (stands_seen _ heap.seats (λ number within below present. more_seen number (omega (arith, last.1, below)) below present))
     ]
 
   -- one more seat was looked at
@@ -69,32 +63,47 @@ module _ (heap : Heap) (collector : Collector) (history : List Entry) (stands : 
       by true seen = on_seen (seen refl)
       by false seen = stands
 
+-- the work of a phase but marking, and but the sweep
+abbrev last_work : ℕ → Stage
+last_work phase = if phase % 7 == 6 then stages.Clearing 0 0 else stages.Advancing
+
+abbrev later_work : ℕ → Stage
+later_work phase = if phase % 7 == 5 then stages.Sweeping 0 else last_work phase
+
 module _ (heap : Heap) (state : State) (book : Book) (rule : Rule heap state book) (looking : state.collector.stage ≡ stages.Looking) where
   abbrev MarksNow : Collector → Type 0
   MarksNow collector = MarksStand heap (after_turn state state.words collector) book.owner book.colour book.fragments
 
   -- of marking nothing changes, wherever it goes on
-  marks_at : (stage : Stage) (looked : ℕ) → stage ≢ stages.Advancing → ScanStands heap state.words book.owner book.colour book.fragments stage → PassStands book.colour stage
-      → MarksNow (record state.collector { stage = stage; looked = looked })
-  marks_at stage looked goes_on scan pass = record {
+  marks_stage : (stage : Stage) (looked : ℕ) → (state.collector.phase % 7 ≡ 3 → stage ≢ stages.Advancing) → ScanStands heap state.words book.owner book.colour book.fragments stage
+      → PassStands book.colour stage → SweepStands heap book.owner book.colour state.collector.phase stage → MarksNow (record state.collector { stage = stage; looked = looked })
+  marks_stage stage looked goes scan pass sweep = record {
     heap_marks = record {
       grey = rule.marks_stand.heap_marks.grey;
       scan = scan;
       pass = pass;
-      alive = λ still. rule.marks_stand.heap_marks.alive (λ ended. absurd (cc (looking, ended)));
-      after = λ ended. absurd (goes_on ended);
+      sweep_stands = sweep;
+      alive = λ going. rule.marks_stand.heap_marks.alive
+          (λ settled. going (settled_moves state.collector.phase state.collector.stage stage (λ third ended. absurd (cc (looking, ended))) settled));
+      after = λ settled. rule.marks_stand.heap_marks.after (settled_moves state.collector.phase stage state.collector.stage goes settled);
     };
     roots = λ r below marks answered. rule.marks_stand.roots r below record { phase = marks.phase; goes_on = λ ended. absurd (cc (looking, ended)) } answered;
   }
 
   marks_looking : (looked : ℕ) → MarksNow (record state.collector { looked = looked })
-  marks_looking looked = subst (λ stage. MarksNow (record state.collector { stage = stage; looked = looked })) (sym looking) (marks_at stages.Looking looked (λ e. cc) tt tt)
+  marks_looking looked = subst (λ stage. MarksNow (record state.collector { stage = stage; looked = looked })) (sym looking) (marks_stage stages.Looking looked (λ third e. cc) tt tt tt)
 
-  -- it begins to mark, or goes on to the next phase
+  -- it begins the phase's work, or goes on to the next phase
   marks_last : MarksNow (after_last_look heap state.collector)
   marks_last = elim (eqb_tells (state.collector.phase % 7) 3) as (λ _. MarksNow (after_last_look heap state.collector)) [
-    | inl third ↦ rw third.0 (marks_at (stages.Passing 0 false) heap.seats (λ e. cc) tt (λ f grey. (f, grey, omega arith)))
-    | inr other ↦ rw other.0 (marks_at stages.Advancing heap.seats (λ e. cc) tt tt)
+    | inl third ↦ rw third.0 (marks_stage (stages.Passing 0 false) heap.seats (λ is e. cc) tt (λ f grey. (f, grey, omega arith)) tt)
+    | inr other ↦ rw other.0 (elim (eqb_tells (state.collector.phase % 7) 5) as (λ _. MarksNow (record state.collector { looked = heap.seats; stage = later_work state.collector.phase })) [
+      | inl sweeps ↦ rw sweeps.0 (marks_stage (stages.Sweeping 0) heap.seats (λ is e. cc) tt tt (λ f i k none. absurd (omega (arith, none))))
+      | inr neither ↦ rw neither.0 (elim (eqb_tells (state.collector.phase % 7) 6) as (λ _. MarksNow (record state.collector { looked = heap.seats; stage = last_work state.collector.phase })) [
+        | inl clears ↦ rw clears.0 (marks_stage (stages.Clearing 0 0) heap.seats (λ is e. cc) tt tt (λ f none. absurd (omega (arith, none))))
+        | inr none ↦ rw none.0 (marks_stage stages.Advancing heap.seats (λ third. absurd (other.1 third)) tt tt (λ swept. absurd (neither.1 swept)))
+      ])
+    ])
   ]
 
   marks_counted : MarksNow (after_counted_look heap state.collector)
@@ -119,7 +128,7 @@ look_keeps heap state book rule looking machine =
     let below : number < heap.seats = subst (FitsStage heap collector.phase number) looking rule.machine.collector_fit.at_stage in
     let stands = rule.seats_stand number below in
     let told = stands.cycle.answers_told in
-    let early : phase book.history ≤ 3 = rule.heap_stands.cycle.so_far in
+    let early : phase book.history < LEFT = omega (arith, rule.collector_stands.phase_told, rule.machine.collector_fit.phase_within) in
     let tells : has_answered_of collector.phase found ≡ true → has_left number book.history ≡ false → last_answer number book.history ≡ phase book.history
     = λ seen present. word_tells (phase book.history) (last_answer number book.history) (few_answers heap state.words book number (seat_at state number) stands present) early
     (subst (λ w. has_answered_of (phase book.history) w ≡ true) (told.word ∙ rw (sym told.leaves ∙ present) (sym told.told))

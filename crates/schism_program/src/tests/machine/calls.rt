@@ -36,6 +36,14 @@ pub(super) fn begin(machine: &mut Machine, seat: u8, command: &Command) -> Resul
     Ok(true)
 }
 
+/// The party's due step.
+pub(super) fn due(machine: &Machine, party: u8) -> Result<Step, Fail> {
+    if party > machine.heap().seats {
+        return Err("no such party".into());
+    }
+    Ok(machine.due(party).ok_or("nothing is due")?)
+}
+
 /// The party's due step, which is made, and the word that it found.
 pub(super) fn step(machine: &mut Machine, party: u8) -> Result<(Step, u64), Fail> {
     if party > machine.heap().seats {

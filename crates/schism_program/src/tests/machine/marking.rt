@@ -6,7 +6,8 @@ use std::test::Fail;
 /// grey as marking begins. A control word has scanned, marked, born and taken bits, from the left.
 ///
 /// The first pass scans the board, of which each fragment but the last leads to the next one, and the fragment 16, and so
-/// makes the fragment 11 grey, whose group it has passed. That one is scanned by the second pass. The third finds nothing.
+/// makes the fragment 11 grey, whose group it has passed. That one is scanned by the second pass. The third finds nothing,
+/// and the next phase begins.
 const THERE_AND_BACK: &[&str] = &[
     "0 new 1 2 => 0 takes 5; 0 new 1 2 = 0.0",
     "0 set 0 1 1 => 0 set 0 1 1 = was -",
@@ -66,12 +67,10 @@ const THERE_AND_BACK: &[&str] = &[
     "c step => group 1 found 100010001ffff",
     "c step => group 0 found fff0fff0fffffff",
     "c step => group 1 found 100010001ffff",
-    "c step => group 0 found fff0fff0fffffff",
-    "c step => group 0 found fff0fff0fffffff",
-    "c turn => stepped",
+    "c step => advance 4 found 3; c phase 4",
     "control 0 => fff0fff0fffffff at 19",
     "control 1 => 100010001ffff at 20",
-    "phase => 3",
+    "phase => 4",
 ];
 
 #[test]
@@ -86,7 +85,7 @@ fn marks_there_and_back(rt: HostRuntime) -> Result<(), Fail> {
 ///
 /// Then the head: its meta and the link there, the two fields, and no name; marks are made where the fragment is marked
 /// already. Then its second fragment, whose first word is the last link, 0, with no word left out. The next pass finds
-/// nothing, and from then on each turn loads the control word of group 0 and changes nothing.
+/// nothing, and the next phase begins.
 const WORDS: &[&str] = &[
     "0 new 1 5 => 0 takes 5; 0 new 1 5 = 0.0",
     "0 set 1 0 0 => 0 set 1 0 0 = was -",
@@ -117,12 +116,11 @@ const WORDS: &[&str] = &[
     "c step => blacken 12 found fff1fff1fffffff",
     "c step => group 0 found 1fff1fff1fffffff",
     "c step => group 0 found 1fff1fff1fffffff",
-    "c turn => stepped",
-    "c step => group 0 found 1fff1fff1fffffff",
-    "c turn => stepped",
+    "c step => advance 4 found 3; c phase 4",
+    "c turn => waits for 0 at 3 of 4",
     "control 0 => 1fff1fff1fffffff at 19",
     "answer 0 => 3 at 1",
-    "phase => 3",
+    "phase => 4",
 ];
 
 #[test]

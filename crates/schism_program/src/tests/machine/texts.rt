@@ -4,14 +4,19 @@ use std::alloc::{AllocError, Global};
 
 /// A step and the word that it found. Bits and words stand in hexadecimal digits.
 pub(super) fn step_text(alloc: Global, step: &Step, found: u64) -> Result<String, AllocError> {
-    let step = match *step {
-        Step::PollLoad => format!(in alloc; "load the phase")?,
-        Step::Making(step) => making_text(alloc, step)?,
-        Step::Access(step) => access_text(alloc, step)?,
-        Step::Handshake(step) => handshake_text(alloc, step)?,
-        Step::Turning(step) => turning_text(alloc, step)?,
-    };
+    let step = due_text(alloc, step)?;
     format!(in alloc; "{step} found {found:x}")
+}
+
+/// A step.
+pub(super) fn due_text(alloc: Global, step: &Step) -> Result<String, AllocError> {
+    match *step {
+        Step::PollLoad => format!(in alloc; "load the phase"),
+        Step::Making(step) => making_text(alloc, step),
+        Step::Access(step) => access_text(alloc, step),
+        Step::Handshake(step) => handshake_text(alloc, step),
+        Step::Turning(step) => turning_text(alloc, step),
+    }
 }
 
 fn making_text(alloc: Global, step: MakingStep) -> Result<String, AllocError> {
@@ -66,6 +71,10 @@ fn turning_text(alloc: Global, step: TurningStep) -> Result<String, AllocError> 
         TurningStep::ScanLoad { fragment, part } => format!(in alloc; "scan {fragment}.{part}"),
         TurningStep::MarkShade { fragment } => format!(in alloc; "mark {fragment}"),
         TurningStep::Blacken { fragment } => format!(in alloc; "blacken {fragment}"),
+        TurningStep::MetaLoad { fragment } => format!(in alloc; "meta {fragment}"),
+        TurningStep::Free { group, bits } => format!(in alloc; "free {group} {bits:x}"),
+        TurningStep::Clear { group } => format!(in alloc; "clear {group}"),
+        TurningStep::EndAdvance { phase } => format!(in alloc; "end {phase}"),
     }
 }
 

@@ -1,7 +1,7 @@
 //! What is done on a machine and what is found there, as texts.
 
-use super::calls::{begin, call, log, machine_of, step, turn, word};
-use super::texts::{step_text, turn_text};
+use super::calls::{begin, call, due, log, machine_of, step, turn, word};
+use super::texts::{due_text, step_text, turn_text};
 use core_machine::{Address, Machine, MakingStep, Step};
 use heap_model::{Command, Entry};
 use reply_text::render_entry;
@@ -15,6 +15,7 @@ use std::test::Fail;
 ///
 /// - `SEAT COMMAND`, a whole call, and `SEAT begin COMMAND`, where nothing more is done;
 /// - `PARTY step`, its due step; the collector is the party `c`; `PARTY steps N`, so many of them, of which the last is told;
+/// - `PARTY due`, its due step, which isn't made;
 /// - `SEAT stores`, four due steps that store a fragment's words in their order, each where 0 was found: the fragment and
 ///   the words;
 /// - `c turn`, a turn of the collector;
@@ -71,6 +72,9 @@ fn found(alloc: Global, machine: &mut Machine, deed: &str) -> Result<String, Fai
 
 /// What the party does, and what comes of it but for its entries.
 fn done(alloc: Global, machine: &mut Machine, party: u8, words: &str) -> Result<String, Fail> {
+    if words == "due" {
+        return Ok(due_text(alloc, &due(machine, party)?)?);
+    }
     if words == "step" {
         let (step, found) = step(machine, party)?;
         return Ok(step_text(alloc, &step, found)?);

@@ -1,0 +1,56 @@
+-- The sweep looks for what is dead in a group, looks at it and frees it.
+use Rattle.std.proofs.Common.{suc, ◌≡◌, ℕ, ◌+◌, ◌*◌, ◌^◌, ◌<◌, [], ◌∷◌, count_ones, Option, Some, None, length-append, refl, inl, inr, arith}
+use Rattle.std.specs.Int.{bit_at}
+use Rattle.std.specs.Prelude.{IfSome}
+use Rattle.std.proofs.lemmas.Bool.Decides.{eqb_tells, leb_tells}
+use Rattle.heap_model.specs.declared.entry.Entry.TheVariants.{Frees}
+use Rattle.heap_model.specs.declared.heap.Heap.{Heap}
+use Rattle.core_machine.specs.declared.collector.stage.Stage.TheVariants as stages
+use Rattle.core_machine.specs.declared.step.Step.TheVariants.{Turning}
+use Rattle.core_machine.specs.declared.step.TurningStep.TheVariants as turning
+use Rattle.core_machine.specs.collector.Sweeping.{dead_bits_of, next_place_of, after_swept, after_examined}
+use Rattle.core_machine.specs.collector.FitsTurns.{FitsStage, IsSweeping}
+use Rattle.core_machine.proofs.collector_lemmas.Standing.{StageStands, work_stands, stage_fits}
+use Rattle.core_machine.proofs.table_lemmas.Dead.{dead_few, place_stands}
+use Rattle.core_machine.proofs.table_lemmas.StepStands.{load_stands}
+use Rattle.core_machine.proofs.table_lemmas.Wide.{and_wide}
+
+module _ (heap : Heap) (phase looked group : ℕ) (sweeps : IsSweeping heap phase looked group) where
+  -- the next group's turn comes, or the phase is done
+  fits_swept : FitsStage heap phase looked (after_swept heap group)
+  fits_swept = elim (leb_tells (suc (group + 1)) heap.groups) as (λ _. FitsStage heap phase looked (after_swept heap group)) [
+    | inl more ↦ rw more.0 (record { all = sweeps.all; for_sweep = sweeps.for_sweep; group_within = more.1 })
+    | inr last ↦ rw last.0 (record { all = sweeps.all; goes_on = λ clears. absurd (omega (arith, clears, sweeps.for_sweep)) })
+  ]
+
+  -- a dead fragment is looked at, or they are freed
+  fits_examined : (dead : ℕ) (place : Option ℕ) → dead < 2 ^ 16 → IfSome place (λ i. (i < 16) × (bit_at dead i ≡ 1)) → FitsStage heap phase looked (after_examined heap group dead place)
+  fits_examined dead (Some place) few is = record { sweeps = sweeps; dead_within = few; place_within = is.0; is_dead = is.1 }
+  fits_examined dead None few is = elim (eqb_tells dead 0) as (λ _. FitsStage heap phase looked (after_examined heap group dead None)) [
+    | inl none ↦ rw none.0 fits_swept
+    | inr some ↦ rw some.0 (record { sweeps = sweeps; dead_within = few; some_dead = some.1 })
+  ]
+
+pub sweep_stands : (group : ℕ) → StageStands (stages.Sweeping group)
+sweep_stands group heap collector limits fits sweeping here =
+    work_stands heap (turning.GroupLoad group) (λ word. record collector { stage = after_examined heap group (dead_bits_of word) (next_place_of (dead_bits_of word) 0) })
+    (load_stands heap (Turning (turning.GroupLoad group)) refl here.group_within)
+    (λ word led. stage_fits heap collector (after_examined heap group (dead_bits_of word) (next_place_of (dead_bits_of word) 0)) fits
+    (fits_examined heap collector.phase collector.looked group here (dead_bits_of word) (next_place_of (dead_bits_of word) 0) (dead_few word) (place_stands (dead_bits_of word) 0)))
+
+pub examine_stands : (group dead place : ℕ) → StageStands (stages.Examining group dead place)
+examine_stands group dead place heap collector limits fits examining here =
+    work_stands heap (turning.MetaLoad (16 * group + place)) (λ word. record collector { stage = after_examined heap group dead (next_place_of dead (place + 1)) })
+    (load_stands heap (Turning (turning.MetaLoad (16 * group + place))) refl (omega (arith, here.sweeps.group_within, here.place_within), omega arith))
+    (λ word led. stage_fits heap collector (after_examined heap group dead (next_place_of dead (place + 1))) fits
+    (fits_examined heap collector.phase collector.looked group here.sweeps dead (next_place_of dead (place + 1)) here.dead_within (place_stands dead (place + 1))))
+
+pub free_stands : (group dead : ℕ) → StageStands (stages.Freeing group dead)
+free_stands group dead heap collector limits fits freeing here = record {
+  step = record { in_table = here.sweeps.group_within; wide = λ found small. and_wide found _ small; leads = λ found led. tt };
+  fits = λ found led may. record {
+    phase_within = fits.phase_within;
+    phase_told = omega (arith, fits.phase_told, length-append collector.log (Frees (count_ones dead) ∷ []));
+    at_stage = fits_swept heap collector.phase collector.looked group here.sweeps;
+  };
+}

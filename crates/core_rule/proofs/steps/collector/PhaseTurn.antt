@@ -1,0 +1,128 @@
+-- A turn that begins the next phase, once all have answered, keeps the rule.
+use Rattle.std.proofs.Common.{◌≡◌, ℕ, ◌+◌, ◌<◌, Bool, true, false, List, [], ◌∷◌, ◌++◌, refl, sym, ap, ◌∙◌, subst, arith, inl, inr}
+use Rattle.std.proofs.lemmas.List.Elements.{filter-append}
+use Rattle.heap_model.specs.declared.entry.Entry.{Entry}
+use Rattle.heap_model.specs.declared.heap.Heap.{Heap}
+use Rattle.heap_model.specs.account.Account.{IsLegal}
+use Rattle.heap_model.specs.account.Cycles.{graph_of}
+use Rattle.heap_model.specs.account.Effects.{effect_of, is_of}
+use Rattle.heap_model.specs.graph.Growth.{after_entry}
+use Rattle.heap_model.specs.graph.Objects.{graph_seat}
+use Rattle.heap_model.specs.account.PhaseCounts.{phase, last_answer, has_left, is_leave_of, AllAnswered}
+use Rattle.heap_model.specs.graph.Graph.{Graph, opening}
+use Rattle.heap_model.proofs.Histories.{graph_after-more}
+use Rattle.core_machine.specs.declared.table.address.Address.TheVariants.{Answer, Phase}
+use Rattle.core_machine.specs.declared.collector.stage.Stage.TheVariants as stages
+use Rattle.core_machine.specs.collector.Collector.{Collector, after_advance}
+use Rattle.core_machine.specs.table.Layout.{put}
+use Rattle.core_machine.specs.machine.Machine.{State, seat_at}
+use Rattle.core_machine.specs.machine.Value.{IsMachine}
+use Rattle.core_machine.proofs.table_lemmas.Addresses.{at-put_same}
+use Rattle.core_rule.specs.Book.{Book}
+use Rattle.core_rule.specs.Colours.{Coloured, WordPointsTo}
+use Rattle.core_rule.specs.Counts.{is_collectors}
+use Rattle.core_rule.specs.Cycle.{HeapInCycle}
+use Rattle.core_rule.specs.Rule.{Rule, HeapStands, SeatStands}
+use Rattle.core_rule.specs.Marking.{OfRoots, MarkingStands}
+use Rattle.core_rule.specs.Paths.{IsReached}
+use Rattle.core_rule.proofs.marking.GoneRoots.{gone_roots}
+use Rattle.core_rule.proofs.entries.AtRest.{seat_fits}
+use Rattle.core_rule.proofs.words.Addresses.{at-put_apart}
+use Rattle.core_rule.proofs.steps.Assemble.{Keeps}
+use Rattle.core_rule.proofs.steps.TurnSteps.{after_turn, turn_steps}
+use Rattle.core_rule.proofs.cycle.CycleFrames.{cycle_told}
+use Rattle.core_rule.proofs.frames.EntryFrames.{UsesNothing, fragments_phase, heap_past, seat_past}
+use Rattle.core_rule.proofs.colours.LeadsFrames.{leads_apart}
+use Rattle.core_rule.proofs.colours.MarkWords.{marks_same}
+use Rattle.core_rule.proofs.cycle.NextPhase.{cycle_next}
+use Rattle.core_rule.proofs.entries.PhaseEntries.{phase_rises, answered_stays, left_stays}
+use Rattle.core_rule.proofs.graph.SameNodes.{SameNodes, nodes_same}
+use Rattle.core_rule.proofs.frames.SeatFrames.{with_entry}
+
+-- the entry begins a phase, is the collector's, and changes nothing else
+pub record BeginsNext (entry : Entry) : Type 0 where
+  pub phases : (effect_of entry).phases ≡ 1
+  pub uses : UsesNothing entry
+  pub answers : (effect_of entry).answers ≡ 0
+  pub nobodys : (r : ℕ) → is_of r entry ≡ false
+  pub no_leave : (r : ℕ) → is_leave_of r entry ≡ false
+  pub collectors : is_collectors entry ≡ true
+  pub graph_stays : (g : Graph) → after_entry g entry ≡ g
+
+module _ (heap : Heap) (state : State) (book : Book) (rule : Rule heap state book) (all : state.collector.looked ≡ heap.seats) (entry : Entry) (begins : BeginsNext entry) where
+  abbrev pub next : ℕ
+  next = state.collector.phase + 1
+
+  abbrev pub words_next : List ℕ
+  words_next = put heap state.words Phase next
+
+  abbrev later : Book
+  later = with_entry book entry
+
+  -- all have answered
+  pub all_answer : AllAnswered heap book.history
+  all_answer number below present = rule.collector_stands.looked number (omega (arith, below, all)) below present
+
+  pub next_told : next ≡ phase book.history + 1
+  next_told = ap (λ p. p + 1) rule.collector_stands.phase_told
+
+  grown : phase later.history ≡ phase book.history + 1
+  grown = phase_rises book.history entry begins.phases
+
+  graph : graph_of heap later.history ≡ graph_of heap book.history
+  graph = graph_after-more (opening heap) book.history entry ∙ begins.graph_stays (graph_of heap book.history)
+
+  nodes : SameNodes (graph_of heap book.history) (graph_of heap later.history)
+  nodes = nodes_same (graph_of heap book.history) (graph_of heap later.history) graph
+
+  pub leads_next : (f part g : ℕ) → WordPointsTo heap words_next f part g → WordPointsTo heap state.words f part g
+  leads_next f part g leads = leads_apart heap state.words Phase next f part g (λ e. omega (arith, e)) leads
+
+  heap_on : IsLegal heap false later.history → Coloured heap words_next book.owner book.colour book.fragments (phase book.history + 1) → HeapStands heap words_next later
+  heap_on legal coloured =
+      let cycle = rule.heap_stands.cycle in
+      heap_past heap state.words words_next (fragments_phase heap state.words next) book entry nodes begins.uses legal
+      (subst (λ p. HeapInCycle heap words_next p book.owner book.colour book.fragments) (sym grown)
+      record {
+        word = at-put_same heap state.words Phase next rule.machine.table tt ∙ next_told;
+        marks = marks_same heap state.words words_next book.colour (fragments_phase heap state.words next).controls cycle.marks;
+        coloured = coloured;
+      }) rule.heap_stands
+
+  seat_on : (r : ℕ) → r < heap.seats → SeatStands heap words_next later r (seat_at state r)
+  seat_on r below =
+      let stands = rule.seats_stand r below in
+      seat_past heap state.words words_next (fragments_phase heap state.words next) book entry nodes r (seat_at state r) (begins.nobodys r) (ap (λ (g : Graph). graph_seat g r) graph)
+      (cycle_told heap words_next (phase book.history + 1) (phase later.history) (last_answer r book.history) (last_answer r later.history) (has_left r book.history) (has_left r later.history)
+      book.owner book.colour r (seat_at state r) grown (answered_stays book.history entry r begins.answers) (left_stays book.history entry r (begins.no_leave r))
+      (cycle_next heap state.words words_next book.owner book.colour (phase book.history) (last_answer r book.history) (has_left r book.history) r (seat_at state r)
+      (at-put_apart heap state.words Phase (Answer r) next (λ e. omega (arith, e))) leads_next (seat_fits rule r below) (all_answer r below) stands.cycle)) stands
+
+  -- no seat has answered the next phase
+  no_roots : (r : ℕ) → r < heap.seats → (seat_at state r).answered ≡ next → OfRoots (IsReached heap words_next book.owner book.colour) (seat_at state r)
+  no_roots r below answered = by (seat_at state r).left refl
+    where
+      by : (left : Bool) → (seat_at state r).left ≡ left → OfRoots (IsReached heap words_next book.owner book.colour) (seat_at state r)
+      by true left = gone_roots heap state book r rule below left (IsReached heap words_next book.owner book.colour)
+      by false present = elim ((rule.seats_stand r below).cycle.answers_told.near present) [
+        | inl same ↦ absurd (omega (arith, same, answered, next_told))
+        | inr before ↦ absurd (omega (arith, before, answered, next_told))
+      ]
+
+  -- the collector with its entry
+  abbrev pub begun_collector : Collector
+  begun_collector = record (after_advance state.collector) { log = state.collector.log ++ entry ∷ [] }
+
+  -- so the rule is kept, where the entry is legal, the colours are right then, and of marking stands what stands while the collector looks
+  pub phase_turns : IsLegal heap false later.history → Coloured heap words_next book.owner book.colour book.fragments (phase book.history + 1)
+      → MarkingStands heap words_next book.owner book.colour book.fragments next stages.Looking
+      → IsMachine heap (after_turn state words_next begun_collector) → Keeps heap (after_turn state words_next begun_collector) book book.begun (entry ∷ [])
+  phase_turns legal coloured marks machine =
+      turn_steps heap state book words_next begun_collector later (entry ∷ []) rule machine refl (heap_on legal coloured)
+      (λ r below stands. seat_on r below)
+      record {
+        log = rw (filter-append is_collectors book.history (entry ∷ []), rule.collector_stands.log, begins.collectors) refl;
+        phase_told = next_told ∙ sym grown;
+        looked = λ number none below present. absurd (omega (arith, none));
+      }
+      record { heap_marks = marks; roots = λ r below marking answered. no_roots r below answered }

@@ -1,0 +1,136 @@
+-- A machine between calls after one call more.
+use Rattle.std.proofs.Common.{◌≡◌, ◌≢◌, ℕ, ◌+◌, ◌*◌, ◌<◌, ◌≤◌, false, List, [], ◌∷◌, ◌++◌, length, inl, inr, refl, sym, ap, subst, ◌∙◌, arith}
+use Rattle.std.proofs.lemmas.Bool.Decides.{eqb_tells, leb_tells}
+use Rattle.std.proofs.lemmas.List.{append_cancel_left}
+use Rattle.heap_model.proofs.account_lemmas.Snoc.{same_last}
+use Rattle.heap_model.specs.declared.heap.Heap.{Heap}
+use Rattle.heap_model.specs.declared.command.Command.{Command}
+use Rattle.heap_model.specs.declared.command.Command.TheVariants as commands
+use Rattle.heap_model.specs.declared.entry.Entry.{Entry}
+use Rattle.heap_model.specs.declared.entry.Entry.TheVariants.{Said}
+use Rattle.heap_model.specs.declared.reply.Reply.{Reply}
+use Rattle.heap_model.specs.declared.reply.Reply.TheVariants.{Made, Done}
+use Rattle.heap_model.specs.declared.id.Id.TheVariants as heap_ids
+use Rattle.heap_model.specs.account.PhaseCounts.{last_answer}
+use Rattle.heap_model.specs.account.Space.{need_of, fragments_gained, fragments_lost, taken_of, spent_of}
+use Rattle.heap_model.specs.calls.SeatCalls.{ComesBefore, HasNumber, Adds, last_gives, leave_entries}
+use Rattle.heap_model.specs.calls.SeatReplies.{next_id}
+use Rattle.core_machine.specs.declared.place.Place.TheVariants.{Idle}
+use Rattle.core_machine.specs.machine.Calls.{call_events, PlaysCall, AnswersNew, TellsLeave, free_count, within_reach}
+use Rattle.core_machine.specs.machine.Machine.{State, seat_at, Begins, Can, Event, Run, state_after_all, history}
+use Rattle.core_machine.specs.machine.Value.{MachineValue}
+use Rattle.core_machine.specs.seat.Commands.{IsRecord}
+use Rattle.core_machine.specs.seat.Seat.{Seat}
+use Rattle.core_rule.specs.Laws.{IsAlone, OneCallAtATime, StandsFor, FreeIsUnused}
+use Rattle.heap_runs.specs.MachineHeap.{MachineHeapValue, play_state_of, WholeCalls, IsBetweenCalls, CallsMachine}
+use Rattle.heap_runs.specs.PlayHeap.{PlayState, MayCall, AnswersCall, IsEnough, seat_state_of}
+use Rattle.heap_runs.proofs.OneSeat.{SameBut, after_call, call_alone}
+use Rattle.heap_runs.proofs.Runs.{Run-append, OneCall-append, after_all-append, history-append}
+use Rattle.heap_runs.proofs.Standing.{own_reserve, answered_last, gone_is, made_is, sets_are, phase_near, number_left}
+
+-- a command that may be called may be begun
+pub may_begin : (whole : MachineHeapValue) (number : ℕ) (command : Command) → StandsFor whole.machine.heap whole.machine.state [] whole.entries
+    → IsBetweenCalls whole.machine.heap whole.machine.state whole.entries → MayCall (play_state_of whole) number command → Can whole.machine.heap whole.machine.state (Begins number command)
+may_begin whole number command s between may =
+    let heap = whole.machine.heap in
+    let state = whole.machine.state in
+    let within : number < length state.seats = rw s.rule.machine.seated may.within in
+    let idle = between.all_idle number within in
+    (within, record {
+      idle = idle;
+      present = sym (gone_is heap state whole.entries s number may.within idle) ∙ may.present;
+      served = may.served;
+      in_range = may.in_range;
+      numbered = number_left heap state whole.entries s number may.within idle command (number_again command may.numbered);
+    })
+  where
+    number_again : (command : Command) → HasNumber (seat_state_of (play_state_of whole) number) command
+        → HasNumber (record { heap = whole.machine.heap; number = number; mine = whole.entries; spare = 0 }) command
+    number_again (commands.New d fields) has = has
+    number_again (commands.Array d cells) has = has
+    number_again (commands.Set r i v) has = has
+    number_again _ has = tt
+
+module _ (heap : Heap) (old new : State) (told : List Entry) (number : ℕ) (command : Command) (reply : Reply) (call : PlaysCall heap old new number command reply) where
+  -- whole calls are so with one more
+  whole_more : WholeCalls heap old told → IsAlone old number → WholeCalls heap new (told ++ (call.before ++ Said number command reply ∷ []))
+  whole_more calls alone =
+      let more = call_events number command call.steps in
+      record {
+        limits = calls.limits;
+        opening = calls.opening;
+        opens = calls.opens;
+        events = calls.events ++ more;
+        run = Run-append heap calls.opening calls.events more calls.run (subst (λ (s : State). Run heap s more) calls.ends call.can);
+        whole = OneCall-append heap calls.opening calls.events more calls.whole
+            (subst (λ (s : State). OneCallAtATime heap s more) calls.ends (call_alone heap number call.steps command old alone));
+        ends = call.ends ∙ ap (λ (s : State). state_after_all heap s more) calls.ends ∙ sym (after_all-append heap calls.opening calls.events more);
+        shown = ap (λ (l : List Entry). l ++ (call.before ++ Said number command reply ∷ [])) calls.shown
+            ∙ ap (λ (l : List Entry). history heap calls.opening calls.events ++ l) (sym call.shown ∙ ap (λ (s : State). history heap s more) calls.ends)
+            ∙ sym (history-append heap calls.opening calls.events more);
+      }
+
+  -- so is a machine between calls
+  pub between_more : IsBetweenCalls heap old told → IsBetweenCalls heap new (told ++ (call.before ++ Said number command reply ∷ []))
+  between_more between =
+      let others = after_call heap old new number command reply call in
+      record {
+        calls = whole_more between.calls (λ other below apart. between.all_idle other below);
+        all_idle = λ other below. elim (eqb_tells other number) as (λ _. (seat_at new other).place ≡ Idle) [
+          | inl same ↦ subst (λ (n : ℕ). (seat_at new n).place ≡ Idle) (sym same.1) call.idle
+          | inr apart ↦ ap (λ (t : Seat). t.place) (others.others other apart.1) ∙ between.all_idle other (omega (arith, below, others.seats))
+        ];
+      }
+
+-- the machine's call is one of a heap that is played on
+pub answers_call : FreeIsUnused → (old new : MachineHeapValue) (number : ℕ) (command : Command) (reply : Reply) → StandsFor old.machine.heap old.machine.state [] old.entries
+    → IsBetweenCalls old.machine.heap old.machine.state old.entries → MayCall (play_state_of old) number command → CallsMachine old new number command reply
+    → old.spare + length old.entries ≤ new.spare + length new.entries → new.turns ≡ old.turns → new.last_turn ≡ old.last_turn
+    → AnswersCall (play_state_of old) (play_state_of new) number command reply
+answers_call unused old new number command reply s between may calls spare turns last =
+    let heap = old.machine.heap in
+    let state = old.machine.state in
+    let within : number < length state.seats = rw s.rule.machine.seated may.within in
+    let idle = between.all_idle number within in
+    let seat : Seat = seat_at state number in
+    let present : seat.left ≡ false = sym (gone_is heap state old.entries s number may.within idle) ∙ may.present in
+    let had = own_reserve heap state old.entries s number may.within idle in
+    let last_is = answered_last heap state old.entries s number may.within idle in
+    let free : free_count heap state.words + fragments_gained old.entries ≡ 16 * heap.groups + fragments_lost old.entries
+    = subst (λ es. free_count heap state.words + fragments_gained es ≡ 16 * heap.groups + fragments_lost es) s.grown (unused heap state s.book s.rule) in
+    record {
+      adds = record {
+        heap = calls.same_heap;
+        number = refl;
+        unborn = length seat.reserve;
+        had = had;
+        before = calls.call.before;
+        comes = subst (λ (p : ℕ). ComesBefore number (length seat.reserve) p command reply calls.call.before) last_is
+            (calls.call.comes (λ poll. phase_near heap state old.entries s number may.within idle present));
+        entries = calls.noted;
+        spare = spare;
+      };
+      turns_stay = turns;
+      last_stays = last;
+      left = λ leaves. leave_is_done leaves calls.call (calls.leave leaves);
+      made = λ record_. (
+        λ made. enough_where_made (calls.answer record_) made had free,
+        λ enough. (calls.answer record_).made (omega (arith, enough, had, free))
+            ∙ ap (λ n. Made (heap_ids.Made number n)) (made_is heap state old.entries s number may.within idle),
+      );
+    }
+  where
+    leave_is_done : command ≡ commands.Leave → (call : PlaysCall old.machine.heap old.machine.state new.machine.state number command reply) → TellsLeave old.machine.state new.machine.state number → reply ≡ Done
+    leave_is_done leaves call tells =
+        let mine = (seat_at old.machine.state number).mine in
+        let said = append_cancel_left mine (call.before ++ Said number command reply ∷ []) (leave_entries number (length (seat_at old.machine.state number).reserve)) (sym call.mine ∙ tells) in
+        cc (same_last call.before (last_gives number (length (seat_at old.machine.state number).reserve)) (Said number command reply) (Said number commands.Leave Done) said)
+
+    enough_where_made : AnswersNew old.machine.heap old.machine.state new.machine.state number command reply → reply ≡ Made (next_id (seat_state_of (play_state_of old) number))
+        → spent_of number old.entries + length (seat_at old.machine.state number).reserve ≡ taken_of number old.entries
+        → free_count old.machine.heap old.machine.state.words + fragments_gained old.entries ≡ 16 * old.machine.heap.groups + fragments_lost old.entries
+        → IsEnough (play_state_of old) number command
+    enough_where_made answer made had free = elim (leb_tells (need_of command) (within_reach old.machine.heap old.machine.state number)) [
+      | inl enough ↦ (let e = enough.1 in omega (arith, e, had, free))
+      | inr less ↦ (let shows = (answer.refused less.1).shows in absurd (cc (sym made ∙ shows)))
+    ]

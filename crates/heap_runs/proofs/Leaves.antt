@@ -1,0 +1,56 @@
+-- The seats leave one after another.
+use Rattle.std.proofs.Common.{◌≡◌, ◌≢◌, ℕ, zero, suc, ◌+◌, ◌<◌, ◌≤◌, ◌==◌, if◌then◌else◌, List, [], ◌∷◌, ◌++◌, inl, inr, refl, sym, ap, subst, ◌∙◌, append_assoc, append-nil, arith}
+use Rattle.std.specs.List.{flat_map, range_with_len}
+use Rattle.std.proofs.lemmas.Bool.{eq-eqb, ne_eqb}
+use Rattle.std.proofs.lemmas.Grind.{flat_map-append}
+use Rattle.std.proofs.lemmas.List.{map-id}
+use Rattle.std.proofs.lemmas.List.FromFn.{map-range_with_len_more}
+use Rattle.heap_model.specs.declared.heap.Heap.{Heap}
+use Rattle.heap_model.specs.declared.command.Command.TheVariants.{Leave}
+use Rattle.heap_model.specs.declared.entry.Entry.{Entry}
+use Rattle.heap_model.specs.declared.entry.Entry.TheVariants.{Said}
+use Rattle.heap_model.specs.declared.reply.Reply.{Reply}
+use Rattle.heap_model.specs.calls.SeatCalls.{leave_entries, last_gives}
+use Rattle.heap_model.specs.calls.SeatLaws.{EachCallCounts, EachCallSparesOthers}
+use Rattle.heap_runs.specs.PlayHeap.{PlayState}
+use Rattle.heap_runs.specs.Playing.{NotesCall, HaveLeft, IsThere}
+use Rattle.heap_runs.proofs.Answering.{still_there}
+use Rattle.heap_runs.proofs.Following.{follows_call}
+
+-- one number more
+range_more : (n : ℕ) → range_with_len 0 (n + 1) ≡ range_with_len 0 n ++ n ∷ []
+range_more n =
+    sym (map-id (range_with_len 0 (n + 1))) ∙ map-range_with_len_more (λ (i : ℕ). i) 0 n n (omega arith) ∙ ap (λ (l : List ℕ). l ++ n ∷ []) (map-id (range_with_len 0 n))
+
+each_more : (f : ℕ → List Entry) (n : ℕ) → flat_map f (range_with_len 0 (n + 1)) ≡ flat_map f (range_with_len 0 n) ++ f n
+each_more f n =
+    ap (flat_map f) (range_more n) ∙ flat_map-append f (range_with_len 0 n) (n ∷ []) ∙ ap (λ (l : List Entry). flat_map f (range_with_len 0 n) ++ l) (append-nil (f n))
+
+-- lists that agree below a number are the same up to there
+same_below : (f g : ℕ → List Entry) (n : ℕ) → ((k : ℕ) → k < n → f k ≡ g k) → flat_map f (range_with_len 0 n) ≡ flat_map g (range_with_len 0 n)
+same_below f g zero agree = refl
+same_below f g (suc n) agree =
+    let one : suc n ≡ n + 1 = omega arith in
+    ap (λ (k : ℕ). flat_map f (range_with_len 0 k)) one ∙ each_more f n
+    ∙ ap (λ (l : List Entry). l ++ f n) (same_below f g n (λ k below. agree k (omega (arith, below)))) ∙ ap (λ (l : List Entry). flat_map g (range_with_len 0 n) ++ l) (agree n (omega arith))
+    ∙ sym (each_more g n) ∙ ap (λ (k : ℕ). flat_map g (range_with_len 0 k)) (sym one)
+
+-- the next seat leaves
+pub left_more : EachCallCounts → EachCallSparesOthers → (heap : Heap) (now new : PlayState) (before told after : List Entry) (n : ℕ) → HaveLeft heap now before told n → NotesCall now new told after n Leave
+    → HaveLeft heap new before after (n + 1)
+left_more counts others heap now new before told after n left notes =
+    let adds = notes.answers.adds in
+    let more = λ (k : ℕ). if k == n then adds.unborn else left.left k in
+    let each = λ (k : ℕ). leave_entries k (left.left k) in
+    let leaves = λ (k : ℕ). leave_entries k (more k) in
+    let here : leaves n ≡ leave_entries n adds.unborn = rw (eq-eqb n n refl) refl in
+    let earlier : flat_map each (range_with_len 0 n) ≡ flat_map leaves (range_with_len 0 n) = same_below each leaves n (λ k below. rw (ne_eqb k n (λ e. omega (arith, e, below))) refl) in
+    let said : adds.before ++ Said n Leave notes.reply ∷ [] ≡ leaves n
+    = ap (λ (l : List Entry). l ++ Said n Leave notes.reply ∷ []) adds.comes ∙ ap (λ (r : Reply). last_gives n adds.unborn ++ Said n Leave r ∷ []) (notes.answers.left refl) ∙ sym here in
+    record {
+      follows = follows_call heap now new told after n Leave tt notes left.follows;
+      others = λ number past below. still_there counts others heap now new told after n Leave notes number (λ same. absurd (omega (arith, same, past))) (left.others number (omega (arith, past)) below);
+      left = more;
+      leaves = notes.noted ∙ ap (λ (l : List Entry). told ++ l) said ∙ ap (λ (l : List Entry). l ++ leaves n) left.leaves
+          ∙ append_assoc before (flat_map each (range_with_len 0 n)) (leaves n) ∙ ap (λ (l : List Entry). before ++ (l ++ leaves n)) earlier ∙ ap (λ (l : List Entry). before ++ l) (sym (each_more leaves n));
+    }

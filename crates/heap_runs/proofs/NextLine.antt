@@ -1,0 +1,91 @@
+-- The next line of a script that is served.
+use Rattle.std.proofs.Common.{◌≡◌, ◌≢◌, ℕ, suc, ◌+◌, ◌<◌, ◌≤◌, true, List, [], ◌∷◌, ◌++◌, length, get_or, take, refl, sym, ap, subst, ◌∙◌, length-append, arith}
+use Rattle.std.proofs.Math.Seq.{take-suc}
+use Rattle.std.proofs.lemmas.List.{length-take-le}
+use Rattle.std.proofs.lemmas.List.Elements.{All-get_or, All-from_recursion}
+use Rattle.heap_model.specs.declared.command.Command.{Command}
+use Rattle.heap_model.specs.declared.command.Command.TheVariants as commands
+use Rattle.heap_model.specs.declared.command.TurnCommand.{TurnCommand}
+use Rattle.heap_model.specs.declared.entry.Entry.{Entry}
+use Rattle.heap_model.specs.Command.{IsCommand}
+use Rattle.heap_model.specs.calls.SeatCalls.{HasNumber}
+use Rattle.script_text.specs.declared.script.Form.TheVariants.{Play}
+use Rattle.script_text.specs.declared.script.Line.{Line}
+use Rattle.script_text.specs.declared.script.Line.TheVariants as lines
+use Rattle.script_text.specs.declared.script.Script.{Script}
+use Rattle.script_text.specs.Built.{IsBuilt, is_built_command, is_built_line, is_built_turn}
+use Rattle.script_text.specs.Grammar.{IsLine, IsScripted}
+use Rattle.script_text.specs.Writing.{IsOfForm}
+use Rattle.core_machine.specs.seat.Commands.{IsServed}
+use Rattle.heap_runs.specs.PlayHeap.{PlayState, MayCall, seat_state_of}
+use Rattle.heap_runs.specs.Playing.{DoesFew, IsThere, HasAnsweredLines}
+
+-- a command that is built is served, and no leave
+served_built : (command : Command) → is_built_command command ≡ true → IsServed command × (command ≢ commands.Leave)
+served_built (commands.Array d cells) built = absurd cc
+served_built commands.Collect built = absurd cc
+served_built commands.Leave built = absurd cc
+served_built _ built = (tt, λ e. cc)
+
+-- a command of a script has its numbers in their ranges
+in_range : (command : Command) → IsScripted command → IsCommand command
+in_range commands.Leave scripted = absurd scripted
+in_range (commands.New d fields) scripted = scripted
+in_range (commands.Array d cells) scripted = scripted
+in_range (commands.Get d r i) scripted = scripted
+in_range (commands.Set r i v) scripted = scripted
+in_range (commands.Num d n) scripted = scripted
+in_range (commands.Nil d) scripted = scripted
+in_range (commands.Copy d r) scripted = scripted
+in_range (commands.Same a b) scripted = scripted
+in_range (commands.Len r) scripted = scripted
+in_range commands.Poll scripted = scripted
+in_range commands.Collect scripted = scripted
+
+-- a seat that did little has numbers left
+numbers_left : (state : PlayState) (number calls : ℕ) (command : Command) → calls ≤ 65536 → DoesFew state number calls → HasNumber (seat_state_of state number) command
+numbers_left state number calls (commands.New d fields) short few = omega (arith, short, few.few_objects)
+numbers_left state number calls (commands.Array d cells) short few = omega (arith, short, few.few_objects)
+numbers_left state number calls (commands.Set r i v) short few = omega (arith, short, few.few_sets)
+numbers_left state number calls _ short few = tt
+
+module _ (script : Script) (i : ℕ) (d line : Line) (form : IsOfForm Play script) (built : IsBuilt script) (below : i < length script.lines) (is : get_or script.lines i d ≡ line) where
+  -- the lines with the next one
+  pub read_more : take (i + 1) script.lines ≡ take i script.lines ++ line ∷ []
+  read_more =
+      let one : i + 1 ≡ suc i = omega arith in
+      ap (λ (n : ℕ). take n script.lines) one ∙ take-suc script.lines i d below ∙ ap (λ (l : Line). take i script.lines ++ l ∷ []) is
+
+  line_of_form : IsLine Play script.heap.seats line
+  line_of_form = subst (IsLine Play script.heap.seats) is (All-get_or (IsLine Play script.heap.seats) script.lines i d below (All-from_recursion (IsLine Play script.heap.seats) script.lines form.lines))
+
+  pub line_built : is_built_line line ≡ true
+  line_built = ap is_built_line (sym is) ∙ built.lines i d below
+
+-- what a line of a seat asks for
+pub record IsNext (script : Script) (state : PlayState) (number : ℕ) (command : Command) : Type 0 where
+  pub may : MayCall state number command
+  pub served : IsServed command
+  pub stays : command ≢ commands.Leave
+
+pub next_call : (script : Script) (i : ℕ) (d : Line) (number : ℕ) (command : Command) (state : PlayState) (history : List Entry) → IsOfForm Play script → IsBuilt script → i < length script.lines
+    → get_or script.lines i d ≡ lines.Seat number command → HasAnsweredLines script.heap state history (take i script.lines) → IsNext script state number command
+next_call script i d number command state history form built below is has =
+    let line = line_of_form script i d (lines.Seat number command) form built below is in
+    let served = served_built command (line_built script i d (lines.Seat number command) form built below is) in
+    let short : length (take i script.lines) ≤ 65536 = omega (arith, length-take-le i script.lines (omega (arith, below)), form.short, below) in
+    record {
+      may = record {
+        within = rw has.follows.of_heap line.0;
+        present = has.present number line.0;
+        served = served.0;
+        in_range = in_range command line.1;
+        numbered = numbers_left state number (length (take i script.lines)) command short (has.few number line.0);
+      };
+      served = served.0;
+      stays = served.1;
+    }
+
+-- the next seat may leave
+pub may_leave : (state : PlayState) (number : ℕ) → number < state.heap.seats → IsThere state number → MayCall state number commands.Leave
+may_leave state number below there = record { within = below; present = there; served = tt; in_range = tt; numbered = tt }

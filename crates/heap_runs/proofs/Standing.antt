@@ -1,0 +1,86 @@
+-- What the rule says of a machine between calls, by the entries so far.
+use Rattle.std.proofs.Common.{◌≡◌, ℕ, ◌+◌, ◌<◌, ◌≤◌, true, false, List, [], length, refl, sym, ap, subst, ◌∙◌, inl, inr, arith}
+use Rattle.heap_model.specs.declared.heap.Heap.{Heap}
+use Rattle.heap_model.specs.declared.command.Command.{Command}
+use Rattle.heap_model.specs.declared.command.Command.TheVariants as commands
+use Rattle.heap_model.specs.declared.entry.Entry.{Entry}
+use Rattle.heap_model.specs.account.Account.{IsLegal}
+use Rattle.heap_model.specs.account.Cycles.{graph_of}
+use Rattle.heap_model.specs.account.PhaseCounts.{phase, last_answer}
+use Rattle.heap_model.specs.account.Space.{fragments_gained, fragments_lost, taken_of, spent_of}
+use Rattle.heap_model.specs.calls.SeatCalls.{HasNumber}
+use Rattle.heap_model.specs.graph.Objects.{graph_seat}
+use Rattle.core_machine.specs.declared.place.Place.TheVariants.{Idle}
+use Rattle.core_machine.specs.declared.table.address.Address.TheVariants.{Phase}
+use Rattle.core_machine.specs.machine.Calls.{IsPhaseNear}
+use Rattle.core_machine.specs.machine.Machine.{State, seat_at, Begins, Can, MayBegin}
+use Rattle.core_machine.specs.seat.Fits.{IsAtRest, FitsPlace}
+use Rattle.core_machine.specs.seat.Seat.{Seat, HasNumberLeft}
+use Rattle.core_machine.specs.table.Layout.{at}
+use Rattle.core_rule.specs.Laws.{StandsFor, EveryRunKeeps, WholeCallsPlay}
+use Rattle.core_rule.specs.Holding.{fragments_in_hand}
+use Rattle.heap_runs.specs.MachineHeap.{MachineHeapValue, play_state_of, WholeCalls, IsBetweenCalls}
+use Rattle.heap_runs.specs.PlayHeap.{PlayState, IsPlayed, MayCall, seat_state_of}
+
+-- some book stands for a machine after whole calls, with their entries
+pub stands : EveryRunKeeps → (heap : Heap) (state : State) (told : List Entry) → WholeCalls heap state told → StandsFor heap state [] told
+stands runs heap state told calls =
+    rw (calls.shown, calls.ends) (runs heap calls.opening calls.events calls.limits calls.opens calls.run)
+
+module _ (heap : Heap) (state : State) (told : List Entry) (s : StandsFor heap state [] told) where
+  -- the phase word is the phase
+  pub word_is : at heap state.words Phase ≡ phase told
+  word_is = s.rule.heap_stands.cycle.word ∙ ap phase s.grown
+
+  -- no more fragments were lost than gained
+  pub none_short : fragments_lost told ≤ fragments_gained told
+  none_short = subst (λ es. fragments_lost es ≤ fragments_gained es) s.grown (omega (arith, s.rule.heap_stands.used))
+
+  pub seated : length state.seats ≡ heap.seats
+  seated = s.rule.machine.seated
+
+  module _ (number : ℕ) (below : number < heap.seats) (idle : (seat_at state number).place ≡ Idle) where
+    abbrev seat : Seat
+    seat = seat_at state number
+
+    -- what it has of its own is its reserve
+    pub own_reserve : spent_of number told + length seat.reserve ≡ taken_of number told
+    own_reserve =
+        let rest : IsAtRest seat = subst (FitsPlace heap seat) idle (s.rule.machine.fit number (rw seated below)).at_place in
+        let unborn = (s.rule.seats_stand number below).told.counts.unborn in
+        let none : length (fragments_in_hand seat.hand seat.body) ≡ 0 = rw (rest.no_body, rest.empty_hand) refl in
+        subst (λ es. spent_of number es + length seat.reserve ≡ taken_of number es) s.grown (omega (arith, unborn, none))
+
+    pub answered_last : seat.answered ≡ last_answer number told
+    answered_last = sym (s.rule.seats_stand number below).cycle.answers_told.told ∙ ap (last_answer number) s.grown
+
+    pub gone_is : (graph_seat (graph_of heap told) number).left ≡ seat.left
+    gone_is = ap (λ es. (graph_seat (graph_of heap es) number).left) (sym s.grown) ∙ (s.rule.seats_stand number below).told.counts.leaves
+
+    pub made_is : seat.made ≡ length (graph_seat (graph_of heap told) number).objects
+    made_is = (s.rule.seats_stand number below).told.counts.numbered ∙ ap (λ es. length (graph_seat (graph_of heap es) number).objects) s.grown
+
+    pub sets_are : seat.sets ≡ (graph_seat (graph_of heap told) number).sets
+    sets_are = (s.rule.seats_stand number below).told.counts.stamped ∙ ap (λ es. (graph_seat (graph_of heap es) number).sets) s.grown
+
+    -- the phase word is the phase that the seat answered last, or the next
+    pub phase_near : seat.left ≡ false → IsPhaseNear heap state number
+    phase_near present = elim ((s.rule.seats_stand number below).cycle.answers_told.near present) [
+      | inl same ↦ inl (word ∙ sym same)
+      | inr next ↦ inr (word ∙ sym next)
+    ]
+      where
+        word : at heap state.words Phase ≡ phase s.book.history
+        word = s.rule.heap_stands.cycle.word
+
+    pub number_left : (command : Command) → HasNumber (record { heap = heap; number = number; mine = told; spare = 0 }) command → HasNumberLeft seat.made seat.sets command
+    number_left (commands.New d fields) has = rw made_is has
+    number_left (commands.Set r i v) has = rw sets_are has
+    number_left _ has = tt
+
+-- the entries are a play
+pub played : EveryRunKeeps → WholeCallsPlay → (heap : Heap) (state : State) (told : List Entry) → WholeCalls heap state told → IsPlayed heap told
+played runs plays heap state told calls = record {
+  legal = subst (IsLegal heap true) (sym calls.shown) (plays heap calls.opening calls.events calls.limits calls.opens calls.run calls.whole);
+  none_short = none_short heap state told (stands runs heap state told calls);
+}

@@ -1,0 +1,79 @@
+-- What a turn of a heap that is played on adds.
+use Rattle.std.proofs.Common.{◌≡◌, ℕ, zero, suc, ◌+◌, ◌<◌, ◌≤◌, true, List, [], ◌∷◌, ◌++◌, filter, inl, inr, refl, sym, ap, subst, ◌∙◌, append_assoc, arith}
+use Rattle.std.specs.List.{AllByRecursion}
+use Rattle.std.proofs.lemmas.List.{append-nil, append_cancel_left}
+use Rattle.std.proofs.lemmas.List.Elements.{filter-append}
+use Rattle.heap_model.specs.declared.heap.Heap.{Heap}
+use Rattle.heap_model.specs.declared.calls.collector_calls.Turn.{Turn}
+use Rattle.heap_model.specs.declared.calls.collector_calls.Turn.TheVariants as turns
+use Rattle.heap_model.specs.declared.entry.Entry.{Entry}
+use Rattle.heap_model.specs.declared.entry.Entry.TheVariants as entries
+use Rattle.heap_model.specs.declared.reply.TurnReply.TheVariants as replies
+use Rattle.heap_model.specs.account.Noting.{is_collectors}
+use Rattle.heap_model.specs.account.Phases.{IsBehind, TurnShows}
+use Rattle.heap_model.specs.account.Turned.{is_of_heap}
+use Rattle.heap_model.specs.calls.CollectorCalls.{ComesTo, StepsTo}
+use Rattle.heap_runs.specs.PlayHeap.{PlayState, TakesTurn, collector_state_of}
+use Rattle.heap_runs.specs.Turning.{TakesTurns}
+use Rattle.heap_runs.proofs.Collectors.{all_collectors}
+
+-- an entry of the collector that isn't what one of its commands was answered
+abbrev pub IsOwnStep : Entry → Type 0
+IsOwnStep entry = (is_collectors entry ≡ true) × (is_of_heap entry ≡ true)
+
+steps_own : (now later : ℕ) (entry : Entry) → StepsTo now entry later → IsOwnStep entry
+steps_own now later (entries.Advance p) steps = (refl, refl)
+steps_own now later (entries.Frees count) steps = (refl, refl)
+steps_own now later (entries.Returns count) steps = (refl, refl)
+steps_own now later (entries.Swings id) steps = (refl, refl)
+steps_own now later _ steps = absurd steps
+
+module _ (old new : PlayState) (turn : Turn) (takes : TakesTurn old new turn) where
+  -- the collector's list has just what was added more
+  added_is : (more : List Entry) → (collector_state_of new).log ≡ (collector_state_of old).log ++ more → takes.added ≡ more
+  added_is more log = 
+      let own = ap (λ es. filter is_collectors old.entries ++ es) (sym (all_collectors takes.added takes.own)) in
+      append_cancel_left (filter is_collectors old.entries) takes.added more (own ∙ sym (filter-append is_collectors old.entries takes.added) ∙ ap (filter is_collectors) (sym takes.entries) ∙ log)
+
+  none_is : (collector_state_of new).log ≡ (collector_state_of old).log → takes.added ≡ []
+  none_is log = added_is [] (log ∙ sym (append-nil (filter is_collectors old.entries)))
+
+  own_by : (turn : Turn) → ComesTo (collector_state_of old) (collector_state_of new) turn → AllByRecursion IsOwnStep takes.added
+  own_by turns.Stepped (inl none) = rw (none_is none.0) tt
+  own_by turns.Stepped (inr steps) = rw (added_is (steps.0 ∷ []) steps.2) (steps_own _ _ steps.0 steps.1, tt)
+  own_by (turns.Waits number answer p) comes = rw (none_is comes.0.0) tt
+  own_by (turns.Ended cycle kept) comes = rw (added_is (entries.Ends cycle kept ∷ []) comes.0) ((refl, refl), tt)
+
+  -- what was added is the collector's, and no answer to a command
+  pub own_steps : AllByRecursion IsOwnStep takes.added
+  own_steps = own_by turn takes.turned.comes_to
+
+-- a turn that waits adds nothing, and shows a seat that is behind
+pub wait_shows : (old new : PlayState) (number answer p : ℕ) → TakesTurn old new (turns.Waits number answer p) → TurnShows new.heap new.entries (replies.Waits number answer p)
+wait_shows old new number answer p takes =
+    let none : takes.added ≡ [] = none_is old new (turns.Waits number answer p) takes takes.turned.comes_to.0.0 in
+    let same : new.entries ≡ old.entries = takes.entries ∙ ap (λ es. old.entries ++ es) none ∙ append-nil old.entries in
+    (rw takes.heap takes.waits.0, omega (arith, takes.waits.2), subst (IsBehind number answer p) (sym same) takes.waits.1)
+
+own_more : (front behind : List Entry) → AllByRecursion IsOwnStep front → AllByRecursion IsOwnStep behind → AllByRecursion IsOwnStep (front ++ behind)
+own_more [] behind own more = more
+own_more (entry ∷ front) behind own more = (own.0, own_more front behind own.1 more)
+
+-- what turns of the collector added
+pub record AddsSteps (old new : PlayState) : Type 0 where
+  pub same_heap : new.heap ≡ old.heap
+  pub added : List Entry
+  pub told : new.entries ≡ old.entries ++ added
+  pub own : AllByRecursion IsOwnStep added
+
+pub steps_more : (old now new : PlayState) (turn : Turn) → AddsSteps old now → TakesTurn now new turn → AddsSteps old new
+steps_more old now new turn adds takes = record {
+  same_heap = takes.heap ∙ adds.same_heap;
+  added = adds.added ++ takes.added;
+  told = takes.entries ∙ ap (λ es. es ++ takes.added) adds.told ∙ append_assoc old.entries adds.added takes.added;
+  own = own_more adds.added takes.added adds.own (own_steps now new turn takes);
+}
+
+pub turns_add : (n : ℕ) (old new : PlayState) → TakesTurns n old new → AddsSteps old new
+turns_add zero old new same = record { same_heap = ap (λ s. s.heap) same; added = []; told = ap (λ s. s.entries) same ∙ sym (append-nil old.entries); own = tt }
+turns_add (suc n) old new taken = steps_more old taken.0 new taken.1 (turns_add n old taken.0 taken.2) taken.3

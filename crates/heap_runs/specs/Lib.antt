@@ -1,0 +1,5 @@
+pub mod PlayHeap
+pub mod Turning
+pub mod MachineHeap
+pub mod Play
+pub mod Playing

@@ -1,0 +1,87 @@
+-- What contracts see of a heap that is played on, and what a call and a turn do to it.
+use Rattle.std.specs.Prelude.{◌≡◌, ℕ, ◌+◌, ◌*◌, ◌<◌, ◌≤◌, ◌↔◌, true, false, List, ◌++◌, filter, Option}
+use Rattle.std.specs.List.{AllByRecursion}
+use Rattle.heap_model.specs.declared.heap.Heap.{Heap}
+use Rattle.heap_model.specs.declared.command.Command.{Command}
+use Rattle.heap_model.specs.declared.command.Command.TheVariants.{Leave}
+use Rattle.heap_model.specs.declared.entry.Entry.{Entry}
+use Rattle.heap_model.specs.declared.reply.Reply.{Reply}
+use Rattle.heap_model.specs.declared.reply.Reply.TheVariants.{Made, Done}
+use Rattle.heap_model.specs.declared.calls.collector_calls.Turn.{Turn}
+use Rattle.heap_model.specs.declared.calls.collector_calls.Turn.TheVariants.{Waits}
+use Rattle.heap_model.specs.Command.{IsCommand}
+use Rattle.heap_model.specs.Limits.{group_fragments}
+use Rattle.heap_model.specs.account.Account.{IsLegal}
+use Rattle.heap_model.specs.account.Noting.{is_collectors}
+use Rattle.heap_model.specs.account.Phases.{IsBehind}
+use Rattle.heap_model.specs.account.PhaseCounts.{phase}
+use Rattle.heap_model.specs.account.Space.{need_of, fragments_gained, fragments_lost, taken_of, spent_of}
+use Rattle.heap_model.specs.calls.CollectorCalls.{CollectorState, Turns}
+use Rattle.heap_model.specs.calls.SeatCalls.{HasNumber, Adds}
+use Rattle.heap_model.specs.calls.SeatReplies.{next_id}
+use Rattle.heap_model.specs.calls.SeatState.{SeatState, own_graph_seat}
+use Rattle.core_machine.specs.seat.Commands.{IsRecord, IsServed}
+
+-- the heap, the entries of all its parties in their order, for how many more of the collector's there is room, the number of turns as far
+-- as it is counted, and what the last of them answered
+pub record PlayState : Type 0 where
+  pub heap : Heap
+  pub entries : List Entry
+  pub spare : ℕ
+  pub turns : ℕ
+  pub last_turn : Option Turn
+
+-- the entries are legal as a play, and no more fragments were lost than gained
+pub record IsPlayed (heap : Heap) (entries : List Entry) : Type 0 where
+  pub legal : IsLegal heap true entries
+  pub none_short : fragments_lost entries ≤ fragments_gained entries
+
+-- what contracts see of a seat of it, by the entries of all
+abbrev pub seat_state_of : PlayState → ℕ → SeatState
+seat_state_of state number = record { heap = state.heap; number = number; mine = state.entries; spare = state.spare }
+
+-- what contracts see of its collector: the collector's entries, and the phase that they tell
+abbrev pub collector_state_of : PlayState → CollectorState
+collector_state_of state = record {
+  log = filter is_collectors state.entries;
+  spare = state.spare;
+  phase = phase state.entries;
+  turns = state.turns;
+  last_turn = state.last_turn;
+}
+
+-- the seat may be given the command: it is there, it hasn't left, and the command is served and has its numbers
+pub record MayCall (state : PlayState) (number : ℕ) (command : Command) : Type 0 where
+  pub within : number < state.heap.seats
+  pub present : (own_graph_seat (seat_state_of state number)).left ≡ false
+  pub served : IsServed command
+  pub in_range : IsCommand command
+  pub numbered : HasNumber (seat_state_of state number) command
+
+-- what is in no use and what the seat has of its own is enough for the command
+abbrev pub IsEnough : PlayState → ℕ → Command → Type 0
+IsEnough state number command =
+    need_of command + fragments_gained state.entries + spent_of number state.entries ≤ group_fragments * state.heap.groups + fragments_lost state.entries + taken_of number state.entries
+
+-- the call added the entries that a call of the seat adds, the reply last, and made no turn; a record was made exactly where there was
+-- enough, and a leave is done
+pub record AnswersCall (old new : PlayState) (number : ℕ) (command : Command) (reply : Reply) : Type 0 where
+  pub adds : Adds (seat_state_of old number) (seat_state_of new number) command reply
+  pub turns_stay : new.turns ≡ old.turns
+  pub last_stays : new.last_turn ≡ old.last_turn
+  pub left : command ≡ Leave → reply ≡ Done
+  pub made : IsRecord command → (reply ≡ Made (next_id (seat_state_of old number))) ↔ IsEnough old number command
+
+-- where the turn waits, the seat is there, and by the entries it hasn't left and has answered the phase before the one now last
+abbrev pub WaitsRightly : PlayState → Turn → Type 0
+WaitsRightly state (Waits number answer p) = (number < state.heap.seats) × IsBehind number answer p state.entries × (answer + 1 ≡ p)
+WaitsRightly state _ = Unit {0}
+
+-- one turn of the collector was made, which added its own entries alone
+pub record TakesTurn (old new : PlayState) (turn : Turn) : Type 0 where
+  pub heap : new.heap ≡ old.heap
+  pub added : List Entry
+  pub entries : new.entries ≡ old.entries ++ added
+  pub own : AllByRecursion (λ entry. is_collectors entry ≡ true) added
+  pub turned : Turns (collector_state_of old) (collector_state_of new) turn
+  pub waits : WaitsRightly old turn

@@ -1,0 +1,63 @@
+-- A play that has answered some lines of its script, and one whose seats have left.
+use Rattle.std.specs.Prelude.{◌≡◌, ℕ, ◌<◌, ◌≤◌, false, List, [], ◌∷◌, ◌++◌, length}
+use Rattle.std.specs.List.{flat_map, range_with_len}
+use Rattle.heap_model.specs.declared.heap.Heap.{Heap}
+use Rattle.heap_model.specs.declared.command.Command.{Command}
+use Rattle.heap_model.specs.declared.command.TurnCommand.{TurnCommand}
+use Rattle.heap_model.specs.declared.entry.Entry.{Entry}
+use Rattle.heap_model.specs.declared.entry.Entry.TheVariants.{Said, Turned}
+use Rattle.heap_model.specs.declared.reply.Reply.{Reply}
+use Rattle.heap_model.specs.declared.reply.TurnReply.{TurnReply}
+use Rattle.heap_model.specs.account.Space.{words_granted}
+use Rattle.heap_model.specs.account.Turned.{without_turned, AllAnswerRightly}
+use Rattle.heap_model.specs.calls.SeatCalls.{leave_entries}
+use Rattle.heap_model.specs.calls.SeatState.{own_graph_seat}
+use Rattle.script_text.specs.declared.script.Line.{Line}
+use Rattle.heap_runs.specs.Play.{lines_answered, EndsInReply}
+use Rattle.heap_runs.specs.PlayHeap.{PlayState, seat_state_of, AnswersCall}
+use Rattle.heap_runs.specs.Turning.{ServesCommand}
+
+-- the call was made, and its entries are noted behind those from before
+pub record NotesCall (old new : PlayState) (before after : List Entry) (number : ℕ) (command : Command) : Type 0 where
+  pub reply : Reply
+  pub answers : AnswersCall old new number command reply
+  pub noted : after ≡ before ++ (answers.adds.before ++ Said number command reply ∷ [])
+
+-- the turns were made, and their entries are noted behind those from before, and what the command was answered behind them
+pub record NotesTurns (old new : PlayState) (before after : List Entry) (command : TurnCommand) : Type 0 where
+  pub reply : TurnReply
+  pub serves : ServesCommand old new command reply
+  pub added : List Entry
+  pub told : new.entries ≡ old.entries ++ added
+  pub noted : after ≡ before ++ (added ++ Turned command reply ∷ [])
+
+-- the history has the heap's entries, and between them what the collector's commands were answered, each rightly; no spine words were granted
+pub record Follows (heap : Heap) (state : PlayState) (history : List Entry) : Type 0 where
+  pub of_heap : state.heap ≡ heap
+  pub same : without_turned history ≡ state.entries
+  pub right : AllAnswerRightly heap [] history
+  pub none_granted : words_granted state.entries ≡ 0
+
+-- the seat hasn't left
+abbrev pub IsThere : PlayState → ℕ → Type 0
+IsThere state number = (own_graph_seat (seat_state_of state number)).left ≡ false
+
+-- the seat made no more objects than this, and did no more sets
+pub record DoesFew (state : PlayState) (number calls : ℕ) : Type 0 where
+  pub few_objects : length (own_graph_seat (seat_state_of state number)).objects ≤ calls
+  pub few_sets : (own_graph_seat (seat_state_of state number)).sets ≤ calls
+
+-- seats that are all there, and the collector, have answered these lines, in order and each once
+pub record HasAnsweredLines (heap : Heap) (state : PlayState) (history : List Entry) (lines : List Line) : Type 0 where
+  pub follows : Follows heap state history
+  pub present : (number : ℕ) → number < heap.seats → IsThere state number
+  pub few : (number : ℕ) → number < heap.seats → DoesFew state number (length lines)
+  pub commands : flat_map lines_answered history ≡ lines
+  pub last : EndsInReply history
+
+-- the first seats have left, and the others are there
+pub record HaveLeft (heap : Heap) (state : PlayState) (before after : List Entry) (count : ℕ) : Type 0 where
+  pub follows : Follows heap state after
+  pub others : (number : ℕ) → count ≤ number → number < heap.seats → IsThere state number
+  pub left : ℕ → ℕ
+  pub leaves : after ≡ before ++ flat_map (λ number. leave_entries number (left number)) (range_with_len 0 count)

@@ -1,0 +1,13 @@
+//! Heaps that plays are made on: whole calls of seats and turns of the collector, one after another.
+#![tactic(auto)]
+
+mod machine_heap;
+mod note;
+mod play_heap;
+mod playing;
+mod turning;
+
+pub use machine_heap::MachineHeap;
+pub use play_heap::PlayHeap;
+pub use playing::play;
+pub use turning::turn_line;

@@ -1,0 +1,45 @@
+ghost use Rattle.std.specs.Prelude.{◌≡◌, ◌≤◌, ◌<◌, IfOk, OnOk, OnErr};
+ghost use Rattle.heap_model.specs.account.PhaseCounts.{phase};
+ghost use Rattle.heap_runs.specs.PlayHeap.{PlayState, IsPlayed, MayCall, AnswersCall, TakesTurn};
+
+use heap_model::{Command, Entry, Memory, Reply, Turn};
+
+/// A heap that a play is made on: whole calls of its seats, one after another, and turns of its collector between them.
+/// After want of memory in a call or a turn it is only dropped.
+pub trait PlayHeap {
+    /// Its heap, the entries of all its parties, the room for more of the collector's, and its turns.
+    ghost state: { Self → PlayState };
+
+    /// Makes a whole call of the seat.
+    fn call(&mut self, seat: u8, command: &Command) -> Result<Reply, Memory>
+        requires may { MayCall (state self.old) seat command.now }
+        ensures answers { IfOk result (AnswersCall (state self.old) (state self.new) seat command.now) };
+
+    /// Makes one turn of the collector, which is one operation on one word of the heap.
+    fn turn(&mut self) -> Result<Turn, Memory>
+        ensures turn { IfOk result (TakesTurn (state self.old) (state self.new)) }
+        ensures memory { OnErr result ((state self.old).spare < 2) };
+
+    /// Makes room for at least `n` more entries of the collector.
+    fn room(&mut self, n: usize) -> Result<(), Memory>
+        ensures same { state self.new ≡ record (state self.old) { spare = (state self.new).spare } }
+        ensures more { (state self.old).spare ≤ (state self.new).spare }
+        ensures room { OnOk result (n ≤ (state self.new).spare) }
+        ensures memory { OnErr result (state self.new ≡ state self.old) };
+
+    /// For how many more entries of the collector there is room.
+    fn spare(&self) -> usize
+        ensures { result ≡ (state self.now).spare };
+
+    fn phase(&self) -> u64
+        ensures { result ≡ phase (state self.now).entries };
+
+    /// The number of turns that were made, or the last number of its type.
+    fn turns(&self) -> u64
+        ensures { result ≡ (state self.now).turns };
+
+    /// What was told so far. It is a play.
+    fn entries(&self) -> &[Entry]
+        ensures entries { result.now ≡ (state self.now).entries }
+        ensures played { IsPlayed (state self.now).heap (state self.now).entries };
+}

@@ -1,0 +1,23 @@
+ghost use Rattle.std.specs.Prelude.{◌≡◌};
+ghost use Rattle.heap_model.specs.Heap.{IsHeap};
+ghost use Rattle.log_merge.specs.Legal.{ShowsUse};
+ghost use Rattle.heap_runs.specs.PlayHeap.{IsPlayed};
+
+use heap_model::limits::BOARD_FRAGMENTS;
+use heap_model::{Effect, Entry, Heap};
+
+/// How many fragments are in use after these entries.
+pub fn in_use(heap: &Heap, entries: &[Entry]) -> u64
+    requires limits { IsHeap heap.now }
+    requires played { IsPlayed heap.now entries.now }
+    ensures { ShowsUse entries.now result }
+{
+    let mut gained = u128::from(BOARD_FRAGMENTS);
+    let mut lost = 0u128;
+    for entry in entries {
+        let effect = Effect::of(entry);
+        gained += u128::from(effect.taken);
+        lost += u128::from(effect.given) + u128::from(effect.freed);
+    }
+    (gained - lost) as u64
+}
