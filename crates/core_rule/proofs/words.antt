@@ -8,3 +8,4 @@ pub mod ControlSteps
 pub mod MarkBits
 pub mod SetBits
 pub mod SweepBits
+pub mod SweepWords

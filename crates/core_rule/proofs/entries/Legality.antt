@@ -47,6 +47,10 @@ keeps_rules heap play before entry takes makes tells answers begins ends = recor
 pub keeps_begins : (heap : Heap) (play : Bool) (before : List Entry) (p : ℕ) → BeginsPhase heap before (entries.Advance p) → KeepsSpace heap play before (entries.Advance p)
 keeps_begins heap play before p next = keeps_rules heap play before (entries.Advance p) tt tt (tt, tt, tt) tt next (tt, tt)
 
+-- the collector frees no more than is in use, in the phase of the sweep
+pub keeps_frees : (heap : Heap) (play : Bool) (before : List Entry) (count : ℕ) → Sweeps heap before (entries.Frees count) → KeepsSpace heap play before (entries.Frees count)
+keeps_frees heap play before count sweeps = keeps_rules heap play before (entries.Frees count) tt tt (tt, tt, tt) tt tt (sweeps, tt)
+
 module _ (heap : Heap) (play : Bool) (before : List Entry) (number : ℕ) where
   -- a seat takes what is in no use
   pub keeps_takes : (count : ℕ) → 1 ≤ count → fragments_gained before + count ≤ 16 * heap.groups + fragments_lost before → KeepsSpace heap play before (entries.Takes number count)

@@ -7,6 +7,7 @@ pub mod BlackenStep
 pub mod LookStep
 pub mod MarkShadeStep
 pub mod ScanStep
+pub mod FreeStep
 use Rattle.core_machine.specs.declared.collector.stage.Stage.{Stage}
 use Rattle.core_machine.specs.declared.collector.stage.Stage.TheVariants as stages
 use Rattle.core_rule.proofs.steps.TurnSteps.{StageKeeps}
@@ -19,3 +20,4 @@ turn_keeps_at (stages.Shading scan target next) = MarkShadeStep.mark_shade_keeps
 turn_keeps_at (stages.Blackening scan) = BlackenStep.blacken_keeps scan
 turn_keeps_at stages.Advancing = AdvanceStep.advance_keeps
 turn_keeps_at (stages.Passing group found) = PassStep.pass_keeps group found
+turn_keeps_at (stages.Freeing group dead) = FreeStep.free_keeps group dead
