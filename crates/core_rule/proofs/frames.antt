@@ -6,3 +6,4 @@ pub mod GivingBack
 pub mod ClaimTold
 pub mod Recoloured
 pub mod Freeing
+pub mod Clearing
