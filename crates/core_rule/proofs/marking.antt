@@ -20,3 +20,4 @@ pub mod SettledBook
 pub mod GreyPlaces
 pub mod Scans
 pub mod SweepMarks
+pub mod DeadPlaces

@@ -1,5 +1,5 @@
 -- What stands of the heap and of each seat when a group's marks are cleared.
-use Rattle.std.proofs.Common.{◌≡◌, ◌≢◌, ℕ, ◌+◌, ◌%◌, ◌<◌, ◌≤◌, Bool, true, false, List, bit_and, inl, inr, refl, sym, ap, ◌∙◌, subst, arith}
+use Rattle.std.proofs.Common.{◌≡◌, ◌≢◌, ℕ, ◌%◌, ◌<◌, Bool, true, false, List, bit_and, refl, ap, ◌∙◌, arith}
 use Rattle.heap_model.specs.declared.heap.Heap.{Heap}
 use Rattle.heap_model.specs.account.Cycles.{graph_of}
 use Rattle.heap_model.specs.account.PhaseCounts.{phase}
@@ -13,13 +13,13 @@ use Rattle.core_machine.specs.seat.Seat.{Seat}
 use Rattle.core_machine.specs.table.Fragments.{tally}
 use Rattle.core_machine.specs.table.Layout.{at, put}
 use Rattle.core_machine.specs.table.Operation.{marks_cleared}
-use Rattle.core_rule.specs.Book.{Book, Colour, White}
-use Rattle.core_rule.specs.Colours.{Coloured, BornColours, IsMarked}
+use Rattle.core_rule.specs.Book.{Book, Colour}
+use Rattle.core_rule.specs.Colours.{Coloured, BornColours}
 use Rattle.core_rule.specs.Flight.{RootsStand, WhilePolling}
 use Rattle.core_rule.specs.Owners.{Borne}
 use Rattle.core_rule.specs.Phases.{AnswerStands}
 use Rattle.core_rule.specs.Rule.{Rule, HeapStands, SeatStands}
-use Rattle.core_rule.proofs.cycle.CycleFrames.{SameAnswer, answers_same}
+use Rattle.core_rule.proofs.cycle.CycleFrames.{answers_same}
 use Rattle.core_rule.proofs.cycle.MakingCycle.{phase_after_control, answer_after_control}
 use Rattle.core_rule.proofs.entries.AtRest.{seat_fits}
 use Rattle.core_rule.proofs.hand.StoredFrames.{stored_control}

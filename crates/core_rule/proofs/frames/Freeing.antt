@@ -1,5 +1,5 @@
 -- What stands of the heap and of each seat when dead fragments of a group are freed.
-use Rattle.std.proofs.Common.{◌≡◌, ◌≢◌, ℕ, ◌+◌, ◌*◌, ◌/◌, ◌%◌, ◌^◌, ◌<◌, ◌≤◌, false, List, [], ◌∷◌, ◌++◌, length, inl, bit_and, refl, sym, ap, ◌∙◌, arith}
+use Rattle.std.proofs.Common.{◌≡◌, ◌≢◌, ℕ, ◌+◌, ◌*◌, ◌%◌, ◌^◌, ◌<◌, ◌≤◌, false, List, [], ◌∷◌, ◌++◌, length, inl, bit_and, refl, ap, ◌∙◌, arith}
 use Rattle.heap_model.specs.declared.entry.Entry.{Entry}
 use Rattle.heap_model.specs.declared.entry.Entry.TheVariants.{Frees}
 use Rattle.heap_model.specs.declared.heap.Heap.{Heap}
@@ -17,7 +17,7 @@ use Rattle.core_machine.specs.seat.Seat.{Seat}
 use Rattle.core_machine.specs.table.Fragments.{tally}
 use Rattle.core_machine.specs.table.Layout.{at, put}
 use Rattle.core_machine.specs.table.Operation.{free_mask_of}
-use Rattle.core_rule.specs.Book.{Book, White}
+use Rattle.core_rule.specs.Book.{Book}
 use Rattle.core_rule.specs.Colours.{IsMarked}
 use Rattle.core_rule.specs.Counts.{AreUsed}
 use Rattle.core_rule.specs.Cycle.{HeapInCycle}
@@ -41,9 +41,6 @@ use Rattle.core_rule.proofs.owners.Handed.{fewer, handed_cases}
 use Rattle.core_rule.proofs.owners.OwnerLemmas.{is_dead}
 use Rattle.core_rule.proofs.words.SetBits.{set_in, set_once, set_group}
 use Rattle.core_rule.proofs.words.SweepWords.{freed_bits, freed_marks}
-
-free_bears_none : {r : ℕ} → Free ≢ Borne r
-free_bears_none e = cc
 
 module _ (heap : Heap) (state : State) (book : Book) (rule : Rule heap state book) (g dead : ℕ) (below : g < heap.groups) (small : dead < 2 ^ 16) (are : AreDead book.owner g dead) where
   abbrev fs : List ℕ
@@ -145,6 +142,6 @@ module _ (heap : Heap) (state : State) (book : Book) (rule : Rule heap state boo
             fits.own.cursor_within (tried_within heap seat seat.place fits.at_place) stands.told.gathers;
         cycle = cycle_other heap words_freed owner book.colour book.history entry refl r seat
             (cycle_control heap state.words book.owner owner book.colour book.colour (phase book.history) (last_answer r book.history) (has_left r book.history) r seat g word below
-            (omega (arith, under, rule.machine.limits.seats_fit)) (λ f marked. marked) (λ f borne. (borne_before Free book.owner fs r f free_bears_none borne, refl))
+            (omega (arith, under, rule.machine.limits.seats_fit)) (λ f marked. marked) (λ f borne. (borne_before Free book.owner fs r f (λ e. cc) borne, refl))
             (watched_born heap state book rule r under) stands.cycle) refl;
       } stands

@@ -1,5 +1,5 @@
 -- The collector clears the marks of a group: that keeps the rule.
-use Rattle.std.proofs.Common.{◌≡◌, ℕ, ◌+◌, ◌*◌, ◌/◌, ◌%◌, ◌<◌, ◌≤◌, List, [], sym, ap, ◌∙◌, subst, arith}
+use Rattle.std.proofs.Common.{◌≡◌, ℕ, ◌+◌, ◌%◌, ◌≤◌, List, [], sym, ap, ◌∙◌, subst, arith}
 use Rattle.std.proofs.lemmas.List.{append-nil}
 use Rattle.heap_model.specs.declared.heap.Heap.{Heap}
 use Rattle.heap_model.specs.account.PhaseCounts.{phase}
@@ -9,7 +9,6 @@ use Rattle.core_machine.specs.declared.collector.stage.Stage.{Stage}
 use Rattle.core_machine.specs.declared.collector.stage.Stage.TheVariants as stages
 use Rattle.core_machine.specs.declared.table.address.Address.TheVariants.{Control}
 use Rattle.core_machine.specs.machine.Machine.{State}
-use Rattle.core_machine.specs.machine.Value.{IsMachine}
 use Rattle.core_machine.specs.table.Layout.{at}
 use Rattle.core_rule.specs.Book.{Book}
 use Rattle.core_rule.specs.Marking.{IsSettled, ScanStands, PassStands, SweepStands, AreCleared, MarkingStands}
@@ -18,7 +17,7 @@ use Rattle.core_rule.proofs.frames.Clearing.{words_cleared, book_cleared, heap_c
 use Rattle.core_rule.proofs.marking.Marks.{settled_phase}
 use Rattle.core_rule.proofs.marking.SweepMarks.{after_cleared_either}
 use Rattle.core_rule.proofs.steps.collector.ColourTurn.{at_stage, agrees_at}
-use Rattle.core_rule.proofs.steps.TurnSteps.{StageKeeps, after_turn, quiet, turn_steps}
+use Rattle.core_rule.proofs.steps.TurnSteps.{StageKeeps, quiet, turn_steps}
 use Rattle.core_rule.proofs.words.SweepWords.{cleared_further, cleared_grey}
 
 module _ (heap : Heap) (state : State) (book : Book) (rule : Rule heap state book) (group kept : ℕ) (clearing : state.collector.stage ≡ stages.Clearing group kept) where

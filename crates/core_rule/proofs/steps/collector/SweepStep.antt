@@ -1,19 +1,20 @@
 -- The loads of the sweep keep the rule: a group's control word tells which of its fragments are dead, and the first word of a dead one tells nothing.
-use Rattle.std.proofs.Common.{◌≡◌, ◌≢◌, ℕ, ◌+◌, ◌*◌, ◌%◌, ◌^◌, ◌<◌, inr, ◌∙◌, sym, ap, subst, arith}
+use Rattle.std.proofs.Common.{◌≡◌, ℕ, ◌+◌, ◌*◌, inr, subst}
 use Rattle.heap_model.specs.declared.heap.Heap.{Heap}
 use Rattle.core_machine.specs.collector.FitsTurns.{IsSweeping, IsExamining}
 use Rattle.core_machine.specs.collector.Sweeping.{dead_bits_of, next_place_of, after_examined}
 use Rattle.core_machine.specs.declared.collector.stage.Stage.TheVariants as stages
 use Rattle.core_machine.specs.declared.table.address.Address.TheVariants.{Control, Word}
 use Rattle.core_machine.specs.machine.Machine.{State}
+use Rattle.core_machine.proofs.table_lemmas.DeadBits.{dead_few}
 use Rattle.core_machine.specs.table.Layout.{at}
 use Rattle.core_rule.specs.Book.{Book}
 use Rattle.core_rule.specs.Marking.{AreFreed, AreDead, AfterMarking, SweepStands}
 use Rattle.core_rule.specs.Rule.{Rule}
+use Rattle.core_rule.proofs.marking.DeadPlaces.{are_dead}
 use Rattle.core_rule.proofs.marking.SweepMarks.{examined_further}
 use Rattle.core_rule.proofs.steps.collector.ColourTurn.{load_turns_on}
 use Rattle.core_rule.proofs.steps.TurnSteps.{StageKeeps}
-use Rattle.core_rule.proofs.words.DeadBits.{dead_bits_small, are_dead}
 
 module _ (heap : Heap) (state : State) (book : Book) (rule : Rule heap state book) (group : ℕ) (sweeping : state.collector.stage ≡ stages.Sweeping group) where
   sweeps : IsSweeping heap state.collector.phase state.collector.looked group
@@ -33,7 +34,7 @@ sweep_keeps group heap state book rule sweeping machine =
     let bits : ℕ = dead_bits_of (at heap state.words (Control group)) in
     load_turns_on heap state book rule (stages.Sweeping group) (after_examined heap group bits (next_place_of bits 0)) sweeping (Control group) machine
     (examined_further heap state.words book.owner book.colour book.fragments state.collector.phase (sweeps heap state book rule group sweeping).for_sweep (after heap state book rule group sweeping)
-    group bits (dead_bits_small (at heap state.words (Control group))) (freed heap state book rule group sweeping) (told heap state book rule group sweeping) (next_place_of bits 0))
+    group bits (dead_few (at heap state.words (Control group))) (freed heap state book rule group sweeping) (told heap state book rule group sweeping) (next_place_of bits 0))
     (λ e. cc)
 
 module _ (heap : Heap) (state : State) (book : Book) (rule : Rule heap state book) (group dead place : ℕ) (examining : state.collector.stage ≡ stages.Examining group dead place) where
