@@ -4,9 +4,9 @@ pub mod Bits
 pub mod CellWords
 pub mod Clear
 pub mod Counting
-pub mod Dead
+pub mod DeadBits
 pub mod Filters
-pub mod Finding
+pub mod FindLemmas
 pub mod Free
 pub mod Grey
 pub mod Leading

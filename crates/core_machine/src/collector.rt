@@ -154,7 +154,7 @@ impl CollectorParty {
     }
 
     /// The next phase begins, and this entry tells of it.
-    fn begin_phase(&mut self, entry: Entry)
+    fn enter_phase(&mut self, entry: Entry)
         requires may { self.old.collector.phase < 2 ^ 64 - 2 }
         requires spare { 0 < self.old.spare }
         ensures collector { self.new.collector ≡ record (after_advance self.old.collector) { log = self.old.collector.log ++ entry ∷ [] } }
@@ -185,7 +185,7 @@ impl CollectorParty {
         ensures answer { result ≡ (advance_turn self.old.collector).answer 0 }
         ensures spare { self.old.spare ≤ self.new.spare + 1 }
     {
-        self.begin_phase(Entry::Advance(self.phase + 1));
+        self.enter_phase(Entry::Advance(self.phase + 1));
         Turn::Stepped
     }
 
@@ -198,7 +198,7 @@ impl CollectorParty {
         ensures spare { self.old.spare ≤ self.new.spare + 1 }
     {
         let cycle = self.phase / CYCLE_PHASES;
-        self.begin_phase(Entry::Ends { cycle, kept });
+        self.enter_phase(Entry::Ends { cycle, kept });
         Turn::Ended { cycle, kept }
     }
 

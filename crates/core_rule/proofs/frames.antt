@@ -5,3 +5,5 @@ pub mod Replying
 pub mod GivingBack
 pub mod ClaimTold
 pub mod Recoloured
+pub mod Freeing
+pub mod Clearing

@@ -3,3 +3,4 @@ pub mod GatherMoves
 pub mod GatherSteps
 pub mod SinceCall
 pub mod Refusals
+pub mod FreeGathers

@@ -19,3 +19,5 @@ pub mod SeatRoots
 pub mod SettledBook
 pub mod GreyPlaces
 pub mod Scans
+pub mod SweepMarks
+pub mod DeadPlaces

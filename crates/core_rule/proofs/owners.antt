@@ -5,3 +5,4 @@ pub mod Keeping
 pub mod KeptOwners
 pub mod OwnerFrames
 pub mod Seated
+pub mod DeadOwners

@@ -6,3 +6,6 @@ pub mod ClearLemmas
 pub mod ControlLemmas
 pub mod ControlSteps
 pub mod MarkBits
+pub mod SetBits
+pub mod SweepBits
+pub mod SweepWords

@@ -11,7 +11,7 @@ use Rattle.core_machine.specs.declared.step.TurningStep.TheVariants as turning
 use Rattle.core_machine.specs.collector.Sweeping.{dead_bits_of, next_place_of, after_swept, after_examined}
 use Rattle.core_machine.specs.collector.FitsTurns.{FitsStage, IsSweeping}
 use Rattle.core_machine.proofs.collector_lemmas.Standing.{StageStands, work_stands, stage_fits}
-use Rattle.core_machine.proofs.table_lemmas.Dead.{dead_few, place_stands}
+use Rattle.core_machine.proofs.table_lemmas.DeadBits.{dead_few, place_stands}
 use Rattle.core_machine.proofs.table_lemmas.StepStands.{load_stands}
 use Rattle.core_machine.proofs.table_lemmas.Wide.{and_wide}
 

@@ -3,7 +3,7 @@ use Rattle.std.proofs.Common.{◌≡◌, ℕ, ◌<◌, true, false, Some, None, 
 use Rattle.std.specs.Prelude.{IfSome}
 use Rattle.std.specs.List.{range_with_len}
 use Rattle.heap_words.specs.Control.{is_grey, lowest_grey_of}
-use Rattle.core_machine.proofs.table_lemmas.Finding.{find_within, found_passes, none_passes}
+use Rattle.core_machine.proofs.table_lemmas.FindLemmas.{find_within, found_passes, none_passes}
 
 -- the place that is found
 pub grey_place : (word : ℕ) → IfSome (lowest_grey_of word) (λ place. place < 16)

@@ -7,6 +7,9 @@ pub mod BlackenStep
 pub mod LookStep
 pub mod MarkShadeStep
 pub mod ScanStep
+pub mod SweepStep
+pub mod FreeStep
+pub mod ClearStep
 use Rattle.core_machine.specs.declared.collector.stage.Stage.{Stage}
 use Rattle.core_machine.specs.declared.collector.stage.Stage.TheVariants as stages
 use Rattle.core_rule.proofs.steps.TurnSteps.{StageKeeps}
@@ -19,3 +22,7 @@ turn_keeps_at (stages.Shading scan target next) = MarkShadeStep.mark_shade_keeps
 turn_keeps_at (stages.Blackening scan) = BlackenStep.blacken_keeps scan
 turn_keeps_at stages.Advancing = AdvanceStep.advance_keeps
 turn_keeps_at (stages.Passing group found) = PassStep.pass_keeps group found
+turn_keeps_at (stages.Sweeping group) = SweepStep.sweep_keeps group
+turn_keeps_at (stages.Examining group dead place) = SweepStep.examine_keeps group dead place
+turn_keeps_at (stages.Freeing group dead) = FreeStep.free_keeps group dead
+turn_keeps_at (stages.Clearing group kept) = ClearStep.clear_keeps group kept

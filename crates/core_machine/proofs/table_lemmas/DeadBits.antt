@@ -9,7 +9,7 @@ use Rattle.std.proofs.lemmas.Nat.{and_le_l}
 use Rattle.std.proofs.lemmas.Nat.Bits.{bit_at_and, bit_at_not, bit_at-lt}
 use Rattle.heap_words.specs.Control.{dead_bits_of, next_place_of}
 use Rattle.heap_words.proofs.Grey.{part_bit}
-use Rattle.core_machine.proofs.table_lemmas.Finding.{find_within, found_passes, none_passes}
+use Rattle.core_machine.proofs.table_lemmas.FindLemmas.{find_within, found_passes, none_passes}
 
 -- they are among sixteen
 pub dead_few : (word : ℕ) → dead_bits_of word < 2 ^ 16

@@ -1,0 +1,120 @@
+-- What stands of the heap and of each seat when a group's marks are cleared.
+use Rattle.std.proofs.Common.{◌≡◌, ◌≢◌, ℕ, ◌%◌, ◌<◌, Bool, true, false, List, bit_and, refl, ap, ◌∙◌, arith}
+use Rattle.heap_model.specs.declared.heap.Heap.{Heap}
+use Rattle.heap_model.specs.account.Cycles.{graph_of}
+use Rattle.heap_model.specs.account.PhaseCounts.{phase}
+use Rattle.core_machine.specs.declared.place.Place.{Place}
+use Rattle.core_machine.specs.declared.place.Place.TheVariants as places
+use Rattle.core_machine.specs.declared.place.Polling.TheVariants.{Asking, Shading, Answering}
+use Rattle.core_machine.specs.declared.table.address.Address.TheVariants.{Control}
+use Rattle.core_machine.specs.machine.Machine.{State, seat_at}
+use Rattle.core_machine.specs.seat.Fits.{IsAtRest}
+use Rattle.core_machine.specs.seat.Seat.{Seat}
+use Rattle.core_machine.specs.table.Fragments.{tally}
+use Rattle.core_machine.specs.table.Layout.{at, put}
+use Rattle.core_machine.specs.table.Operation.{marks_cleared}
+use Rattle.core_rule.specs.Book.{Book, Colour}
+use Rattle.core_rule.specs.Colours.{Coloured, BornColours}
+use Rattle.core_rule.specs.Flight.{RootsStand, WhilePolling}
+use Rattle.core_rule.specs.Owners.{Borne}
+use Rattle.core_rule.specs.Phases.{AnswerStands}
+use Rattle.core_rule.specs.Rule.{Rule, HeapStands, SeatStands}
+use Rattle.core_rule.proofs.cycle.CycleFrames.{answers_same}
+use Rattle.core_rule.proofs.cycle.MakingCycle.{phase_after_control, answer_after_control}
+use Rattle.core_rule.proofs.entries.AtRest.{seat_fits}
+use Rattle.core_rule.proofs.hand.StoredFrames.{stored_control}
+use Rattle.core_rule.proofs.marking.Marks.{all_answered}
+use Rattle.core_rule.proofs.objects.ObjectFrames.{objects_control}
+use Rattle.core_rule.proofs.owners.Seated.{borne_by_seat}
+use Rattle.core_rule.proofs.words.SweepWords.{cleared_in, cleared_white, cleared_marks, cleared_bits}
+
+-- in the last phase nobody is about to answer that marking begins
+nobody_marks : (now answer : ℕ) (colour : ℕ → Colour) (seat : Seat) → now % 7 ≡ 6 → seat.asked % 7 ≡ 3 → (place : Place) → AnswerStands now answer seat.asked place
+    → WhilePolling (RootsStand colour seat) place
+nobody_marks now answer colour seat last begins (places.Polling Asking) asks = tt
+nobody_marks now answer colour seat last begins (places.Polling Shading) asks = absurd (omega (arith, asks.now, begins, last))
+nobody_marks now answer colour seat last begins (places.Polling Answering) asks = absurd (omega (arith, asks.now, begins, last))
+nobody_marks now answer colour seat last begins _ asks = tt
+
+module _ (heap : Heap) (state : State) (book : Book) (rule : Rule heap state book) (g : ℕ) (below : g < heap.groups) where
+  abbrev word : ℕ
+  word = bit_and (at heap state.words (Control g)) marks_cleared
+
+  abbrev pub words_cleared : List ℕ
+  words_cleared = put heap state.words (Control g) word
+
+  abbrev colour : ℕ → Colour
+  colour = cleared_in g book.colour
+
+  -- the book after it
+  abbrev pub book_cleared : Book
+  book_cleared = record book { colour = colour }
+
+  module _ (last : phase book.history % 7 ≡ 6) where
+    -- what is marked then was, and is born; of the last phase nothing else is said
+    coloured : Coloured heap words_cleared book.owner colour book.fragments (phase book.history)
+    coloured = record {
+      rest = λ rests. absurd (omega (arith, rests, last));
+      early = λ first. absurd (omega (arith, first, last));
+      born = λ f marked. rule.heap_stands.cycle.coloured.born f (λ white. marked (cleared_white g book.colour f white));
+      black = λ making. absurd (omega (arith, making.upto, last));
+      first = λ making. absurd (omega (arith, making.upto, last));
+    }
+
+    -- the heap stands
+    pub heap_cleared : HeapStands heap words_cleared book_cleared
+    heap_cleared = let old = rule.heap_stands in record {
+      control_words = cleared_bits heap state.words g rule.machine.table below book.owner old.control_words;
+      owners = old.owners;
+      ids = old.ids;
+      objects = objects_control heap state.words (graph_of heap book.history) book.made book.owner book.fragments g word below old.objects;
+      used = old.used;
+      cycle = record {
+        word = phase_after_control heap state.words word g ∙ old.cycle.word;
+        marks = cleared_marks heap state.words g rule.machine.table below book.colour old.cycle.marks;
+        coloured = coloured;
+      };
+      legal = old.legal;
+    }
+
+    module _ (all : state.collector.looked ≡ heap.seats) where
+      -- a seat that has left has borne nothing
+      gone_bears_none : (r f : ℕ) → (seat_at state r).left ≡ true → book.owner f ≢ Borne r
+      gone_bears_none r f left borne =
+          let there = borne_by_seat heap state book rule r f borne in
+          let idle = ((seat_fits rule r there.0).gone left).idle in
+          let rest : IsAtRest (seat_at state r) = rw idle at (seat_fits rule r there.0).at_place in
+          let bare : tally f (seat_at state r).body ≡ 0 = ap (tally f) rest.no_body in
+          omega (arith, bare, there.1)
+
+      -- another one has answered the last phase, so what it has borne is white, and stays so
+      births : (r : ℕ) → r < heap.seats → BornColours book.owner colour r (seat_at state r).answered
+      births r under = by (seat_at state r).left refl
+        where
+          by : (left : Bool) → (seat_at state r).left ≡ left → BornColours book.owner colour r (seat_at state r).answered
+          by true left = record { dark = λ between f borne. absurd (gone_bears_none r f left borne); light = λ apart f borne. absurd (gone_bears_none r f left borne) }
+          by false present =
+              let answered = all_answered heap state book rule all r under present in
+              record {
+                dark = λ between. absurd (omega (arith, between.upto, answered, rule.collector_stands.phase_told, last));
+                light = λ apart f borne. cleared_white g book.colour f ((rule.seats_stand r under).cycle.births.light apart f borne);
+              }
+
+      -- so each seat stands
+      pub seat_cleared : (r : ℕ) → r < heap.seats → SeatStands heap state.words book r (seat_at state r) → SeatStands heap words_cleared book_cleared r (seat_at state r)
+      seat_cleared r under stands = record {
+        own = record { holding = stands.own.holding; stored = stored_control heap state.words r (seat_at state r) g word below stands.own.stored; together = stands.own.together };
+        names = stands.names;
+        told = stands.told;
+        cycle = record {
+          answers_told = answers_same heap state.words words_cleared (phase book.history) _ _ r (seat_at state r) (seat_at state r) record { answered = refl; left = refl; asked = refl }
+              (answer_after_control heap state.words word g r (omega (arith, under, rule.machine.limits.seats_fit))) stands.cycle.answers_told;
+          answer = stands.cycle.answer;
+          flight = record {
+            set = λ making. absurd (omega (arith, making.upto, last));
+            shaded = λ making. absurd (omega (arith, making.upto, last));
+            roots = λ begins. nobody_marks (phase book.history) (seat_at state r).answered colour (seat_at state r) last begins (seat_at state r).place stands.cycle.answer;
+          };
+          births = births r under;
+        };
+      }

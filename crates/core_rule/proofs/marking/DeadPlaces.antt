@@ -1,0 +1,65 @@
+-- The fragments of a group that are to be freed, by its control word: those that are born and not marked.
+use Rattle.std.specs.Int.{bit_at}
+use Rattle.std.proofs.Common.{◌≡◌, ℕ, ◌+◌, ◌*◌, ◌/◌, ◌%◌, ◌<◌, List, length, refl, sym, ap, ◌∙◌, arith}
+use Rattle.std.proofs.lemmas.Nat.Bits.{bit_at-lt}
+use Rattle.heap_model.specs.declared.heap.Heap.{Heap}
+use Rattle.core_machine.specs.collector.Sweeping.{dead_bits_of}
+use Rattle.core_machine.specs.declared.table.address.Address.TheVariants.{Control}
+use Rattle.core_machine.specs.table.Layout.{at, table_length}
+use Rattle.core_machine.proofs.table_lemmas.DeadBits.{dead_tells}
+use Rattle.core_rule.specs.Book.{Colour, White, Grey, Black}
+use Rattle.core_rule.specs.Colours.{Marks, marked_bit}
+use Rattle.core_rule.specs.ControlWords.{Bits}
+use Rattle.core_rule.specs.Marking.{AreDead, AfterMarking}
+use Rattle.core_rule.specs.Owners.{Owner, born_bit, dead_bit}
+use Rattle.core_rule.proofs.colours.MarkWords.{found_marked}
+use Rattle.core_rule.proofs.owners.OwnerLemmas.{dead_once, is_dead, bits_same}
+use Rattle.core_rule.proofs.words.ControlLemmas.{found_born}
+
+-- a fragment that isn't marked is white
+white_by_bit : (c : Colour) → marked_bit c ≡ 0 → c ≡ White
+white_by_bit White none = refl
+white_by_bit Grey none = absurd (cc)
+white_by_bit Black none = absurd (cc)
+
+module _ (heap : Heap) (words : List ℕ) (owner : ℕ → Owner) (colour : ℕ → Colour) (group : ℕ) (whole : length words ≡ table_length heap) (below : group < heap.groups)
+    (bits : Bits heap words owner) (marks : Marks heap words colour) (after : AfterMarking owner colour) where
+  abbrev word : ℕ
+  word = at heap words (Control group)
+
+  module _ (place : ℕ) (within : place < 16) where
+    abbrev f : ℕ
+    f = 16 * group + place
+
+    here : f / 16 ≡ group
+    here = omega (arith, within)
+
+    born_told : bit_at word (16 + place) ≡ born_bit (owner f)
+    born_told =
+        let rest : f % 16 ≡ place = omega (arith, within) in
+        rw rest at (found_born heap words owner group whole below bits f here)
+
+    marked_told : bit_at word (32 + place) ≡ marked_bit (colour f)
+    marked_told =
+        let rest : f % 16 ≡ place = omega (arith, within) in
+        rw rest at (found_marked heap words colour colour group 0 whole below marks f here)
+
+    -- a bit that is set tells a fragment that is to be freed
+    bit_is_dead : bit_at (dead_bits_of word) place ≡ 1 → dead_bit (owner f) ≡ 1
+    bit_is_dead one =
+        let told = (dead_tells word place within).0 one in
+        let white : colour f ≡ White = white_by_bit (colour f) (sym marked_told ∙ told.1) in
+        let is = after.white_dead f record { unmarked = white; born = sym born_told ∙ told.0 } in
+        ap dead_bit is.2
+
+    -- and each that is has its bit
+    dead_has_bit : dead_bit (owner f) ≡ 1 → bit_at (dead_bits_of word) place ≡ 1
+    dead_has_bit one =
+        let is = is_dead (owner f) one in
+        (dead_tells word place within).1 (born_told ∙ ap born_bit is.2, marked_told ∙ ap marked_bit (after.dead_white f is.0 is.1 is.2))
+
+    told : bit_at (dead_bits_of word) place ≡ dead_bit (owner f)
+    told = bits_same (dead_bit (owner f)) (bit_at (dead_bits_of word) place) (dead_once (owner f)) (omega (arith, bit_at-lt (dead_bits_of word) place)) dead_has_bit bit_is_dead
+
+  pub are_dead : AreDead owner group (dead_bits_of word)
+  are_dead place within = told place within

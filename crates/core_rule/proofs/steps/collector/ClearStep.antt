@@ -1,0 +1,77 @@
+-- The collector clears the marks of a group: that keeps the rule.
+use Rattle.std.proofs.Common.{◌≡◌, ℕ, ◌+◌, ◌%◌, ◌≤◌, List, [], sym, ap, ◌∙◌, subst, arith}
+use Rattle.std.proofs.lemmas.List.{append-nil}
+use Rattle.heap_model.specs.declared.heap.Heap.{Heap}
+use Rattle.heap_model.specs.account.PhaseCounts.{phase}
+use Rattle.core_machine.specs.collector.FitsTurns.{IsClearing}
+use Rattle.core_machine.specs.collector.Sweeping.{taken_count_of, after_cleared}
+use Rattle.core_machine.specs.declared.collector.stage.Stage.{Stage}
+use Rattle.core_machine.specs.declared.collector.stage.Stage.TheVariants as stages
+use Rattle.core_machine.specs.declared.table.address.Address.TheVariants.{Control}
+use Rattle.core_machine.specs.machine.Machine.{State}
+use Rattle.core_machine.specs.table.Layout.{at}
+use Rattle.core_rule.specs.Book.{Book}
+use Rattle.core_rule.specs.Marking.{IsSettled, ScanStands, PassStands, SweepStands, AreCleared, MarkingStands}
+use Rattle.core_rule.specs.Rule.{Rule}
+use Rattle.core_rule.proofs.frames.Clearing.{words_cleared, book_cleared, heap_cleared, seat_cleared}
+use Rattle.core_rule.proofs.marking.Marks.{settled_phase}
+use Rattle.core_rule.proofs.marking.SweepMarks.{after_cleared_either}
+use Rattle.core_rule.proofs.steps.collector.ColourTurn.{at_stage, agrees_at}
+use Rattle.core_rule.proofs.steps.TurnSteps.{StageKeeps, quiet, turn_steps}
+use Rattle.core_rule.proofs.words.SweepWords.{cleared_further, cleared_grey}
+
+module _ (heap : Heap) (state : State) (book : Book) (rule : Rule heap state book) (group kept : ℕ) (clearing : state.collector.stage ≡ stages.Clearing group kept) where
+  fits : IsClearing heap state.collector.phase state.collector.looked group kept
+  fits = rw clearing at rule.machine.collector_fit.at_stage
+
+  cleared : AreCleared book.colour group
+  cleared = subst (SweepStands heap book.owner book.colour state.collector.phase) clearing rule.marks_stand.heap_marks.sweep_stands
+
+  last : phase book.history % 7 ≡ 6
+  last = ap (λ p. p % 7) (sym rule.collector_stands.phase_told) ∙ fits.for_clearing
+
+  -- marking and the sweep are over
+  unsettled : (stage : Stage) → ¬ IsSettled state.collector.phase stage
+  unsettled stage settled = let between = settled_phase state.collector.phase stage settled in omega (arith, between.upto, fits.for_clearing)
+
+  abbrev now : Book
+  now = book_cleared heap state book rule group fits.group_within
+
+  abbrev words : List ℕ
+  words = words_cleared heap state book rule group fits.group_within
+
+  -- what stands at a stage of the clearing
+  marks_at : (stage : Stage) → ScanStands heap words book.owner now.colour book.fragments stage → PassStands now.colour stage
+      → SweepStands heap book.owner now.colour state.collector.phase stage → MarkingStands heap words book.owner now.colour book.fragments state.collector.phase stage
+  marks_at stage scan pass sweep = record {
+    grey = λ f grey. rule.marks_stand.heap_marks.grey f (cleared_grey group book.colour f grey);
+    scan = scan;
+    pass = pass;
+    sweep_stands = sweep;
+    alive = λ going. rule.marks_stand.heap_marks.alive (unsettled state.collector.stage);
+    after = λ settled. absurd (unsettled stage settled);
+  }
+
+  -- behind the last group nothing is marked
+  cleared_all : heap.groups ≤ group + 1 → AreCleared now.colour heap.groups
+  cleared_all all f below = cleared_further group book.colour cleared f (omega (arith, all, below))
+
+  marks : (n : ℕ) → MarkingStands heap words book.owner now.colour book.fragments state.collector.phase (after_cleared heap group n)
+  marks n = after_cleared_either (MarkingStands heap words book.owner now.colour book.fragments state.collector.phase) heap group n
+      (marks_at (stages.Clearing (group + 1) n) tt tt (cleared_further group book.colour cleared))
+      (λ all. marks_at (stages.Ending n) tt tt (cleared_all all))
+
+pub clear_keeps : (group kept : ℕ) → StageKeeps (stages.Clearing group kept)
+clear_keeps group kept heap state book rule clearing machine =
+    let fits = fits heap state book rule group kept clearing in
+    let last = last heap state book rule group kept clearing in
+    let stage : Stage = after_cleared heap group (kept + taken_count_of (at heap state.words (Control group))) in
+    turn_steps heap state book (words_cleared heap state book rule group fits.group_within) (quiet (at_stage state.collector stage)) (book_cleared heap state book rule group fits.group_within) [] rule machine
+    (sym (append-nil book.history))
+    (heap_cleared heap state book rule group fits.group_within last)
+    (seat_cleared heap state book rule group fits.group_within last fits.all)
+    (agrees_at heap state book rule stage)
+    record {
+      heap_marks = marks heap state book rule group kept clearing (kept + taken_count_of (at heap state.words (Control group)));
+      roots = λ r below is. absurd (omega (arith, is.phase, fits.for_clearing));
+    }

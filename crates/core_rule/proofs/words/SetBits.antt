@@ -1,0 +1,38 @@
+-- The fragments of a group whose bits are set among sixteen, each once.
+use Rattle.std.specs.Int.{bit_at, w16}
+use Rattle.std.proofs.Common.{◌≡◌, ◌≢◌, ℕ, ◌-◌, ◌/◌, ◌%◌, ◌^◌, ◌<◌, ◌≤◌, List, length, count_ones, ap, ◌∙◌, arith}
+use Rattle.std.proofs.lemmas.Nat.Bits.{bit_at-lt, bit_at_not}
+use Rattle.core_machine.specs.table.Fragments.{tally, clear_in}
+use Rattle.core_machine.proofs.table_lemmas.Counting.{clear_zeros}
+use Rattle.core_rule.proofs.words.ClearLemmas.{clear_here, clear_away, clear_group, clear_once}
+
+-- the fragments of the group whose bits are set, the lowest first: those whose bits aren't set among the others
+abbrev pub set_in : ℕ → ℕ → List ℕ
+set_in group bits = clear_in group (2 ^ 16 - 1 - bits)
+
+module _ (g bits : ℕ) where
+  abbrev others : ℕ
+  others = 2 ^ 16 - 1 - bits
+
+  -- each is of the group, and stands there once
+  pub set_group : (f : ℕ) → 1 ≤ tally f (set_in g bits) → f / 16 ≡ g
+  set_group f there = clear_group g others f there
+
+  pub set_once : (f : ℕ) → tally f (set_in g bits) ≤ 1
+  set_once f = clear_once g others f
+
+  pub set_away : (f : ℕ) → f / 16 ≢ g → tally f (set_in g bits) ≡ 0
+  set_away f away = clear_away g others f away
+
+  module _ (small : bits < 2 ^ 16) where
+    -- a fragment of the group is among them where its bit is set
+    pub set_here : (f : ℕ) → f / 16 ≡ g → tally f (set_in g bits) ≡ bit_at bits (f % 16)
+    set_here f here =
+        let other : bit_at others (f % 16) ≡ 1 - bit_at bits (f % 16) = bit_at_not w16 bits (f % 16) small (omega arith) in
+        omega (arith, clear_here g others f here, other, bit_at-lt bits (f % 16))
+
+    -- they are as many as the bits
+    pub length-set : length (set_in g bits) ≡ count_ones bits
+    length-set =
+        let same : 2 ^ 16 - 1 - others % 2 ^ 16 ≡ bits = omega (arith, small) in
+        clear_zeros g others ∙ ap count_ones same
