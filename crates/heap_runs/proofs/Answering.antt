@@ -1,5 +1,5 @@
 -- The lines of a script with one line more.
-use Rattle.std.proofs.Common.{◌≡◌, ◌≢◌, ℕ, ◌+◌, ◌<◌, ◌≤◌, false, List, [], ◌∷◌, ◌++◌, length, inl, inr, refl, sym, ap, subst, ◌∙◌, append_assoc, length-append, arith}
+use Rattle.std.proofs.Common.{◌≡◌, ◌≢◌, ℕ, ◌+◌, ◌<◌, List, [], ◌∷◌, ◌++◌, length, inl, inr, refl, sym, ap, subst, ◌∙◌, append_assoc, length-append, arith}
 use Rattle.std.specs.List.{AllByRecursion, flat_map}
 use Rattle.std.proofs.lemmas.Bool.Decides.{eqb_tells}
 use Rattle.std.proofs.lemmas.Grind.{flat_map-append}
@@ -13,7 +13,6 @@ use Rattle.heap_model.specs.declared.entry.Entry.{Entry}
 use Rattle.heap_model.specs.declared.entry.Entry.TheVariants as entries
 use Rattle.heap_model.specs.account.Turned.{TurnedHoldNobody}
 use Rattle.heap_model.specs.calls.SeatLaws.{EachCallCounts, EachCallSparesOthers}
-use Rattle.heap_model.specs.calls.SeatState.{own_graph, own_graph_seat}
 use Rattle.heap_model.specs.account.Space.{words_granted}
 use Rattle.heap_model.specs.graph.Objects.{graph_seat, absent_graph_seat}
 use Rattle.heap_model.specs.graph.Graph.{Graph, GraphSeat, opening, opening_graph_seat}
@@ -21,7 +20,7 @@ use Rattle.heap_model.specs.graph.Growth.{after_entry, graph_after}
 use Rattle.script_text.specs.declared.script.Line.{Line}
 use Rattle.script_text.specs.declared.script.Line.TheVariants as lines
 use Rattle.core_machine.specs.seat.Commands.{IsServed}
-use Rattle.heap_runs.specs.Play.{lines_answered, EndsInReply}
+use Rattle.heap_runs.specs.Play.{lines_answered}
 use Rattle.heap_runs.specs.PlayHeap.{PlayState, seat_state_of}
 use Rattle.heap_runs.specs.Playing.{NotesCall, NotesTurns, IsThere, DoesFew, HasAnsweredLines}
 use Rattle.heap_runs.proofs.Beside.{comes_beside, beside_replies}
@@ -34,7 +33,7 @@ module _ (counts : EachCallCounts) (others : EachCallSparesOthers) (heap : Heap)
   pub still_there : (number : ℕ) → (number ≡ seat → command ≢ Leave) → IsThere old number → IsThere new number
   still_there number stays there = elim (eqb_tells number seat) as (λ _. IsThere new number) [
     | inl same ↦ subst (λ (n : ℕ). IsThere new n) (sym same.1)
-      ((counts (seat_state_of old seat) (seat_state_of new seat) command notes.reply notes.answers.adds).present_stays (stays same.1) ∙ subst (λ (n : ℕ). IsThere old n) same.1 there)
+        ((counts (seat_state_of old seat) (seat_state_of new seat) command notes.reply notes.answers.adds).present_stays (stays same.1) ∙ subst (λ (n : ℕ). IsThere old n) same.1 there)
     | inr apart ↦ (others (seat_state_of old seat) (seat_state_of new seat) command notes.reply number notes.answers.adds apart.1).leaves_same ∙ there
   ]
 
@@ -42,7 +41,7 @@ module _ (counts : EachCallCounts) (others : EachCallSparesOthers) (heap : Heap)
   few_still number calls few = elim (eqb_tells number seat) as (λ _. DoesFew new number (calls + 1)) [
     | inl same ↦ subst (λ (n : ℕ). DoesFew new n (calls + 1)) (sym same.1) (more (subst (λ (n : ℕ). DoesFew old n calls) same.1 few))
     | inr apart ↦ (let stays = others (seat_state_of old seat) (seat_state_of new seat) command notes.reply number notes.answers.adds apart.1 in
-      record { few_objects = omega (arith, stays.made_same, few.few_objects); few_sets = omega (arith, stays.sets_same, few.few_sets) })
+        record { few_objects = omega (arith, stays.made_same, few.few_objects); few_sets = omega (arith, stays.sets_same, few.few_sets) })
   ]
     where
       more : DoesFew old seat calls → DoesFew new seat (calls + 1)
@@ -88,7 +87,7 @@ answered_turns holds heap old new before after command notes read has =
     let long = length-append read (lines.Turns command ∷ []) in
     let graphs : graph_after (opening new.heap) new.entries ≡ graph_after (opening old.heap) old.entries
     = ap (λ h. graph_after (opening h) new.entries) own.1 ∙ ap (graph_after (opening old.heap)) notes.told ∙ fold-append after_entry (opening old.heap) old.entries notes.added
-        ∙ graph_stays (graph_after (opening old.heap) old.entries) notes.added own.0 in
+    ∙ graph_stays (graph_after (opening old.heap) old.entries) notes.added own.0 in
     let same = λ (number : ℕ). ap (λ (g : Graph). graph_seat g number) graphs in
     record {
       follows = follows_turns holds heap old new before after command notes has.follows;

@@ -1,9 +1,9 @@
 -- What legal entries gain and lose is within bounds.
-use Rattle.std.proofs.Common.{◌≡◌, ℕ, ◌+◌, ◌*◌, ◌≤◌, true, List, [], ◌∷◌, ◌++◌, sym, subst, append_assoc, append-nil, arith}
+use Rattle.std.proofs.Common.{◌+◌, ◌*◌, ◌≤◌, true, List, [], ◌∷◌, ◌++◌, sym, subst, append_assoc, append-nil, arith}
 use Rattle.heap_model.specs.declared.heap.Heap.{Heap}
 use Rattle.heap_model.specs.declared.entry.Entry.{Entry}
 use Rattle.heap_model.specs.declared.entry.Entry.TheVariants as entries
-use Rattle.heap_model.specs.account.Account.{KeepsSpace, KeepsSpaceAfter, IsLegal, TakesAndGives}
+use Rattle.heap_model.specs.account.Account.{KeepsSpaceAfter, IsLegal, TakesAndGives}
 use Rattle.heap_model.specs.account.Effects.{effect_of}
 use Rattle.heap_model.specs.account.Space.{fragments_gained, fragments_lost, words_granted, words_returned}
 use Rattle.heap_model.specs.account.Sweep.{Sweeps}

@@ -1,5 +1,5 @@
 -- A machine between calls after one call more.
-use Rattle.std.proofs.Common.{◌≡◌, ◌≢◌, ℕ, ◌+◌, ◌*◌, ◌<◌, ◌≤◌, false, List, [], ◌∷◌, ◌++◌, length, inl, inr, refl, sym, ap, subst, ◌∙◌, arith}
+use Rattle.std.proofs.Common.{◌≡◌, ℕ, ◌+◌, ◌*◌, ◌<◌, ◌≤◌, false, List, [], ◌∷◌, ◌++◌, length, inl, inr, refl, sym, ap, subst, ◌∙◌, arith}
 use Rattle.std.proofs.lemmas.Bool.Decides.{eqb_tells, leb_tells}
 use Rattle.std.proofs.lemmas.List.{append_cancel_left}
 use Rattle.heap_model.proofs.account_lemmas.Snoc.{same_last}
@@ -11,22 +11,19 @@ use Rattle.heap_model.specs.declared.entry.Entry.TheVariants.{Said}
 use Rattle.heap_model.specs.declared.reply.Reply.{Reply}
 use Rattle.heap_model.specs.declared.reply.Reply.TheVariants.{Made, Done}
 use Rattle.heap_model.specs.declared.id.Id.TheVariants as heap_ids
-use Rattle.heap_model.specs.account.PhaseCounts.{last_answer}
 use Rattle.heap_model.specs.account.Space.{need_of, fragments_gained, fragments_lost, taken_of, spent_of}
-use Rattle.heap_model.specs.calls.SeatCalls.{ComesBefore, HasNumber, Adds, last_gives, leave_entries}
+use Rattle.heap_model.specs.calls.SeatCalls.{ComesBefore, HasNumber, last_gives, leave_entries}
 use Rattle.heap_model.specs.calls.SeatReplies.{next_id}
 use Rattle.core_machine.specs.declared.place.Place.TheVariants.{Idle}
 use Rattle.core_machine.specs.machine.Calls.{call_events, PlaysCall, AnswersNew, TellsLeave, free_count, within_reach}
-use Rattle.core_machine.specs.machine.Machine.{State, seat_at, Begins, Can, Event, Run, state_after_all, history}
-use Rattle.core_machine.specs.machine.Value.{MachineValue}
-use Rattle.core_machine.specs.seat.Commands.{IsRecord}
+use Rattle.core_machine.specs.machine.Machine.{State, seat_at, Begins, Can, Run, state_after_all, history}
 use Rattle.core_machine.specs.seat.Seat.{Seat}
 use Rattle.core_rule.specs.Laws.{IsAlone, OneCallAtATime, StandsFor, FreeIsUnused}
 use Rattle.heap_runs.specs.MachineHeap.{MachineHeapValue, play_state_of, WholeCalls, IsBetweenCalls, CallsMachine}
-use Rattle.heap_runs.specs.PlayHeap.{PlayState, MayCall, AnswersCall, IsEnough, seat_state_of}
-use Rattle.heap_runs.proofs.OneSeat.{SameBut, after_call, call_alone}
+use Rattle.heap_runs.specs.PlayHeap.{MayCall, AnswersCall, IsEnough, seat_state_of}
+use Rattle.heap_runs.proofs.OneSeat.{after_call, call_alone}
 use Rattle.heap_runs.proofs.Runs.{Run-append, OneCall-append, after_all-append, history-append}
-use Rattle.heap_runs.proofs.Standing.{own_reserve, answered_last, gone_is, made_is, sets_are, phase_near, number_left}
+use Rattle.heap_runs.proofs.Standing.{own_reserve, answered_last, gone_is, made_is, phase_near, number_left}
 
 -- a command that may be called may be begun
 pub may_begin : (whole : MachineHeapValue) (number : ℕ) (command : Command) → StandsFor whole.machine.heap whole.machine.state [] whole.entries
@@ -35,14 +32,16 @@ may_begin whole number command s between may =
     let heap = whole.machine.heap in
     let state = whole.machine.state in
     let within : number < length state.seats = rw s.rule.machine.seated may.within in
-    let idle = between.all_idle number within in
-    (within, record {
-      idle = idle;
-      present = sym (gone_is heap state whole.entries s number may.within idle) ∙ may.present;
-      served = may.served;
-      in_range = may.in_range;
-      numbered = number_left heap state whole.entries s number may.within idle command (number_again command may.numbered);
-    })
+    let idle = between.all_idle number within in (
+      within,
+      record {
+        idle = idle;
+        present = sym (gone_is heap state whole.entries s number may.within idle) ∙ may.present;
+        served = may.served;
+        in_range = may.in_range;
+        numbered = number_left heap state whole.entries s number may.within idle command (number_again command may.numbered);
+      },
+    )
   where
     number_again : (command : Command) → HasNumber (seat_state_of (play_state_of whole) number) command
         → HasNumber (record { heap = whole.machine.heap; number = number; mine = whole.entries; spare = 0 }) command

@@ -1,5 +1,5 @@
 -- Entries of the collector alone.
-use Rattle.std.proofs.Common.{◌≡◌, true, cond, List, [], ◌∷◌, filter, refl, ap, ◌∙◌}
+use Rattle.std.proofs.Common.{◌≡◌, true, List, [], ◌∷◌, filter, refl, ap}
 use Rattle.std.specs.List.{AllByRecursion}
 use Rattle.heap_model.specs.declared.entry.Entry.{Entry}
 use Rattle.heap_model.specs.account.Noting.{is_collectors}

@@ -1,5 +1,5 @@
 -- A play's history after a call or some turns more.
-use Rattle.std.proofs.Common.{◌≡◌, ◌≢◌, ℕ, ◌+◌, true, false, List, [], ◌∷◌, ◌++◌, filter, inl, inr, refl, sym, ap, subst, ◌∙◌, append_assoc, append-nil, arith}
+use Rattle.std.proofs.Common.{◌≡◌, ℕ, true, List, [], ◌∷◌, ◌++◌, refl, sym, ap, subst, ◌∙◌, append_assoc, append-nil, arith}
 use Rattle.std.specs.List.{AllByRecursion}
 use Rattle.std.proofs.lemmas.List.{append_cancel_left}
 use Rattle.std.proofs.lemmas.List.Elements.{filter-append}
@@ -19,7 +19,7 @@ use Rattle.heap_model.specs.account.Turned.{is_of_heap, without_turned, AnswersR
 use Rattle.core_machine.specs.seat.Commands.{IsServed}
 use Rattle.heap_runs.specs.PlayHeap.{PlayState}
 use Rattle.heap_runs.specs.Playing.{NotesCall, NotesTurns, Follows}
-use Rattle.heap_runs.specs.Turning.{ServesTurns, ServesCommand}
+use Rattle.heap_runs.specs.Turning.{ServesCommand}
 use Rattle.heap_runs.proofs.Beside.{comes_beside, beside_of_heap, granted_more}
 use Rattle.heap_runs.proofs.TurnFacts.{IsOwnStep, AddsSteps, turns_add, steps_more}
 
@@ -65,7 +65,7 @@ follows_call heap old new before after number command served notes follows =
     }
 
 -- what the turns of a command added
-serves_adds : (old new : PlayState) (command : TurnCommand) (reply : TurnReply) → ServesCommand old new command reply → AddsSteps old new
+pub serves_adds : (old new : PlayState) (command : TurnCommand) (reply : TurnReply) → ServesCommand old new command reply → AddsSteps old new
 serves_adds old new (commands.Turns n) replies.Done serves = turns_add n old new serves.taken
 serves_adds old new (commands.Turns n) (replies.Waits number answer p) serves = steps_more old serves.now new _ (turns_add serves.earlier old serves.now serves.turned.taken) serves.waits
 serves_adds old new (commands.Turns n) (replies.Cycle cycle) serves = absurd serves

@@ -1,5 +1,5 @@
 -- The seats leave one after another.
-use Rattle.std.proofs.Common.{◌≡◌, ◌≢◌, ℕ, zero, suc, ◌+◌, ◌<◌, ◌≤◌, ◌==◌, if◌then◌else◌, List, [], ◌∷◌, ◌++◌, inl, inr, refl, sym, ap, subst, ◌∙◌, append_assoc, append-nil, arith}
+use Rattle.std.proofs.Common.{◌≡◌, ℕ, zero, suc, ◌+◌, ◌<◌, ◌==◌, if◌then◌else◌, List, [], ◌∷◌, ◌++◌, refl, sym, ap, ◌∙◌, append_assoc, append-nil, arith}
 use Rattle.std.specs.List.{flat_map, range_with_len}
 use Rattle.std.proofs.lemmas.Bool.{eq-eqb, ne_eqb}
 use Rattle.std.proofs.lemmas.Grind.{flat_map-append}
@@ -12,8 +12,9 @@ use Rattle.heap_model.specs.declared.entry.Entry.TheVariants.{Said}
 use Rattle.heap_model.specs.declared.reply.Reply.{Reply}
 use Rattle.heap_model.specs.calls.SeatCalls.{leave_entries, last_gives}
 use Rattle.heap_model.specs.calls.SeatLaws.{EachCallCounts, EachCallSparesOthers}
+use Rattle.script_text.specs.declared.script.Line.{Line}
 use Rattle.heap_runs.specs.PlayHeap.{PlayState}
-use Rattle.heap_runs.specs.Playing.{NotesCall, HaveLeft, IsThere}
+use Rattle.heap_runs.specs.Playing.{NotesCall, HasAnsweredLines, HaveLeft}
 use Rattle.heap_runs.proofs.Answering.{still_there}
 use Rattle.heap_runs.proofs.Following.{follows_call}
 
@@ -54,3 +55,8 @@ left_more counts others heap now new before told after n left notes =
       leaves = notes.noted ∙ ap (λ (l : List Entry). told ++ l) said ∙ ap (λ (l : List Entry). l ++ leaves n) left.leaves
           ∙ append_assoc before (flat_map each (range_with_len 0 n)) (leaves n) ∙ ap (λ (l : List Entry). before ++ (l ++ leaves n)) earlier ∙ ap (λ (l : List Entry). before ++ l) (sym (each_more leaves n));
     }
+
+-- no seat has left yet
+pub left_none : (heap : Heap) (state : PlayState) (history : List Entry) (lines : List Line) → HasAnsweredLines heap state history lines → HaveLeft heap state history history 0
+left_none heap state history lines has =
+    record { follows = has.follows; others = λ number past below. has.present number below; left = λ number. 0; leaves = sym (append-nil history) }

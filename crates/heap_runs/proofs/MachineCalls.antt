@@ -1,7 +1,6 @@
 -- What a whole call of the machine, made after some room was and noted, comes to.
 use Rattle.std.proofs.Common.{◌≡◌, ℕ, ◌+◌, ◌-◌, ◌*◌, ◌<◌, ◌≤◌, List, [], ◌∷◌, ◌++◌, length, drop, refl, sym, ap, subst, ◌∙◌, length-append, arith}
 use Rattle.std.proofs.lemmas.List.{append_cancel_left}
-use Rattle.heap_model.specs.declared.heap.Heap.{Heap}
 use Rattle.heap_model.specs.declared.command.Command.{Command}
 use Rattle.heap_model.specs.declared.command.Command.TheVariants.{Leave}
 use Rattle.heap_model.specs.declared.entry.Entry.{Entry}
@@ -13,7 +12,6 @@ use Rattle.core_machine.specs.machine.Calls.{PlaysCall, AnswersNew, TellsLeave, 
 use Rattle.core_machine.specs.machine.Machine.{State, seat_at}
 use Rattle.core_machine.specs.machine.Value.{MachineValue, log_of, spare_of, SpendsRoom}
 use Rattle.core_machine.specs.seat.Commands.{IsRecord}
-use Rattle.core_machine.specs.seat.Seat.{Seat}
 use Rattle.core_rule.specs.Laws.{EveryRunKeeps}
 use Rattle.heap_runs.specs.MachineHeap.{MachineHeapValue, play_state_of, IsBetweenCalls, CallsMachine}
 use Rattle.heap_runs.specs.PlayHeap.{MayCall}
@@ -53,7 +51,7 @@ call_facts runs each_short whole one two seat command reply between may same roo
     let told : since one two seat ≡ k.call.before ++ Said seat command reply ∷ [] = append_cancel_left whole.entries (since one two seat) (k.call.before ++ Said seat command reply ∷ []) k.noted in
     let many = ap (length {A = Entry}) told ∙ length-append k.call.before (Said seat command reply ∷ []) in
     let brief = each_short seat (length (seat_at state seat).reserve) (seat_at state seat).answered command reply k.call.before
-        (k.call.comes (λ poll. phase_near heap state whole.entries s seat may.within idle present)) in
+    (k.call.comes (λ poll. phase_near heap state whole.entries s seat may.within idle present)) in
     let after = after_call heap state two.state seat command reply k.call in
     record {
       longer = log_longer one two seat command reply within call;

@@ -1,5 +1,5 @@
 -- What a turn of the machine, noted, comes to.
-use Rattle.std.proofs.Common.{◌≡◌, ℕ, ◌+◌, ◌≤◌, List, [], ◌∷◌, ◌++◌, length, drop, filter, None, inl, inr, refl, sym, ap, subst, ◌∙◌, length-append, arith}
+use Rattle.std.proofs.Common.{◌≡◌, ℕ, ◌+◌, ◌≤◌, List, [], ◌∷◌, ◌++◌, length, drop, filter, None, inl, inr, refl, sym, ap, ◌∙◌, length-append, arith}
 use Rattle.std.proofs.Math.Seq.{drop-append_seam}
 use Rattle.std.proofs.lemmas.List.Elements.{filter-append}
 use Rattle.heap_model.specs.declared.entry.Entry.{Entry}
@@ -9,11 +9,9 @@ use Rattle.heap_model.specs.account.PhaseCounts.{phase}
 use Rattle.heap_model.specs.declared.calls.collector_calls.Turn.{Turn}
 use Rattle.heap_model.specs.declared.calls.collector_calls.Turn.TheVariants as turns
 use Rattle.heap_model.specs.calls.CollectorCalls.{CollectorState, ComesTo}
-use Rattle.core_machine.specs.machine.Machine.{State, Turns, Can, next_turn, found_by, state_after, entries}
+use Rattle.core_machine.specs.machine.Machine.{State, Turns, Can, state_after, entries}
 use Rattle.core_machine.specs.machine.Value.{MachineValue, log_of}
-use Rattle.core_rule.specs.Laws.{StandsFor, EachEventKeeps, EachTurnComesTo, IsToldBy}
-use Rattle.heap_runs.specs.MachineHeap.{MachineHeapValue}
-use Rattle.heap_runs.specs.PlayHeap.{collector_state_of}
+use Rattle.core_rule.specs.Laws.{StandsFor, EachEventKeeps, EachTurnComesTo}
 use Rattle.heap_runs.proofs.Collectors.{all_collectors}
 use Rattle.heap_runs.proofs.Noting.{log_of_collector}
 

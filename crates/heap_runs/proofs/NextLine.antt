@@ -1,11 +1,10 @@
 -- The next line of a script that is served.
-use Rattle.std.proofs.Common.{◌≡◌, ◌≢◌, ℕ, suc, ◌+◌, ◌<◌, ◌≤◌, true, List, [], ◌∷◌, ◌++◌, length, get_or, take, refl, sym, ap, subst, ◌∙◌, length-append, arith}
+use Rattle.std.proofs.Common.{◌≡◌, ◌≢◌, ℕ, suc, ◌+◌, ◌<◌, ◌≤◌, true, List, [], ◌∷◌, ◌++◌, length, get_or, take, sym, ap, subst, ◌∙◌, arith}
 use Rattle.std.proofs.Math.Seq.{take-suc}
 use Rattle.std.proofs.lemmas.List.{length-take-le}
 use Rattle.std.proofs.lemmas.List.Elements.{All-get_or, All-from_recursion}
 use Rattle.heap_model.specs.declared.command.Command.{Command}
 use Rattle.heap_model.specs.declared.command.Command.TheVariants as commands
-use Rattle.heap_model.specs.declared.command.TurnCommand.{TurnCommand}
 use Rattle.heap_model.specs.declared.entry.Entry.{Entry}
 use Rattle.heap_model.specs.Command.{IsCommand}
 use Rattle.heap_model.specs.calls.SeatCalls.{HasNumber}
@@ -13,7 +12,7 @@ use Rattle.script_text.specs.declared.script.Form.TheVariants.{Play}
 use Rattle.script_text.specs.declared.script.Line.{Line}
 use Rattle.script_text.specs.declared.script.Line.TheVariants as lines
 use Rattle.script_text.specs.declared.script.Script.{Script}
-use Rattle.script_text.specs.Built.{IsBuilt, is_built_command, is_built_line, is_built_turn}
+use Rattle.script_text.specs.Built.{IsBuilt, is_built_command, is_built_line}
 use Rattle.script_text.specs.Grammar.{IsLine, IsScripted}
 use Rattle.script_text.specs.Writing.{IsOfForm}
 use Rattle.core_machine.specs.seat.Commands.{IsServed}
@@ -49,18 +48,24 @@ numbers_left state number calls (commands.Array d cells) short few = omega (arit
 numbers_left state number calls (commands.Set r i v) short few = omega (arith, short, few.few_sets)
 numbers_left state number calls _ short few = tt
 
-module _ (script : Script) (i : ℕ) (d line : Line) (form : IsOfForm Play script) (built : IsBuilt script) (below : i < length script.lines) (is : get_or script.lines i d ≡ line) where
+module _ (script : Script) (items : List Line) (i : ℕ) (d line : Line) (all : items ≡ script.lines) (form : IsOfForm Play script) (built : IsBuilt script) (below : i < length items) (is : get_or items i d ≡ line) where
   -- the lines with the next one
-  pub read_more : take (i + 1) script.lines ≡ take i script.lines ++ line ∷ []
+  pub read_more : take (i + 1) items ≡ take i items ++ line ∷ []
   read_more =
       let one : i + 1 ≡ suc i = omega arith in
-      ap (λ (n : ℕ). take n script.lines) one ∙ take-suc script.lines i d below ∙ ap (λ (l : Line). take i script.lines ++ l ∷ []) is
+      ap (λ (n : ℕ). take n items) one ∙ take-suc items i d below ∙ ap (λ (l : Line). take i items ++ l ∷ []) is
+
+  here : i < length script.lines
+  here = omega (arith, below, ap (length {A = Line}) all)
+
+  line_is : get_or script.lines i d ≡ line
+  line_is = ap (λ (ls : List Line). get_or ls i d) (sym all) ∙ is
 
   line_of_form : IsLine Play script.heap.seats line
-  line_of_form = subst (IsLine Play script.heap.seats) is (All-get_or (IsLine Play script.heap.seats) script.lines i d below (All-from_recursion (IsLine Play script.heap.seats) script.lines form.lines))
+  line_of_form = subst (IsLine Play script.heap.seats) line_is (All-get_or (IsLine Play script.heap.seats) script.lines i d here (All-from_recursion (IsLine Play script.heap.seats) script.lines form.lines))
 
   pub line_built : is_built_line line ≡ true
-  line_built = ap is_built_line (sym is) ∙ built.lines i d below
+  line_built = ap is_built_line (sym line_is) ∙ built.lines i d here
 
 -- what a line of a seat asks for
 pub record IsNext (script : Script) (state : PlayState) (number : ℕ) (command : Command) : Type 0 where
@@ -68,19 +73,19 @@ pub record IsNext (script : Script) (state : PlayState) (number : ℕ) (command 
   pub served : IsServed command
   pub stays : command ≢ commands.Leave
 
-pub next_call : (script : Script) (i : ℕ) (d : Line) (number : ℕ) (command : Command) (state : PlayState) (history : List Entry) → IsOfForm Play script → IsBuilt script → i < length script.lines
-    → get_or script.lines i d ≡ lines.Seat number command → HasAnsweredLines script.heap state history (take i script.lines) → IsNext script state number command
-next_call script i d number command state history form built below is has =
-    let line = line_of_form script i d (lines.Seat number command) form built below is in
-    let served = served_built command (line_built script i d (lines.Seat number command) form built below is) in
-    let short : length (take i script.lines) ≤ 65536 = omega (arith, length-take-le i script.lines (omega (arith, below)), form.short, below) in
+pub next_call : (script : Script) (items : List Line) (i : ℕ) (d : Line) (number : ℕ) (command : Command) (state : PlayState) (history : List Entry) → items ≡ script.lines → IsOfForm Play script → IsBuilt script
+    → i < length items → get_or items i d ≡ lines.Seat number command → HasAnsweredLines script.heap state history (take i items) → IsNext script state number command
+next_call script items i d number command state history all form built below is has =
+    let line = line_of_form script items i d (lines.Seat number command) all form built below is in
+    let served = served_built command (line_built script items i d (lines.Seat number command) all form built below is) in
+    let short : length (take i items) ≤ 65536 = omega (arith, length-take-le i items (omega (arith, below)), form.short, below, ap (length {A = Line}) all) in
     record {
       may = record {
         within = rw has.follows.of_heap line.0;
         present = has.present number line.0;
         served = served.0;
         in_range = in_range command line.1;
-        numbered = numbers_left state number (length (take i script.lines)) command short (has.few number line.0);
+        numbered = numbers_left state number (length (take i items)) command short (has.few number line.0);
       };
       served = served.0;
       stays = served.1;

@@ -13,14 +13,14 @@ use Rattle.heap_model.specs.graph.Objects.{graph_seat}
 use Rattle.core_machine.specs.declared.place.Place.TheVariants.{Idle}
 use Rattle.core_machine.specs.declared.table.address.Address.TheVariants.{Phase}
 use Rattle.core_machine.specs.machine.Calls.{IsPhaseNear}
-use Rattle.core_machine.specs.machine.Machine.{State, seat_at, Begins, Can, MayBegin}
+use Rattle.core_machine.specs.machine.Machine.{State, seat_at}
 use Rattle.core_machine.specs.seat.Fits.{IsAtRest, FitsPlace}
 use Rattle.core_machine.specs.seat.Seat.{Seat, HasNumberLeft}
 use Rattle.core_machine.specs.table.Layout.{at}
 use Rattle.core_rule.specs.Laws.{StandsFor, EveryRunKeeps, WholeCallsPlay}
 use Rattle.core_rule.specs.Holding.{fragments_in_hand}
-use Rattle.heap_runs.specs.MachineHeap.{MachineHeapValue, play_state_of, WholeCalls, IsBetweenCalls}
-use Rattle.heap_runs.specs.PlayHeap.{PlayState, IsPlayed, MayCall, seat_state_of}
+use Rattle.heap_runs.specs.MachineHeap.{WholeCalls}
+use Rattle.heap_runs.specs.PlayHeap.{IsPlayed}
 
 -- some book stands for a machine after whole calls, with their entries
 pub stands : EveryRunKeeps → (heap : Heap) (state : State) (told : List Entry) → WholeCalls heap state told → StandsFor heap state [] told

@@ -1,9 +1,8 @@
 -- What a turn of a heap that is played on adds.
-use Rattle.std.proofs.Common.{◌≡◌, ℕ, zero, suc, ◌+◌, ◌<◌, ◌≤◌, true, List, [], ◌∷◌, ◌++◌, filter, inl, inr, refl, sym, ap, subst, ◌∙◌, append_assoc, arith}
+use Rattle.std.proofs.Common.{◌≡◌, ℕ, zero, suc, true, List, [], ◌∷◌, ◌++◌, filter, inl, inr, refl, sym, ap, subst, ◌∙◌, append_assoc, arith}
 use Rattle.std.specs.List.{AllByRecursion}
 use Rattle.std.proofs.lemmas.List.{append-nil, append_cancel_left}
 use Rattle.std.proofs.lemmas.List.Elements.{filter-append}
-use Rattle.heap_model.specs.declared.heap.Heap.{Heap}
 use Rattle.heap_model.specs.declared.calls.collector_calls.Turn.{Turn}
 use Rattle.heap_model.specs.declared.calls.collector_calls.Turn.TheVariants as turns
 use Rattle.heap_model.specs.declared.entry.Entry.{Entry}
@@ -31,7 +30,7 @@ steps_own now later _ steps = absurd steps
 module _ (old new : PlayState) (turn : Turn) (takes : TakesTurn old new turn) where
   -- the collector's list has just what was added more
   added_is : (more : List Entry) → (collector_state_of new).log ≡ (collector_state_of old).log ++ more → takes.added ≡ more
-  added_is more log = 
+  added_is more log =
       let own = ap (λ es. filter is_collectors old.entries ++ es) (sym (all_collectors takes.added takes.own)) in
       append_cancel_left (filter is_collectors old.entries) takes.added more (own ∙ sym (filter-append is_collectors old.entries takes.added) ∙ ap (filter is_collectors) (sym takes.entries) ∙ log)
 

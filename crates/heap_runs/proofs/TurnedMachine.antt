@@ -1,5 +1,5 @@
 -- A machine between calls after one turn more.
-use Rattle.std.proofs.Common.{◌≡◌, ℕ, ◌+◌, ◌-◌, ◌<◌, ◌≤◌, ◌^◌, min, true, List, [], ◌∷◌, ◌++◌, length, filter, Some, inl, inr, refl, sym, ap, subst, ◌∙◌, arith, length-append}
+use Rattle.std.proofs.Common.{◌≡◌, ◌+◌, ◌-◌, ◌≤◌, ◌^◌, min, true, List, [], ◌∷◌, ◌++◌, length, filter, Some, sym, ap, subst, ◌∙◌, arith, length-append}
 use Rattle.std.specs.List.{AllByRecursion}
 use Rattle.std.proofs.lemmas.List.{append-nil}
 use Rattle.std.proofs.lemmas.List.Elements.{filter-append}
@@ -12,9 +12,9 @@ use Rattle.heap_model.specs.account.Phases.{IsBehind}
 use Rattle.heap_model.specs.account.PhaseCounts.{phase}
 use Rattle.heap_model.specs.calls.CollectorCalls.{ComesTo}
 use Rattle.core_machine.specs.machine.Machine.{State, Turns, Can, Event, Run, next_turn, found_by, state_after, state_after_all, entries, history}
-use Rattle.core_rule.specs.Laws.{AllIdle, OneCallAtATime, StandsFor, EachTurnComesTo, EachWaitIsBehind, IsToldBy}
-use Rattle.heap_runs.specs.MachineHeap.{MachineHeapValue, play_state_of, WholeCalls, IsBetweenCalls, TurnsMachine}
-use Rattle.heap_runs.specs.PlayHeap.{PlayState, TakesTurn, WaitsRightly, collector_state_of}
+use Rattle.core_rule.specs.Laws.{OneCallAtATime, StandsFor, EachTurnComesTo, EachWaitIsBehind, IsToldBy}
+use Rattle.heap_runs.specs.MachineHeap.{MachineHeapValue, play_state_of, IsBetweenCalls, TurnsMachine}
+use Rattle.heap_runs.specs.PlayHeap.{TakesTurn, WaitsRightly, collector_state_of}
 use Rattle.heap_runs.proofs.Collectors.{all_collectors}
 use Rattle.heap_runs.proofs.Runs.{Run-append, OneCall-append, after_all-append, history-append}
 

@@ -11,3 +11,6 @@ pub use machine_heap::MachineHeap;
 pub use play_heap::PlayHeap;
 pub use playing::play;
 pub use turning::turn_line;
+
+#[cfg(test)]
+mod tests;

@@ -5,9 +5,9 @@ ghost use Rattle.script_text.specs.Writing.{IsOfForm};
 ghost use Rattle.heap_runs.specs.Play.{IsPlay};
 ghost use Rattle.heap_runs.specs.Playing.{HasAnsweredLines, HaveLeft};
 
+use crate::play_heap::PlayHeap;
 use crate::playing::noting::{note_call, note_turns};
 use crate::playing::use_count::in_use;
-use crate::play_heap::PlayHeap;
 use heap_model::limits::GROUP_FRAGMENTS;
 use heap_model::{Command, Entry, Heap, Memory, account_laws, seat_laws};
 use reply_text::{History, SpaceMark};

@@ -7,10 +7,7 @@ use heap_model::{Memory, Turn, TurnCommand, TurnReply};
 
 /// Makes the turns that a line of a script asks of the collector, up to the first that waits, and answers what they came to.
 /// So far a line asks for turns by their number alone. After want of memory the heap is only dropped.
-pub fn turn_line<H: PlayHeap>(
-    whole: &mut H,
-    command: &TurnCommand,
-) -> Result<TurnReply, Memory>
+pub fn turn_line<H: PlayHeap>(whole: &mut H, command: &TurnCommand) -> Result<TurnReply, Memory>
     requires built { is_built_turn command.now ≡ true }
     ensures { IfOk result (ServesCommand (H.state whole.old) (H.state whole.new) command.now) }
 {

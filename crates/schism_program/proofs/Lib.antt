@@ -1,11 +1,2 @@
-pub mod Calling
-pub mod Leaves
-pub mod NextLine
-pub mod Noting
-pub mod OneSeat
-pub mod Opened
-pub mod Runs
-pub mod Spine
-pub mod Whole
 pub mod FirstLines
 pub mod OneStatus

@@ -1,10 +1,7 @@
 pub mod Status
-pub mod Play
 pub mod Serving
 pub mod Verdict
 pub mod WorkFaults
 pub mod Works
 pub mod Outcome
 pub mod Due
-pub mod Calls
-pub mod Playing

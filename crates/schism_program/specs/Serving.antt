@@ -10,7 +10,7 @@ use Rattle.script_text.specs.Faults.{first_fault}
 use Rattle.script_text.specs.Text.{text_of}
 use Rattle.reply_text.specs.declared.history.History.{History}
 use Rattle.reply_text.specs.History.{history_lines}
-use Rattle.schism_program.specs.Play.{IsPlay}
+use Rattle.heap_runs.specs.Play.{IsPlay}
 
 -- the input is this script, and the program serves it
 pub record Serves (input : List ℕ) (script : Script) : Type 0 where

@@ -7,9 +7,9 @@ ghost use Rattle.schism_program.specs.Serving.{FailsToPlay, Plays, Serves};
 ghost use Rattle.schism_program.specs.Works.{FailsAt, IsIllegalAt, MakesText};
 
 use crate::fault::WorkFault;
-use crate::play::play;
 use crate::verdict::verdict;
 use crate::work::Work;
+use heap_runs::{MachineHeap, play};
 use reply_text::render_history;
 use script_text::{Cause, Form, Script, first_unbuilt, read_script};
 use std::alloc::Global;
@@ -37,7 +37,8 @@ fn played_text(alloc: Global, input: &[u8]) -> Result<Vec<u8>, WorkFault>
     ensures legal { (line : ℕ) → result ≡ Err (WorkFault.NotLegal line) → ⊥ }
 {
     let script = served_script(alloc, input)?;
-    let history = play(alloc, &script)?;
+    let whole = MachineHeap::make(alloc, script.heap)?;
+    let history = play(alloc, whole, script.heap, &script)?;
     let text = render_history(alloc, &history)?;
     Ok(text)
 }

@@ -1,6 +1,7 @@
 mod judged;
 mod machine;
 mod several_seats;
+mod turns;
 
 use crate::ending::report;
 use crate::status::{Status, status_text};
@@ -134,7 +135,11 @@ fn refuses_scripts(rt: HostRuntime) -> Result<(), Fail> {
             4,
             Cause::Unbuilt,
         ),
-        ("schism 1\nheap 4 0 2\nc turns 1\n", 3, Cause::Unbuilt),
+        (
+            "schism 1\nheap 4 0 2\nc turns 1\nc cycle\n",
+            4,
+            Cause::Unbuilt,
+        ),
         ("schism 1\nheap 17 1 1\n0 nil 1\n", 2, Cause::Unbuilt),
         (
             "schism 1\nheap 1 0 1\n0 poll\n0 num 1 01\n",

@@ -228,7 +228,7 @@ fn most_lines(rt: HostRuntime) -> Result<(), Fail> {
 
 #[test]
 fn built(rt: HostRuntime) -> Result<(), Fail> {
-    let scripts: [(&[u8], Option<u32>); 10] = [
+    let scripts: [(&[u8], Option<u32>); 12] = [
         (b"schism 1\nheap 4096 0 16\n", None),
         (
             b"schism 1\nheap 16 0 1\n0 new 1 2\n0 num 2 9\n0 set 1 1 2\n0 get 3 1 0\n",
@@ -244,6 +244,8 @@ fn built(rt: HostRuntime) -> Result<(), Fail> {
         (b"schism 1\nheap 16 0 1\n0 new 1 3\n0 collect\n", Some(4)),
         (b"schism 1\nheap 16 0 1\n0 num 2 9\n0 collect\n", Some(4)),
         (b"schism 1\nheap 16 0 1\nc cycle\n0 num 2 9\n", Some(3)),
+        (b"schism 1\nheap 16 0 1\nc turns 1000000\nc turns 0\n", None),
+        (b"schism 1\nheap 16 0 1\nc turns 2\nc cycle\n", Some(4)),
         (
             b"schism 1\nheap 16 0 1\n0 num 2 9\n0 poll\n0 array 1 4\n",
             Some(5),

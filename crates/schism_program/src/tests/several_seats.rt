@@ -62,7 +62,7 @@ const CURSORS: (&str, &str, &str) = (
 );
 
 /// The text of these lines.
-fn text_of(alloc: Global, lines: &str) -> Result<String, AllocError> {
+pub(super) fn text_of(alloc: Global, lines: &str) -> Result<String, AllocError> {
     let mut text = String::new(alloc);
     for line in lines.split("; ") {
         text.push_str(line)?;

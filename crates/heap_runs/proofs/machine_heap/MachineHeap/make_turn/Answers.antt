@@ -1,10 +1,10 @@
-use Rattle.std.proofs.Common.{◌≡◌, ℕ, ◌+◌, ◌-◌, ◌≤◌, List, ◌++◌, length, drop, Some, refl, sym, ap, subst, ◌∙◌, length-append, arith}
+use Rattle.std.proofs.Common.{◌≡◌, ◌+◌, ◌≤◌, List, ◌++◌, length, drop, Some, refl, sym, ap, subst, ◌∙◌, length-append, arith}
 use Rattle.heap_model.specs.declared.heap.Heap.{Heap}
 use Rattle.heap_model.specs.declared.entry.Entry.{Entry}
 use Rattle.core_machine.specs.machine.Machine.{State, Turns, entries}
-use Rattle.core_machine.specs.machine.Value.{MachineValue, log_of, spare_of}
+use Rattle.core_machine.specs.machine.Value.{log_of, spare_of}
 use Rattle.heap_runs.specs.contracts.machine_heap.MachineHeap.{the_view}
-use Rattle.heap_runs.specs.MachineHeap.{MachineHeapValue, play_state_of, IsBetweenCalls, TurnsMachine}
+use Rattle.heap_runs.specs.MachineHeap.{MachineHeapValue, play_state_of, TurnsMachine}
 use Rattle.heap_runs.specs.PlayHeap.{TakesTurn}
 use Rattle.heap_runs.proofs.Standing.{stands}
 use Rattle.heap_runs.proofs.TurnedMachine.{between_turned, takes_turn}
@@ -44,11 +44,13 @@ invariant_of-self c =
     let told : c.split_at.result.1.now ≡ entries whole.machine.heap whole.machine.state Turns
     = c.split_at.ensures.back ∙ ap (λ (l : List Entry). drop (length l) c.log.result.now) c.log-before.ensures ∙ ap (drop (length (log_of whole.machine party))) c.log.ensures ∙ facts.told in
     let listed : c.note_all.new.list.items ≡ whole.entries ++ entries whole.machine.heap whole.machine.state Turns = c.note_all.ensures.items ∙ ap (λ (l : List Entry). whole.entries ++ l) told in
-    let seats : length c.play_turn-turn.new.self.state.seats ≡ length whole.machine.state.seats = ap (λ (t : State). length t.seats) made.state in
-    (rw (made.heap, made.state, listed) (between_turned whole.machine.heap whole.machine.state whole.entries c.self.invariant.0 made.can), record {
-      own_room = omega (arith, ap (spare_of c.play_turn-turn.new.self) seats, made.spent.own, facts.many, ap (length {A = Entry}) told, c.self.invariant.1.own_room, c.saturating_sub-self-inside.ensures);
-      listed_room = omega (arith, c.self.invariant.1.listed_room, c.saturating_sub-self-inside.ensures, c.note_all.ensures.capacity, c.note_all.ensures.len);
-    })
+    let seats : length c.play_turn-turn.new.self.state.seats ≡ length whole.machine.state.seats = ap (λ (t : State). length t.seats) made.state in (
+      rw (made.heap, made.state, listed) (between_turned whole.machine.heap whole.machine.state whole.entries c.self.invariant.0 made.can),
+      record {
+        own_room = omega (arith, ap (spare_of c.play_turn-turn.new.self) seats, made.spent.own, facts.many, ap (length {A = Entry}) told, c.self.invariant.1.own_room, c.saturating_sub-self-inside.ensures);
+        listed_room = omega (arith, c.self.invariant.1.listed_room, c.saturating_sub-self-inside.ensures, c.note_all.ensures.capacity, c.note_all.ensures.len);
+      },
+    )
 
 pub returns-clause-turn : goal.returns-clause-turn
 returns-clause-turn c =

@@ -1,8 +1,8 @@
-use Rattle.std.proofs.Common.{◌≡◌, ℕ, ◌+◌, ◌-◌, ◌*◌, ◌<◌, ◌≤◌, List, ◌++◌, length, drop, refl, sym, ap, subst, ◌∙◌, arith}
+use Rattle.std.proofs.Common.{◌≡◌, ◌-◌, List, ◌++◌, length, drop, refl, sym, ap, subst, ◌∙◌, arith}
 use Rattle.heap_model.specs.declared.entry.Entry.{Entry}
-use Rattle.core_machine.specs.machine.Value.{MachineValue, log_of, spare_of}
+use Rattle.core_machine.specs.machine.Value.{MachineValue, log_of}
 use Rattle.heap_runs.specs.contracts.machine_heap.MachineHeap.{the_view}
-use Rattle.heap_runs.specs.MachineHeap.{MachineHeapValue, play_state_of, IsBetweenCalls, CallsMachine}
+use Rattle.heap_runs.specs.MachineHeap.{MachineHeapValue, play_state_of, CallsMachine}
 use Rattle.heap_runs.specs.PlayHeap.{MayCall, AnswersCall}
 use Rattle.heap_runs.proofs.Standing.{stands}
 use Rattle.heap_runs.proofs.Calling.{answers_call}
@@ -23,7 +23,7 @@ split_at-requires c =
     let s = stands c.law_every_run.ensures.run whole.machine.heap whole.machine.state whole.entries c.self.invariant.0.calls in
     let made = c.play_call-reply.ensures in
     let facts = call_facts c.law_every_run.ensures.run c.seat_laws.ensures.short whole c.room.new.self c.play_call-reply.new.self c.args.seat c.args.command.now c.play_call-reply.result c.self.invariant.0 may c.room.ensures.same
-        (c.room.ensures.others (length whole.machine.state.seats) (λ e. omega (arith, e, may.within, s.rule.machine.seated))) made.steps made.answer made.leave made.refused made.spent in
+    (c.room.ensures.others (length whole.machine.state.seats) (λ e. omega (arith, e, may.within, s.rule.machine.seated))) made.steps made.answer made.leave made.refused made.spent in
     rw (c.log-before.ensures, c.log.ensures) facts.longer
 
 pub note_all-requires : goal.note_all-requires
@@ -33,7 +33,7 @@ note_all-requires c =
     let s = stands c.law_every_run.ensures.run whole.machine.heap whole.machine.state whole.entries c.self.invariant.0.calls in
     let made = c.play_call-reply.ensures in
     let facts = call_facts c.law_every_run.ensures.run c.seat_laws.ensures.short whole c.room.new.self c.play_call-reply.new.self c.args.seat c.args.command.now c.play_call-reply.result c.self.invariant.0 may c.room.ensures.same
-        (c.room.ensures.others (length whole.machine.state.seats) (λ e. omega (arith, e, may.within, s.rule.machine.seated))) made.steps made.answer made.leave made.refused made.spent in
+    (c.room.ensures.others (length whole.machine.state.seats) (λ e. omega (arith, e, may.within, s.rule.machine.seated))) made.steps made.answer made.leave made.refused made.spent in
     let told : c.split_at.result.1.now ≡ since c.room.new.self c.play_call-reply.new.self c.args.seat
     = c.split_at.ensures.back ∙ ap (λ (l : List Entry). drop (length l) c.log.result.now) c.log-before.ensures ∙ ap (drop (length (log_of c.room.new.self c.args.seat))) c.log.ensures in
     omega (arith, ap (length {A = Entry}) told, facts.short, c.need.ensures, c.in_ok-reserve.ensures.ok, c.in_ok-reserve.ensures.len)
@@ -45,17 +45,19 @@ invariant_of-self-2 c =
     let s = stands c.law_every_run.ensures.run whole.machine.heap whole.machine.state whole.entries c.self.invariant.0.calls in
     let made = c.play_call-reply.ensures in
     let facts = call_facts c.law_every_run.ensures.run c.seat_laws.ensures.short whole c.room.new.self c.play_call-reply.new.self c.args.seat c.args.command.now c.play_call-reply.result c.self.invariant.0 may c.room.ensures.same
-        (c.room.ensures.others (length whole.machine.state.seats) (λ e. omega (arith, e, may.within, s.rule.machine.seated))) made.steps made.answer made.leave made.refused made.spent in
+    (c.room.ensures.others (length whole.machine.state.seats) (λ e. omega (arith, e, may.within, s.rule.machine.seated))) made.steps made.answer made.leave made.refused made.spent in
     let told : c.split_at.result.1.now ≡ since c.room.new.self c.play_call-reply.new.self c.args.seat
     = c.split_at.ensures.back ∙ ap (λ (l : List Entry). drop (length l) c.log.result.now) c.log-before.ensures ∙ ap (drop (length (log_of c.room.new.self c.args.seat))) c.log.ensures in
     let same_heap : c.play_call-reply.new.self.heap ≡ whole.machine.heap = made.heap ∙ ap (λ (m : MachineValue). m.heap) c.room.ensures.same in
     let listed : c.note_all.new.list.items ≡ whole.entries ++ since c.room.new.self c.play_call-reply.new.self c.args.seat
     = c.note_all.ensures.items ∙ ap (λ (l : List Entry). l ++ c.split_at.result.1.now) c.reserve.ensures.items ∙ ap (λ (l : List Entry). whole.entries ++ l) told in
-    let new : MachineHeapValue = record { machine = c.play_call-reply.new.self; entries = c.note_all.new.list.items; spare = c.saturating_sub-self-inside.result; turns = whole.turns; last_turn = whole.last_turn } in
-    (between_again whole new c.room.new.self c.args.seat c.args.command.now c.play_call-reply.result facts same_heap listed, record {
-      own_room = omega (arith, facts.own_room, c.self.invariant.1.own_room, c.saturating_sub-self-inside.ensures);
-      listed_room = omega (arith, c.self.invariant.1.listed_room, c.saturating_sub-self-inside.ensures, c.note_all.ensures.capacity, c.note_all.ensures.len, c.in_ok-reserve.ensures.capacity, c.in_ok-reserve.ensures.len);
-    })
+    let new : MachineHeapValue = record { machine = c.play_call-reply.new.self; entries = c.note_all.new.list.items; spare = c.saturating_sub-self-inside.result; turns = whole.turns; last_turn = whole.last_turn } in (
+      between_again whole new c.room.new.self c.args.seat c.args.command.now c.play_call-reply.result facts same_heap listed,
+      record {
+        own_room = omega (arith, facts.own_room, c.self.invariant.1.own_room, c.saturating_sub-self-inside.ensures);
+        listed_room = omega (arith, c.self.invariant.1.listed_room, c.saturating_sub-self-inside.ensures, c.note_all.ensures.capacity, c.note_all.ensures.len, c.in_ok-reserve.ensures.capacity, c.in_ok-reserve.ensures.len);
+      },
+    )
 
 pub returns-clause-answers : goal.returns-clause-answers
 returns-clause-answers c =
@@ -64,7 +66,7 @@ returns-clause-answers c =
     let s = stands c.law_every_run.ensures.run whole.machine.heap whole.machine.state whole.entries c.self.invariant.0.calls in
     let made = c.play_call-reply.ensures in
     let facts = call_facts c.law_every_run.ensures.run c.seat_laws.ensures.short whole c.room.new.self c.play_call-reply.new.self c.args.seat c.args.command.now c.play_call-reply.result c.self.invariant.0 may c.room.ensures.same
-        (c.room.ensures.others (length whole.machine.state.seats) (λ e. omega (arith, e, may.within, s.rule.machine.seated))) made.steps made.answer made.leave made.refused made.spent in
+    (c.room.ensures.others (length whole.machine.state.seats) (λ e. omega (arith, e, may.within, s.rule.machine.seated))) made.steps made.answer made.leave made.refused made.spent in
     let told : c.split_at.result.1.now ≡ since c.room.new.self c.play_call-reply.new.self c.args.seat
     = c.split_at.ensures.back ∙ ap (λ (l : List Entry). drop (length l) c.log.result.now) c.log-before.ensures ∙ ap (drop (length (log_of c.room.new.self c.args.seat))) c.log.ensures in
     let same_heap : c.play_call-reply.new.self.heap ≡ whole.machine.heap = made.heap ∙ ap (λ (m : MachineValue). m.heap) c.room.ensures.same in
@@ -84,7 +86,7 @@ returns-clause-machine c =
     let s = stands c.law_every_run.ensures.run whole.machine.heap whole.machine.state whole.entries c.self.invariant.0.calls in
     let made = c.play_call-reply.ensures in
     let facts = call_facts c.law_every_run.ensures.run c.seat_laws.ensures.short whole c.room.new.self c.play_call-reply.new.self c.args.seat c.args.command.now c.play_call-reply.result c.self.invariant.0 may c.room.ensures.same
-        (c.room.ensures.others (length whole.machine.state.seats) (λ e. omega (arith, e, may.within, s.rule.machine.seated))) made.steps made.answer made.leave made.refused made.spent in
+    (c.room.ensures.others (length whole.machine.state.seats) (λ e. omega (arith, e, may.within, s.rule.machine.seated))) made.steps made.answer made.leave made.refused made.spent in
     let told : c.split_at.result.1.now ≡ since c.room.new.self c.play_call-reply.new.self c.args.seat
     = c.split_at.ensures.back ∙ ap (λ (l : List Entry). drop (length l) c.log.result.now) c.log-before.ensures ∙ ap (drop (length (log_of c.room.new.self c.args.seat))) c.log.ensures in
     let same_heap : c.play_call-reply.new.self.heap ≡ whole.machine.heap = made.heap ∙ ap (λ (m : MachineValue). m.heap) c.room.ensures.same in

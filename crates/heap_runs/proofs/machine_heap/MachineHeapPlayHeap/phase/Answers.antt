@@ -2,8 +2,6 @@ use Rattle.std.proofs.Common.{◌∙◌, ap}
 use Rattle.heap_model.specs.account.PhaseCounts.{phase}
 use Rattle.heap_runs.specs.MachineHeap.{MachineHeapValue}
 use Rattle.heap_runs.proofs.Standing.{stands, word_is}
-use Rattle.heap_runs.proofs.Calling.{answers_call}
-use Rattle.heap_runs.proofs.TurnedMachine.{takes_turn}
 use Rattle.heap_runs.proofs.machine_heap.MachineHeapPlayHeap.phase.Goals as goal
 
 pub returns : goal.returns
