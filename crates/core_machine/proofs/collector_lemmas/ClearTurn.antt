@@ -10,7 +10,7 @@ use Rattle.core_machine.proofs.collector_lemmas.Standing.{StageStands, work_stan
 use Rattle.core_machine.proofs.table_lemmas.Counting.{taken_few}
 use Rattle.core_machine.proofs.table_lemmas.Wide.{and_wide}
 
--- the next group is cleared, or the cycle ends
+-- the next group is cleared, or all are
 fits_cleared : (heap : Heap) (phase looked group kept more : ℕ) → IsClearing heap phase looked group kept → more ≤ 16 → FitsStage heap phase looked (after_cleared heap group (kept + more))
 fits_cleared heap phase looked group kept more is few =
     elim (leb_tells (suc (group + 1)) heap.groups) as (λ _. FitsStage heap phase looked (after_cleared heap group (kept + more))) [

@@ -14,7 +14,7 @@ pub use Rattle.core_machine.specs.collector.Turn.{Collector, Turn, after_advance
 pub use Rattle.core_machine.specs.collector.Marking.{lowest_grey_of, after_last_group, after_group, after_pass, part_after, scan_step, scan_at, after_scan_load}
 pub use Rattle.core_machine.specs.collector.MarkingTurns.{pass_turn, scan_turn, shade_turn, blacken_turn}
 pub use Rattle.core_machine.specs.collector.Sweeping.{dead_bits_of, next_place_of, taken_count_of, after_swept, after_examined, after_cleared}
-pub use Rattle.core_machine.specs.collector.SweepingTurns.{sweep_turn, examine_turn, free_turn, clear_turn, end_turn}
+pub use Rattle.core_machine.specs.collector.SweepingTurns.{sweep_turn, examine_turn, free_turn, clear_turn, cleared_turn}
 
 -- the collector at the opening
 abbrev pub opening_collector : Collector
@@ -76,7 +76,7 @@ turn_at heap collector (stages.Sweeping group) = sweep_turn heap collector group
 turn_at heap collector (stages.Examining group dead place) = examine_turn heap collector group dead place
 turn_at heap collector (stages.Freeing group dead) = free_turn heap collector group dead
 turn_at heap collector (stages.Clearing group kept) = clear_turn heap collector group kept
-turn_at heap collector (stages.Ending kept) = end_turn collector kept
+turn_at heap collector (stages.Cleared kept) = cleared_turn collector
 turn_at heap collector stages.Advancing = advance_turn collector
 
 -- the collector's next turn

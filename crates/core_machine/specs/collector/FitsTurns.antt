@@ -74,7 +74,7 @@ pub record IsClearing (heap : Heap) (phase looked group kept : ℕ) : Type 0 whe
   pub kept_within : kept ≤ group_fragments * group
 
 -- every group is cleared, and no more fragments than the heap has were counted
-pub record IsEnding (heap : Heap) (phase looked kept : ℕ) : Type 0 where
+pub record HasCleared (heap : Heap) (phase looked kept : ℕ) : Type 0 where
   pub all : looked ≡ heap.seats
   pub for_clearing : phase % cycle_phases ≡ clearing
   pub kept_within : kept ≤ group_fragments * heap.groups
@@ -90,7 +90,7 @@ FitsStage heap phase looked (stages.Sweeping group) = IsSweeping heap phase look
 FitsStage heap phase looked (stages.Examining group dead place) = IsExamining heap phase looked group dead place
 FitsStage heap phase looked (stages.Freeing group dead) = IsFreeing heap phase looked group dead
 FitsStage heap phase looked (stages.Clearing group kept) = IsClearing heap phase looked group kept
-FitsStage heap phase looked (stages.Ending kept) = IsEnding heap phase looked kept
+FitsStage heap phase looked (stages.Cleared kept) = HasCleared heap phase looked kept
 FitsStage heap phase looked stages.Advancing = HasLooked heap.seats phase looked
 
 -- the collector's own data fit together

@@ -1,7 +1,7 @@
 -- The turns of the sweep and of the clearing, by which a cycle ends.
 use Rattle.std.specs.Prelude.{ℕ, ◌+◌, ◌-◌, ◌*◌, ◌/◌, ◌<◌, ◌^◌, [], ◌∷◌, count_ones}
-use Rattle.heap_model.specs.declared.calls.collector_calls.Turn.TheVariants.{Stepped, Ended}
-use Rattle.heap_model.specs.declared.entry.Entry.TheVariants.{Frees, Ends}
+use Rattle.heap_model.specs.declared.calls.collector_calls.Turn.TheVariants.{Stepped}
+use Rattle.heap_model.specs.declared.entry.Entry.TheVariants.{Frees}
 use Rattle.heap_model.specs.declared.heap.Heap.{Heap}
 use Rattle.heap_model.specs.Limits.{group_fragments}
 use Rattle.heap_model.specs.PhasePlan.{cycle_phases}
@@ -37,12 +37,6 @@ abbrev pub clear_turn : Heap → Collector → ℕ → ℕ → Turn
 clear_turn heap collector group kept =
     work_turn (turning.Clear group) (λ word. record collector { stage = after_cleared heap group (kept + taken_count_of word) })
 
--- the cycle ends; below the last two numbers of a word there is one left for the next phase
-abbrev pub end_turn : Collector → ℕ → Turn
-end_turn collector kept = record {
-  step = Turning (turning.EndAdvance (collector.phase + 1));
-  told = λ word. after_advance collector;
-  adds = Ends (collector.phase / cycle_phases) kept ∷ [];
-  answer = λ word. Ended (collector.phase / cycle_phases) kept;
-  may = collector.phase < 2 ^ 64 - 2;
-}
+-- nothing is left to do: a control word is loaded
+abbrev pub cleared_turn : Collector → Turn
+cleared_turn collector = work_turn (turning.GroupLoad 0) (λ word. collector)

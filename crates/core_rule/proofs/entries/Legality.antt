@@ -51,10 +51,6 @@ keeps_begins heap play before p next = keeps_rules heap play before (entries.Adv
 pub keeps_frees : (heap : Heap) (play : Bool) (before : List Entry) (count : ℕ) → Sweeps heap before (entries.Frees count) → KeepsSpace heap play before (entries.Frees count)
 keeps_frees heap play before count frees = keeps_rules heap play before (entries.Frees count) tt tt (tt, tt, tt) tt tt (frees, tt)
 
--- a cycle ends
-pub keeps_ends : (heap : Heap) (play : Bool) (before : List Entry) (cycle kept : ℕ) → EndsCycle heap before (entries.Ends cycle kept) → KeepsSpace heap play before (entries.Ends cycle kept)
-keeps_ends heap play before cycle kept ends = keeps_rules heap play before (entries.Ends cycle kept) tt tt (tt, tt, tt) tt tt (tt, ends)
-
 module _ (heap : Heap) (play : Bool) (before : List Entry) (number : ℕ) where
   -- a seat takes what is in no use
   pub keeps_takes : (count : ℕ) → 1 ≤ count → fragments_gained before + count ≤ 16 * heap.groups + fragments_lost before → KeepsSpace heap play before (entries.Takes number count)

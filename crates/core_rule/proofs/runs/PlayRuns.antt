@@ -1,7 +1,7 @@
 -- A run of whole calls, one after another, has a history that is legal as a play.
 use Rattle.std.specs.List.{list_all}
 use Rattle.std.specs.Prelude.{Option, None, Some, IsSome}
-use Rattle.std.proofs.Common.{◌≡◌, ◌≢◌, ℕ, zero, suc, ◌+◌, ◌<◌, ◌≤◌, true, false, inl, inr, List, [], ◌∷◌, ◌++◌, length, drop, refl, sym, ap, ◌∙◌, subst, append_assoc, ◌/◌}
+use Rattle.std.proofs.Common.{◌≡◌, ◌≢◌, ℕ, zero, suc, ◌+◌, ◌<◌, ◌≤◌, true, false, inl, inr, List, [], ◌∷◌, ◌++◌, length, drop, refl, sym, ap, ◌∙◌, subst, append_assoc}
 use Rattle.std.proofs.lemmas.Bool.{false≢true, eq-eqb}
 use Rattle.std.proofs.lemmas.Bool.Decides.{eqb_tells}
 use Rattle.std.proofs.lemmas.List.{append-nil, get_or-set_other, drop-append-le}
@@ -9,7 +9,7 @@ use Rattle.std.proofs.lemmas.List.Folds.{list_all-append}
 use Rattle.std.specs.Prelude.{count_ones}
 use Rattle.heap_model.specs.declared.command.Command.{Command}
 use Rattle.heap_model.specs.declared.entry.Entry.{Entry}
-use Rattle.heap_model.specs.declared.entry.Entry.TheVariants.{Advance, Frees, Ends}
+use Rattle.heap_model.specs.declared.entry.Entry.TheVariants.{Advance, Frees}
 use Rattle.heap_model.specs.declared.heap.Heap.{Heap}
 use Rattle.heap_model.specs.account.Account.{IsLegal}
 use Rattle.heap_model.specs.account.Effects.{is_of}
@@ -27,7 +27,7 @@ use Rattle.core_rule.specs.Rule.{Rule}
 use Rattle.core_rule.proofs.entries.Begins.{begins}
 use Rattle.core_rule.proofs.steps.Assemble.{Keeps}
 use Rattle.core_rule.proofs.runs.PlayEntries.{AddsPlay, adds_play}
-use Rattle.core_rule.proofs.runs.Plays.{MayPlay, play_more, advancing, freeing, ending, plain_keeps}
+use Rattle.core_rule.proofs.runs.Plays.{MayPlay, play_more, advancing, freeing, plain_keeps}
 use Rattle.core_rule.proofs.runs.Runs.{MachineStays, OpeningStands, EachStepKeeps, EachBeginKeeps, EachTurnKeeps, seat_of_step}
 
 -- the history is a play's, and since the call of a seat began all entries are its own
@@ -107,7 +107,6 @@ begin_plays stays begin heap state book number command plays alone can =
 turn_may : (heap : Heap) (before : List Entry) (collector : Collector) (stage : Stage) → MayPlay heap before (turn_at heap collector stage).adds
 turn_may heap before collector stages.Advancing = (plain_keeps heap before (Advance (collector.phase + 1)) (advancing (collector.phase + 1)), tt)
 turn_may heap before collector (stages.Freeing group dead) = (plain_keeps heap before (Frees (count_ones dead)) (freeing (count_ones dead)), tt)
-turn_may heap before collector (stages.Ending kept) = (plain_keeps heap before (Ends (collector.phase / 7) kept) (ending (collector.phase / 7) kept), tt)
 turn_may heap before collector _ = tt
 
 turn_plays : MachineStays → EachTurnKeeps → (heap : Heap) (state : State) (book : Book) → PlaysOn heap state book → AllIdle state → Can heap state Turns

@@ -10,6 +10,7 @@ pub mod ScanStep
 pub mod SweepStep
 pub mod FreeStep
 pub mod ClearStep
+pub mod ClearedStep
 use Rattle.core_machine.specs.declared.collector.stage.Stage.{Stage}
 use Rattle.core_machine.specs.declared.collector.stage.Stage.TheVariants as stages
 use Rattle.core_rule.proofs.steps.TurnSteps.{StageKeeps}
@@ -26,3 +27,4 @@ turn_keeps_at (stages.Sweeping group) = SweepStep.sweep_keeps group
 turn_keeps_at (stages.Examining group dead place) = SweepStep.examine_keeps group dead place
 turn_keeps_at (stages.Freeing group dead) = FreeStep.free_keeps group dead
 turn_keeps_at (stages.Clearing group kept) = ClearStep.clear_keeps group kept
+turn_keeps_at (stages.Cleared kept) = ClearedStep.cleared_keeps kept

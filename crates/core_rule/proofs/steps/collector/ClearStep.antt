@@ -59,7 +59,7 @@ module _ (heap : Heap) (state : State) (book : Book) (rule : Rule heap state boo
   marks : (n : ℕ) → MarkingStands heap words book.owner now.colour book.fragments state.collector.phase (after_cleared heap group n)
   marks n = after_cleared_either (MarkingStands heap words book.owner now.colour book.fragments state.collector.phase) heap group n
       (marks_at (stages.Clearing (group + 1) n) tt tt (cleared_further group book.colour cleared))
-      (λ all. marks_at (stages.Ending n) tt tt (cleared_all all))
+      (λ all. marks_at (stages.Cleared n) tt tt (cleared_all all))
 
 pub clear_keeps : (group kept : ℕ) → StageKeeps (stages.Clearing group kept)
 clear_keeps group kept heap state book rule clearing machine =
