@@ -1,4 +1,4 @@
-//! Plays with turns of the collector between the commands, up to the end of marking in a cycle's third phase.
+//! Plays with turns of the collector between the commands, up to where the marks of a cycle are cleared.
 
 use super::ended;
 use super::several_seats::text_of;
@@ -9,7 +9,7 @@ use std::test::Fail;
 ///
 /// In each phase the collector looks at the seats in their order, one a turn, and then begins the next phase by one turn
 /// more. A turn that finds a seat which hasn't answered the phase waits, and the collector stays before that seat.
-const PLAYS: [(&str, &str, &str); 4] = [ONE_SEAT, TWO_SEATS, ONE_WAIT, BARRIERS];
+const PLAYS: [(&str, &str, &str); 5] = [ONE_SEAT, TWO_SEATS, ONE_WAIT, BARRIERS, SWEPT];
 
 // Every seat has answered phase 0 from the start, so two turns are a look and phase 1. A turn that waits is answered so where
 // it is the last that was asked for, and where it is the first of a million. No turn at all is done at once.
@@ -37,11 +37,20 @@ const ONE_WAIT: (&str, &str, &str) = (
 // Three records of a fragment each, the third in a field of the second alone. At its answer to phase 3 the seat marks the
 // board, the first and the second. After 81 turns, a look and 80 steps of marking, the board is scanned, the first record is
 // scanned and the second isn't. Then the reference to the third moves from the second into the first, which the barrier
-// marks: so marking comes to its end and the third is still there to be read.
+// marks: so marking comes to its end, the next phase begins, and the third is still there to be read.
 const BARRIERS: (&str, &str, &str) = (
     "schism 1; heap 2 0 1; 0 new 1 2; 0 new 2 2; 0 new 3 2; 0 set 2 0 3; 0 nil 3; c turns 2; 0 poll; c turns 2; 0 poll; c turns 2; 0 poll; c turns 81; 0 get 4 2 0; 0 set 1 0 4; 0 nil 5; 0 set 2 0 5; 0 nil 4; c turns 1000; 0 get 6 1 0",
-    "history 1 play; heap 2 0 1; 0 takes 5; 0 new 1 2 = 0.0; 0 new 2 2 = 0.1; 0 new 3 2 = 0.2; 0 set 2 0 3 = was -; 0 nil 3 = ok; c phase 1; c turns 2 = done; 0 answers 1; 0 poll = 1; c phase 2; c turns 2 = done; 0 answers 2; 0 poll = 2; c phase 3; c turns 2 = done; 0 answers 3; 0 poll = 3; c turns 81 = done; 0 get 4 2 0 = object 0.2 at 0:1; 0 set 1 0 4 = was -; 0 nil 5 = ok; 0 set 2 0 5 = was 0:1; 0 nil 4 = ok; c turns 1000 = done; 0 get 6 1 0 = object 0.2 at 0:2; space used 16 of 32 spine 0 of 0; 0 gives back 2; 0 leave = ok; end used 14",
-    "legal 28",
+    "history 1 play; heap 2 0 1; 0 takes 5; 0 new 1 2 = 0.0; 0 new 2 2 = 0.1; 0 new 3 2 = 0.2; 0 set 2 0 3 = was -; 0 nil 3 = ok; c phase 1; c turns 2 = done; 0 answers 1; 0 poll = 1; c phase 2; c turns 2 = done; 0 answers 2; 0 poll = 2; c phase 3; c turns 2 = done; 0 answers 3; 0 poll = 3; c turns 81 = done; 0 get 4 2 0 = object 0.2 at 0:1; 0 set 1 0 4 = was -; 0 nil 5 = ok; 0 set 2 0 5 = was 0:1; 0 nil 4 = ok; c phase 4; c turns 1000 = waits 0 answered 3 phase 4; 0 get 6 1 0 = object 0.2 at 0:2; space used 16 of 32 spine 0 of 0; 0 gives back 2; 0 leave = ok; end used 14",
+    "legal 29",
+);
+
+// A record of three fragments is dropped before the cycle begins. Marking ends in the third phase, the fourth has no work, and
+// the fifth frees the three, which the next record takes again. In the sixth the marks are cleared, and turns change nothing
+// from then on.
+const SWEPT: (&str, &str, &str) = (
+    "schism 1; heap 1 0 1; 0 new 1 2; 0 new 2 8; 0 nil 2; c turns 2; 0 poll; c turns 2; 0 poll; c turns 2; 0 poll; c turns 1000; 0 poll; c turns 2; 0 new 3 5; 0 poll; c turns 1000; 0 poll; c turns 1000; 0 new 3 5",
+    "history 1 play; heap 1 0 1; 0 takes 5; 0 new 1 2 = 0.0; 0 new 2 8 = 0.1; 0 nil 2 = ok; c phase 1; c turns 2 = done; 0 answers 1; 0 poll = 1; c phase 2; c turns 2 = done; 0 answers 2; 0 poll = 2; c phase 3; c turns 2 = done; 0 answers 3; 0 poll = 3; c phase 4; c turns 1000 = waits 0 answered 3 phase 4; 0 answers 4; 0 poll = 4; c phase 5; c turns 2 = done; 0 new 3 5 = full need 2 found 1; 0 answers 5; 0 poll = 5; c frees 3; c phase 6; c turns 1000 = waits 0 answered 5 phase 6; 0 answers 6; 0 poll = 6; c turns 1000 = done; 0 takes 3; 0 new 3 5 = 0.2; space used 16 of 16 spine 0 of 0; 0 gives back 2; 0 leave = ok; end used 14",
+    "legal 35",
 );
 
 #[test]
