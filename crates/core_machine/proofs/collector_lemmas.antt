@@ -1,4 +1,4 @@
--- The collector's own data go on fitting together, a file for each turn, and a turn leaves a machine.
+-- The collector's own data go on fitting together, a file for each kind of turn, and a turn leaves a machine.
 pub mod AdvanceTurn
 pub mod BlackenTurn
 pub mod ClearTurn

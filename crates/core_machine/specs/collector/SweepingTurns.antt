@@ -1,4 +1,4 @@
--- The turns of the sweep and of the clearing, by which a cycle ends.
+-- The turns of the sweep and of the clearing, in the last two phases of a cycle.
 use Rattle.std.specs.Prelude.{ℕ, ◌+◌, ◌-◌, ◌*◌, ◌/◌, ◌<◌, ◌^◌, [], ◌∷◌, count_ones}
 use Rattle.heap_model.specs.declared.calls.collector_calls.Turn.TheVariants.{Stepped}
 use Rattle.heap_model.specs.declared.entry.Entry.TheVariants.{Frees}

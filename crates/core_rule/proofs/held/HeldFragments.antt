@@ -1,4 +1,4 @@
--- What is held is alive: so it is taken, no claim takes it, and once marking has ended it is marked.
+-- What is held is alive: so it is taken, no claim takes it, and from the end of marking to the end of the sweep it is marked.
 use Rattle.std.proofs.Common.{◌≡◌, ◌≢◌, ℕ, ◌+◌, ◌*◌, ◌<◌, inl, inr, refl, sym, ap, ◌∙◌, subst, arith}
 use Rattle.heap_model.specs.declared.heap.Heap.{Heap}
 use Rattle.heap_model.specs.account.Cycles.{graph_of}

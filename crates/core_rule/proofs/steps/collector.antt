@@ -1,4 +1,4 @@
--- Kinds of the collector, a file for each.
+-- Kinds of the collector, a file for each, and one for the loads of the sweep.
 pub mod PassStep
 pub mod AdvanceStep
 pub mod PhaseTurn
