@@ -36,7 +36,8 @@ fn plays_on_the_machine(rt: HostRuntime) -> Result<(), Fail> {
     let whole = MachineHeap::make(alloc, script.heap)?;
     let history = play(alloc, whole, script.heap, &script)?;
     let text = render_history(alloc, &history)?;
-    let wanted = "history 1 play\nheap 1 0 1\nc phase 1\nc turns 2 = done\n0 takes 5\n0 new 1 2 = 0.0\nc turns 3 = waits 0 answered 0 phase 1\n0 answers 1\n0 poll = 1\nspace used 16 of 16 spine 0 of 0\n0 gives back 4\n0 leave = ok\nend used 12\n";
+    let wanted =
+        "history 1 play\nheap 1 0 1\nc phase 1\nc turns 2 = done\n0 takes 5\n0 new 1 2 = 0.0\nc turns 3 = waits 0 answered 0 phase 1\n0 answers 1\n0 poll = 1\nspace used 16 of 16 spine 0 of 0\n0 gives back 4\n0 leave = ok\nend used 12\n";
     assert_eq!(rt; text.as_slice(), wanted.as_bytes());
     Ok(())
 }
@@ -49,7 +50,10 @@ fn turns_on_the_machine(rt: HostRuntime) -> Result<(), Fail> {
     whole.room(3)?;
     assert!(rt; whole.spare() >= 3);
     assert_eq!(rt; whole.turn()?, Turn::Stepped);
-    assert_eq!(rt; turn_line(&mut whole, &TurnCommand::Turns(1))?, TurnReply::Done);
+    assert_eq!(rt;
+        turn_line(&mut whole, &TurnCommand::Turns(1))?,
+        TurnReply::Done
+    );
     assert_eq!(rt; whole.phase(), 1);
     let waits = TurnReply::Waits {
         seat: 0,
@@ -91,7 +95,8 @@ fn plays_on_a_growing_graph(rt: HostRuntime) -> Result<(), Fail> {
     let whole = Growing::new(alloc, script.heap)?;
     let history = play(alloc, whole, script.heap, &script)?;
     let text = render_history(alloc, &history)?;
-    let wanted = "history 1 play\nheap 1 0 2\n0 num 1 5 = ok\nc turns 3 = done\n1 copy 2 0 = ok\n0 nil 1 = ok\nspace used 11 of 16 spine 0 of 0\n0 leave = ok\n1 leave = ok\nend used 11\n";
+    let wanted =
+        "history 1 play\nheap 1 0 2\n0 num 1 5 = ok\nc turns 3 = done\n1 copy 2 0 = ok\n0 nil 1 = ok\nspace used 11 of 16 spine 0 of 0\n0 leave = ok\n1 leave = ok\nend used 11\n";
     assert_eq!(rt; text.as_slice(), wanted.as_bytes());
     Ok(())
 }

@@ -1,4 +1,4 @@
-use Rattle.std.proofs.Common.{◌≡◌, ◌∷◌, [], ◌++◌, List, true, refl, sym, ap, subst, ◌∙◌, rules}
+use Rattle.std.proofs.Common.{◌≡◌, ◌∷◌, [], ◌++◌, List, true, refl, sym, subst, rules}
 use Rattle.heap_model.specs.declared.entry.Entry.{Entry}
 use Rattle.heap_model.specs.declared.entry.Entry.TheVariants.{Said}
 use Rattle.heap_model.specs.declared.reply.Reply.TheVariants.{Done}
@@ -21,5 +21,7 @@ returns c =
     let plain : is_plain c.args.command.now ≡ true = search rules in
     let listed : c.note.new.list.items ≡ old.entries ++ Said c.args.seat c.args.command.now Done ∷ [] = search rules in
     let new : PlayState = record old { entries = c.note.new.list.items } in
-    record { answers = subst (λ (s : PlayState). AnswersCall s new c.args.seat c.args.command.now Done) c.self.view_is
-      (growing_answers old new c.args.seat c.args.command.now c.self.invariant.plain plain refl listed refl refl refl) }
+    record {
+      answers = subst (λ (s : PlayState). AnswersCall s new c.args.seat c.args.command.now Done) c.self.view_is
+          (growing_answers old new c.args.seat c.args.command.now c.self.invariant.plain plain refl listed refl refl refl);
+    }

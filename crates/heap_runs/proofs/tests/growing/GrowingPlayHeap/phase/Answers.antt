@@ -4,5 +4,5 @@ use Rattle.heap_runs.specs.PlayHeap.{PlayState}
 use Rattle.heap_runs.proofs.Growing.{none_begun}
 use Rattle.heap_runs.proofs.tests.growing.GrowingPlayHeap.phase.Goals as goal
 
-pub returns : goal.returns
-returns c = sym (none_begun c.self.inside.entries.items c.self.invariant.plain) ∙ ap (λ (s : PlayState). phase s.entries) c.self.view_is
+pub returns-clause-phase : goal.returns-clause-phase
+returns-clause-phase c = sym (none_begun c.self.inside.entries.items c.self.invariant.plain) ∙ ap (λ (s : PlayState). phase s.entries) c.self.view_is
