@@ -1,18 +1,17 @@
 -- The small heap of the tests: its entries are plain, and stay legal with one more.
-use Rattle.std.proofs.Common.{◌≡◌, ℕ, ◌+◌, ◌≤◌, Bool, true, false, cond, List, [], ◌∷◌, ◌++◌, refl, sym, ap, subst, ◌∙◌, length, length-append, arith, sum_by}
+use Rattle.std.proofs.Common.{◌≡◌, ℕ, Bool, true, false, cond, List, [], ◌∷◌, ◌++◌, refl, sym, ap, subst, ◌∙◌, length, length-append, arith, sum_by}
 use Rattle.std.specs.List.{AllByRecursion}
 use Rattle.std.proofs.lemmas.List.Sums.{sum_by-cons}
 use Rattle.heap_model.specs.declared.heap.Heap.{Heap}
-use Rattle.heap_model.specs.declared.account.effect.Effect.{Effect}
 use Rattle.heap_model.specs.declared.command.Command.{Command}
 use Rattle.heap_model.specs.declared.command.Command.TheVariants as commands
 use Rattle.heap_model.specs.declared.entry.Entry.{Entry}
 use Rattle.heap_model.specs.declared.entry.Entry.TheVariants.{Said}
 use Rattle.heap_model.specs.declared.reply.Reply.TheVariants.{Done}
-use Rattle.heap_model.specs.account.Account.{KeepsSpace, IsLegal}
+use Rattle.heap_model.specs.account.Account.{KeepsSpace}
 use Rattle.heap_model.specs.account.Effects.{effect_of, is_of}
 use Rattle.heap_model.specs.account.PhaseCounts.{phase, last_answer}
-use Rattle.heap_model.specs.account.Space.{fragments_gained, fragments_lost, taken_of, spent_of}
+use Rattle.heap_model.specs.account.Space.{fragments_lost, taken_of, spent_of}
 use Rattle.heap_model.specs.Needs.{made_by}
 use Rattle.heap_model.specs.calls.SeatCalls.{ComesBefore}
 use Rattle.heap_model.specs.graph.Graph.{Graph, opening}

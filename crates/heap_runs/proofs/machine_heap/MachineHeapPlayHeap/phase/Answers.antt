@@ -1,4 +1,4 @@
-use Rattle.std.proofs.Common.{◌≡◌, ◌≤◌, length, filter, ap, subst, sym, ◌∙◌}
+use Rattle.std.proofs.Common.{◌≤◌, length, filter, ap, subst, ◌∙◌}
 use Rattle.heap_model.specs.account.Noting.{is_collectors}
 use Rattle.heap_model.specs.account.PhaseCounts.{phase}
 use Rattle.heap_runs.specs.MachineHeap.{MachineHeapValue}
