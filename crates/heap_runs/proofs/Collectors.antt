@@ -1,10 +1,20 @@
 -- Entries of the collector alone.
-use Rattle.std.proofs.Common.{◌≡◌, true, List, [], ◌∷◌, filter, refl, ap}
+use Rattle.std.proofs.Common.{◌≡◌, ◌≤◌, true, List, [], ◌∷◌, length, filter, refl, ap, arith}
+use Rattle.std.proofs.lemmas.List.Sums.{sum_by-cons}
 use Rattle.std.specs.List.{AllByRecursion}
 use Rattle.heap_model.specs.declared.entry.Entry.{Entry}
+use Rattle.heap_model.specs.declared.entry.Entry.TheVariants.{Advance}
+use Rattle.heap_model.specs.account.Effects.{effect_of}
 use Rattle.heap_model.specs.account.Noting.{is_collectors}
+use Rattle.heap_model.specs.account.PhaseCounts.{phase}
 
 -- none of them is another's
 pub all_collectors : (added : List Entry) → AllByRecursion (λ entry. is_collectors entry ≡ true) added → filter is_collectors added ≡ added
 all_collectors [] own = refl
 all_collectors (entry ∷ added) own = rw own.0 (ap (λ es. entry ∷ es) (all_collectors added own.1))
+
+-- each phase has an entry of the collector
+pub phases_told : (told : List Entry) → phase told ≤ length (filter is_collectors told)
+phases_told [] = omega arith
+phases_told (Advance p ∷ told) = omega (arith, sum_by-cons (λ e. (effect_of e).phases) (Advance p) told, phases_told told)
+phases_told (entry ∷ told) = omega (arith, sum_by-cons (λ e. (effect_of e).phases) entry told, phases_told told)

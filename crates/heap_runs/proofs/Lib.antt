@@ -4,6 +4,7 @@ pub mod Bounds
 pub mod Calling
 pub mod Collectors
 pub mod Following
+pub mod Growing
 pub mod Leaves
 pub mod MachineCalls
 pub mod MachineTurns

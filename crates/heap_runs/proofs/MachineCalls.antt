@@ -1,5 +1,5 @@
 -- What a whole call of the machine, made after some room was and noted, comes to.
-use Rattle.std.proofs.Common.{◌≡◌, ℕ, ◌+◌, ◌-◌, ◌*◌, ◌<◌, ◌≤◌, List, [], ◌∷◌, ◌++◌, length, drop, refl, sym, ap, subst, ◌∙◌, length-append, arith}
+use Rattle.std.proofs.Common.{◌≡◌, ◌≢◌, ℕ, ◌+◌, ◌-◌, ◌*◌, ◌<◌, ◌≤◌, List, [], ◌∷◌, ◌++◌, length, drop, refl, sym, ap, subst, ◌∙◌, length-append, arith}
 use Rattle.std.proofs.lemmas.List.{append_cancel_left}
 use Rattle.heap_model.specs.declared.command.Command.{Command}
 use Rattle.heap_model.specs.declared.command.Command.TheVariants.{Leave}
@@ -60,6 +60,21 @@ call_facts runs each_short whole one two seat command reply between may same roo
       between = subst (IsBetweenCalls heap two.state) (sym k.noted) (between_more heap state two.state whole.entries seat command reply k.call between);
       own_room = ap (spare_of two) after.seats ∙ spent.others (length state.seats) (λ e. omega (arith, e, here)) ∙ room;
     }
+
+-- the facts of a call that may be made on the heap as contracts see it, which is this one
+pub noted_call : EveryRunKeeps → EachCallIsShort → (whole self : MachineHeapValue) (one two : MachineValue) (seat : ℕ) (command : Command) (reply : Reply) → IsBetweenCalls whole.machine.heap whole.machine.state whole.entries
+    → whole ≡ self → MayCall (play_state_of self) seat command → one ≡ record whole.machine { spares = one.spares }
+    → ((other : ℕ) → other ≢ seat → spare_of one other ≡ spare_of whole.machine other)
+    → PlaysCall one.heap one.state two.state seat command reply → (IsRecord command → AnswersNew one.heap one.state two.state seat command reply)
+    → (command ≡ Leave → TellsLeave one.state two.state seat) → (IsPlaceRefusal reply → LeavesAll one.state two.state seat) → SpendsRoom one two seat → CallFacts whole one two seat command reply
+noted_call runs each_short whole self one two seat command reply between is may same others call answer leave refused spent =
+    let here = subst (λ (v : MachineHeapValue). MayCall (play_state_of v) seat command) (sym is) may in
+    let s = stands runs whole.machine.heap whole.machine.state whole.entries between.calls in
+    call_facts runs each_short whole one two seat command reply between here same (others (length whole.machine.state.seats) (λ e. omega (arith, e, here.within, s.rule.machine.seated))) call answer leave refused spent
+
+-- what comes in the log behind what was there before is what the seat has more
+pub told_since : (one two : MachineValue) (seat : ℕ) (told before now : List Entry) → told ≡ drop (length before) now → before ≡ log_of one seat → now ≡ log_of two seat → told ≡ since one two seat
+told_since one two seat told before now back was is = back ∙ ap (λ (l : List Entry). drop (length l) now) was ∙ ap (drop (length (log_of one seat))) is
 
 -- so the call is the machine's, and the entries leave the room that they don't take
 module _ (whole new : MachineHeapValue) (one : MachineValue) (seat : ℕ) (command : Command) (reply : Reply) (facts : CallFacts whole one new.machine seat command reply)

@@ -2,6 +2,7 @@
 use Rattle.std.proofs.Common.{◌≡◌, ℕ, ◌+◌, ◌≤◌, List, [], ◌∷◌, ◌++◌, length, drop, filter, None, inl, inr, refl, sym, ap, ◌∙◌, length-append, arith}
 use Rattle.std.proofs.Math.Seq.{drop-append_seam}
 use Rattle.std.proofs.lemmas.List.Elements.{filter-append}
+use Rattle.heap_model.specs.declared.heap.Heap.{Heap}
 use Rattle.heap_model.specs.declared.entry.Entry.{Entry}
 use Rattle.heap_model.specs.declared.entry.Entry.TheVariants.{Ends}
 use Rattle.heap_model.specs.account.Noting.{is_collectors}
@@ -11,9 +12,11 @@ use Rattle.heap_model.specs.declared.calls.collector_calls.Turn.TheVariants as t
 use Rattle.heap_model.specs.calls.CollectorCalls.{CollectorState, ComesTo}
 use Rattle.core_machine.specs.machine.Machine.{State, Turns, Can, state_after, entries}
 use Rattle.core_machine.specs.machine.Value.{MachineValue, log_of}
-use Rattle.core_rule.specs.Laws.{StandsFor, EachEventKeeps, EachTurnComesTo}
+use Rattle.core_rule.specs.Laws.{StandsFor, EachEventKeeps, EveryRunKeeps, EachTurnComesTo}
+use Rattle.heap_runs.specs.MachineHeap.{MachineHeapValue, IsBetweenCalls}
 use Rattle.heap_runs.proofs.Collectors.{all_collectors}
 use Rattle.heap_runs.proofs.Noting.{log_of_collector}
+use Rattle.heap_runs.proofs.Standing.{stands}
 
 -- a turn adds one entry at most
 few_added : (old new : CollectorState) (turn : Turn) → ComesTo old new turn → length new.log ≤ length old.log + 1
@@ -51,3 +54,15 @@ turn_facts keeps each one two told party s can after is =
       few = omega (arith, few_added old new _ comes.1, many);
       many = rw (log_of_collector two (length one.state.seats) (ap (λ (t : State). length t.seats) (sym after)), log_of_collector one (length one.state.seats) refl) many;
     }
+
+-- the turn's facts where whole calls and turns led to the machine, whose heap is this one
+pub noted_turn : EveryRunKeeps → EachEventKeeps → EachTurnComesTo → (whole : MachineHeapValue) (two : MachineValue) (heap : Heap) → IsBetweenCalls whole.machine.heap whole.machine.state whole.entries
+    → Can whole.machine.heap whole.machine.state Turns → two.state ≡ state_after whole.machine.heap whole.machine.state Turns → heap ≡ whole.machine.heap → TurnFacts whole.machine two heap.seats
+noted_turn runs keeps each whole two heap between can after same =
+    let s = stands runs whole.machine.heap whole.machine.state whole.entries between.calls in
+    turn_facts keeps each whole.machine two whole.entries heap.seats s can after (ap (λ (h : Heap). h.seats) same ∙ sym s.rule.machine.seated)
+
+-- what comes in the log behind what was there before is what the turn added
+pub told_by_turn : (one two : MachineValue) (party : ℕ) → TurnFacts one two party → (told before now : List Entry) → told ≡ drop (length before) now → before ≡ log_of one party → now ≡ log_of two party
+    → told ≡ entries one.heap one.state Turns
+told_by_turn one two party facts told before now back was is = back ∙ ap (λ (l : List Entry). drop (length l) now) was ∙ ap (drop (length (log_of one party))) is ∙ facts.told

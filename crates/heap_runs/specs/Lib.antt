@@ -1,5 +1,6 @@
 pub mod PlayHeap
 pub mod Turning
+pub mod Growing
 pub mod MachineHeap
 pub mod Play
 pub mod Playing

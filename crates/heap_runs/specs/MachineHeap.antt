@@ -1,5 +1,5 @@
 -- What contracts see of the heap over the machine, and that its calls and turns are the machine's.
-use Rattle.std.specs.Prelude.{◌≡◌, ℕ, ◌≤◌, List, [], ◌∷◌, ◌++◌, length, Option}
+use Rattle.std.specs.Prelude.{◌≡◌, ℕ, ◌≤◌, List, [], ◌∷◌, ◌++◌, length, Option, None}
 use Rattle.heap_model.specs.declared.heap.Heap.{Heap}
 use Rattle.heap_model.specs.declared.command.Command.{Command}
 use Rattle.heap_model.specs.declared.command.Command.TheVariants.{Leave}
@@ -86,3 +86,4 @@ pub record IsFresh (heap : Heap) (whole : MachineHeapValue) : Type 0 where
   pub opening : IsOpening heap whole.machine.state
   pub no_entries : whole.entries ≡ []
   pub no_turns : whole.turns ≡ 0
+  pub no_last_turn : whole.last_turn ≡ None

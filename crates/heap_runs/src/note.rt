@@ -3,7 +3,7 @@ ghost use Rattle.std.specs.Prelude.{◌≡◌, ◌+◌, ◌≤◌, ◌<◌, [], 
 use heap_model::Entry;
 
 /// Adds an entry, for which there is room.
-fn note(list: &mut Vec<Entry>, entry: Entry)
+pub fn note(list: &mut Vec<Entry>, entry: Entry)
     requires { vec_len list.old < vec_capacity list.old }
     ensures items { list.new.items ≡ list.old.items ++ entry ∷ [] }
     ensures len { vec_len list.new ≡ vec_len list.old + 1 }

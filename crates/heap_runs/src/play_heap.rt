@@ -1,6 +1,6 @@
-ghost use Rattle.std.specs.Prelude.{◌≡◌, ◌≤◌, ◌<◌, IfOk, OnOk, OnErr};
+ghost use Rattle.std.specs.Prelude.{◌≡◌, ◌≤◌, ◌<◌, length, IfOk, OnOk, OnErr};
 ghost use Rattle.heap_model.specs.account.PhaseCounts.{phase};
-ghost use Rattle.heap_runs.specs.PlayHeap.{PlayState, IsPlayed, MayCall, AnswersCall, TakesTurn};
+ghost use Rattle.heap_runs.specs.PlayHeap.{PlayState, IsPlayed, collector_state_of, MayCall, AnswersCall, TakesTurn};
 
 use heap_model::{Command, Entry, Memory, Reply, Turn};
 
@@ -32,7 +32,8 @@ pub trait PlayHeap {
         ensures { result ≡ (state self.now).spare };
 
     fn phase(&self) -> u64
-        ensures { result ≡ phase (state self.now).entries };
+        ensures phase { result ≡ phase (state self.now).entries }
+        ensures logged { result ≤ length (collector_state_of (state self.now)).log };
 
     /// The number of turns that were made, or the last number of its type.
     fn turns(&self) -> u64

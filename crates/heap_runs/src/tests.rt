@@ -5,11 +5,14 @@ ghost use Rattle.script_text.specs.Writing.{IsOfForm};
 ghost use Rattle.heap_runs.specs.PlayHeap.{MayCall};
 
 use crate::{MachineHeap, PlayHeap, play, turn_line};
+use growing::Growing;
 use heap_model::{Command, Heap, Id, Memory, Reply, Turn, TurnCommand, TurnReply};
 use reply_text::render_history;
 use script_text::{Form, Script, first_unbuilt, read_script};
 use std::alloc::Global;
 use std::test::Fail;
+
+mod growing;
 
 /// The script that the text is, where it is served.
 fn script_of(alloc: Global, text: &str) -> Result<Script, Fail>
@@ -79,5 +82,21 @@ fn calls_the_machine(rt: HostRuntime) -> Result<(), Fail> {
     let made = Reply::Made(Id::Made { seat: 0, count: 0 });
     assert_eq!(rt; first_record(&mut whole)?, made);
     assert_eq!(rt; whole.entries().len(), 2);
+    Ok(())
+}
+
+#[test]
+fn plays_on_a_growing_graph(rt: HostRuntime) -> Result<(), Fail> {
+    let alloc = rt.alloc();
+    let script = script_of(
+        alloc,
+        "schism 1\nheap 1 0 2\n0 num 1 5\nc turns 3\n1 copy 2 0\n0 nil 1\n",
+    )?;
+    let whole = Growing::new(alloc, script.heap)?;
+    let history = play(alloc, whole, script.heap, &script)?;
+    let text = render_history(alloc, &history)?;
+    let wanted =
+        "history 1 play\nheap 1 0 2\n0 num 1 5 = ok\nc turns 3 = done\n1 copy 2 0 = ok\n0 nil 1 = ok\nspace used 11 of 16 spine 0 of 0\n0 leave = ok\n1 leave = ok\nend used 11\n";
+    assert_eq!(rt; text.as_slice(), wanted.as_bytes());
     Ok(())
 }

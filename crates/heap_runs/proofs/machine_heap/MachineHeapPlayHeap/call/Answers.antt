@@ -1,12 +1,12 @@
-use Rattle.std.proofs.Common.{◌≡◌, ◌-◌, List, ◌++◌, length, drop, refl, sym, ap, subst, ◌∙◌, arith}
+use Rattle.std.proofs.Common.{◌≡◌, ◌-◌, List, ◌++◌, length, refl, sym, ap, subst, ◌∙◌, arith}
 use Rattle.heap_model.specs.declared.entry.Entry.{Entry}
-use Rattle.core_machine.specs.machine.Value.{MachineValue, log_of}
+use Rattle.core_machine.specs.machine.Value.{MachineValue}
 use Rattle.heap_runs.specs.contracts.machine_heap.MachineHeap.{the_view}
 use Rattle.heap_runs.specs.MachineHeap.{MachineHeapValue, play_state_of, CallsMachine}
 use Rattle.heap_runs.specs.PlayHeap.{MayCall, AnswersCall}
 use Rattle.heap_runs.proofs.Standing.{stands}
 use Rattle.heap_runs.proofs.Calling.{answers_call}
-use Rattle.heap_runs.proofs.MachineCalls.{since, call_facts, calls_machine, between_again, room_left}
+use Rattle.heap_runs.proofs.MachineCalls.{since, noted_call, told_since, calls_machine, between_again, room_left}
 use Rattle.heap_runs.proofs.machine_heap.MachineHeapPlayHeap.call.Goals as goal
 
 pub room-requires : goal.room-requires
@@ -18,37 +18,24 @@ room-requires c =
 
 pub split_at-requires : goal.split_at-requires
 split_at-requires c =
-    let whole : MachineHeapValue = the_view c.self.inside in
-    let may = subst (λ (v : MachineHeapValue). MayCall (play_state_of v) c.args.seat c.args.command.now) (sym c.self.view_is) c.requires.may in
-    let s = stands c.law_every_run.ensures.run whole.machine.heap whole.machine.state whole.entries c.self.invariant.0.calls in
-    let made = c.play_call-reply.ensures in
-    let facts = call_facts c.law_every_run.ensures.run c.seat_laws.ensures.short whole c.room.new.self c.play_call-reply.new.self c.args.seat c.args.command.now c.play_call-reply.result c.self.invariant.0 may c.room.ensures.same
-    (c.room.ensures.others (length whole.machine.state.seats) (λ e. omega (arith, e, may.within, s.rule.machine.seated))) made.steps made.answer made.leave made.refused made.spent in
+    let facts = noted_call c.law_every_run.ensures.run c.seat_laws.ensures.short (the_view c.self.inside) _ c.room.new.self c.play_call-reply.new.self c.args.seat c.args.command.now c.play_call-reply.result c.self.invariant.0
+    c.self.view_is c.requires.may c.room.ensures.same c.room.ensures.others c.play_call-reply.ensures.steps c.play_call-reply.ensures.answer c.play_call-reply.ensures.leave c.play_call-reply.ensures.refused c.play_call-reply.ensures.spent in
     rw (c.log-before.ensures, c.log.ensures) facts.longer
 
 pub note_all-requires : goal.note_all-requires
 note_all-requires c =
-    let whole : MachineHeapValue = the_view c.self.inside in
-    let may = subst (λ (v : MachineHeapValue). MayCall (play_state_of v) c.args.seat c.args.command.now) (sym c.self.view_is) c.requires.may in
-    let s = stands c.law_every_run.ensures.run whole.machine.heap whole.machine.state whole.entries c.self.invariant.0.calls in
-    let made = c.play_call-reply.ensures in
-    let facts = call_facts c.law_every_run.ensures.run c.seat_laws.ensures.short whole c.room.new.self c.play_call-reply.new.self c.args.seat c.args.command.now c.play_call-reply.result c.self.invariant.0 may c.room.ensures.same
-    (c.room.ensures.others (length whole.machine.state.seats) (λ e. omega (arith, e, may.within, s.rule.machine.seated))) made.steps made.answer made.leave made.refused made.spent in
-    let told : c.split_at.result.1.now ≡ since c.room.new.self c.play_call-reply.new.self c.args.seat
-    = c.split_at.ensures.back ∙ ap (λ (l : List Entry). drop (length l) c.log.result.now) c.log-before.ensures ∙ ap (drop (length (log_of c.room.new.self c.args.seat))) c.log.ensures in
+    let facts = noted_call c.law_every_run.ensures.run c.seat_laws.ensures.short (the_view c.self.inside) _ c.room.new.self c.play_call-reply.new.self c.args.seat c.args.command.now c.play_call-reply.result c.self.invariant.0
+    c.self.view_is c.requires.may c.room.ensures.same c.room.ensures.others c.play_call-reply.ensures.steps c.play_call-reply.ensures.answer c.play_call-reply.ensures.leave c.play_call-reply.ensures.refused c.play_call-reply.ensures.spent in
+    let told = told_since c.room.new.self c.play_call-reply.new.self c.args.seat c.split_at.result.1.now c.log-before.result.now c.log.result.now c.split_at.ensures.back c.log-before.ensures c.log.ensures in
     omega (arith, ap (length {A = Entry}) told, facts.short, c.need.ensures, c.in_ok-reserve.ensures.ok, c.in_ok-reserve.ensures.len)
 
 pub invariant_of-self-2 : goal.invariant_of-self-2
 invariant_of-self-2 c =
+    let facts = noted_call c.law_every_run.ensures.run c.seat_laws.ensures.short (the_view c.self.inside) _ c.room.new.self c.play_call-reply.new.self c.args.seat c.args.command.now c.play_call-reply.result c.self.invariant.0
+    c.self.view_is c.requires.may c.room.ensures.same c.room.ensures.others c.play_call-reply.ensures.steps c.play_call-reply.ensures.answer c.play_call-reply.ensures.leave c.play_call-reply.ensures.refused c.play_call-reply.ensures.spent in
+    let told = told_since c.room.new.self c.play_call-reply.new.self c.args.seat c.split_at.result.1.now c.log-before.result.now c.log.result.now c.split_at.ensures.back c.log-before.ensures c.log.ensures in
     let whole : MachineHeapValue = the_view c.self.inside in
-    let may = subst (λ (v : MachineHeapValue). MayCall (play_state_of v) c.args.seat c.args.command.now) (sym c.self.view_is) c.requires.may in
-    let s = stands c.law_every_run.ensures.run whole.machine.heap whole.machine.state whole.entries c.self.invariant.0.calls in
-    let made = c.play_call-reply.ensures in
-    let facts = call_facts c.law_every_run.ensures.run c.seat_laws.ensures.short whole c.room.new.self c.play_call-reply.new.self c.args.seat c.args.command.now c.play_call-reply.result c.self.invariant.0 may c.room.ensures.same
-    (c.room.ensures.others (length whole.machine.state.seats) (λ e. omega (arith, e, may.within, s.rule.machine.seated))) made.steps made.answer made.leave made.refused made.spent in
-    let told : c.split_at.result.1.now ≡ since c.room.new.self c.play_call-reply.new.self c.args.seat
-    = c.split_at.ensures.back ∙ ap (λ (l : List Entry). drop (length l) c.log.result.now) c.log-before.ensures ∙ ap (drop (length (log_of c.room.new.self c.args.seat))) c.log.ensures in
-    let same_heap : c.play_call-reply.new.self.heap ≡ whole.machine.heap = made.heap ∙ ap (λ (m : MachineValue). m.heap) c.room.ensures.same in
+    let same_heap : c.play_call-reply.new.self.heap ≡ whole.machine.heap = c.play_call-reply.ensures.heap ∙ ap (λ (m : MachineValue). m.heap) c.room.ensures.same in
     let listed : c.note_all.new.list.items ≡ whole.entries ++ since c.room.new.self c.play_call-reply.new.self c.args.seat
     = c.note_all.ensures.items ∙ ap (λ (l : List Entry). l ++ c.split_at.result.1.now) c.reserve.ensures.items ∙ ap (λ (l : List Entry). whole.entries ++ l) told in
     let new : MachineHeapValue = record { machine = c.play_call-reply.new.self; entries = c.note_all.new.list.items; spare = c.saturating_sub-self-inside.result; turns = whole.turns; last_turn = whole.last_turn } in (
@@ -61,18 +48,16 @@ invariant_of-self-2 c =
 
 pub returns-clause-answers : goal.returns-clause-answers
 returns-clause-answers c =
+    let facts = noted_call c.law_every_run.ensures.run c.seat_laws.ensures.short (the_view c.self.inside) _ c.room.new.self c.play_call-reply.new.self c.args.seat c.args.command.now c.play_call-reply.result c.self.invariant.0
+    c.self.view_is c.requires.may c.room.ensures.same c.room.ensures.others c.play_call-reply.ensures.steps c.play_call-reply.ensures.answer c.play_call-reply.ensures.leave c.play_call-reply.ensures.refused c.play_call-reply.ensures.spent in
+    let told = told_since c.room.new.self c.play_call-reply.new.self c.args.seat c.split_at.result.1.now c.log-before.result.now c.log.result.now c.split_at.ensures.back c.log-before.ensures c.log.ensures in
     let whole : MachineHeapValue = the_view c.self.inside in
-    let may = subst (λ (v : MachineHeapValue). MayCall (play_state_of v) c.args.seat c.args.command.now) (sym c.self.view_is) c.requires.may in
-    let s = stands c.law_every_run.ensures.run whole.machine.heap whole.machine.state whole.entries c.self.invariant.0.calls in
-    let made = c.play_call-reply.ensures in
-    let facts = call_facts c.law_every_run.ensures.run c.seat_laws.ensures.short whole c.room.new.self c.play_call-reply.new.self c.args.seat c.args.command.now c.play_call-reply.result c.self.invariant.0 may c.room.ensures.same
-    (c.room.ensures.others (length whole.machine.state.seats) (λ e. omega (arith, e, may.within, s.rule.machine.seated))) made.steps made.answer made.leave made.refused made.spent in
-    let told : c.split_at.result.1.now ≡ since c.room.new.self c.play_call-reply.new.self c.args.seat
-    = c.split_at.ensures.back ∙ ap (λ (l : List Entry). drop (length l) c.log.result.now) c.log-before.ensures ∙ ap (drop (length (log_of c.room.new.self c.args.seat))) c.log.ensures in
-    let same_heap : c.play_call-reply.new.self.heap ≡ whole.machine.heap = made.heap ∙ ap (λ (m : MachineValue). m.heap) c.room.ensures.same in
+    let same_heap : c.play_call-reply.new.self.heap ≡ whole.machine.heap = c.play_call-reply.ensures.heap ∙ ap (λ (m : MachineValue). m.heap) c.room.ensures.same in
     let listed : c.note_all.new.list.items ≡ whole.entries ++ since c.room.new.self c.play_call-reply.new.self c.args.seat
     = c.note_all.ensures.items ∙ ap (λ (l : List Entry). l ++ c.split_at.result.1.now) c.reserve.ensures.items ∙ ap (λ (l : List Entry). whole.entries ++ l) told in
     let new : MachineHeapValue = record { machine = c.play_call-reply.new.self; entries = c.note_all.new.list.items; spare = c.saturating_sub-self-inside.result; turns = whole.turns; last_turn = whole.last_turn } in
+    let may = subst (λ (v : MachineHeapValue). MayCall (play_state_of v) c.args.seat c.args.command.now) (sym c.self.view_is) c.requires.may in
+    let s = stands c.law_every_run.ensures.run whole.machine.heap whole.machine.state whole.entries c.self.invariant.0.calls in
     let left : c.saturating_sub-self-inside.result ≡ whole.spare - length (since c.room.new.self c.play_call-reply.new.self c.args.seat) = omega (arith, c.saturating_sub-self-inside.ensures, ap (length {A = Entry}) told) in
     subst (λ (v : MachineHeapValue). AnswersCall (play_state_of v) (play_state_of new) c.args.seat c.args.command.now c.play_call-reply.result) c.self.view_is
     (answers_call c.law_every_run.ensures.free whole new c.args.seat c.args.command.now c.play_call-reply.result s c.self.invariant.0 may
@@ -81,15 +66,11 @@ returns-clause-answers c =
 
 pub returns-clause-machine : goal.returns-clause-machine
 returns-clause-machine c =
+    let facts = noted_call c.law_every_run.ensures.run c.seat_laws.ensures.short (the_view c.self.inside) _ c.room.new.self c.play_call-reply.new.self c.args.seat c.args.command.now c.play_call-reply.result c.self.invariant.0
+    c.self.view_is c.requires.may c.room.ensures.same c.room.ensures.others c.play_call-reply.ensures.steps c.play_call-reply.ensures.answer c.play_call-reply.ensures.leave c.play_call-reply.ensures.refused c.play_call-reply.ensures.spent in
+    let told = told_since c.room.new.self c.play_call-reply.new.self c.args.seat c.split_at.result.1.now c.log-before.result.now c.log.result.now c.split_at.ensures.back c.log-before.ensures c.log.ensures in
     let whole : MachineHeapValue = the_view c.self.inside in
-    let may = subst (λ (v : MachineHeapValue). MayCall (play_state_of v) c.args.seat c.args.command.now) (sym c.self.view_is) c.requires.may in
-    let s = stands c.law_every_run.ensures.run whole.machine.heap whole.machine.state whole.entries c.self.invariant.0.calls in
-    let made = c.play_call-reply.ensures in
-    let facts = call_facts c.law_every_run.ensures.run c.seat_laws.ensures.short whole c.room.new.self c.play_call-reply.new.self c.args.seat c.args.command.now c.play_call-reply.result c.self.invariant.0 may c.room.ensures.same
-    (c.room.ensures.others (length whole.machine.state.seats) (λ e. omega (arith, e, may.within, s.rule.machine.seated))) made.steps made.answer made.leave made.refused made.spent in
-    let told : c.split_at.result.1.now ≡ since c.room.new.self c.play_call-reply.new.self c.args.seat
-    = c.split_at.ensures.back ∙ ap (λ (l : List Entry). drop (length l) c.log.result.now) c.log-before.ensures ∙ ap (drop (length (log_of c.room.new.self c.args.seat))) c.log.ensures in
-    let same_heap : c.play_call-reply.new.self.heap ≡ whole.machine.heap = made.heap ∙ ap (λ (m : MachineValue). m.heap) c.room.ensures.same in
+    let same_heap : c.play_call-reply.new.self.heap ≡ whole.machine.heap = c.play_call-reply.ensures.heap ∙ ap (λ (m : MachineValue). m.heap) c.room.ensures.same in
     let listed : c.note_all.new.list.items ≡ whole.entries ++ since c.room.new.self c.play_call-reply.new.self c.args.seat
     = c.note_all.ensures.items ∙ ap (λ (l : List Entry). l ++ c.split_at.result.1.now) c.reserve.ensures.items ∙ ap (λ (l : List Entry). whole.entries ++ l) told in
     let new : MachineHeapValue = record { machine = c.play_call-reply.new.self; entries = c.note_all.new.list.items; spare = c.saturating_sub-self-inside.result; turns = whole.turns; last_turn = whole.last_turn } in

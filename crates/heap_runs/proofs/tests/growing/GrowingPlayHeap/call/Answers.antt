@@ -1,0 +1,27 @@
+use Rattle.std.proofs.Common.{◌≡◌, ◌∷◌, [], ◌++◌, List, true, refl, sym, subst, rules}
+use Rattle.heap_model.specs.declared.entry.Entry.{Entry}
+use Rattle.heap_model.specs.declared.entry.Entry.TheVariants.{Said}
+use Rattle.heap_model.specs.declared.reply.Reply.TheVariants.{Done}
+use Rattle.heap_runs.specs.Growing.{is_plain, IsGrowing}
+use Rattle.heap_runs.specs.PlayHeap.{PlayState, AnswersCall}
+use Rattle.heap_runs.proofs.Growing.{growing_more, growing_answers}
+use Rattle.heap_runs.proofs.tests.growing.GrowingPlayHeap.call.Goals as goal
+
+pub invariant_of-self-2 : goal.invariant_of-self-2
+invariant_of-self-2 c =
+    let heap = c.self.inside.heap in
+    let plain : is_plain c.args.command.now ≡ true = search rules in
+    let listed : c.note.new.list.items ≡ c.self.inside.entries.items ++ Said c.args.seat c.args.command.now Done ∷ [] = search rules in
+    let growing = growing_more heap c.self.inside.entries.items c.self.inside.graph c.apply.new.self c.args.seat c.args.command.now c.self.invariant plain c.in-Ok.ensures.accepted c.in-Ok.ensures.grown in
+    subst (λ (es : List Entry). IsGrowing heap es c.apply.new.self) (sym listed) growing
+
+pub returns : goal.returns
+returns c =
+    let old : PlayState = record { heap = c.self.inside.heap; entries = c.self.inside.entries.items; spare = c.self.inside.spare; turns = c.self.inside.turns; last_turn = c.self.inside.last_turn } in
+    let plain : is_plain c.args.command.now ≡ true = search rules in
+    let listed : c.note.new.list.items ≡ old.entries ++ Said c.args.seat c.args.command.now Done ∷ [] = search rules in
+    let new : PlayState = record old { entries = c.note.new.list.items } in
+    record {
+      answers = subst (λ (s : PlayState). AnswersCall s new c.args.seat c.args.command.now Done) c.self.view_is
+          (growing_answers old new c.args.seat c.args.command.now c.self.invariant.plain plain refl listed refl refl refl);
+    }

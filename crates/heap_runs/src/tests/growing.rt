@@ -1,0 +1,116 @@
+//! A heap without a machine: it keeps the graph that its entries grow, and serves what takes no fragments.
+
+ghost use Rattle.std.specs.Prelude.{◌≡◌, [], IfOk};
+ghost use Rattle.heap_model.specs.Heap.{IsHeap};
+ghost use Rattle.heap_runs.specs.Growing.{is_plain};
+
+use crate::PlayHeap;
+use crate::note::note;
+use heap_model::{Command, Entry, Graph, Heap, Memory, Reply, Turn};
+use std::alloc::Global;
+use std::marker::Model;
+
+/// Each of its turns is a step that adds nothing. For all that takes fragments or looks at a field it has no memory.
+#[derive(Drop)]
+pub struct Growing {
+    heap: Heap,
+    entries: Vec<Entry>,
+    graph: Graph,
+    spare: usize,
+    turns: u64,
+    last_turn: Option<Turn>,
+}
+
+impl Model for Growing {
+    ghost use Rattle.heap_runs.specs.PlayHeap.{PlayState};
+    ghost use Rattle.heap_runs.specs.Growing.{IsGrowing};
+
+    ghost Value = { PlayState };
+
+    ghost view = { λ whole. record {
+      heap = whole.heap;
+      entries = whole.entries.items;
+      spare = whole.spare;
+      turns = whole.turns;
+      last_turn = whole.last_turn;
+    } };
+
+    ghost invariant = { λ whole. IsGrowing whole.heap whole.entries.items whole.graph };
+}
+
+impl Growing {
+    pub fn new(alloc: Global, heap: Heap) -> Result<Growing, Memory>
+        requires { IsHeap heap }
+        ensures fresh { IfOk result (λ whole. whole.entries ≡ []) }
+        ensures heap { IfOk result (λ whole. whole.heap ≡ heap) }
+    {
+        Ok(Growing {
+            heap,
+            entries: Vec::new(alloc),
+            graph: Graph::new(alloc, heap)?,
+            spare: 0,
+            turns: 0,
+            last_turn: None,
+        })
+    }
+}
+
+/// Whether the command changes registers alone, or leaves.
+fn changes_registers(command: &Command) -> bool
+    ensures { result ≡ is_plain command.now }
+{
+    matches!(
+        *command,
+        Command::Num { .. } | Command::Nil { .. } | Command::Copy { .. } | Command::Leave
+    )
+}
+
+impl PlayHeap for Growing {
+    ghost state = { λ whole. whole };
+
+    fn call(&mut self, seat: u8, command: &Command) -> Result<Reply, Memory> {
+        if !changes_registers(command) {
+            return Err(Memory);
+        }
+        let entry = Entry::Said {
+            seat,
+            command: *command,
+            reply: Reply::Done,
+        };
+        self.entries.reserve(1)?;
+        let Ok(()) = self.graph.apply(&entry) else {
+            return Err(Memory);
+        };
+        note(&mut self.entries, entry);
+        Ok(Reply::Done)
+    }
+
+    fn turn(&mut self) -> Result<Turn, Memory> {
+        self.turns = self.turns.saturating_add(1);
+        self.last_turn = Some(Turn::Stepped);
+        Ok(Turn::Stepped)
+    }
+
+    fn room(&mut self, n: usize) -> Result<(), Memory> {
+        self.spare = self.spare.max(n);
+        Ok(())
+    }
+
+    fn spare(&self) -> usize {
+        self.spare
+    }
+
+    fn phase(&self) -> u64 {
+        // What is true of every such heap is known from here on.
+        let _ = &self.entries;
+        0
+    }
+
+    fn turns(&self) -> u64 {
+        self.turns
+    }
+
+    fn entries(&self) -> &[Entry] {
+        &self.entries
+    }
+}
