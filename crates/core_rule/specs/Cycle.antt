@@ -1,7 +1,6 @@
 -- What is true of the heap and of a seat in the phases of a cycle.
-use Rattle.std.specs.Prelude.{◌≡◌, ℕ, ◌≤◌, Bool, List}
+use Rattle.std.specs.Prelude.{◌≡◌, ℕ, Bool, List}
 use Rattle.heap_model.specs.declared.heap.Heap.{Heap}
-use Rattle.heap_model.specs.PhasePlan.{marking}
 use Rattle.core_machine.specs.declared.table.address.Address.TheVariants.{Phase}
 use Rattle.core_machine.specs.table.Layout.{at}
 use Rattle.core_machine.specs.seat.Seat.{Seat}

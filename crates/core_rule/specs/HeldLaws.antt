@@ -1,5 +1,5 @@
 -- The laws of what is held, of any state and book that meet the rule.
-use Rattle.std.specs.Prelude.{◌≡◌, ℕ, ◌*◌, ◌<◌}
+use Rattle.std.specs.Prelude.{ℕ, ◌*◌, ◌<◌}
 use Rattle.heap_model.specs.declared.heap.Heap.{Heap}
 use Rattle.core_rule.specs.Marking.{IsSettled}
 use Rattle.core_machine.specs.machine.Machine.{State, Event, Can, state_after}

@@ -1,14 +1,13 @@
 -- The turns of the sweep and of the clearing, in the last two phases of a cycle.
-use Rattle.std.specs.Prelude.{ℕ, ◌+◌, ◌-◌, ◌*◌, ◌/◌, ◌<◌, ◌^◌, [], ◌∷◌, count_ones}
+use Rattle.std.specs.Prelude.{ℕ, ◌+◌, ◌*◌, [], ◌∷◌, count_ones}
 use Rattle.heap_model.specs.declared.calls.collector_calls.Turn.TheVariants.{Stepped}
 use Rattle.heap_model.specs.declared.entry.Entry.TheVariants.{Frees}
 use Rattle.heap_model.specs.declared.heap.Heap.{Heap}
 use Rattle.heap_model.specs.Limits.{group_fragments}
-use Rattle.heap_model.specs.PhasePlan.{cycle_phases}
 use Rattle.core_machine.specs.declared.step.Step.TheVariants.{Turning}
 use Rattle.core_machine.specs.declared.step.TurningStep.TheVariants as turning
 use Rattle.core_machine.specs.collector.Sweeping.{dead_bits_of, next_place_of, taken_count_of, after_swept, after_examined, after_cleared}
-use Rattle.core_machine.specs.collector.Turn.{Collector, Turn, after_advance, work_turn}
+use Rattle.core_machine.specs.collector.Turn.{Collector, Turn, work_turn}
 
 -- a group's control word is loaded for what is dead in it
 abbrev pub sweep_turn : Heap → Collector → ℕ → Turn

@@ -1,5 +1,5 @@
 -- What stands of the heap and of each seat when dead fragments of a group are freed.
-use Rattle.std.proofs.Common.{◌≡◌, ◌≢◌, ℕ, ◌+◌, ◌*◌, ◌%◌, ◌^◌, ◌<◌, ◌≤◌, false, List, [], ◌∷◌, ◌++◌, length, inl, bit_and, refl, ap, ◌∙◌, arith}
+use Rattle.std.proofs.Common.{◌≡◌, ℕ, ◌+◌, ◌*◌, ◌%◌, ◌^◌, ◌<◌, ◌≤◌, false, List, [], ◌∷◌, ◌++◌, length, inl, bit_and, refl, ap, ◌∙◌, arith}
 use Rattle.heap_model.specs.declared.entry.Entry.{Entry}
 use Rattle.heap_model.specs.declared.entry.Entry.TheVariants.{Frees}
 use Rattle.heap_model.specs.declared.heap.Heap.{Heap}
@@ -22,7 +22,7 @@ use Rattle.core_rule.specs.Colours.{IsMarked}
 use Rattle.core_rule.specs.Counts.{AreUsed}
 use Rattle.core_rule.specs.Cycle.{HeapInCycle}
 use Rattle.core_rule.specs.Marking.{AreDead, AfterMarking}
-use Rattle.core_rule.specs.Owners.{Owner, Free, Borne, taken_bit, born_bit, dead_bit, owner_after}
+use Rattle.core_rule.specs.Owners.{Owner, Free, taken_bit, born_bit, dead_bit, owner_after}
 use Rattle.core_rule.specs.Rule.{Rule, HeapStands, SeatStands}
 use Rattle.core_rule.proofs.colours.LeadsFrames.{leads_control}
 use Rattle.core_rule.proofs.cycle.CycleFrames.{coloured_stays}
