@@ -69,12 +69,12 @@ module _ (heap : Heap) (state : State) (book : Book) (rule : Rule heap state boo
   -- a mark and a blacken clear no bit
   set_keeps : (g bits : ℕ) → IsTaken heap (put heap words (Control g) (bit_or (at heap words (Control g)) bits)) f
   set_keeps g bits = control_keeps g (bit_or (at heap words (Control g)) bits) (λ here.
-    omega (arith, bit_at_or (at heap words (Control g)) bits (f % 16), found_set g here, bit_at-lt bits (f % 16)))
+      omega (arith, bit_at_or (at heap words (Control g)) bits (f % 16), found_set g here, bit_at-lt bits (f % 16)))
 
   -- a clear leaves the taken bits
   clear_keeps_taken : (g : ℕ) → IsTaken heap (put heap words (Control g) (bit_and (at heap words (Control g)) marks_cleared)) f
   clear_keeps_taken g = control_keeps g (bit_and (at heap words (Control g)) marks_cleared) (λ here.
-    cleared_low (at heap words (Control g)) (f % 16) (omega arith) ∙ found_set g here)
+      cleared_low (at heap words (Control g)) (f % 16) (omega arith) ∙ found_set g here)
 
   -- a free clears those of what is to be freed
   free_spares : (g dead : ℕ) → state.collector.stage ≡ stages.Freeing g dead
