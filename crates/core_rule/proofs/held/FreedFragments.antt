@@ -67,8 +67,8 @@ module _ (heap : Heap) (state : State) (book : Book) (rule : Rule heap state boo
       there here = rw here (control_same heap words word g rule.machine.table (omega (arith, here, within)))
 
   -- a mark and a blacken clear no bit
-  set_keeps : (g bits : ℕ) → IsTaken heap (put heap words (Control g) (bit_or (at heap words (Control g)) bits)) f
-  set_keeps g bits = control_keeps g (bit_or (at heap words (Control g)) bits) (λ here.
+  or_keeps : (g bits : ℕ) → IsTaken heap (put heap words (Control g) (bit_or (at heap words (Control g)) bits)) f
+  or_keeps g bits = control_keeps g (bit_or (at heap words (Control g)) bits) (λ here.
       omega (arith, bit_at_or (at heap words (Control g)) bits (f % 16), found_set g here, bit_at-lt bits (f % 16)))
 
   -- a clear leaves the taken bits
@@ -91,10 +91,11 @@ module _ (heap : Heap) (state : State) (book : Book) (rule : Rule heap state boo
         not_dead,
       ))
 
+  -- so each turn leaves it taken
   turn_keeps_taken : (stage : Stage) → state.collector.stage ≡ stage → IsTaken heap (state_after_turn heap state (turn_at heap state.collector stage)).words f
   turn_keeps_taken stages.Advancing is = same_keeps _ (at-put_apart heap words Phase (Control (f / 16)) _ (λ e. omega (arith, e)))
-  turn_keeps_taken (stages.Shading scan target next) is = set_keeps _ _
-  turn_keeps_taken (stages.Blackening scan) is = set_keeps _ _
+  turn_keeps_taken (stages.Shading scan target next) is = or_keeps _ _
+  turn_keeps_taken (stages.Blackening scan) is = or_keeps _ _
   turn_keeps_taken (stages.Freeing group dead) is = free_spares group dead is
   turn_keeps_taken (stages.Clearing group kept) is = clear_keeps_taken group
   turn_keeps_taken _ is = load_keeps _
