@@ -3,3 +3,4 @@ pub mod Alive
 pub mod Holders
 pub mod BodyWords
 pub mod HeldFragments
+pub mod FreedFragments

@@ -2,7 +2,7 @@
 use Rattle.std.specs.Prelude.{ℕ, ◌*◌, ◌<◌}
 use Rattle.heap_model.specs.declared.heap.Heap.{Heap}
 use Rattle.core_rule.specs.Marking.{IsSettled}
-use Rattle.core_machine.specs.machine.Machine.{State, Event, Can, state_after}
+use Rattle.core_machine.specs.machine.Machine.{State, Event, Turns, Can, state_after}
 use Rattle.core_rule.specs.Book.{Book}
 use Rattle.core_rule.specs.ControlWords.{IsTaken, IsBorn, IsMarkedIn}
 use Rattle.core_rule.specs.Held.{IsHeld}
@@ -17,6 +17,11 @@ EachHeldIsTaken = (heap : Heap) (state : State) (book : Book) (f : ℕ) → Rule
 abbrev pub NoClaimTakesHeld : Type 0
 NoClaimTakesHeld = (heap : Heap) (state : State) (book : Book) (event : Event) (f : ℕ) → Rule heap state book → Can heap state event
     → ¬ IsTaken heap state.words f → IsTaken heap (state_after heap state event).words f → ¬ IsHeld heap state f
+
+-- a turn of the collector leaves taken what is held
+abbrev pub NoFreeTakesHeld : Type 0
+NoFreeTakesHeld = (heap : Heap) (state : State) (book : Book) (f : ℕ) → Rule heap state book → IsHeld heap state f
+    → IsTaken heap (state_after heap state Turns).words f
 
 -- from the end of marking to the end of the sweep the marked bit of each held fragment that is born is set
 abbrev pub EachHeldIsMarked : Type 0

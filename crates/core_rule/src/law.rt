@@ -1,5 +1,5 @@
 ghost use Rattle.core_rule.specs.Laws.{EachEventKeeps, EveryRunKeeps, WholeCallsPlay, FreeIsUnused, EachBirthHasItsColour, EachAnswerIsMarked, EachWaitIsBehind, EachTurnComesTo};
-ghost use Rattle.core_rule.specs.HeldLaws.{EachHeldIsTaken, NoClaimTakesHeld, EachHeldIsMarked};
+ghost use Rattle.core_rule.specs.HeldLaws.{EachHeldIsTaken, NoClaimTakesHeld, NoFreeTakesHeld, EachHeldIsMarked};
 
 /// The rule holds after every list of begins, steps and turns of the collector, over every heap.
 pub fn law_every_run()
@@ -13,5 +13,6 @@ pub fn law_every_run()
     ensures turns { EachTurnComesTo }
     ensures held { EachHeldIsTaken }
     ensures claims { NoClaimTakesHeld }
+    ensures frees { NoFreeTakesHeld }
     ensures marked { EachHeldIsMarked }
 {}

@@ -44,7 +44,7 @@ module _ (heap : Heap) (state : State) (book : Book) (rule : Rule heap state boo
       by (Kept i k) is alive = kept_leads f i k part x is leads
       by (Dead i k) is alive = absurd alive
 
-  held_alive : (f : ℕ) → IsHeld heap state f → IsAlive (book.owner f)
+  pub held_alive : (f : ℕ) → IsHeld heap state f → IsAlive (book.owner f)
   held_alive f (by_seat number _ here holds) = holds_alive heap state book rule number here f holds
   held_alive g (by_word f _ held born edge) = word_alive f edge.part g (held_alive f held) born edge.points
 

@@ -1,5 +1,6 @@
 use Rattle.core_machine.proofs.machine_lemmas.Runs.{machine_after}
 use Rattle.core_rule.proofs.counts.FreeSums.{free_is_unused}
+use Rattle.core_rule.proofs.held.FreedFragments.{no_free_takes_held}
 use Rattle.core_rule.proofs.held.HeldFragments.{each_held_is_taken, no_claim_takes_held, each_held_is_marked}
 use Rattle.core_rule.proofs.runs.BornWords.{each_birth_has_its_colour}
 use Rattle.core_rule.proofs.runs.MarkedAnswers.{each_answer_is_marked}
@@ -40,6 +41,9 @@ returns-clause-held c = each_held_is_taken
 
 pub returns-clause-claims : goal.returns-clause-claims
 returns-clause-claims c = no_claim_takes_held
+
+pub returns-clause-frees : goal.returns-clause-frees
+returns-clause-frees c = no_free_takes_held
 
 pub returns-clause-marked : goal.returns-clause-marked
 returns-clause-marked c = each_held_is_marked
