@@ -69,10 +69,10 @@ const TAKEN_OUT: &[&str] = &[
     "c step => blacken 12 found 4fff5fff7fffffff",
     "c step => group 0 found 5fff5fff7fffffff",
     "c step => group 0 found 5fff5fff7fffffff",
-    "c step => group 0 found 5fff5fff7fffffff",
-    "c due => group 0",
+    "c step => advance 4 found 3; c phase 4",
+    "c due => look 0",
     "control 0 => 5fff5fff7fffffff at 19",
-    "phase => 3",
+    "phase => 4",
 ];
 
 #[test]
