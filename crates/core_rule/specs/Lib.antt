@@ -18,3 +18,4 @@ pub mod Rule
 pub mod Laws
 pub mod Held
 pub mod HeldLaws
+pub mod GraphLaws
