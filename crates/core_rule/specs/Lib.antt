@@ -11,7 +11,9 @@ pub mod Colours
 pub mod Paths
 pub mod Phases
 pub mod Flight
+pub mod Sweep
 pub mod Marking
+pub mod Roots
 pub mod Together
 pub mod Cycle
 pub mod Rule
