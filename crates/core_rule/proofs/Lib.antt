@@ -6,6 +6,7 @@ pub mod frames
 pub mod gather
 pub mod graph
 pub mod hand
+pub mod growth
 pub mod held
 pub mod marking
 pub mod lists

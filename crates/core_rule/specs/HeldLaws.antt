@@ -1,7 +1,7 @@
 -- The laws of what is held, of any state and book that meet the rule.
 use Rattle.std.specs.Prelude.{ℕ, ◌*◌, ◌<◌}
 use Rattle.heap_model.specs.declared.heap.Heap.{Heap}
-use Rattle.core_rule.specs.Marking.{IsSettled}
+use Rattle.core_rule.specs.Sweep.{IsSettled}
 use Rattle.core_machine.specs.machine.Machine.{State, Event, Turns, Can, state_after}
 use Rattle.core_rule.specs.Book.{Book}
 use Rattle.core_rule.specs.ControlWords.{IsTaken, IsBorn, IsMarkedIn}

@@ -11,10 +11,13 @@ pub mod Colours
 pub mod Paths
 pub mod Phases
 pub mod Flight
+pub mod Sweep
 pub mod Marking
+pub mod Roots
 pub mod Together
 pub mod Cycle
 pub mod Rule
 pub mod Laws
 pub mod Held
 pub mod HeldLaws
+pub mod GraphLaws

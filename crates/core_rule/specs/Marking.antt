@@ -1,22 +1,15 @@
 -- What is true while the collector marks, and after that.
-use Rattle.std.specs.Prelude.{◌≡◌, ◌≢◌, ℕ, ◌+◌, ◌/◌, ◌*◌, ◌%◌, ◌<◌, ◌≤◌, ◌⊎◌, false, List, Some, IfSome}
-use Rattle.std.specs.Int.{bit_at}
+use Rattle.std.specs.Prelude.{◌≡◌, ◌≢◌, ℕ, ◌+◌, ◌/◌, ◌<◌, ◌≤◌, ◌⊎◌, false, List, Some}
 use Rattle.heap_model.specs.declared.heap.Heap.{Heap}
 use Rattle.heap_model.specs.Limits.{group_fragments}
-use Rattle.heap_model.specs.PhasePlan.{cycle_phases, marking, copying, sweep}
-use Rattle.core_machine.specs.collector.Collector.{Collector}
 use Rattle.core_machine.specs.declared.collector.stage.Stage.{Stage}
 use Rattle.core_machine.specs.declared.collector.stage.Stage.TheVariants as stages
-use Rattle.core_machine.specs.declared.place.Access.{Access}
-use Rattle.core_machine.specs.declared.place.Access.TheVariants.{Naming, ShadingOld}
-use Rattle.core_machine.specs.seat.Registers.{register_in, register_head}
-use Rattle.core_machine.specs.seat.Seat.{Seat}
-use Rattle.core_machine.specs.table.Decode.{head_of}
 use Rattle.core_rule.specs.Book.{Colour, White, Grey, fragment_at}
 use Rattle.core_rule.specs.Colours.{IsMarked, WordPointsTo}
-use Rattle.core_rule.specs.Flight.{DeletionBarrier, WhileAccess}
-use Rattle.core_rule.specs.Owners.{Owner, Kept, Dead, dead_bit}
-use Rattle.core_rule.specs.Paths.{IsWhite, IsReached}
+use Rattle.core_rule.specs.Flight.{DeletionBarrier}
+use Rattle.core_rule.specs.Owners.{Owner, Kept, Dead}
+use Rattle.core_rule.specs.Paths.{IsWhite}
+use Rattle.core_rule.specs.Sweep.{IsSettled, SweepStands}
 
 -- the fragment is part of a kept object
 pub record IsPart (owner : ℕ → Owner) (f : ℕ) : Type 0 where
@@ -58,32 +51,6 @@ pub record AfterMarking (owner : ℕ → Owner) (colour : ℕ → Colour) : Type
   pub white_dead : (f : ℕ) → IsWhite owner colour f → (i : ℕ) × (k : ℕ) × (owner f ≡ Dead i k)
   pub dead_white : (f i k : ℕ) → owner f ≡ Dead i k → colour f ≡ White
 
--- marking has ended, and the phase of the sweep hasn't
-abbrev pub IsSettled : ℕ → Stage → Type 0
-IsSettled phase stage = ((phase % cycle_phases ≡ marking) × (stage ≡ stages.Advancing)) ⊎ (phase % cycle_phases ≡ copying) ⊎ (phase % cycle_phases ≡ sweep)
-
--- in the groups before this one nothing is to be freed
-abbrev pub AreFreed : (ℕ → Owner) → ℕ → Type 0
-AreFreed owner group = (f i k : ℕ) → f / group_fragments < group → owner f ≢ Dead i k
-
--- these bits are set for those of the group's fragments that are to be freed
-abbrev pub AreDead : (ℕ → Owner) → ℕ → ℕ → Type 0
-AreDead owner group bits = (place : ℕ) → place < group_fragments → bit_at bits place ≡ dead_bit (owner (group_fragments * group + place))
-
--- in the groups before this one nothing is marked
-abbrev pub AreCleared : (ℕ → Colour) → ℕ → Type 0
-AreCleared colour group = (f : ℕ) → f / group_fragments < group → colour f ≡ White
-
--- how far the sweep and the clearing are at each of their stages
-abbrev pub SweepStands : Heap → (ℕ → Owner) → (ℕ → Colour) → ℕ → Stage → Type 0
-SweepStands heap owner colour phase (stages.Sweeping group) = AreFreed owner group
-SweepStands heap owner colour phase (stages.Examining group dead place) = AreFreed owner group × AreDead owner group dead
-SweepStands heap owner colour phase (stages.Freeing group dead) = AreFreed owner group × AreDead owner group dead
-SweepStands heap owner colour phase (stages.Clearing group kept) = AreCleared colour group
-SweepStands heap owner colour phase (stages.Cleared kept) = AreCleared colour heap.groups
-SweepStands heap owner colour phase stages.Advancing = phase % cycle_phases ≡ sweep → AreFreed owner heap.groups
-SweepStands heap owner colour phase _ = Unit {0}
-
 -- what is grey is part of a kept object; a scan, a pass, a sweep and a clearing are right; and nothing is to be freed but from the end of marking to
 -- the end of the sweep
 pub record MarkingStands (heap : Heap) (words : List ℕ) (owner : ℕ → Owner) (colour : ℕ → Colour) (fragments : ℕ → List ℕ) (phase : ℕ) (stage : Stage) : Type 0 where
@@ -93,23 +60,3 @@ pub record MarkingStands (heap : Heap) (words : List ℕ) (owner : ℕ → Owner
   pub sweep_stands : SweepStands heap owner colour phase stage
   pub alive : ¬ IsSettled phase stage → (f i k : ℕ) → owner f ≢ Dead i k
   pub after : IsSettled phase stage → AfterMarking owner colour
-
--- the phase is one of marking, which hasn't ended
-pub record IsInMarking (collector : Collector) : Type 0 where
-  pub phase : collector.phase % cycle_phases ≡ marking
-  pub goes_on : collector.stage ≢ stages.Advancing
-
--- what a call on its way has reached, and the old value or the object that it has loaded
-abbrev pub AtCall : (ℕ → Type 0) → Seat → Access → Type 0
-AtCall P seat Naming = IfSome (head_of seat.loaded) P
-AtCall P seat ShadingOld = P seat.reached × IfSome (head_of seat.loaded) P
-AtCall P seat _ = P seat.reached
-
--- so it is with the objects of a seat's registers, and what its call has reached and loaded
-pub record OfRoots (P : ℕ → Type 0) (seat : Seat) : Type 0 where
-  pub registers : (r : ℕ) → IfSome (register_head (register_in seat.registers r)) P
-  pub call : WhileAccess (AtCall P seat) seat.place
-
--- until marking has ended it comes to each root of a seat that has answered its phase
-abbrev pub RootsAreReached : Heap → List ℕ → (ℕ → Owner) → (ℕ → Colour) → Collector → Seat → Type 0
-RootsAreReached heap words owner colour collector seat = IsInMarking collector → seat.answered ≡ collector.phase → OfRoots (IsReached heap words owner colour) seat

@@ -23,7 +23,8 @@ use Rattle.core_rule.specs.Cycle.{HeapInCycle, SeatInCycle}
 use Rattle.core_rule.specs.Together.{AreTogether}
 use Rattle.core_rule.specs.Ways.{WayStands}
 use Rattle.core_rule.specs.Gathers.{GathersRight, Began}
-use Rattle.core_rule.specs.Marking.{MarkingStands, RootsAreReached}
+use Rattle.core_rule.specs.Marking.{MarkingStands}
+use Rattle.core_rule.specs.Roots.{RootsAreReached}
 
 -- what is true of the heap
 pub record HeapStands (heap : Heap) (words : List ℕ) (book : Book) : Type 0 where

@@ -1,6 +1,8 @@
 //! The rule that every state of the machine keeps, and its law over every list of steps.
 #![tactic(auto)]
 
+mod graphs;
 mod law;
 
+pub use graphs::graph_laws;
 pub use law::law_every_run;

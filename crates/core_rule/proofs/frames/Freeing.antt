@@ -21,7 +21,8 @@ use Rattle.core_rule.specs.Book.{Book}
 use Rattle.core_rule.specs.Colours.{IsMarked}
 use Rattle.core_rule.specs.Counts.{AreUsed}
 use Rattle.core_rule.specs.Cycle.{HeapInCycle}
-use Rattle.core_rule.specs.Marking.{AreDead, AfterMarking}
+use Rattle.core_rule.specs.Marking.{AfterMarking}
+use Rattle.core_rule.specs.Sweep.{AreDead}
 use Rattle.core_rule.specs.Owners.{Owner, Free, taken_bit, born_bit, dead_bit, owner_after}
 use Rattle.core_rule.specs.Rule.{Rule, HeapStands, SeatStands}
 use Rattle.core_rule.proofs.colours.LeadsFrames.{leads_control}

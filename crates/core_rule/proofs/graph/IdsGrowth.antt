@@ -10,7 +10,7 @@ use Rattle.core_rule.specs.Objects.{FitsName, AreMade}
 use Rattle.core_rule.proofs.graph.Numbering.{id_tells, number_of-le, id_at-number_of, number_of-append, number_of-new, id_at-append, id_at-new, slice_get-append}
 
 -- an id with no object wasn't made
-not_made : (g : Graph) (id : Id) → node g id ≡ None → IsMade g id → ⊥
+pub not_made : (g : Graph) (id : Id) → node g id ≡ None → IsMade g id → ⊥
 not_made g id none is = false≢true (subst (λ (o : Option Node). IsSome o) none is)
 
 -- the ids of a graph that has one object more

@@ -50,7 +50,7 @@ emptied_write g number (Object Board) i cell has = has
 emptied_write g number (Object (Made other count)) i cell has = emptied_with g number other (with_object_cell (graph_seat g other) count i cell) has (λ its. its)
 
 -- the registers of one that leaves
-all_nil : (r : ℕ) → get_or (replicate register_count Nil) r Nil ≡ Nil
+pub all_nil : (r : ℕ) → get_or (replicate register_count Nil) r Nil ≡ Nil
 all_nil r = elim (cases_lt r register_count) as (λ _. get_or (replicate register_count Nil) r Nil ≡ Nil) [
   | inl there ↦ get_or-replicate register_count r Nil Nil there
   | inr past ↦ get_or_past (replicate register_count Nil) r Nil (omega (arith, past, length-replicate register_count Nil))

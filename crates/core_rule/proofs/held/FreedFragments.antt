@@ -18,7 +18,7 @@ use Rattle.core_rule.specs.Book.{Book}
 use Rattle.core_rule.specs.ControlWords.{IsTaken, control_of}
 use Rattle.core_rule.specs.Held.{IsHeld}
 use Rattle.core_rule.specs.HeldLaws.{NoFreeTakesHeld}
-use Rattle.core_rule.specs.Marking.{SweepStands, AreDead}
+use Rattle.core_rule.specs.Sweep.{SweepStands, AreDead}
 use Rattle.core_rule.specs.Owners.{dead_bit}
 use Rattle.core_rule.specs.Rule.{Rule}
 use Rattle.core_rule.proofs.held.Alive.{alive_not_dead}

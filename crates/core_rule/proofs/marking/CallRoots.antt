@@ -23,7 +23,7 @@ use Rattle.core_machine.specs.table.Layout.{at}
 use Rattle.core_machine.specs.machine.Machine.{State, seat_at, call_start}
 use Rattle.core_rule.specs.Book.{Book, fragment_at}
 use Rattle.core_rule.specs.Flight.{WhileAccess}
-use Rattle.core_rule.specs.Marking.{IsInMarking, AtCall, OfRoots}
+use Rattle.core_rule.specs.Roots.{IsInMarking, AtCall, OfRoots}
 use Rattle.core_rule.specs.Objects.{cells_at}
 use Rattle.core_rule.specs.Owners.{born_bit}
 use Rattle.core_rule.specs.Paths.{IsReached}

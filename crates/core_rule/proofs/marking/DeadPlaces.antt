@@ -10,7 +10,8 @@ use Rattle.core_machine.proofs.table_lemmas.DeadBits.{dead_tells}
 use Rattle.core_rule.specs.Book.{Colour, White, Grey, Black}
 use Rattle.core_rule.specs.Colours.{Marks, marked_bit}
 use Rattle.core_rule.specs.ControlWords.{Bits}
-use Rattle.core_rule.specs.Marking.{AreDead, AfterMarking}
+use Rattle.core_rule.specs.Marking.{AfterMarking}
+use Rattle.core_rule.specs.Sweep.{AreDead}
 use Rattle.core_rule.specs.Owners.{Owner, born_bit, dead_bit}
 use Rattle.core_rule.proofs.colours.MarkWords.{found_marked}
 use Rattle.core_rule.proofs.owners.OwnerLemmas.{dead_once, is_dead, bits_same}

@@ -10,7 +10,7 @@ use Rattle.core_machine.specs.declared.seat.register.Register.TheVariants as reg
 use Rattle.core_machine.specs.machine.Machine.{State, seat_at}
 use Rattle.core_machine.specs.seat.Registers.{register_in, register_head}
 use Rattle.core_rule.specs.Book.{Book}
-use Rattle.core_rule.specs.Marking.{OfRoots}
+use Rattle.core_rule.specs.Roots.{OfRoots}
 use Rattle.core_rule.specs.Registers.{HoldsValue}
 use Rattle.core_rule.specs.Rule.{Rule}
 use Rattle.core_rule.proofs.entries.AtRest.{seat_fits}

@@ -6,7 +6,8 @@ use Rattle.core_machine.specs.declared.collector.stage.Stage.TheVariants as stag
 use Rattle.core_rule.specs.Book.{Colour, White, Grey, Black, fragment_at}
 use Rattle.core_rule.specs.Colours.{IsMarked, WordPointsTo}
 use Rattle.core_rule.specs.Flight.{DeletionBarrier}
-use Rattle.core_rule.specs.Marking.{IsPart, MayMark, IsSeen, ComesAfter, ScanStands, PassStands, AfterMarking, IsSettled, AreFreed, AreDead, AreCleared, SweepStands, MarkingStands}
+use Rattle.core_rule.specs.Marking.{IsPart, MayMark, IsSeen, ComesAfter, ScanStands, PassStands, AfterMarking, MarkingStands}
+use Rattle.core_rule.specs.Sweep.{IsSettled, AreFreed, AreDead, AreCleared, SweepStands}
 use Rattle.core_rule.specs.Owners.{Owner, Kept, Dead, born_bit, dead_bit}
 use Rattle.core_rule.specs.Paths.{IsWhite, Edge, IsReached}
 use Rattle.core_rule.proofs.marking.Paths.{path_stays}

@@ -17,7 +17,9 @@ use Rattle.core_machine.specs.table.Decode.{head_of}
 use Rattle.core_rule.specs.Book.{Book, Colour, Grey}
 use Rattle.core_rule.specs.Colours.{WordPointsTo, IsBetween}
 use Rattle.core_rule.specs.Flight.{WhileAccess}
-use Rattle.core_rule.specs.Marking.{IsPart, ScanStands, PassStands, SweepStands, MarkingStands, IsSettled, IsInMarking, AtCall, OfRoots, RootsAreReached}
+use Rattle.core_rule.specs.Marking.{IsPart, ScanStands, PassStands, MarkingStands}
+use Rattle.core_rule.specs.Roots.{IsInMarking, AtCall, OfRoots, RootsAreReached}
+use Rattle.core_rule.specs.Sweep.{SweepStands, IsSettled}
 use Rattle.core_rule.specs.Owners.{Owner, Dead, born_bit}
 use Rattle.core_rule.specs.Paths.{IsReached}
 use Rattle.core_rule.specs.Rule.{Rule}

@@ -20,7 +20,8 @@ use Rattle.core_machine.specs.table.Layout.{at}
 use Rattle.core_machine.specs.table.Newborn.{link_after}
 use Rattle.core_rule.specs.Book.{Book, Colour, Grey, fragment_at, id_at, object_head}
 use Rattle.core_rule.specs.Colours.{IsMarked, WordPointsTo, IsBetween}
-use Rattle.core_rule.specs.Marking.{IsPart, MayMark, IsSeen, ComesAfter, ScanStands, PassStands, SweepStands}
+use Rattle.core_rule.specs.Marking.{IsPart, MayMark, IsSeen, ComesAfter, ScanStands, PassStands}
+use Rattle.core_rule.specs.Sweep.{SweepStands}
 use Rattle.core_rule.specs.Objects.{IsKept, KeptObject, name_of, is_cell, cells_at}
 use Rattle.core_rule.specs.Owners.{Owner, Kept}
 use Rattle.core_rule.specs.Rule.{Rule}

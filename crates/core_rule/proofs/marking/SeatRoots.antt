@@ -14,7 +14,7 @@ use Rattle.core_machine.specs.table.Decode.{head_of}
 use Rattle.core_rule.specs.Book.{Book, Grey}
 use Rattle.core_rule.specs.Colours.{IsMarked}
 use Rattle.core_rule.specs.Flight.{ShadedStands, WhileAccess}
-use Rattle.core_rule.specs.Marking.{AtCall, OfRoots}
+use Rattle.core_rule.specs.Roots.{AtCall, OfRoots}
 use Rattle.core_rule.specs.Paths.{IsReached}
 use Rattle.core_rule.specs.Rule.{Rule}
 use Rattle.core_rule.proofs.entries.AtRest.{seat_fits, in_flight}

@@ -11,7 +11,8 @@ use Rattle.core_machine.specs.table.Layout.{at, put}
 use Rattle.core_machine.specs.table.Operation.{shade_bit_of}
 use Rattle.core_rule.specs.Book.{Book}
 use Rattle.core_rule.specs.Colours.{WordPointsTo}
-use Rattle.core_rule.specs.Marking.{IsPart, IsInMarking}
+use Rattle.core_rule.specs.Marking.{IsPart}
+use Rattle.core_rule.specs.Roots.{IsInMarking}
 use Rattle.core_rule.specs.Paths.{IsReached}
 use Rattle.core_rule.specs.Rule.{Rule}
 use Rattle.core_rule.proofs.colours.LeadsFrames.{leads_control, control_leads}

@@ -6,7 +6,8 @@ use Rattle.core_machine.specs.declared.collector.stage.Stage.{Stage}
 use Rattle.core_machine.specs.declared.collector.stage.Stage.TheVariants as stages
 use Rattle.core_rule.specs.Book.{Colour, White, Grey, fragment_at}
 use Rattle.core_rule.specs.Colours.{IsMarked, WordPointsTo}
-use Rattle.core_rule.specs.Marking.{IsPart, MayMark, IsSeen, ScanStands, PassStands, AfterMarking, SweepStands, MarkingStands}
+use Rattle.core_rule.specs.Marking.{IsPart, MayMark, IsSeen, ScanStands, PassStands, AfterMarking, MarkingStands}
+use Rattle.core_rule.specs.Sweep.{SweepStands}
 use Rattle.core_rule.specs.Owners.{Owner, Kept, Dead, born_bit}
 use Rattle.core_rule.specs.Paths.{Guarded, from_grey, from_white, IsReached}
 use Rattle.core_rule.proofs.colours.ShadeColours.{with_mark, mark_away, mark_keeps}

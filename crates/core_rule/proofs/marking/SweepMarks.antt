@@ -7,7 +7,8 @@ use Rattle.core_machine.specs.collector.Sweeping.{after_swept, after_examined, a
 use Rattle.core_machine.specs.declared.collector.stage.Stage.{Stage}
 use Rattle.core_machine.specs.declared.collector.stage.Stage.TheVariants as stages
 use Rattle.core_rule.specs.Book.{Colour}
-use Rattle.core_rule.specs.Marking.{ScanStands, PassStands, SweepStands, AfterMarking, AreFreed, AreDead, MarkingStands}
+use Rattle.core_rule.specs.Marking.{ScanStands, PassStands, AfterMarking, MarkingStands}
+use Rattle.core_rule.specs.Sweep.{SweepStands, AreFreed, AreDead}
 use Rattle.core_rule.specs.Owners.{Owner}
 use Rattle.core_rule.proofs.owners.DeadOwners.{freed_on}
 

@@ -5,7 +5,8 @@ use Rattle.std.proofs.lemmas.Bool.Decides.{eqb_tells}
 use Rattle.std.proofs.lemmas.Nat.Bits.{bit_at-zero}
 use Rattle.core_machine.specs.table.Fragments.{tally}
 use Rattle.core_rule.specs.Book.{Colour}
-use Rattle.core_rule.specs.Marking.{AreFreed, AreDead, AfterMarking}
+use Rattle.core_rule.specs.Marking.{AfterMarking}
+use Rattle.core_rule.specs.Sweep.{AreFreed, AreDead}
 use Rattle.core_rule.specs.Owners.{Owner, Free, Kept, Dead, born_bit, dead_bit, IsSeated, IsBoards, OwnersStand, holds_bit, bears_bit, owner_after}
 use Rattle.core_rule.proofs.hand.HandMoves.{SameHand}
 use Rattle.core_rule.proofs.objects.ObjectFrames.{SameKept, handed_kept, free_keeps_none}

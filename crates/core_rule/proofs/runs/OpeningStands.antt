@@ -22,7 +22,8 @@ use Rattle.core_machine.specs.machine.Value.{IsMachine}
 use Rattle.core_machine.proofs.machine_lemmas.OpeningMachine.{opening_machine}
 use Rattle.core_rule.specs.Book.{Book, White}
 use Rattle.core_rule.specs.Laws.{StandsFor}
-use Rattle.core_rule.specs.Marking.{IsSettled, MarkingStands}
+use Rattle.core_rule.specs.Marking.{MarkingStands}
+use Rattle.core_rule.specs.Sweep.{IsSettled}
 use Rattle.core_rule.specs.Owners.{Dead, holds_bit, bears_bit}
 use Rattle.core_rule.specs.Phases.{CollectorAgrees}
 use Rattle.core_rule.specs.Registers.{Registers}

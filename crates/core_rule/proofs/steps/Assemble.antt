@@ -20,7 +20,7 @@ use Rattle.core_rule.specs.Book.{Book}
 use Rattle.core_rule.specs.Counts.{is_collectors}
 use Rattle.core_rule.specs.Laws.{StandsFor}
 use Rattle.core_rule.specs.Phases.{CollectorAgrees}
-use Rattle.core_rule.specs.Marking.{RootsAreReached}
+use Rattle.core_rule.specs.Roots.{RootsAreReached}
 use Rattle.core_rule.specs.Paths.{IsReached}
 use Rattle.core_rule.specs.Rule.{Rule, HeapStands, SeatStands, MarksStand}
 pub use Rattle.core_rule.proofs.entries.AtRest.{seat_fits, in_flight}

@@ -24,7 +24,7 @@ use Rattle.core_rule.specs.Flight.{FieldStands, ShadedStands}
 use Rattle.core_rule.specs.Gathers.{IsAnswered}
 use Rattle.core_rule.specs.Objects.{cells_at}
 use Rattle.core_rule.specs.Registers.{IsAwaited, HoldsValue}
-use Rattle.core_rule.specs.Marking.{IsInMarking, AtCall, OfRoots}
+use Rattle.core_rule.specs.Roots.{IsInMarking, AtCall, OfRoots}
 use Rattle.core_rule.specs.Rule.{Rule}
 use Rattle.core_rule.specs.Ways.{AccessStands}
 use Rattle.core_rule.proofs.steps.Assemble.{Keeps}

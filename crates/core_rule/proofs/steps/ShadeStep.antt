@@ -18,7 +18,7 @@ use Rattle.core_rule.specs.Counts.{OwnList}
 use Rattle.core_rule.specs.Cycle.{SeatInCycle}
 use Rattle.core_rule.specs.Gathers.{IsAnswered}
 use Rattle.core_rule.specs.Colours.{IsMarked}
-use Rattle.core_rule.specs.Marking.{IsInMarking}
+use Rattle.core_rule.specs.Roots.{IsInMarking}
 use Rattle.core_rule.specs.Objects.{IsKept, cells_at}
 use Rattle.core_rule.specs.Owners.{Borne, Kept as KeepsPart}
 use Rattle.core_rule.specs.Paths.{IsReached}

@@ -8,7 +8,7 @@ use Rattle.core_machine.specs.table.Operation.{free_mask_of, marks_cleared}
 use Rattle.core_rule.specs.Book.{Colour, White, Grey}
 use Rattle.core_rule.specs.Colours.{Marks, marked_bit, scanned_bit}
 use Rattle.core_rule.specs.ControlWords.{Bits}
-use Rattle.core_rule.specs.Marking.{AreDead, AreCleared}
+use Rattle.core_rule.specs.Sweep.{AreDead, AreCleared}
 use Rattle.core_rule.specs.Owners.{Owner, Free, taken_bit, born_bit, owner_after}
 use Rattle.core_rule.proofs.colours.MarkWords.{marks_after, found_marked, found_scanned}
 use Rattle.core_rule.proofs.owners.DeadOwners.{of_dead, set_dead}

@@ -35,7 +35,7 @@ use Rattle.core_machine.specs.machine.Value.{IsMachine}
 use Rattle.core_rule.proofs.entries.AtRest.{seat_fits, spent_own, few_own}
 use Rattle.core_rule.specs.Book.{Book, id_at, object_number, object_head}
 use Rattle.core_rule.specs.Gathers.{IsAnswered}
-use Rattle.core_rule.specs.Marking.{IsInMarking}
+use Rattle.core_rule.specs.Roots.{IsInMarking}
 use Rattle.core_rule.specs.Objects.{NamesKept, cells_at, value_word}
 use Rattle.core_rule.specs.Registers.{HoldsValue, IsAwaited}
 use Rattle.core_rule.specs.Rule.{Rule}

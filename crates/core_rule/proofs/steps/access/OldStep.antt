@@ -16,7 +16,7 @@ use Rattle.core_machine.specs.seat.Registers.{register_head}
 use Rattle.core_machine.specs.seat.Seat.{Seat, with_entries}
 use Rattle.core_machine.specs.machine.Value.{IsMachine}
 use Rattle.core_rule.specs.Colours.{IsMarked, WordPointsTo}
-use Rattle.core_rule.specs.Marking.{IsInMarking, OfRoots}
+use Rattle.core_rule.specs.Roots.{IsInMarking, OfRoots}
 use Rattle.core_rule.specs.Objects.{cells_at}
 use Rattle.core_rule.specs.Ways.{Finds}
 use Rattle.core_rule.proofs.steps.Assemble.{Keeps, StepKeeps, seat_fits}

@@ -20,7 +20,7 @@ use Rattle.core_machine.specs.machine.Value.{IsMachine}
 use Rattle.core_rule.specs.Book.{Book}
 use Rattle.core_rule.specs.Counts.{Awaits}
 use Rattle.core_rule.specs.Gathers.{IsAnswered}
-use Rattle.core_rule.specs.Marking.{IsInMarking, AtCall, OfRoots}
+use Rattle.core_rule.specs.Roots.{IsInMarking, AtCall, OfRoots}
 use Rattle.core_rule.specs.Objects.{cells_at}
 use Rattle.core_rule.specs.Registers.{IsAwaited}
 use Rattle.core_rule.specs.Rule.{Rule}

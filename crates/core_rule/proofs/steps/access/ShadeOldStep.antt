@@ -17,7 +17,7 @@ use Rattle.core_machine.specs.machine.Value.{IsMachine}
 use Rattle.core_rule.specs.Book.{Colour, fragment_at}
 use Rattle.core_rule.specs.Colours.{IsMarked, WordPointsTo, IsBetween}
 use Rattle.core_rule.specs.Flight.{DeletionBarrier, FieldStands, WhileAccess}
-use Rattle.core_rule.specs.Marking.{IsInMarking, OfRoots}
+use Rattle.core_rule.specs.Roots.{IsInMarking, OfRoots}
 use Rattle.core_rule.specs.Objects.{cells_at}
 use Rattle.core_rule.specs.Ways.{Finds, LoadedKept}
 use Rattle.core_rule.proofs.steps.Assemble.{Keeps, StepKeeps, seat_fits}

@@ -9,7 +9,8 @@ use Rattle.core_machine.specs.declared.collector.stage.Stage.TheVariants as stag
 use Rattle.core_machine.specs.collector.FitsTurns.{FitsStage, HasLooked}
 use Rattle.core_machine.specs.machine.Machine.{State}
 use Rattle.core_rule.specs.Book.{Book}
-use Rattle.core_rule.specs.Marking.{MarkingStands, SweepStands, AfterMarking, IsSettled}
+use Rattle.core_rule.specs.Marking.{MarkingStands, AfterMarking}
+use Rattle.core_rule.specs.Sweep.{SweepStands, IsSettled}
 use Rattle.core_rule.specs.Owners.{Dead}
 use Rattle.core_rule.specs.Rule.{Rule}
 use Rattle.core_rule.proofs.cycle.NextPhase.{coloured_next}

@@ -11,7 +11,8 @@ use Rattle.core_machine.specs.declared.table.address.Address.TheVariants.{Contro
 use Rattle.core_machine.specs.machine.Machine.{State}
 use Rattle.core_machine.specs.table.Layout.{at}
 use Rattle.core_rule.specs.Book.{Book}
-use Rattle.core_rule.specs.Marking.{IsSettled, ScanStands, PassStands, SweepStands, AreCleared, MarkingStands}
+use Rattle.core_rule.specs.Marking.{ScanStands, PassStands, MarkingStands}
+use Rattle.core_rule.specs.Sweep.{IsSettled, SweepStands, AreCleared}
 use Rattle.core_rule.specs.Rule.{Rule}
 use Rattle.core_rule.proofs.frames.Clearing.{words_cleared, book_cleared, heap_cleared, seat_cleared}
 use Rattle.core_rule.proofs.marking.Marks.{settled_phase}

@@ -11,7 +11,8 @@ use Rattle.core_machine.specs.machine.Machine.{State, seat_at}
 use Rattle.core_machine.specs.machine.Value.{IsMachine}
 use Rattle.core_machine.specs.table.Layout.{at, put}
 use Rattle.core_rule.specs.Book.{Book, Colour}
-use Rattle.core_rule.specs.Marking.{MarkingStands, RootsAreReached}
+use Rattle.core_rule.specs.Marking.{MarkingStands}
+use Rattle.core_rule.specs.Roots.{RootsAreReached}
 use Rattle.core_rule.specs.Paths.{IsReached}
 use Rattle.core_rule.specs.Phases.{CollectorAgrees}
 use Rattle.core_rule.specs.Rule.{Rule}

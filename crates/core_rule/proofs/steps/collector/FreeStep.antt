@@ -13,7 +13,8 @@ use Rattle.core_machine.specs.machine.Machine.{State}
 use Rattle.core_machine.specs.machine.Value.{IsMachine}
 use Rattle.core_rule.specs.Book.{Book}
 use Rattle.core_rule.specs.Counts.{is_collectors}
-use Rattle.core_rule.specs.Marking.{AreFreed, AreDead, AfterMarking, SweepStands, MarkingStands}
+use Rattle.core_rule.specs.Marking.{AfterMarking, MarkingStands}
+use Rattle.core_rule.specs.Sweep.{AreFreed, AreDead, SweepStands}
 use Rattle.core_rule.specs.Phases.{CollectorAgrees}
 use Rattle.core_rule.specs.Rule.{Rule}
 use Rattle.core_rule.proofs.entries.PhaseEntries.{phase_stays, answered_stays, left_stays}

@@ -14,7 +14,8 @@ use Rattle.core_machine.specs.seat.Fits.{FitsStage}
 use Rattle.core_machine.specs.table.Layout.{at}
 use Rattle.core_machine.specs.machine.Machine.{State, seat_at}
 use Rattle.core_rule.specs.Book.{Book}
-use Rattle.core_rule.specs.Marking.{ScanStands, PassStands, SweepStands}
+use Rattle.core_rule.specs.Marking.{ScanStands, PassStands}
+use Rattle.core_rule.specs.Sweep.{SweepStands}
 use Rattle.core_rule.specs.Rule.{Rule, MarksStand}
 use Rattle.core_rule.specs.Phases.{CollectorAgrees}
 use Rattle.core_rule.proofs.marking.Marks.{settled_moves}

@@ -12,7 +12,8 @@ use Rattle.core_machine.specs.machine.Machine.{State}
 use Rattle.core_machine.specs.machine.Value.{IsMachine}
 use Rattle.core_machine.specs.table.Layout.{at, put}
 use Rattle.core_rule.specs.Book.{Book, Grey}
-use Rattle.core_rule.specs.Marking.{ScanStands, PassStands, SweepStands, MarkingStands}
+use Rattle.core_rule.specs.Marking.{ScanStands, PassStands, MarkingStands}
+use Rattle.core_rule.specs.Sweep.{SweepStands}
 use Rattle.core_rule.specs.Phases.{CollectorAgrees}
 use Rattle.core_rule.specs.Rule.{Rule}
 use Rattle.core_rule.proofs.marking.Marks.{marks_at, none_dead}

@@ -23,7 +23,8 @@ use Rattle.core_rule.specs.Colours.{Coloured, WordPointsTo}
 use Rattle.core_rule.specs.Counts.{is_collectors}
 use Rattle.core_rule.specs.Cycle.{HeapInCycle}
 use Rattle.core_rule.specs.Rule.{Rule, HeapStands, SeatStands}
-use Rattle.core_rule.specs.Marking.{OfRoots, MarkingStands}
+use Rattle.core_rule.specs.Marking.{MarkingStands}
+use Rattle.core_rule.specs.Roots.{OfRoots}
 use Rattle.core_rule.specs.Paths.{IsReached}
 use Rattle.core_rule.proofs.marking.GoneRoots.{gone_roots}
 use Rattle.core_rule.proofs.entries.AtRest.{seat_fits}

@@ -13,7 +13,8 @@ use Rattle.core_machine.specs.table.Decode.{pointer_in}
 use Rattle.core_machine.specs.table.Layout.{at}
 use Rattle.core_rule.specs.Book.{Book}
 use Rattle.core_rule.specs.Colours.{IsBetween}
-use Rattle.core_rule.specs.Marking.{IsSeen, IsPart, ScanStands, PassStands, SweepStands, MarkingStands}
+use Rattle.core_rule.specs.Marking.{IsSeen, IsPart, ScanStands, PassStands, MarkingStands}
+use Rattle.core_rule.specs.Sweep.{SweepStands}
 use Rattle.core_rule.specs.Rule.{Rule}
 use Rattle.core_rule.proofs.marking.Marks.{marks_at, none_dead}
 use Rattle.core_rule.proofs.marking.Scans.{scan_stands, scan_passes, scan_sweeps, scan_on_marks, may_mark, comes_after, seen_next}

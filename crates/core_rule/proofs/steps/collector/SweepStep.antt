@@ -9,7 +9,8 @@ use Rattle.core_machine.specs.machine.Machine.{State}
 use Rattle.core_machine.proofs.table_lemmas.DeadBits.{dead_few}
 use Rattle.core_machine.specs.table.Layout.{at}
 use Rattle.core_rule.specs.Book.{Book}
-use Rattle.core_rule.specs.Marking.{AreFreed, AreDead, AfterMarking, SweepStands}
+use Rattle.core_rule.specs.Marking.{AfterMarking}
+use Rattle.core_rule.specs.Sweep.{AreFreed, AreDead, SweepStands}
 use Rattle.core_rule.specs.Rule.{Rule}
 use Rattle.core_rule.proofs.marking.DeadPlaces.{are_dead}
 use Rattle.core_rule.proofs.marking.SweepMarks.{examined_further}

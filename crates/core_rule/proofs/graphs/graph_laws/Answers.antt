@@ -1,0 +1,8 @@
+use Rattle.core_rule.proofs.growth.LaterGraphs.{unreached_stays_so, each_object_stays}
+use Rattle.core_rule.proofs.graphs.graph_laws.Goals as goal
+
+pub returns-clause-unreached : goal.returns-clause-unreached
+returns-clause-unreached c = unreached_stays_so
+
+pub returns-clause-stays : goal.returns-clause-stays
+returns-clause-stays c = each_object_stays

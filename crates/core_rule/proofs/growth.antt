@@ -1,0 +1,6 @@
+-- What is reached as a graph grows.
+pub mod RegisterIds
+pub mod Growing
+pub mod SeatGrowth
+pub mod EntryGrowth
+pub mod LaterGraphs

@@ -1,0 +1,36 @@
+-- What is true while the collector sweeps, and while it clears marks.
+use Rattle.std.specs.Prelude.{◌≡◌, ◌≢◌, ℕ, ◌+◌, ◌/◌, ◌*◌, ◌%◌, ◌<◌, ◌⊎◌}
+use Rattle.std.specs.Int.{bit_at}
+use Rattle.heap_model.specs.declared.heap.Heap.{Heap}
+use Rattle.heap_model.specs.Limits.{group_fragments}
+use Rattle.heap_model.specs.PhasePlan.{cycle_phases, marking, copying, sweep}
+use Rattle.core_machine.specs.declared.collector.stage.Stage.{Stage}
+use Rattle.core_machine.specs.declared.collector.stage.Stage.TheVariants as stages
+use Rattle.core_rule.specs.Book.{Colour, White}
+use Rattle.core_rule.specs.Owners.{Owner, Dead, dead_bit}
+
+-- marking has ended, and the phase of the sweep hasn't
+abbrev pub IsSettled : ℕ → Stage → Type 0
+IsSettled phase stage = ((phase % cycle_phases ≡ marking) × (stage ≡ stages.Advancing)) ⊎ (phase % cycle_phases ≡ copying) ⊎ (phase % cycle_phases ≡ sweep)
+
+-- in the groups before this one nothing is to be freed
+abbrev pub AreFreed : (ℕ → Owner) → ℕ → Type 0
+AreFreed owner group = (f i k : ℕ) → f / group_fragments < group → owner f ≢ Dead i k
+
+-- these bits are set for those of the group's fragments that are to be freed
+abbrev pub AreDead : (ℕ → Owner) → ℕ → ℕ → Type 0
+AreDead owner group bits = (place : ℕ) → place < group_fragments → bit_at bits place ≡ dead_bit (owner (group_fragments * group + place))
+
+-- in the groups before this one nothing is marked
+abbrev pub AreCleared : (ℕ → Colour) → ℕ → Type 0
+AreCleared colour group = (f : ℕ) → f / group_fragments < group → colour f ≡ White
+
+-- how far the sweep and the clearing are at each of their stages
+abbrev pub SweepStands : Heap → (ℕ → Owner) → (ℕ → Colour) → ℕ → Stage → Type 0
+SweepStands heap owner colour phase (stages.Sweeping group) = AreFreed owner group
+SweepStands heap owner colour phase (stages.Examining group dead place) = AreFreed owner group × AreDead owner group dead
+SweepStands heap owner colour phase (stages.Freeing group dead) = AreFreed owner group × AreDead owner group dead
+SweepStands heap owner colour phase (stages.Clearing group kept) = AreCleared colour group
+SweepStands heap owner colour phase (stages.Cleared kept) = AreCleared colour heap.groups
+SweepStands heap owner colour phase stages.Advancing = phase % cycle_phases ≡ sweep → AreFreed owner heap.groups
+SweepStands heap owner colour phase _ = Unit {0}
