@@ -11,6 +11,7 @@ pub mod SwungLemmas
 pub mod Telling
 pub mod TellsMore
 pub mod Turns
+pub mod TurnedCounts
 pub mod TurnedRules
 pub mod Windows
 pub mod WithoutTurned

@@ -1,8 +1,12 @@
 -- The graph that only grows, and what is reached in it.
 pub mod Among
+pub mod FoundLemmas
+pub mod Heads
+pub mod InOrder
 pub mod MadeLemmas
 pub mod MarkLemmas
 pub mod NoteLemmas
 pub mod OrderLemmas
 pub mod PlaceLemmas
 pub mod SearchLemmas
+pub mod WalkLemmas

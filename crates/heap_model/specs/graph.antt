@@ -8,4 +8,5 @@ pub mod Reach
 pub mod Replies
 pub mod Search
 pub mod Sizes
+pub mod Walks
 pub mod Graph

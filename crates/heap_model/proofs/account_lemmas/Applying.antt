@@ -14,7 +14,7 @@ use Rattle.heap_model.specs.declared.account.cycle.Cycle.{Cycle}
 use Rattle.heap_model.specs.graph.Graph.{opening}
 use Rattle.heap_model.specs.graph.Growth.{counts_after}
 use Rattle.heap_model.specs.graph.Objects.{made_counts}
-use Rattle.heap_model.specs.graph.Reach.{IsReach}
+use Rattle.heap_model.specs.graph.Reach.{AreReached}
 use Rattle.heap_model.specs.graph.Sizes.{fragments_of_all, spine_words_of_all}
 use Rattle.heap_model.specs.account.Space.{total, words_granted}
 use Rattle.heap_model.specs.account.Effects.{effect_of, is_of}
@@ -98,7 +98,7 @@ begun-tells play old new history p c one cycle begun =
     let here : up_to_cycle (history ++ entries.Advance p ∷ []) ≡ history ++ entries.Advance p ∷ [] = up_to_last-yes begins_cycle history (entries.Advance p) (eq-eqb (p % 7) 1 one) in
     let graph : graph_of old.heap (up_to_cycle (history ++ entries.Advance p ∷ [])) ≡ graph_of old.heap history = ap (graph_of old.heap) here ∙ graph_after-more (opening old.heap) history (entries.Advance p) in
     record {
-      reached = subst (λ g. IsReach g cycle.reached.items) (sym graph) begun.reached;
+      reached = subst (λ g. AreReached g cycle.reached.items) (sym graph) begun.reached;
       frags = begun.frags ∙ ap (λ g. fragments_of_all g cycle.reached.items) (sym graph);
       words = begun.words ∙ ap (λ g. spine_words_of_all g cycle.reached.items) (sym graph);
       brought = begun.brought ∙ sum-range-same _ _ 0 old.heap.seats (λ number above below. each number (omega (arith, below))) ∙ ap (all_bring old.heap) (sym here);
@@ -116,7 +116,7 @@ begun-tells play old new history p c one cycle begun =
 -- what is told of a cycle stays so until the next begins
 cycle-stays : (heap : Heap) (cycle : Cycle) (history later : List Entry) → up_to_cycle later ≡ up_to_cycle history → TellsCycle heap cycle history → TellsCycle heap cycle later
 cycle-stays heap cycle history later same told = record {
-  reached = subst (λ h. IsReach (graph_of heap h) cycle.reached.items) (sym same) told.reached;
+  reached = subst (λ h. AreReached (graph_of heap h) cycle.reached.items) (sym same) told.reached;
   frags = told.frags ∙ ap (λ h. fragments_of_all (graph_of heap h) cycle.reached.items) (sym same);
   words = told.words ∙ ap (λ h. spine_words_of_all (graph_of heap h) cycle.reached.items) (sym same);
   brought = told.brought ∙ ap (all_bring heap) (sym same);
@@ -160,7 +160,7 @@ applied play old mid new history entry t keeps prepared noted =
     cycle : 1 ≤ new.all.phases → (begins_cycle entry ≡ true) ⊎ (begins_cycle entry ≡ false) → TellsCycle old.heap new.cycle (history ++ entry ∷ [])
     cycle some (inl fits) =
         let a = advance_of entry fits in
-        subst (λ x. TellsCycle old.heap x (history ++ entry ∷ [])) (sym noted.cycle) (begun entry c a.0 a.1 a.2 (prepared.begun fits))
+        subst (λ x. TellsCycle old.heap x (history ++ entry ∷ [])) (sym noted.cycle) (begun entry c a.0 a.1 a.2 (prepared.begun fits t.made))
     cycle some (inr fails) =
         subst (λ x. TellsCycle old.heap x (history ++ entry ∷ [])) (sym (noted.cycle ∙ prepared.same fails))
         (cycle-stays old.heap old.cycle history (history ++ entry ∷ []) (up_to_last-no begins_cycle history entry fails) (t.cycle (earlier fails some)))

@@ -1,20 +1,23 @@
 -- What is kept of a cycle.
-use Rattle.std.proofs.Common.{◌≡◌, ℕ, zero, suc, ◌+◌, ◌-◌, ◌≤◌, List, [], ap, ◌∙◌, subst, arith, sum_by, add-zero, zero-add, add-one}
+use Rattle.std.proofs.Common.{◌≡◌, ℕ, zero, suc, ◌+◌, ◌-◌, ◌≤◌, List, [], ap, sym, ◌∙◌, arith, sum_by, add-zero, zero-add, add-one}
 use Rattle.std.proofs.lemmas.List.Sums.{sum_by-cons}
 use Rattle.std.specs.List.{range_with_len}
+use Rattle.std.specs.List.Sorted.{IsPermutation}
+use Rattle.std.proofs.lemmas.List.Sorted.{IsPermutation-sym, Contains-permutation, sum_by-IsPermutation}
 use Rattle.heap_model.specs.declared.id.Id.{Id}
 use Rattle.heap_model.specs.declared.entry.Entry.{Entry}
 use Rattle.heap_model.specs.graph.Graph.{Graph}
-use Rattle.heap_model.specs.graph.Reach.{IsReach, IsReachAmong}
-use Rattle.heap_model.specs.graph.Sizes.{fragments_of_all}
+use Rattle.heap_model.specs.graph.Reach.{IsReach, AreReached, AreReachedAmong}
+use Rattle.heap_model.specs.graph.Sizes.{fragments_at, fragments_of_all, spine_words_at, spine_words_of_all}
 use Rattle.heap_model.specs.account.Space.{total, words_granted}
 use Rattle.heap_model.specs.account.Effects.{effect_of}
 use Rattle.heap_model.specs.account.Windows.{begins_cycle, up_to_cycle, since_cycle}
-use Rattle.heap_model.specs.account.Cycles.{graph_of, IsReachOfBoth, IsWithinBounds, LeavesWithinBounds, KeepsReached}
+use Rattle.heap_model.specs.account.Cycles.{graph_of, IsReachOfBoth, LeavesWithinBounds, KeepsReached}
 use Rattle.heap_model.specs.account.Books.{Books, Tells, TellsCycle}
 use Rattle.heap_model.specs.account.Preparing.{IsWithinBy}
 use Rattle.heap_model.proofs.account_lemmas.Windows.{sum-parts}
 use Rattle.heap_model.proofs.graph_lemmas.Among.{same_ids}
+use Rattle.heap_model.proofs.graph_lemmas.InOrder.{in_order}
 
 -- a sum over one more number
 sum-range-suc : (f : ℕ → ℕ) (a n : ℕ) → sum_by f (range_with_len a (suc n)) ≡ sum_by f (range_with_len a n) + f (a + n)
@@ -28,19 +31,53 @@ sum-range-suc f a (suc n) =
 pub sum-range-more : (f : ℕ → ℕ) (n : ℕ) → sum_by f (range_with_len 0 (n + 1)) ≡ sum_by f (range_with_len 0 n) + f n
 sum-range-more f n = ap (λ k. sum_by f (range_with_len 0 k)) (add-one n) ∙ sum-range-suc f 0 n ∙ ap (λ k. sum_by f (range_with_len 0 n) + f k) (zero-add n)
 
--- there is one list of the reached ids
+-- there is one list of the reached ids in their order
 same_reach : (g : Graph) (xs ys : List Id) → IsReach g xs → IsReach g ys → xs ≡ ys
 same_reach g xs ys x y = same_ids xs ys x.ordered y.ordered (λ id h. (y.reached id).1 ((x.reached id).0 h)) (λ id h. (x.reached id).1 ((y.reached id).0 h))
 
--- and one of those that are reached in both graphs
-both_is : (g h : Graph) (reached both : List Id) → IsReach g reached → IsReachAmong h reached both → IsReachOfBoth g h both
-both_is g h reached both r a = record {
-  ordered = a.ordered r.ordered;
-  reached = λ id. (λ c. ((r.reached id).0 ((a.reached id).0 c).0, ((a.reached id).0 c).1), λ c. (a.reached id).1 ((r.reached id).1 c.0, c.1));
-}
-
 same_both : (g h : Graph) (xs ys : List Id) → IsReachOfBoth g h xs → IsReachOfBoth g h ys → xs ≡ ys
 same_both g h xs ys x y = same_ids xs ys x.ordered y.ordered (λ id c. (y.reached id).1 ((x.reached id).0 c)) (λ id c. (x.reached id).1 ((y.reached id).0 c))
+
+-- the reached ids can be put in their order
+reach_in_order : (g : Graph) (ids : List Id) → AreReached g ids → (ordered : List Id) × IsPermutation ids ordered × IsReach g ordered
+reach_in_order g ids are =
+    let put = in_order ids are.once in (
+      put.0,
+      put.1,
+      record {
+        ordered = put.2;
+        reached = λ id. (
+          λ held. (are.reached id).0 (Contains-permutation put.0 ids id (IsPermutation-sym ids put.0 put.1) held),
+          λ reaches. Contains-permutation ids put.0 id put.1 ((are.reached id).1 reaches),
+        );
+      },
+    )
+
+-- and so can those that are reached in both graphs
+both_in_order : (g h : Graph) (reached both : List Id) → AreReached g reached → AreReachedAmong h reached both → (ordered : List Id) × IsPermutation both ordered × IsReachOfBoth g h ordered
+both_in_order g h reached both are among =
+    let put = in_order both (among.once are.once) in (
+      put.0,
+      put.1,
+      record {
+        ordered = put.2;
+        reached = λ id. (
+          λ held. let kept = (among.reached id).0 (Contains-permutation put.0 both id (IsPermutation-sym both put.0 put.1) held) in ((are.reached id).0 kept.0, kept.1),
+          λ reaches. Contains-permutation both put.0 id put.1 ((among.reached id).1 ((are.reached id).1 reaches.0, reaches.1)),
+        );
+      },
+    )
+
+-- sums over the reached ids are the same in whatever order
+sum_of_reach : (f : Id → ℕ) (g : Graph) (ids ordered : List Id) → AreReached g ids → IsReach g ordered → sum_by f ordered ≡ sum_by f ids
+sum_of_reach f g ids ordered are reach =
+    let put = reach_in_order g ids are in
+    ap (sum_by f) (same_reach g ordered put.0 reach put.2) ∙ sum_by-IsPermutation f ids put.0 put.1
+
+sum_of_both : (f : Id → ℕ) (g h : Graph) (reached both ordered : List Id) → AreReached g reached → AreReachedAmong h reached both → IsReachOfBoth g h ordered → sum_by f ordered ≡ sum_by f both
+sum_of_both f g h reached both ordered are among reach =
+    let put = both_in_order g h reached both are among in
+    ap (sum_by f) (same_both g h ordered put.0 reach put.2) ∙ sum_by-IsPermutation f both put.0 put.1
 
 -- so little is in use and kept as by what the account keeps
 pub within_by : (books : Books) (history : List Entry) (kept : ℕ) → Tells books history → 1 ≤ books.all.phases
@@ -53,6 +90,12 @@ within_by books history kept t some = (to, from)
     g : Graph
     g = graph_of books.heap (up_to_cycle history)
 
+    frags : (begun : List Id) → IsReach g begun → fragments_of_all g begun ≡ books.cycle.frags
+    frags begun reach = sum_of_reach (fragments_at g) g books.cycle.reached.items begun told.reached reach ∙ sym told.frags
+
+    spines : (begun : List Id) → IsReach g begun → spine_words_of_all g begun ≡ books.cycle.words
+    spines begun reach = sum_of_reach (spine_words_at g) g books.cycle.reached.items begun told.reached reach ∙ sym told.words
+
     taken : total (λ e. e.taken) (since_cycle history) ≡ books.all.taken - books.cycle.taken_then
     taken = omega (arith, sum-parts begins_cycle (λ e. (effect_of e).taken) history, told.taken, t.all.taken)
 
@@ -60,32 +103,31 @@ within_by books history kept t some = (to, from)
     words = omega (arith, sum-parts begins_cycle (λ e. (effect_of e).words) history, told.granted, t.all.words)
 
     to : IsWithinBy books kept → LeavesWithinBounds books.heap history kept
-    to within begun' reach =
-        let same : books.cycle.reached.items ≡ begun' = same_reach g books.cycle.reached.items begun' told.reached reach in
-        subst (λ b. IsWithinBounds books.heap history kept b) same (record {
-          used = omega (arith, within.0, told.frags, told.brought, taken, t.all.taken, t.all.given, t.all.freed);
-          spine = omega (arith, within.1, told.words, words, t.all.words, t.all.returned);
-          at_most = omega (arith, within.2, told.frags, told.brought, taken);
-        })
+    to within begun reach = record {
+      used = omega (arith, within.0, frags begun reach, told.brought, taken, t.all.taken, t.all.given, t.all.freed);
+      spine = omega (arith, within.1, spines begun reach, words, t.all.words, t.all.returned);
+      at_most = omega (arith, within.2, frags begun reach, told.brought, taken);
+    }
 
     from : LeavesWithinBounds books.heap history kept → IsWithinBy books kept
     from leaves =
-        let within = leaves books.cycle.reached.items told.reached in (
-          omega (arith, within.used, told.frags, told.brought, taken, t.all.taken, t.all.given, t.all.freed),
-          omega (arith, within.spine, told.words, words, t.all.words, t.all.returned),
-          omega (arith, within.at_most, told.frags, told.brought, taken),
+        let put = reach_in_order g books.cycle.reached.items told.reached in
+        let within = leaves put.0 put.2 in (
+          omega (arith, within.used, frags put.0 put.2, told.brought, taken, t.all.taken, t.all.given, t.all.freed),
+          omega (arith, within.spine, spines put.0 put.2, words, t.all.words, t.all.returned),
+          omega (arith, within.at_most, frags put.0 put.2, told.brought, taken),
         )
 
 -- what is reached now among what was reached when the cycle began is what is reached at both
 pub reached_by : (books : Books) (history : List Entry) (kept : ℕ) (both : List Id) → Tells books history → 1 ≤ books.all.phases
-    → IsReachAmong (graph_of books.heap history) books.cycle.reached.items both
+    → AreReachedAmong (graph_of books.heap history) books.cycle.reached.items both
     → (fragments_of_all (graph_of books.heap history) both ≤ kept → KeepsReached books.heap history kept)
     × (KeepsReached books.heap history kept → fragments_of_all (graph_of books.heap history) both ≤ kept)
 reached_by books history kept both t some among =
     let g = graph_of books.heap (up_to_cycle history) in
     let h = graph_of books.heap history in
     let told : TellsCycle books.heap books.cycle history = t.cycle some in
-    let ours : IsReachOfBoth g h both = both_is g h books.cycle.reached.items both told.reached among in (
-      λ few both' of_both. subst (λ b. fragments_of_all h b ≤ kept) (same_both g h both both' ours of_both) few,
-      λ keeps. keeps both ours,
+    let same = sum_of_both (fragments_at h) g h books.cycle.reached.items both in (
+      λ few ordered reach. omega (arith, few, same ordered told.reached among reach),
+      λ keeps. let put = both_in_order g h books.cycle.reached.items both told.reached among in omega (arith, keeps put.0 put.2, same put.0 told.reached among put.2),
     )

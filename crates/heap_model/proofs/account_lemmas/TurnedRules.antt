@@ -1,7 +1,5 @@
 -- Each entry of a play keeps the rules with answers to commands of the collector before it or without them.
-use Rattle.std.proofs.Common.{◌≡◌, ℕ, ◌+◌, ◌*◌, ◌%◌, ◌<◌, ◌≤◌, List, [], ◌∷◌, ◌++◌, refl, sym, ap, ◌∙◌, subst, arith, Bool, true, false, cond, Contains, append_assoc, append-nil, sum_by}
-use Rattle.std.specs.List.{range_with_len}
-use Rattle.std.proofs.lemmas.List.Sums.{sum_by-cons}
+use Rattle.std.proofs.Common.{◌≡◌, ℕ, ◌+◌, ◌*◌, ◌%◌, ◌≤◌, List, [], ◌∷◌, ◌++◌, refl, sym, ap, ◌∙◌, subst, arith, Bool, true, false, cond, Contains, append-nil}
 use Rattle.std.proofs.lemmas.List.Elements.{filter-append}
 use Rattle.heap_model.specs.declared.heap.Heap.{Heap}
 use Rattle.heap_model.specs.declared.id.Id.{Id}
@@ -11,112 +9,22 @@ use Rattle.heap_model.specs.declared.reply.Reply.{Reply}
 use Rattle.heap_model.specs.declared.reply.Reply.TheVariants as replies
 use Rattle.heap_model.specs.declared.entry.Entry.{Entry}
 use Rattle.heap_model.specs.declared.entry.Entry.TheVariants as entries
-use Rattle.heap_model.specs.account.Effects.{effect_of, is_of}
-use Rattle.heap_model.specs.account.Space.{fragments_gained, fragments_lost, words_granted, words_returned, taken_of, spent_of, fragments_unborn}
-use Rattle.heap_model.specs.account.Windows.{is_reply_to, begins_phase, begins_cycle, up_to_reply, since_reply, up_to_cycle, since_cycle}
-use Rattle.heap_model.specs.account.PhaseCounts.{phase, last_answer, has_left, is_leave_of, AllAnswered, BeganSince}
-use Rattle.heap_model.specs.account.Phases.{IsBehind, ShowsPhases, ShowsRightly, AnswersPhase, BeginsPhase}
+use Rattle.heap_model.specs.account.Windows.{is_reply_to, begins_phase, since_reply}
+use Rattle.heap_model.specs.account.PhaseCounts.{AllAnswered, BeganSince}
+use Rattle.heap_model.specs.account.Phases.{ShowsPhases, ShowsRightly, AnswersPhase, BeginsPhase}
 use Rattle.heap_model.specs.account.Refusals.{ShowsSpace, ShowsSpine, RefusesRightly, RefusesSpine}
-use Rattle.heap_model.specs.account.Cycles.{graph_of, brings, all_bring, bound, spine_bound, IsWithinBounds, EndsCycle}
+use Rattle.heap_model.specs.account.Cycles.{EndsCycle}
 use Rattle.heap_model.specs.account.Sweep.{HasSwung, IsArray, Sweeps}
-use Rattle.heap_model.specs.account.Account.{KeepsSpace, KeepsSpaceAfter, IsLegal, TakesAndGives, MakesOfOwn}
-use Rattle.heap_model.specs.account.Turned.{is_of_heap, without_turned, AnswersRightly, AllAnswerRightly, TurnedMayStand, TurnedCountNothing, TurnedHoldNobody}
+use Rattle.heap_model.specs.account.Account.{KeepsSpace, KeepsSpaceAfter, TakesAndGives, MakesOfOwn}
+use Rattle.heap_model.specs.account.Turned.{is_of_heap, without_turned, AnswersRightly, AllAnswerRightly, TurnedMayStand}
 use Rattle.heap_model.specs.graph.Graph.{Graph, opening}
 use Rattle.heap_model.specs.graph.Growth.{after_entry}
 use Rattle.heap_model.specs.graph.Legal.{AcceptsAll}
-use Rattle.heap_model.specs.graph.Sizes.{fragments_of_all, spine_words_of_all}
-use Rattle.heap_model.proofs.account_lemmas.WithoutTurned.{same_sum, same_any, same_up_to, same_after, same_graph, contains_more, contains_still}
-
--- the counts are the same
-module _ (history : List Entry) where
-  gained : fragments_gained (without_turned history) ≡ fragments_gained history
-  gained = omega (arith, same_sum (λ e. (effect_of e).taken) (λ c r. refl) history)
-
-  lost : fragments_lost (without_turned history) ≡ fragments_lost history
-  lost = omega (arith, same_sum (λ e. (effect_of e).given) (λ c r. refl) history, same_sum (λ e. (effect_of e).freed) (λ c r. refl) history)
-
-  granted : words_granted (without_turned history) ≡ words_granted history
-  granted = same_sum (λ e. (effect_of e).words) (λ c r. refl) history
-
-  returned : words_returned (without_turned history) ≡ words_returned history
-  returned = same_sum (λ e. (effect_of e).returned) (λ c r. refl) history
-
-  here : phase (without_turned history) ≡ phase history
-  here = same_sum (λ e. (effect_of e).phases) (λ c r. refl) history
-
-  module _ (number : ℕ) where
-    took : taken_of number (without_turned history) ≡ taken_of number history
-    took = same_sum _ (λ c r. refl) history
-
-    spent : spent_of number (without_turned history) ≡ spent_of number history
-    spent =
-        omega (arith, same_sum (λ e. cond (is_of number e) (effect_of e).given 0) (λ c r. refl) history, same_sum (λ e. cond (is_of number e) (effect_of e).born 0) (λ c r. refl) history)
-
-    answered : last_answer number (without_turned history) ≡ last_answer number history
-    answered = same_sum _ (λ c r. refl) history
-
-    gone : has_left number (without_turned history) ≡ has_left number history
-    gone = same_any (is_leave_of number) (λ c r. refl) history
-
-  graphs : (heap : Heap) → graph_of heap (without_turned history) ≡ graph_of heap history
-  graphs heap = same_graph (opening heap) history
-
-pub turned_count_nothing : TurnedCountNothing
-turned_count_nothing history = record { gained_stay = gained history; lost_stay = lost history; granted_stay = granted history; returned_stay = returned history }
-
-pub turned_hold_nobody : TurnedHoldNobody
-turned_hold_nobody number answer p history is = record {
-  present = sym (gone history number) ∙ is.present;
-  answered = sym (answered history number) ∙ is.answered;
-  here = sym (here history) ∙ is.here;
-}
-
--- what a cycle leaves is the same
-module _ (history : List Entry) where
-  cycle_begun : up_to_cycle (without_turned history) ≡ without_turned (up_to_cycle history)
-  cycle_begun = same_up_to begins_cycle (λ c r. refl) history
-
-  cycle_since : since_cycle (without_turned history) ≡ without_turned (since_cycle history)
-  cycle_since = same_after begins_cycle (λ c r. refl) history
-
-  unborn : (number : ℕ) → fragments_unborn number (without_turned history) ≡ fragments_unborn number history
-  unborn number = rw (took history number, spent history number) refl
-
-bring : (history : List Entry) (number : ℕ) → brings number (without_turned history) ≡ brings number history
-bring history number =
-    rw (same_up_to (is_reply_to number) (λ c r. refl) history, same_after (is_reply_to number) (λ c r. refl) history)
-    (omega (arith, unborn (up_to_reply number history) number, took (since_reply number history) number))
-
-bring_all : (heap : Heap) (history : List Entry) → all_bring heap (without_turned history) ≡ all_bring heap history
-bring_all heap history = among (range_with_len 0 heap.seats)
-  where
-    among : (numbers : List ℕ) → sum_by (λ number. brings number (without_turned history)) numbers ≡ sum_by (λ number. brings number history) numbers
-    among [] = refl
-    among (number ∷ numbers) =
-        omega (arith, sum_by-cons (λ n. brings n (without_turned history)) number numbers, sum_by-cons (λ n. brings n history) number numbers, bring history number, among numbers)
+use Rattle.heap_model.specs.graph.Sizes.{fragments_of_all}
+use Rattle.heap_model.proofs.account_lemmas.WithoutTurned.{same_after, contains_more, contains_still}
+use Rattle.heap_model.proofs.account_lemmas.TurnedCounts.{gained, lost, granted, returned, here, took, spent, answered, gone, graphs, graph_then, bounds, spine_bounds, turned_hold_nobody}
 
 module _ (heap : Heap) (history : List Entry) where
-  graph_then : graph_of heap (up_to_cycle (without_turned history)) ≡ graph_of heap (up_to_cycle history)
-  graph_then = ap (graph_of heap) (cycle_begun history) ∙ graphs (up_to_cycle history) heap
-
-  bounds : (reached : List Id) → bound heap reached (without_turned history) ≡ bound heap reached history
-  bounds reached = omega (
-    arith,
-    ap (λ g. fragments_of_all g reached) graph_then,
-    ap (all_bring heap) (cycle_begun history),
-    bring_all heap (up_to_cycle history),
-    ap (λ es. sum_by (λ e. (effect_of e).taken) es) (cycle_since history),
-    same_sum (λ e. (effect_of e).taken) (λ c r. refl) (since_cycle history),
-  )
-
-  spine_bounds : (reached : List Id) → spine_bound heap reached (without_turned history) ≡ spine_bound heap reached history
-  spine_bounds reached = omega (
-    arith,
-    ap (λ g. spine_words_of_all g reached) graph_then,
-    ap (λ es. words_granted es) (cycle_since history),
-    granted (since_cycle history),
-  )
-
   all_answered : AllAnswered heap (without_turned history) → AllAnswered heap history
   all_answered all number below present = sym (answered history number) ∙ all number below (gone history number ∙ present) ∙ here history
 
@@ -125,14 +33,14 @@ module _ (heap : Heap) (history : List Entry) where
     (sym (here history) ∙ at, all_answered all),
     record {
       within = λ begun reach.
-          let within = leaves.within begun (rw graph_then reach) in
+          let within = leaves.within begun (rw (graph_then heap history) reach) in
           record {
-            used = omega (arith, within.used, gained history, lost history, bounds begun);
-            spine = omega (arith, within.spine, granted history, returned history, spine_bounds begun);
-            at_most = omega (arith, within.at_most, bounds begun);
+            used = omega (arith, within.used, gained history, lost history, bounds heap history begun);
+            spine = omega (arith, within.spine, granted history, returned history, spine_bounds heap history begun);
+            at_most = omega (arith, within.at_most, bounds heap history begun);
           };
       reached = λ both reach.
-          subst (λ g. fragments_of_all g both ≤ kept) (graphs history heap) (leaves.reached both (rw (graph_then, graphs history heap) reach));
+          subst (λ g. fragments_of_all g both ≤ kept) (graphs history heap) (leaves.reached both (rw (graph_then heap history, graphs history heap) reach));
     },
   )
   ends_cycle _ ends = tt

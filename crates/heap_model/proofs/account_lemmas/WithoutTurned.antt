@@ -1,7 +1,6 @@
 -- Answers to commands of the collector change no sum, no part and no graph of a history.
-use Rattle.std.proofs.Common.{◌≡◌, ℕ, ◌+◌, List, [], ◌∷◌, ◌++◌, inl, inr, refl, sym, ap, ◌∙◌, subst, Bool, true, false, ◌||◌, cond, filter, arith, Contains, sum_by}
+use Rattle.std.proofs.Common.{◌≡◌, ℕ, ◌+◌, List, [], ◌∷◌, inl, inr, refl, sym, ap, ◌∙◌, subst, Bool, true, false, ◌||◌, cond, arith, Contains, sum_by}
 use Rattle.std.specs.List.{list_any}
-use Rattle.std.proofs.lemmas.Bool.{cond-true}
 use Rattle.std.proofs.lemmas.List.Sums.{sum_by-cons}
 use Rattle.std.proofs.lemmas.List.Elements.{All-filter, All-contains, All-contains_itself, filter-append, Contains-append_cases, Contains-append_right, Contains-append_left, Contains-push, Contains-push_cases}
 use Rattle.heap_model.specs.declared.command.TurnCommand.{TurnCommand}

@@ -1,32 +1,16 @@
 -- Lists of ids in their order, and which of the ids a search has marked.
-use Rattle.std.proofs.Common.{◌≡◌, zero, suc, ◌⊎◌, inl, inr, List, [], ◌∷◌, AllPairs, Contains, refl, sym, ap, ◌∙◌, subst, arith, Bool, true, false, Option, Some, None, filter, unwrap_or}
+use Rattle.std.proofs.Common.{◌≡◌, ◌≢◌, ◌⊎◌, inl, inr, List, [], ◌∷◌, AllPairs, Contains, refl, sym, ap, ◌∙◌, subst, arith, Bool, true, false, Option, Some, None, filter, unwrap_or}
 use Rattle.std.proofs.lemmas.Bool.{cases_Bool, cond-true, cond-false, both_ways}
-use Rattle.std.proofs.lemmas.List.Elements.{All-filter, filter_passes, Contains-append_right, Contains-get_or}
+use Rattle.std.proofs.lemmas.List.Elements.{All-filter, filter_passes, Contains-get_or}
 use Rattle.std.proofs.lemmas.List.Kept.{AllPairs-filter}
 use Rattle.heap_model.specs.declared.id.Id.{Id}
 use Rattle.heap_model.specs.declared.id.Id.TheVariants.{Board, Made}
 use Rattle.heap_model.specs.graph.Graph.{Graph}
 use Rattle.heap_model.specs.graph.Search.{Search, IsSearch}
 use Rattle.heap_model.specs.graph.Marking.{mark_of, is_marked}
-use Rattle.heap_model.specs.graph.Reach.{IsBefore, IsReachAmong}
+use Rattle.heap_model.specs.graph.Reach.{IsBefore, AreReachedAmong}
+use Rattle.heap_model.proofs.graph_lemmas.Heads.{contains_cases, contains_head, contains_tail, pairs_tail, pairs_head}
 use Rattle.heap_model.proofs.graph_lemmas.SearchLemmas.{IsMarked-reached}
-
--- an element of a list is its head, or stands in its tail
-contains_cases : {A : Type 0} (x : A) (xs : List A) (other : A) → Contains (x ∷ xs) other → (x ≡ other) ⊎ Contains xs other
-contains_cases x xs other (zero, lt, e) = inl e
-contains_cases x xs other (suc k, lt, e) = inr (k, omega (arith, lt), e)
-
-contains_head : {A : Type 0} (x : A) (xs : List A) → Contains (x ∷ xs) x
-contains_head x xs = (0, omega arith, refl)
-
-contains_tail : {A : Type 0} (x : A) (xs : List A) (other : A) → Contains xs other → Contains (x ∷ xs) other
-contains_tail x xs other h = Contains-append_right (x ∷ []) xs other h
-
-pairs_tail : {A : Type 0} (R : A → A → Type 0) (x : A) (xs : List A) → AllPairs R (x ∷ xs) → AllPairs R xs
-pairs_tail R x xs h i j d lt within = h (suc i) (suc j) d (omega (arith, lt)) (omega (arith, within))
-
-pairs_head : {A : Type 0} (R : A → A → Type 0) (x : A) (xs : List A) (other : A) → AllPairs R (x ∷ xs) → Contains xs other → R x other
-pairs_head R x xs other h c = subst (R x) c.2 (h 0 (suc c.0) other (omega arith) (omega (arith, c.1)))
 
 -- no id is before itself, nor before one that is before it
 not_around : (a b : Id) → IsBefore a b → IsBefore b a → ⊥
@@ -86,9 +70,9 @@ is_set None h = cc h
 is_set (Some b) h = ap Some h
 
 -- at the end of a search the marked ones of the ids are the reached ones
-pub among_marked : (g : Graph) (walk : Search) (ids : List Id) → IsSearch g walk → walk.waiting ≡ [] → IsReachAmong g ids (filter (is_marked walk.marks) ids)
+pub among_marked : (g : Graph) (walk : Search) (ids : List Id) → IsSearch g walk → walk.waiting ≡ [] → AreReachedAmong g ids (filter (is_marked walk.marks) ids)
 among_marked g walk ids search none = record {
-  ordered = AllPairs-filter IsBefore (is_marked walk.marks) ids;
+  once = AllPairs-filter (λ id later. id ≢ later) (is_marked walk.marks) ids;
   reached = λ id. (
     λ c. let kept = kept_passes (is_marked walk.marks) ids id c in (kept.0, search.reached id (is_set (mark_of walk.marks id) kept.1)),
     λ c. passes_kept (is_marked walk.marks) ids id c.0 (ap (λ o. unwrap_or o false) (IsMarked-reached g walk search none id c.1)),

@@ -1,9 +1,12 @@
--- A search has a place for each marked object to wait.
-use Rattle.std.proofs.Common.{◌≡◌, ℕ, ◌+◌, ◌<◌, ◌≤◌, false, length, sum, Some, sym, ap, subst, arith}
-use Rattle.std.proofs.lemmas.List.Sums.{sum-map}
+-- A search has a place for each object that it may find.
+use Rattle.std.proofs.Common.{◌≡◌, ℕ, ◌+◌, ◌<◌, ◌≤◌, inl, inr, Bool, true, false, not, cond, List, [], ◌∷◌, ◌++◌, length, sum, sum_by, count_by, Some, sym, ap, subst, arith, length-append}
+use Rattle.std.proofs.lemmas.Bool.{cases_lt}
+use Rattle.std.proofs.lemmas.List.{set_past}
+use Rattle.std.proofs.lemmas.List.Sums.{sum-map, sum_by-set, sum_by_push, sum_by-le-sum_by, count_by-le-length}
 use Rattle.heap_model.specs.declared.id.Id.{Id}
-use Rattle.heap_model.specs.graph.Marking.{Marking, mark_of, with_mark, all_marks, mark_counts}
+use Rattle.heap_model.specs.graph.Marking.{Marking, marks_of, mark_of, with_mark, unmarked, all_marks, mark_counts}
 use Rattle.heap_model.specs.graph.Search.{HasPlaces}
+use Rattle.heap_model.proofs.graph_lemmas.FoundLemmas.{added}
 use Rattle.heap_model.proofs.graph_lemmas.MarkLemmas.{unmarked-with_mark, mark_counts-with_mark}
 
 -- a place is left for an object that is marked now
@@ -22,4 +25,43 @@ HasPlaces-marked m new id waiting places capacity waiting_then capacity_then fre
       counted = omega (arith, all_by_counts m (with_mark m id) (mark_counts-with_mark m id), has.counted);
       room = omega (arith, has.room, grown);
       left = omega (arith, unmarked-with_mark m id fresh, has.left, more);
+    }
+
+-- there are no more objects to mark than there are marks
+unmarked-few : (m : Marking) → unmarked m ≤ all_marks m
+unmarked-few m =
+    let seats = sum_by-le-sum_by (λ marks. count_by not marks) length m.seats (λ marks. count_by-le-length not marks) in
+    omega (arith, seats, board m.board)
+  where
+    board : (b : Bool) → cond b 0 1 ≤ 1
+    board true = omega arith
+    board false = omega arith
+
+-- there are places enough where nothing was found yet
+pub HasPlaces-new : (m : Marking) (places capacity : ℕ) → all_marks m ≤ places → places ≤ capacity → HasPlaces m 0 places capacity
+HasPlaces-new m places capacity enough room = record { counted = enough; room = room; left = omega (arith, unmarked-few m, enough) }
+
+-- for as many marks as were made
+pub HasPlaces-made : (m : Marking) (counts : List ℕ) (places capacity : ℕ) → mark_counts m ≡ counts → 1 + sum counts ≤ places → places ≤ capacity → HasPlaces m 0 places capacity
+HasPlaces-made m counts places capacity made enough = HasPlaces-new m places capacity (omega (arith, sum-map length m.seats, ap sum made, enough))
+
+-- and for as many as before
+pub HasPlaces-anew : (m new : Marking) (found places capacity capacity_then : ℕ) → mark_counts new ≡ mark_counts m → capacity ≤ capacity_then → HasPlaces m found places capacity → HasPlaces new 0 places capacity_then
+HasPlaces-anew m new found places capacity capacity_then same grown has =
+    HasPlaces-new new places capacity_then (omega (arith, all_by_counts m new same, has.counted)) (omega (arith, has.room, grown))
+
+-- what is counted of a seat is at most one more with one more mark
+sum-added : (f : List Bool → ℕ) (m : Marking) (number : ℕ) → f (marks_of m number ++ false ∷ []) ≤ f (marks_of m number) + 1 → sum_by f (added m number).seats ≤ sum_by f m.seats + 1
+sum-added f m number one = elim (cases_lt number (length m.seats)) [
+  | inl within ↦ omega (arith, sum_by-set f m.seats number (marks_of m number ++ false ∷ []) [] within, one)
+  | inr past ↦ omega (arith, ap (sum_by f) (set_past m.seats number (marks_of m number ++ false ∷ []) past))
+]
+
+-- one more place serves one more mark
+pub HasPlaces-added : (m : Marking) (number found places capacity capacity_then : ℕ) → places + 1 ≤ capacity_then → HasPlaces m found places capacity → HasPlaces (added m number) found (places + 1) capacity_then
+HasPlaces-added m number found places capacity capacity_then grown has =
+    let row = marks_of m number in record {
+      counted = omega (arith, sum-added length m number (omega (arith, length-append row (false ∷ []))), has.counted);
+      room = grown;
+      left = omega (arith, sum-added (λ marks. count_by not marks) m number (omega (arith, sum_by_push (λ b. cond (not b) 1 0) row false)), has.left);
     }

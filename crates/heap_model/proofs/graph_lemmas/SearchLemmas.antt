@@ -13,6 +13,7 @@ use Rattle.heap_model.specs.graph.Graph.{Graph, Node, GraphSeat}
 use Rattle.heap_model.specs.graph.Reach.{IsRoot, IsRegistered, PointsTo, Points, Reaches, from_register, from_cell, IsBefore, IsReach}
 use Rattle.heap_model.specs.graph.Search.{Search, GoesOn, FoundFromSeat, FoundFromObject, IsSearch}
 use Rattle.heap_model.specs.graph.Marking.{Marking, mark_of, with_mark, HasMark, IsFound, HasMarks, IsListed, no_marks}
+use Rattle.heap_model.proofs.graph_lemmas.Heads.{contains_cases, contains_head, contains_tail}
 use Rattle.heap_model.proofs.graph_lemmas.MarkLemmas.{with_mark-here, with_mark-other, unmarked-with_mark, mark_counts-with_mark, mark_counts-no_marks, marks_by_counts, marks_there, IsMarked-no_marks}
 
 pub GoesOn-trans : {P : Id → Type 0} {a b c : Search} → GoesOn P a b → GoesOn P b c → GoesOn P a c
@@ -109,25 +110,25 @@ IsSearch-start g walk on found =
     }
 
 -- a search from which an object was taken whose cells were then looked at
-pub IsSearch-step : (g : Graph) (walk : Search) (id : Id) (new : Search) → IsSearch g (record walk { waiting = walk.waiting ++ id ∷ [] }) → GoesOn (Points g id) walk new → IfSome (node g id) (FoundFromObject new.marks) → IsSearch g new
+pub IsSearch-step : (g : Graph) (walk : Search) (id : Id) (new : Search) → IsSearch g (record walk { waiting = id ∷ walk.waiting }) → GoesOn (Points g id) walk new → IfSome (node g id) (FoundFromObject new.marks) → IsSearch g new
 IsSearch-step g walk id new is on found =
     let objects : HasMarks g new.marks = on.marks_stay ∙ is.objects in
     record {
       objects = objects;
       reached = λ x marked. elim (on.marked_more x marked) [
         | inl old ↦ is.reached x old
-        | inr more ↦ from_cell x (made_of_marked g new.marks x objects marked) id (is.reached id (is.waiting id (Contains-push walk.waiting id))) more.1
+        | inr more ↦ from_cell x (made_of_marked g new.marks x objects marked) id (is.reached id (is.waiting id (contains_head id walk.waiting))) more.1
       ];
       waiting = λ x waits. elim (on.waiting_more x waits) [
-        | inl old ↦ on.marked_stay x (is.waiting x (Contains-append_left walk.waiting (id ∷ []) x old))
+        | inl old ↦ on.marked_stay x (is.waiting x (contains_tail id walk.waiting x old))
         | inr marked ↦ marked
       ];
       from_seats = All-weaker (FoundFromSeat walk.marks) (FoundFromSeat new.marks) (FoundFromSeat-stays on) g.seats is.from_seats;
       from_objects = λ x marked. elim (on.marked_more x marked) [
         | inl old ↦ elim (is.from_objects x old) [
-          | inl waits ↦ elim (Contains-push_cases walk.waiting id x waits) [
-            | inl still ↦ inl (on.waiting_stay x still)
-            | inr here ↦ inr (subst (λ y. IfSome (node g y) (FoundFromObject new.marks)) here found)
+          | inl waits ↦ elim (contains_cases id walk.waiting x waits) [
+            | inl here ↦ inr (subst (λ y. IfSome (node g y) (FoundFromObject new.marks)) here found)
+            | inr still ↦ inl (on.waiting_stay x still)
           ]
           | inr all ↦ inr (IfSome_then (node g x) all (FoundFromObject-stays on))
         ]

@@ -9,7 +9,7 @@ use Rattle.heap_model.specs.declared.account.seat.SeatAccount.{SeatAccount}
 use Rattle.heap_model.specs.declared.account.cycle.Cycle.{Cycle}
 use Rattle.heap_model.specs.Heap.{IsHeap}
 use Rattle.heap_model.specs.graph.Objects.{made_counts}
-use Rattle.heap_model.specs.graph.Reach.{IsReach}
+use Rattle.heap_model.specs.graph.Reach.{AreReached}
 use Rattle.heap_model.specs.graph.Sizes.{fragments_of_all, spine_words_of_all}
 use Rattle.heap_model.specs.account.Space.{words_granted, total}
 use Rattle.heap_model.specs.account.Sums.{IsFew, IsMeasured}
@@ -50,7 +50,7 @@ pub record AreBooks (heap : Heap) (entries : ℕ) (all : Effect) (seats : List S
 
 -- what is kept of the last cycle is so in the history
 pub record TellsCycle (heap : Heap) (cycle : Cycle) (history : List Entry) : Type 0 where
-  pub reached : IsReach (graph_of heap (up_to_cycle history)) cycle.reached.items
+  pub reached : AreReached (graph_of heap (up_to_cycle history)) cycle.reached.items
   pub frags : cycle.frags ≡ fragments_of_all (graph_of heap (up_to_cycle history)) cycle.reached.items
   pub words : cycle.words ≡ spine_words_of_all (graph_of heap (up_to_cycle history)) cycle.reached.items
   pub brought : cycle.brought ≡ all_bring heap (up_to_cycle history)

@@ -1,5 +1,5 @@
 -- Which objects can be reached from the registers of the seats.
-use Rattle.std.specs.Prelude.{◌≡◌, ◌<◌, ◌↔◌, ◌⊎◌, List, IsSome, IsSomeAnd, Any, AllPairs, Contains}
+use Rattle.std.specs.Prelude.{◌≡◌, ◌≢◌, ◌<◌, ◌↔◌, ◌⊎◌, List, IsSome, IsSomeAnd, Any, AllPairs, Contains}
 use Rattle.heap_model.specs.declared.id.Id.{Id}
 use Rattle.heap_model.specs.declared.id.Id.TheVariants.{Board, Made}
 use Rattle.heap_model.specs.declared.id.Value.TheVariants.{Object}
@@ -43,7 +43,12 @@ pub record IsReach (g : Graph) (ids : List Id) : Type 0 where
   pub ordered : AllPairs IsBefore ids
   pub reached : (id : Id) → Contains ids id ↔ Reaches g id
 
--- the list has exactly the reached ones of the ids, in their order
-pub record IsReachAmong (g : Graph) (ids both : List Id) : Type 0 where
-  pub ordered : AllPairs IsBefore ids → AllPairs IsBefore both
+-- the list has exactly the reached ids, each once, in whatever order
+pub record AreReached (g : Graph) (ids : List Id) : Type 0 where
+  pub once : AllPairs (λ id later. id ≢ later) ids
+  pub reached : (id : Id) → Contains ids id ↔ Reaches g id
+
+-- the list has exactly the reached ones of the ids, each once where the ids are there once
+pub record AreReachedAmong (g : Graph) (ids both : List Id) : Type 0 where
+  pub once : AllPairs (λ id later. id ≢ later) ids → AllPairs (λ id later. id ≢ later) both
   pub reached : (id : Id) → Contains both id ↔ Contains ids id × Reaches g id

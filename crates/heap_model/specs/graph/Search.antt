@@ -1,5 +1,5 @@
 -- A search through the graph: the marks, and those marked objects whose cells wait to be looked at.
-use Rattle.std.specs.Prelude.{◌≡◌, ℕ, ◌+◌, ◌≤◌, ◌⊎◌, List, length, All, Contains}
+use Rattle.std.specs.Prelude.{◌≡◌, ◌≢◌, ℕ, ◌+◌, ◌≤◌, ◌↔◌, ◌⊎◌, List, length, All, AllPairs, Contains}
 use Rattle.std.specs.Option.{IfSome}
 use Rattle.heap_model.specs.declared.id.Id.{Id}
 use Rattle.heap_model.specs.graph.Objects.{node}
@@ -12,11 +12,23 @@ pub record Search : Type 0 where
   pub marks : Marking
   pub waiting : List Id
 
--- there are places enough for each marked object to wait once, and one of them is left for each object that isn't marked
-pub record HasPlaces (m : Marking) (waiting places capacity : ℕ) : Type 0 where
+-- the list has exactly the marked ids, each once
+pub record AreMarked (m : Marking) (ids : List Id) : Type 0 where
+  pub once : AllPairs (λ id later. id ≢ later) ids
+  pub marked : (id : Id) → Contains ids id ↔ HasMark m id
+
+-- there are places for all objects: so many are taken by those that were found, and one is left for each that isn't marked
+pub record HasPlaces (m : Marking) (found places capacity : ℕ) : Type 0 where
   pub counted : all_marks m ≤ places
   pub room : places ≤ capacity
-  pub left : unmarked m + waiting ≤ places
+  pub left : unmarked m + found ≤ places
+
+-- the ids that were found, so many as counted, are the marked ones; the next one to look at is among them, or all were looked at;
+-- and there is a place for each to come
+pub record HasFound (m : Marking) (ids : List Id) (place count places capacity : ℕ) : Type 0 where
+  pub found : AreMarked m ids
+  pub next : place ≤ length ids
+  pub room : HasPlaces m count places capacity
 
 -- the search went on by marking some more objects, of which `P` holds, and which wait now
 pub record GoesOn (P : Id → Type 0) (old new : Search) : Type 0 where

@@ -21,15 +21,18 @@ pub struct Cycle {
 
 impl Account {
     ghost use Rattle.heap_model.specs.account.Cycles.{graph_of, LeavesLittle};
-    ghost use Rattle.heap_model.specs.account.Books.{Tells};
+    ghost use Rattle.heap_model.specs.account.Books.{Tells, CycleFits};
+    ghost use Rattle.heap_model.specs.graph.Objects.{made_counts};
     ghost use Rattle.heap_model.specs.account.SeatBooks.{account_at};
     ghost use Rattle.heap_model.specs.account.Preparing.{IsBegun, brought_by, IsWithinBy};
 
-    /// What is kept of a cycle that begins here.
-    pub(super) fn begun_cycle(&self, graph: &Graph) -> Result<Cycle, Memory>
-        ensures { IfOk result (IsBegun self.now graph.now) }
+    /// What is kept of a cycle that begins here, where each object of the graph has its mark.
+    pub(super) fn begun_cycle(&mut self, graph: &Graph) -> Result<Cycle, Memory>
+        ensures begun { self.old.made ≡ made_counts graph.now → IfOk result (IsBegun self.old graph.now) }
+        ensures fits { IfOk result CycleFits }
+        ensures unchanged { self.new ≡ self.old }
     {
-        let reached = graph.reach()?;
+        let reached = graph.reached(&mut self.search)?;
         let frags = graph.frags_of(&reached);
         let words = graph.words_of(&reached);
         Ok(Cycle {

@@ -14,7 +14,7 @@ pub(crate) mod search;
 
 impl Graph {
     ghost use Rattle.heap_model.specs.graph.Objects.{node};
-    ghost use Rattle.heap_model.specs.graph.Reach.{IsReach, IsReachAmong, Points};
+    ghost use Rattle.heap_model.specs.graph.Reach.{IsReach, AreReached, AreReachedAmong, Points};
     ghost use Rattle.heap_model.specs.graph.Sizes.{fragments_at, fragments_of_all};
     ghost use Rattle.heap_model.specs.graph.Search.{IsSearch, GoesOn, FoundFromObject};
     ghost use Rattle.heap_model.specs.graph.Marking.{HasMarks, IsListed, mark_counts};
@@ -36,9 +36,20 @@ impl Graph {
         Search::new(self.alloc, &self.seats)
     }
 
+    /// The objects to which a path leads from some register, each once and in whatever order, by a search that is at hand.
+    pub(crate) fn reached(&self, search: &mut Search) -> Result<Vec<Id>, Memory>
+        ensures reached { HasMarks self.now search.old.marks → IfOk result (λ ids. AreReached self.now ids.items) }
+        ensures marks { mark_counts search.new.marks ≡ mark_counts search.old.marks }
+    {
+        self.search(search);
+        let mut ids = Vec::new(self.alloc);
+        ids.extend_from_slice(search.found())?;
+        Ok(ids)
+    }
+
     /// The fragments of those of the ids to which a path leads from some register.
     pub(crate) fn reached_frags(&self, ids: &[Id], search: &mut Search) -> u128
-        ensures sum { HasMarks self.now search.old.marks → (both : List Ids) × IsReachAmong self.now ids.now both × (result ≡ fragments_of_all self.now both) }
+        ensures sum { HasMarks self.now search.old.marks → (both : List Ids) × AreReachedAmong self.now ids.now both × (result ≡ fragments_of_all self.now both) }
         ensures marks { mark_counts search.new.marks ≡ mark_counts search.old.marks }
     {
         self.search(search);

@@ -1,37 +1,43 @@
-ghost use Rattle.std.specs.Prelude.{◌≡◌, ◌↔◌, [], ◌∷◌, ◌++◌, map, false, length, slice_set, Some, if◌then◌else◌, IfOk, OnOk, OnErr, IsTrue};
+ghost use Rattle.std.specs.Prelude.{◌≡◌, ◌<◌, ◌↔◌, [], ◌∷◌, ◌++◌, map, false, length, replicate, slice_set, Some, if◌then◌else◌, IfOk, OnOk, OnErr, IsTrue};
 
 use crate::graph::seat::Seat;
 use crate::id::Id;
 use std::alloc::{AllocError, AllocFailed, Global};
 use std::marker::Model;
 
-/// The marks of the objects of one seat.
+/// The marks of the objects of one seat, by the numbers of the walks that set them.
 #[derive(Drop)]
 struct Row {
-    marks: Vec<bool>,
+    marks: Vec<u64>,
 }
 
 impl Model for Row {
-    ghost use Rattle.std.specs.Prelude.{Bool, List};
+    ghost use Rattle.std.specs.Prelude.{ℕ, List};
 
-    ghost Value = { List Bool };
+    ghost Value = { List ℕ };
 
     ghost view = { λ r. r.marks.items };
 }
 
-/// A mark for each object of a graph.
+/// A mark for each object of a graph. It is the number of the walk that set it, so that all marks are taken back by going on
+/// to the next walk, whatever was ever made.
 #[derive(Drop)]
 pub struct Marks {
-    board: bool,
+    /// The number of the walk now.
+    walk: u64,
+    board: u64,
     seats: Vec<Row>,
 }
 
 impl Model for Marks {
     ghost use Rattle.heap_model.specs.graph.Marking.{Marking};
+    ghost use Rattle.heap_model.specs.graph.Walks.{marking_by, AreOfWalks};
 
     ghost Value = { Marking };
 
-    ghost view = { λ m. record { board = m.board; seats = m.seats.items } };
+    ghost view = { λ m. marking_by m.walk m.board m.seats.items };
+
+    ghost invariant = { λ m. AreOfWalks m.walk m.board m.seats.items };
 }
 
 impl Marks {
@@ -43,17 +49,18 @@ impl Marks {
     {
         let mut rows = Vec::with_capacity(alloc, seats.len())?;
         for seat in seats {
-            let marks = vec![in alloc; false; seat.made()]?;
+            let marks = vec![in alloc; 0; seat.made()]?;
             rows.push(Row { marks })?;
         }
         Ok(Marks {
-            board: false,
+            walk: 1,
+            board: 0,
             seats: rows,
         })
     }
 
     /// One more mark of the seat, where there is such a one.
-    pub fn add(&mut self, seat: u8) -> Result<(), AllocFailed<bool>>
+    pub fn add(&mut self, seat: u8) -> Result<(), AllocFailed<u64>>
         ensures added { OnOk result (self.new ≡ record self.old { seats = slice_set self.old.seats seat (marks_of self.old seat ++ false ∷ []) }) }
         ensures unchanged { OnErr result (self.new ≡ self.old) }
     {
@@ -67,10 +74,19 @@ impl Marks {
     pub fn clear(&mut self)
         ensures { self.new ≡ no_marks (mark_counts self.old) }
     {
-        self.board = false;
-        for seat in 0..self.seats.len() {
-            self.seats[seat].clear();
+        match self.walk.checked_add(1) {
+            Some(next) => self.walk = next,
+            None => self.count_anew(),
         }
+    }
+
+    /// Takes back all marks, and counts the walks from 1 on again.
+    fn count_anew(&mut self)
+        ensures { self.new ≡ no_marks (mark_counts self.old) }
+    {
+        self.walk = 1;
+        self.board = 0;
+        clear_rows(self.seats.as_mut_slice());
     }
 
     pub fn is_marked(&self, id: Id) -> bool
@@ -78,9 +94,9 @@ impl Marks {
         ensures marked { IsTrue result ↔ HasMark self.now id }
     {
         match id {
-            Id::Board => self.board,
+            Id::Board => self.board == self.walk,
             Id::Made { seat, count } => match self.seats.get(seat as usize) {
-                Some(row) => row.marks.get(count as usize) == Some(&true),
+                Some(row) => row.marks.get(count as usize) == Some(&self.walk),
                 None => false,
             },
         }
@@ -93,42 +109,52 @@ impl Marks {
     {
         match id {
             Id::Board => {
-                let fresh = !self.board;
-                self.board = true;
+                let fresh = self.board != self.walk;
+                self.board = self.walk;
                 fresh
             }
             Id::Made { seat, count } => match self.seats.get_mut(seat as usize) {
-                Some(row) => row.mark(count),
+                Some(row) => row.mark(self.walk, count),
                 None => false,
             },
         }
     }
 }
 
-impl Row {
-    ghost use Rattle.std.specs.Prelude.{true, replicate, slice_get};
+/// Makes all marks of the seats those of no walk.
+fn clear_rows(rows: &mut [Row])
+    ensures { rows.new ≡ map (λ row. replicate (length row) 0) rows.old }
+{
+    for seat in 0..rows.len() {
+        rows[seat].clear();
+    }
+}
 
-    fn add(&mut self) -> Result<(), AllocFailed<bool>>
-        ensures added { OnOk result (self.new ≡ self.old ++ false ∷ []) }
+impl Row {
+    ghost use Rattle.std.specs.Prelude.{slice_get};
+    ghost use Rattle.heap_model.specs.graph.Walks.{marks_by};
+
+    fn add(&mut self) -> Result<(), AllocFailed<u64>>
+        ensures added { OnOk result (self.new ≡ self.old ++ 0 ∷ []) }
         ensures unchanged { OnErr result (self.new ≡ self.old) }
     {
-        self.marks.push(false)
+        self.marks.push(0)
     }
 
     fn clear(&mut self)
-        ensures { self.new ≡ replicate (length self.old) false }
+        ensures { self.new ≡ replicate (length self.old) 0 }
     {
-        self.marks.fill(false);
+        self.marks.fill(0);
     }
 
-    /// Sets the mark, where there is such a one and it wasn't set: then it answers true.
-    fn mark(&mut self, count: u32) -> bool
-        ensures fresh { IsTrue result ↔ (slice_get self.old count ≡ Some false) }
-        ensures marked { self.new ≡ (if result then slice_set self.old count true else self.old) }
+    /// Sets the mark, where there is such a one and this walk hasn't set it: then it answers true.
+    fn mark(&mut self, walk: u64, count: u32) -> bool
+        ensures fresh { IsTrue result ↔ (slice_get (marks_by walk self.old) count ≡ Some false) }
+        ensures marked { self.new ≡ (if result then slice_set self.old count walk else self.old) }
     {
         match self.marks.get_mut(count as usize) {
-            Some(mark) if !*mark => {
-                *mark = true;
+            Some(mark) if *mark != walk => {
+                *mark = walk;
                 true
             }
             _ => false,

@@ -8,31 +8,34 @@ use crate::id::{Id, Value};
 use std::alloc::{AllocError, Global};
 use std::marker::Model;
 
-/// What a walk through a graph has found so far. Each object that isn't marked yet has its place among those that wait, so
+/// What a walk through a graph has found so far. Each object that isn't marked yet has its place among what is found, so
 /// that a walk takes no memory.
 #[derive(Drop)]
 pub struct Search {
     marks: Marks,
-    waiting: Vec<Id>,
+    /// What is marked, in the order in which it was found.
+    found: Vec<Id>,
+    /// The place of the first of these whose cells weren't looked at yet.
+    next: usize,
     /// For so many marks there is room.
     places: usize,
 }
 
 impl Model for Search {
-    ghost use Rattle.std.specs.Prelude.{vec_capacity, vec_len};
-    ghost use Rattle.heap_model.specs.graph.Search.{Search, HasPlaces};
+    ghost use Rattle.std.specs.Prelude.{drop, vec_capacity, vec_len};
+    ghost use Rattle.heap_model.specs.graph.Search.{Search, HasFound};
 
     ghost Value = { Search };
 
-    ghost view = { λ s. record { marks = s.marks; waiting = s.waiting.items } };
+    ghost view = { λ s. record { marks = s.marks; waiting = drop s.next s.found.items } };
 
-    ghost invariant = { λ s. HasPlaces s.marks (vec_len s.waiting) s.places (vec_capacity s.waiting) };
+    ghost invariant = { λ s. HasFound s.marks s.found.items s.next (vec_len s.found) s.places (vec_capacity s.found) };
 }
 
 impl Search {
     ghost use Rattle.heap_model.specs.Limits.{most_seats};
     ghost use Rattle.heap_model.specs.graph.Reach.{IsRegistered, PointsTo};
-    ghost use Rattle.heap_model.specs.graph.Search.{GoesOn, FoundFromSeat, FoundFromObject};
+    ghost use Rattle.heap_model.specs.graph.Search.{AreMarked, GoesOn, FoundFromSeat, FoundFromObject};
     ghost use Rattle.heap_model.specs.graph.Marking.{IsFound, mark_counts, no_marks};
 
     /// Room for the board and the objects of these seats.
@@ -46,7 +49,8 @@ impl Search {
         }
         Ok(Search {
             marks: Marks::new(alloc, seats)?,
-            waiting: Vec::with_capacity(alloc, places)?,
+            found: Vec::with_capacity(alloc, places)?,
+            next: 0,
             places,
         })
     }
@@ -56,7 +60,7 @@ impl Search {
         ensures added { OnOk result (mark_counts self.new.marks ≡ slice_set (mark_counts self.old.marks) seat (slice_index_or (mark_counts self.old.marks) seat 0 + 1)) }
         ensures unchanged { OnErr result (self.new ≡ self.old) }
     {
-        self.waiting.reserve(self.places + 1)?;
+        self.found.reserve(self.places + 1 - self.found.len())?;
         self.marks.add(seat)?;
         self.places += 1;
         Ok(())
@@ -67,7 +71,8 @@ impl Search {
         ensures { self.new ≡ record { marks = no_marks (mark_counts self.old.marks); waiting = [] } }
     {
         self.marks.clear();
-        self.waiting.clear();
+        self.found.clear();
+        self.next = 0;
     }
 
     pub fn marks(&self) -> &Marks
@@ -76,15 +81,24 @@ impl Search {
         &self.marks
     }
 
-    /// Takes an object whose cells are to be looked at.
+    /// What is marked.
+    pub fn found(&self) -> &[Id]
+        ensures { AreMarked self.now.marks result.now }
+    {
+        self.found.as_slice()
+    }
+
+    /// Takes the next object whose cells are to be looked at.
     pub fn next(&mut self) -> Option<Id>
         ensures none { IfNone result (self.old.waiting ≡ []) }
         ensures unchanged { IfNone result (self.new ≡ self.old) }
         ensures taken { IfSome result (λ id. self.old ≡ record self.new {
-          waiting = self.new.waiting ++ id ∷ [];
+          waiting = id ∷ self.new.waiting;
         }) }
     {
-        self.waiting.pop()
+        let id = *self.found.get(self.next)?;
+        self.next += 1;
+        Some(id)
     }
 
     /// Marks what the value refers to, and lets it wait if it wasn't marked.
@@ -95,7 +109,7 @@ impl Search {
         if let Value::Object(id) = value
             && self.marks.mark(id)
         {
-            match self.waiting.push(id) {
+            match self.found.push(id) {
                 Ok(()) => (),
                 Err(_) => unreachable!(),
             }

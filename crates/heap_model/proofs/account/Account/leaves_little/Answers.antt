@@ -2,7 +2,7 @@ use Rattle.std.proofs.Common.{◌≡◌, subst, sym, ap, ◌∙◌, refl, arith}
 use Rattle.std.proofs.lemmas.Bool.{both_ways, leb-true, le-leb}
 use Rattle.heap_model.specs.graph.Marking.{HasMarks}
 use Rattle.heap_model.specs.graph.Objects.{made_counts}
-use Rattle.heap_model.specs.graph.Reach.{IsReachAmong}
+use Rattle.heap_model.specs.graph.Reach.{AreReachedAmong}
 use Rattle.heap_model.specs.graph.Sizes.{fragments_of_all}
 use Rattle.heap_model.specs.account.Cycles.{graph_of}
 use Rattle.heap_model.specs.account.Books.{Books}
@@ -19,8 +19,8 @@ returns-clause-little c history t same =
     let there : HasMarks c.args.graph.now c.self.inside.search.marks = ap (λ (b : Books). b.made) c.self.view_is ∙ t.made ∙ sym (ap made_counts same) in
     let sum = c.reached_frags-frags.ensures.sum there in
     let kept_ids : c.deref.result.now ≡ c.args.self.now.cycle.reached.items = c.deref.ensures.value ∙ ap (λ (b : Books). b.cycle.reached.items) c.self.view_is in
-    let among : IsReachAmong (graph_of c.args.self.now.heap history) c.args.self.now.cycle.reached.items sum.0 =
-    subst (λ ids. IsReachAmong (graph_of c.args.self.now.heap history) ids sum.0) kept_ids (subst (λ g. IsReachAmong g c.deref.result.now sum.0) same sum.1) in
+    let among : AreReachedAmong (graph_of c.args.self.now.heap history) c.args.self.now.cycle.reached.items sum.0 =
+    subst (λ ids. AreReachedAmong (graph_of c.args.self.now.heap history) ids sum.0) kept_ids (subst (λ g. AreReachedAmong g c.deref.result.now sum.0) same sum.1) in
     let frags : c.reached_frags-frags.result ≡ fragments_of_all (graph_of c.args.self.now.heap history) sum.0 = sum.2 ∙ ap (λ g. fragments_of_all g sum.0) same in
     let within = within_by c.args.self.now history c.args.kept t c.requires in
     let reached = reached_by c.args.self.now history c.args.kept sum.0 t c.requires among in

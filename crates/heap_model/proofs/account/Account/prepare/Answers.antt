@@ -9,11 +9,11 @@ returns-in_ok-add-in-Swings-clause-prepared c = record {
   swung = λ id.
       let added = c.in_ok-add-in-Swings.ensures.added id in (
         λ h. elim (added.0 h) [
-          | inl old ↦ inl (subst (λ (b : Books). Contains b.swung id) c.self.view_is old)
+          | inl old ↦ inl (subst (λ (b : Books). Contains b.swung id) c.self-in-Swings.view_is old)
           | inr now ↦ inr (c.in-Swings.is ∙ ap entries.Swings (sym now))
         ],
         λ h. added.1 (elim h [
-          | inl old ↦ inl (subst (λ (b : Books). Contains b.swung id) (sym c.self.view_is) old)
+          | inl old ↦ inl (subst (λ (b : Books). Contains b.swung id) (sym c.self-in-Swings.view_is) old)
           | inr now ↦ inr (cc (sym c.in-Swings.is ∙ now))
         ]),
       );

@@ -1,5 +1,6 @@
 -- The laws of answers to commands of the collector.
-use Rattle.heap_model.proofs.account_lemmas.TurnedRules.{turned_count_nothing, turned_hold_nobody, turned_may_stand}
+use Rattle.heap_model.proofs.account_lemmas.TurnedRules.{turned_may_stand}
+use Rattle.heap_model.proofs.account_lemmas.TurnedCounts.{turned_count_nothing, turned_hold_nobody}
 use Rattle.heap_model.proofs.account.laws.account_laws.Goals as goal
 
 pub returns-clause-turned : goal.returns-clause-turned
