@@ -84,6 +84,27 @@ const ENTRIES: &[&str] = &[
     "1 collect = cycle 0 => play, legal",
     "1 leave = ok => play, not legal",
     "1 gives back 3 => play, legal",
+    "1 leave = ok => play, legal",
+    // The array that the first cycle reached is dropped before the second, which has to free what is left of it.
+    "0 nil 1 = ok => play, legal",
+    "0 answers 7 => play, legal",
+    "c phase 8 => play, legal",
+    "0 answers 8 => play, legal",
+    "c phase 9 => play, legal",
+    "0 answers 9 => play, legal",
+    "c phase 10 => play, legal",
+    "0 answers 10 => play, legal",
+    "c phase 11 => play, legal",
+    "0 answers 11 => play, legal",
+    "c phase 12 => play, legal",
+    "c frees 4 => play, legal",
+    "c returns 4 => play, legal",
+    "0 answers 12 => play, legal",
+    "c phase 13 => play, legal",
+    "0 answers 13 => play, legal",
+    "c ends 1 kept 10 => play, not legal",
+    "c ends 1 kept 12 => play, not legal",
+    "c ends 1 kept 11 => play, legal",
 ];
 
 #[test]
@@ -108,9 +129,9 @@ fn accepts_what_keeps_the_rules(rt: HostRuntime) -> Result<(), Fail> {
             graph.apply(&entry)?;
         }
     }
-    assert_eq!(rt; account.used(), 15);
-    assert_eq!(rt; account.spine(), 4);
-    assert_eq!(rt; account.phase(), 7);
+    assert_eq!(rt; account.used(), 11);
+    assert_eq!(rt; account.spine(), 0);
+    assert_eq!(rt; account.phase(), 14);
     assert_eq!(rt; account.is_overdrawn(), false);
     Ok(())
 }
