@@ -2,7 +2,7 @@
 pub mod AdvanceTurn
 pub mod BlackenTurn
 pub mod ClearTurn
-pub mod ClearedTurn
+pub mod EndTurn
 pub mod LookTurn
 pub mod PassTurn
 pub mod ScanTurn
@@ -30,7 +30,7 @@ stands_at (stages.Sweeping group) = SweepTurn.sweep_stands group
 stands_at (stages.Examining group dead place) = SweepTurn.examine_stands group dead place
 stands_at (stages.Freeing group dead) = SweepTurn.free_stands group dead
 stands_at (stages.Clearing group kept) = ClearTurn.clear_stands group kept
-stands_at (stages.Cleared kept) = ClearedTurn.cleared_stands kept
+stands_at (stages.Ending kept) = EndTurn.end_stands kept
 stands_at stages.Advancing = AdvanceTurn.advance_stands
 
 -- the turn that is due

@@ -1,6 +1,6 @@
 ghost use Rattle.std.specs.Prelude.{◌≡◌, ◌+◌, ◌-◌, ◌<◌, ◌≤◌, ◌^◌, ◌++◌, [], ◌∷◌, length, OnOk, OnErr};
 ghost use Rattle.core_machine.specs.declared.step.Step.TheVariants.{Turning as Turns};
-ghost use Rattle.core_machine.specs.collector.Collector.{opening_collector, next_turn, collector_after, has_answered_of, first_work as first_work_of, after_advance, advance_turn, free_turn, look_answer, after_look, after_counted_look};
+ghost use Rattle.core_machine.specs.collector.Collector.{opening_collector, next_turn, collector_after, has_answered_of, first_work as first_work_of, after_advance, advance_turn, end_turn, free_turn, look_answer, after_look, after_counted_look};
 ghost use Rattle.core_machine.specs.seat.Fits.{CollectorFits};
 ghost use Rattle.core_machine.specs.table.Decode.{FoundPointsWithin};
 ghost use Rattle.core_machine.specs.table.Operation.{address_of};
@@ -90,7 +90,9 @@ impl CollectorParty {
             },
             Stage::Freeing { group, dead } => TurningStep::Free { group, bits: dead },
             Stage::Clearing { group, .. } => TurningStep::Clear { group },
-            Stage::Cleared { .. } => TurningStep::GroupLoad { group: 0 },
+            Stage::Ending { .. } => TurningStep::EndAdvance {
+                phase: self.phase + 1,
+            },
             Stage::Advancing => TurningStep::AdvanceStore {
                 phase: self.phase + 1,
             },
@@ -187,6 +189,19 @@ impl CollectorParty {
         Turn::Stepped
     }
 
+    /// The cycle ends, with so many fragments kept, and the next phase begins.
+    fn end_cycle(&mut self, kept: u64) -> Turn
+        requires may { self.old.collector.phase < 2 ^ 64 - 2 }
+        requires spare { 0 < self.old.spare }
+        ensures collector { self.new.collector ≡ collector_after (end_turn self.old.collector kept) 0 }
+        ensures answer { result ≡ (end_turn self.old.collector kept).answer 0 }
+        ensures spare { self.old.spare ≤ self.new.spare + 1 }
+    {
+        let cycle = self.phase / CYCLE_PHASES;
+        self.enter_phase(Entry::Ends { cycle, kept });
+        Turn::Ended { cycle, kept }
+    }
+
     /// Learns the word that its turn found. Each phase has an entry, so there is always a number left for the next one.
     pub fn learn(&mut self, heap: &Heap, found: u64) -> Turn
         requires limits { IsHeap heap.now }
@@ -213,7 +228,7 @@ impl CollectorParty {
             }
             Stage::Freeing { group, dead } => self.free(heap, group, dead),
             Stage::Clearing { group, kept } => self.stage = cleared(heap, group, kept, found),
-            Stage::Cleared { .. } => (),
+            Stage::Ending { kept } => return self.end_cycle(kept),
             Stage::Advancing => return self.advance(),
         }
         Turn::Stepped

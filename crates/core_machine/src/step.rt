@@ -87,6 +87,8 @@ pub enum TurningStep {
     Free { group: u16, bits: u16 },
     /// No fragment of the group is marked any longer, nor scanned.
     Clear { group: u16 },
+    /// The phase begins with which the cycle before it has ended.
+    EndAdvance { phase: u64 },
 }
 
 impl Step {
@@ -202,7 +204,7 @@ impl TurningStep {
     {
         match *self {
             TurningStep::LookLoad { seat } => Address::Answer(seat),
-            TurningStep::AdvanceStore { .. } => Address::Phase,
+            TurningStep::AdvanceStore { .. } | TurningStep::EndAdvance { .. } => Address::Phase,
             TurningStep::GroupLoad { group }
             | TurningStep::Free { group, .. }
             | TurningStep::Clear { group } => Address::Control(group),
@@ -222,7 +224,9 @@ impl TurningStep {
             | TurningStep::GroupLoad { .. }
             | TurningStep::ScanLoad { .. }
             | TurningStep::MetaLoad { .. } => Operation::Load,
-            TurningStep::AdvanceStore { phase } => Operation::Store(phase),
+            TurningStep::AdvanceStore { phase } | TurningStep::EndAdvance { phase } => {
+                Operation::Store(phase)
+            }
             TurningStep::MarkShade { fragment } => Operation::Or(shade_bit(fragment)),
             TurningStep::Blacken { fragment } => Operation::Or(blacken_bit(fragment)),
             TurningStep::Free { bits, .. } => Operation::And(free_mask(bits)),

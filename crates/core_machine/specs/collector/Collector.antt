@@ -1,10 +1,10 @@
 -- The collector, and how it goes on from turn to turn.
-use Rattle.std.specs.Prelude.{ℕ, ◌+◌, ◌-◌, ◌%◌, ◌<◌, ◌^◌, ◌==◌, nat_lt, Bool, true, false, if◌then◌else◌, [], ◌∷◌}
+use Rattle.std.specs.Prelude.{ℕ, ◌+◌, ◌-◌, ◌/◌, ◌%◌, ◌<◌, ◌^◌, ◌==◌, nat_lt, Bool, true, false, if◌then◌else◌, [], ◌∷◌}
 use Rattle.heap_words.specs.declared.phase.TheConstants.{LEFT}
 use Rattle.heap_model.specs.declared.heap.Heap.{Heap}
 use Rattle.heap_model.specs.declared.calls.collector_calls.Turn.{Turn as TurnAnswer}
-use Rattle.heap_model.specs.declared.calls.collector_calls.Turn.TheVariants.{Stepped, Waits}
-use Rattle.heap_model.specs.declared.entry.Entry.TheVariants.{Advance}
+use Rattle.heap_model.specs.declared.calls.collector_calls.Turn.TheVariants.{Stepped, Waits, Ended}
+use Rattle.heap_model.specs.declared.entry.Entry.TheVariants.{Advance, Ends}
 use Rattle.heap_model.specs.PhasePlan.{cycle_phases, marking, sweep, clearing}
 use Rattle.core_machine.specs.declared.collector.stage.Stage.{Stage}
 use Rattle.core_machine.specs.declared.collector.stage.Stage.TheVariants as stages
@@ -14,7 +14,7 @@ pub use Rattle.core_machine.specs.collector.Turn.{Collector, Turn, after_advance
 pub use Rattle.core_machine.specs.collector.Marking.{lowest_grey_of, after_last_group, after_group, after_pass, part_after, scan_step, scan_at, after_scan_load}
 pub use Rattle.core_machine.specs.collector.MarkingTurns.{pass_turn, scan_turn, shade_turn, blacken_turn}
 pub use Rattle.core_machine.specs.collector.Sweeping.{dead_bits_of, next_place_of, taken_count_of, after_swept, after_examined, after_cleared}
-pub use Rattle.core_machine.specs.collector.SweepingTurns.{sweep_turn, examine_turn, free_turn, clear_turn, cleared_turn}
+pub use Rattle.core_machine.specs.collector.SweepingTurns.{sweep_turn, examine_turn, free_turn, clear_turn}
 
 -- the collector at the opening
 abbrev pub opening_collector : Collector
@@ -65,6 +65,16 @@ advance_turn collector = record {
   may = collector.phase < 2 ^ 64 - 2;
 }
 
+-- the cycle ends and the next phase begins: so many fragments were found taken as the marks were cleared
+abbrev pub end_turn : Collector → ℕ → Turn
+end_turn collector kept = record {
+  step = Turning (turning.EndAdvance (collector.phase + 1));
+  told = λ found. after_advance collector;
+  adds = Ends (collector.phase / cycle_phases) kept ∷ [];
+  answer = λ found. Ended (collector.phase / cycle_phases) kept;
+  may = collector.phase < 2 ^ 64 - 2;
+}
+
 -- the turn at each stage
 abbrev pub turn_at : Heap → Collector → Stage → Turn
 turn_at heap collector stages.Looking = look_turn heap collector
@@ -76,7 +86,7 @@ turn_at heap collector (stages.Sweeping group) = sweep_turn heap collector group
 turn_at heap collector (stages.Examining group dead place) = examine_turn heap collector group dead place
 turn_at heap collector (stages.Freeing group dead) = free_turn heap collector group dead
 turn_at heap collector (stages.Clearing group kept) = clear_turn heap collector group kept
-turn_at heap collector (stages.Cleared kept) = cleared_turn collector
+turn_at heap collector (stages.Ending kept) = end_turn collector kept
 turn_at heap collector stages.Advancing = advance_turn collector
 
 -- the collector's next turn

@@ -90,7 +90,7 @@ FitsStage heap phase looked (stages.Sweeping group) = IsSweeping heap phase look
 FitsStage heap phase looked (stages.Examining group dead place) = IsExamining heap phase looked group dead place
 FitsStage heap phase looked (stages.Freeing group dead) = IsFreeing heap phase looked group dead
 FitsStage heap phase looked (stages.Clearing group kept) = IsClearing heap phase looked group kept
-FitsStage heap phase looked (stages.Cleared kept) = HasCleared heap phase looked kept
+FitsStage heap phase looked (stages.Ending kept) = HasCleared heap phase looked kept
 FitsStage heap phase looked stages.Advancing = HasLooked heap.seats phase looked
 
 -- the collector's own data fit together

@@ -14,6 +14,6 @@ abbrev pub after_examined : Heap → ℕ → ℕ → Option ℕ → Stage
 after_examined heap group dead (Some place) = stages.Examining group dead place
 after_examined heap group dead None = if dead == 0 then after_swept heap group else stages.Freeing group dead
 
--- the next group is cleared; behind the last one nothing is left to do
+-- the next group is cleared; behind the last one the cycle ends
 abbrev pub after_cleared : Heap → ℕ → ℕ → Stage
-after_cleared heap group kept = if nat_lt (group + 1) heap.groups then stages.Clearing (group + 1) kept else stages.Cleared kept
+after_cleared heap group kept = if nat_lt (group + 1) heap.groups then stages.Clearing (group + 1) kept else stages.Ending kept

@@ -35,7 +35,3 @@ free_turn heap collector group dead = record {
 abbrev pub clear_turn : Heap → Collector → ℕ → ℕ → Turn
 clear_turn heap collector group kept =
     work_turn (turning.Clear group) (λ word. record collector { stage = after_cleared heap group (kept + taken_count_of word) })
-
--- nothing is left to do: a control word is loaded
-abbrev pub cleared_turn : Collector → Turn
-cleared_turn collector = work_turn (turning.GroupLoad 0) (λ word. collector)

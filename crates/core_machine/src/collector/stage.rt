@@ -30,8 +30,8 @@ pub enum Stage {
     Freeing { group: u16, dead: u16 },
     /// A group's marks are cleared; so many fragments were taken in the groups before it.
     Clearing { group: u16, kept: u64 },
-    /// All groups are cleared, and so many fragments were taken in them: nothing is left to do.
-    Cleared { kept: u64 },
+    /// All groups are cleared, and so many fragments were taken in them: the cycle ends.
+    Ending { kept: u64 },
     /// Every seat has answered, and the phase's work is done: the next phase begins.
     Advancing,
 }

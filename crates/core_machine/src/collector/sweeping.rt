@@ -43,7 +43,7 @@ pub fn swept(heap: &Heap, group: u16, word: u64) -> Stage
 }
 
 /// The marks of the group that had this control word are cleared: the next group's turn comes, and behind the last one
-/// nothing is left to do.
+/// the cycle's end.
 pub fn cleared(heap: &Heap, group: u16, kept: u64, word: u64) -> Stage
     requires limits { IsHeap heap.now }
     requires group { group < heap.now.groups }
@@ -58,6 +58,6 @@ pub fn cleared(heap: &Heap, group: u16, kept: u64, word: u64) -> Stage
             kept,
         }
     } else {
-        Stage::Cleared { kept }
+        Stage::Ending { kept }
     }
 }

@@ -1,0 +1,11 @@
+-- A cycle ends, and the next phase begins.
+use Rattle.std.proofs.Common.{ℕ, ◌/◌, arith}
+use Rattle.heap_model.specs.declared.entry.Entry.TheVariants.{Ends}
+use Rattle.core_machine.specs.declared.collector.stage.Stage.TheVariants as stages
+use Rattle.core_machine.proofs.collector_lemmas.Standing.{StageStands, begin_fits}
+
+pub end_stands : (kept : ℕ) → StageStands (stages.Ending kept)
+end_stands kept heap collector limits fits ending here = record {
+  step = record { in_table = tt; wide = λ found small. omega (arith, fits.phase_within); leads = λ found led. tt };
+  fits = λ found led may. begin_fits heap collector (Ends (collector.phase / 7) kept) limits fits may;
+}
