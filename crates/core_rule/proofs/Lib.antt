@@ -2,6 +2,7 @@ pub mod colours
 pub mod counts
 pub mod cycle
 pub mod entries
+pub mod footprint
 pub mod frames
 pub mod gather
 pub mod graph
@@ -14,5 +15,6 @@ pub mod objects
 pub mod owners
 pub mod runs
 pub mod steps
+pub mod turns
 pub mod ways
 pub mod words

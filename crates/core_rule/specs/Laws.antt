@@ -23,17 +23,18 @@ use Rattle.core_rule.specs.Colours.{HasBirthColour}
 use Rattle.core_rule.specs.ControlWords.{IsBorn}
 use Rattle.core_rule.specs.Flight.{IsRootMarked}
 use Rattle.core_rule.specs.Rule.{Rule}
+use Rattle.core_rule.specs.Stands.{Stands}
 
 -- some book stands for the state, with this history
 pub record StandsFor (heap : Heap) (state : State) (before added : List Entry) : Type 0 where
   pub book : Book
   pub grown : book.history ≡ before ++ added
-  pub rule : Rule heap state book
+  pub stands : Stands heap state book
 
--- from any state and book that meet the rule, whatever led to them, each event that may happen gives a state that some book
+-- from any state and book that stands for it, whatever led to them, each event that may happen gives a state that some book
 -- stands for, whose history is the old one and then the event's entries
 abbrev pub EachEventKeeps : Type 0
-EachEventKeeps = (heap : Heap) (state : State) (book : Book) (event : Event) → Rule heap state book → Can heap state event
+EachEventKeeps = (heap : Heap) (state : State) (book : Book) (event : Event) → Stands heap state book → Can heap state event
     → StandsFor heap (state_after heap state event) book.history (entries heap state event)
 
 -- so does every run from the opening
@@ -83,7 +84,7 @@ pub record IsToldBy (history : List Entry) (collector : CollectorState) : Type 0
 
 -- what a turn adds is the collector's, and the turn comes to what a turn of a collector may come to
 abbrev pub EachTurnComesTo : Type 0
-EachTurnComesTo = (heap : Heap) (state : State) (book : Book) (old new : CollectorState) → Rule heap state book → Can heap state Turns
+EachTurnComesTo = (heap : Heap) (state : State) (book : Book) (old new : CollectorState) → Stands heap state book → Can heap state Turns
     → IsToldBy book.history old → IsToldBy (book.history ++ entries heap state Turns) new
     → AllByRecursion (λ entry. is_collectors entry ≡ true) (entries heap state Turns)
     × ComesTo old new ((next_turn heap state.collector).answer (found_by heap state (next_turn heap state.collector).step))

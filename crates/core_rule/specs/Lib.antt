@@ -13,11 +13,15 @@ pub mod Phases
 pub mod Flight
 pub mod Sweep
 pub mod Marking
+pub mod Footprint
 pub mod Roots
 pub mod Together
 pub mod Cycle
 pub mod Rule
+pub mod Stands
 pub mod Laws
+pub mod SweepLaws
 pub mod Held
 pub mod HeldLaws
+pub mod TurnsLeft
 pub mod GraphLaws

@@ -31,6 +31,6 @@ SweepStands heap owner colour phase (stages.Sweeping group) = AreFreed owner gro
 SweepStands heap owner colour phase (stages.Examining group dead place) = AreFreed owner group × AreDead owner group dead
 SweepStands heap owner colour phase (stages.Freeing group dead) = AreFreed owner group × AreDead owner group dead
 SweepStands heap owner colour phase (stages.Clearing group kept) = AreCleared colour group
-SweepStands heap owner colour phase (stages.Cleared kept) = AreCleared colour heap.groups
+SweepStands heap owner colour phase (stages.Ending kept) = AreCleared colour heap.groups
 SweepStands heap owner colour phase stages.Advancing = phase % cycle_phases ≡ sweep → AreFreed owner heap.groups
 SweepStands heap owner colour phase _ = Unit {0}

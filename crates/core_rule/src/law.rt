@@ -1,5 +1,6 @@
 ghost use Rattle.core_rule.specs.Laws.{EachEventKeeps, EveryRunKeeps, WholeCallsPlay, FreeIsUnused, EachBirthHasItsColour, EachAnswerIsMarked, EachWaitIsBehind, EachTurnComesTo};
 ghost use Rattle.core_rule.specs.HeldLaws.{EachHeldIsTaken, NoClaimTakesHeld, NoFreeTakesHeld, EachHeldIsMarked};
+ghost use Rattle.core_rule.specs.TurnsLeft.{EachTurnLeavesFewer};
 
 /// The rule holds after every list of begins, steps and turns of the collector, over every heap.
 pub fn law_every_run()
@@ -15,4 +16,5 @@ pub fn law_every_run()
     ensures claims { NoClaimTakesHeld }
     ensures frees { NoFreeTakesHeld }
     ensures marked { EachHeldIsMarked }
+    ensures fewer { EachTurnLeavesFewer }
 {}

@@ -3,6 +3,8 @@
 
 mod graphs;
 mod law;
+mod sweep;
 
 pub use graphs::graph_laws;
 pub use law::law_every_run;
+pub use sweep::law_sweep_exact;

@@ -33,7 +33,7 @@ passed_all heap owner cursor within =
 
 module _ (heap : Heap) (words : List ℕ) (owner : ℕ → Owner) (bits : Bits heap words owner) where
   -- bit j of a group's word is that of its fragment j
-  group_bit : (g j : ℕ) → g < heap.groups → j < 16 → bit_at (at heap words (Control g)) j ≡ taken_bit (owner (16 * g + j))
+  pub group_bit : (g j : ℕ) → g < heap.groups → j < 16 → bit_at (at heap words (Control g)) j ≡ taken_bit (owner (16 * g + j))
   group_bit g j below less =
       let group : (16 * g + j) / 16 ≡ g = omega arith in
       let place : (16 * g + j) % 16 ≡ j = omega arith in

@@ -47,6 +47,11 @@ keeps_rules heap play before entry takes makes tells answers begins ends = recor
 pub keeps_begins : (heap : Heap) (play : Bool) (before : List Entry) (p : ℕ) → BeginsPhase heap before (entries.Advance p) → KeepsSpace heap play before (entries.Advance p)
 keeps_begins heap play before p next = keeps_rules heap play before (entries.Advance p) tt tt (tt, tt, tt) tt next (tt, tt)
 
+-- a cycle ends
+pub keeps_ends : (heap : Heap) (play : Bool) (before : List Entry) (cycle kept : ℕ) → EndsCycle heap before (entries.Ends cycle kept)
+    → KeepsSpace heap play before (entries.Ends cycle kept)
+keeps_ends heap play before cycle kept ends = keeps_rules heap play before (entries.Ends cycle kept) tt tt (tt, tt, tt) tt tt (tt, ends)
+
 -- dead fragments are freed
 pub keeps_frees : (heap : Heap) (play : Bool) (before : List Entry) (count : ℕ) → Sweeps heap before (entries.Frees count) → KeepsSpace heap play before (entries.Frees count)
 keeps_frees heap play before count frees = keeps_rules heap play before (entries.Frees count) tt tt (tt, tt, tt) tt tt (frees, tt)

@@ -29,7 +29,7 @@ pub record GrowsFrom (g now : Graph) : Type 0 where
   pub objects : (id : Id) (object : Node) → node g id ≡ Some object → IsSameSize now id object
 
 -- an object with a cell was made
-holder_made : (g : Graph) (holder id : Id) → Points g holder id → IsMade g holder
+pub holder_made : (g : Graph) (holder id : Id) → Points g holder id → IsMade g holder
 holder_made g holder id points = by (node g holder) points
   where
     by : (object : Option Node) → IsSomeAnd object (λ o. PointsTo o id) → IsSome object

@@ -45,7 +45,7 @@ reach_after_all g (entry ∷ history) accepts id made reached =
     ]
 
 -- the graph accepts the later part of a history after the earlier one
-accepts_later : (g : Graph) (history later : List Entry) → AcceptsAll g (history ++ later) → AcceptsAll (graph_after g history) later
+pub accepts_later : (g : Graph) (history later : List Entry) → AcceptsAll g (history ++ later) → AcceptsAll (graph_after g history) later
 accepts_later g [] later accepts = accepts
 accepts_later g (entry ∷ history) later accepts = accepts_later (after_entry g entry) history later accepts.1
 

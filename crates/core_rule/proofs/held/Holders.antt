@@ -1,6 +1,6 @@
 -- What a seat holds is alive.
 use Rattle.std.specs.Prelude.{IsSome}
-use Rattle.std.proofs.Common.{◌≡◌, ℕ, ◌-◌, ◌<◌, ◌⊎◌, inl, inr, List, Some, None, refl, sym, ap, ◌∙◌, subst, arith}
+use Rattle.std.proofs.Common.{◌≡◌, ℕ, ◌<◌, ◌⊎◌, inl, inr, List, Some, None, refl, sym, ap, ◌∙◌, subst, arith}
 use Rattle.heap_model.specs.declared.graph.cell.Cell.{Cell}
 use Rattle.heap_model.specs.declared.heap.Heap.{Heap}
 use Rattle.heap_model.specs.account.Cycles.{graph_of}
@@ -11,8 +11,6 @@ use Rattle.core_machine.specs.declared.place.Place.TheVariants as places
 use Rattle.core_machine.specs.declared.place.Access.{Access}
 use Rattle.core_machine.specs.declared.place.Access.TheVariants.{LoadingMeta, Walking, Getting, Naming, LoadingOld, ShadingOld, ShadingNew, Swapping}
 use Rattle.core_machine.specs.machine.Machine.{State, seat_at}
-use Rattle.core_machine.specs.seat.Access.{row_of}
-use Rattle.core_machine.specs.seat.Commands.{field_of}
 use Rattle.core_machine.specs.seat.Fits.{FitsWay}
 use Rattle.core_machine.specs.seat.Registers.{register_in}
 use Rattle.core_machine.specs.seat.Seat.{Seat}
@@ -31,7 +29,7 @@ use Rattle.core_rule.proofs.held.Alive.{IsAlive, own_alive, kept_alive, head_ali
 use Rattle.core_rule.proofs.owners.Handed.{none_or_some}
 use Rattle.core_rule.proofs.owners.OwnerLemmas.{own_once}
 use Rattle.core_rule.proofs.ways.KeptWords.{row_ahead}
-use Rattle.core_rule.proofs.ways.LoadedObjects.{held_kept}
+use Rattle.core_rule.proofs.ways.LoadedObjects.{refers_kept, held_refers}
 
 module _ (heap : Heap) (state : State) (book : Book) (rule : Rule heap state book) (number : ℕ) (here : number < heap.seats) where
   abbrev seat : Seat
@@ -62,7 +60,7 @@ module _ (heap : Heap) (state : State) (book : Book) (rule : Rule heap state boo
   register_alive : (f : ℕ) → IsInRegister seat f → AliveNow f
   register_alive f held =
       head_alive book.made book.owner book.fragments f
-      (held_kept book.made book.owner book.fragments (register_in seat.registers held.register) (register_value g number held.register) (stands.names.registers held.register held.counts) f held.holds)
+      (refers_kept book.made book.owner book.fragments (register_value g number held.register) f (held_refers book.made book.owner book.fragments (register_in seat.registers held.register) (register_value g number held.register) (stands.names.registers held.register held.counts) f held.holds))
 
   -- what its call has reached
   start_alive : SetsOut book.made book.owner book.fragments seat → AliveNow seat.reached

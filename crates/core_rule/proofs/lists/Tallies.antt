@@ -30,11 +30,11 @@ tally_parts f zero xs = omega arith
 tally_parts f (suc k) [] = omega arith
 tally_parts f (suc k) (x ∷ xs) = omega (arith, tally_parts f k xs)
 
-sum_one : (n x : ℕ) → n ≤ x → sum_upto n (λ f. one_at x f) ≡ 0
+pub sum_one : (n x : ℕ) → n ≤ x → sum_upto n (λ f. one_at x f) ≡ 0
 sum_one n x above = sum_zero n (λ f. one_at x f) (λ f below. one_at_other x f (λ e. omega (arith, e)))
 
 -- one number below n is counted once
-sum_one_at : (n x : ℕ) → x < n → sum_upto n (λ f. one_at x f) ≡ 1
+pub sum_one_at : (n x : ℕ) → x < n → sum_upto n (λ f. one_at x f) ≡ 1
 sum_one_at zero x below = omega arith
 sum_one_at (suc n) x below = rw (sum-suc n (λ f. one_at x f)) (elim (eqb_tells x n) as (λ _. sum_upto n (λ f. one_at x f) + one_at x n ≡ 1) [
   | inl e ↦ omega (arith, sum_one n x (omega (arith, e.1)), one_at_same x n e.1)

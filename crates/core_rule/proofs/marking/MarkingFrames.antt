@@ -38,7 +38,7 @@ OnlyMarks marks _ = Unit {0}
 -- and this while marks are cleared
 abbrev pub OnlyClears : Type 0 → Stage → Type 0
 OnlyClears clears (stages.Clearing group kept) = clears
-OnlyClears clears (stages.Cleared kept) = clears
+OnlyClears clears (stages.Ending kept) = clears
 OnlyClears clears _ = Unit {0}
 
 -- a fragment is born or not
@@ -171,7 +171,7 @@ module _ (heap : Heap) (words now : List ℕ) (owner later : ℕ → Owner) (col
   sweep_stays phase (stages.Examining group dead place) is stands = (freed_stays group stands.0, dead_stays group dead stands.1)
   sweep_stays phase (stages.Freeing group dead) is stands = (freed_stays group stands.0, dead_stays group dead stands.1)
   sweep_stays phase (stages.Clearing group kept) is stands = cleared_stays is group stands
-  sweep_stays phase (stages.Cleared kept) is stands = cleared_stays is heap.groups stands
+  sweep_stays phase (stages.Ending kept) is stands = cleared_stays is heap.groups stands
   sweep_stays phase stages.Advancing is stands = λ swept. freed_stays heap.groups (stands swept)
   sweep_stays phase _ is stands = tt
 

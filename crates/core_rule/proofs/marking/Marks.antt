@@ -118,7 +118,7 @@ module _ (heap : Heap) (state : State) (book : Book) (rule : Rule heap state boo
   -- and what is true while marks are cleared in the last phase, which all have answered
   only_clears : (stage : Stage) → FitsStage heap state.collector.phase state.collector.looked stage → OnlyClears (IsLastAnswered heap state.collector) stage
   only_clears (stages.Clearing group kept) fits = record { all = fits.all; last = fits.for_clearing }
-  only_clears (stages.Cleared kept) fits = record { all = fits.all; last = fits.for_clearing }
+  only_clears (stages.Ending kept) fits = record { all = fits.all; last = fits.for_clearing }
   only_clears _ fits = tt
 
   -- where not all have answered the last phase no marks are cleared
@@ -127,7 +127,7 @@ module _ (heap : Heap) (state : State) (book : Book) (rule : Rule heap state boo
     where
       by : (stage : Stage) → OnlyClears (IsLastAnswered heap state.collector) stage → OnlyClears ⊥ stage
       by (stages.Clearing group kept) last = absurd (never last)
-      by (stages.Cleared kept) last = absurd (never last)
+      by (stages.Ending kept) last = absurd (never last)
       by _ last = tt
 
   -- marking comes to what a fragment leads to that it comes to

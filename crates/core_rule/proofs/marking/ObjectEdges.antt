@@ -20,7 +20,7 @@ use Rattle.core_rule.proofs.colours.NewbornLeads.{IsNext, newborn_leads, zero_le
 use Rattle.std.proofs.lemmas.Bool.Decides.{nat_tests}
 use Rattle.core_rule.proofs.ways.Told.{head_in-value}
 use Rattle.core_rule.proofs.ways.KeptWords.{kept_within, has_room}
-use Rattle.core_rule.proofs.ways.LoadedObjects.{KeptHead, named_kept}
+use Rattle.core_rule.proofs.ways.LoadedObjects.{KeptHead, CellRefers, refers_kept, named_refers}
 
 -- a word of an object is a cell's, or one of its frame's
 pub word_cases : (P : ℕ → Type 0) (head : Id → ℕ) (name : Name) (cells : List Cell) (fragments : List ℕ) (k part : ℕ)
@@ -54,21 +54,33 @@ module _ (heap : Heap) (words : List ℕ) (g : Graph) (made : List Id) (owner : 
 
   -- a cell leads to the object that it refers to
   cell_leads : (j part : ℕ) → 0 < part → (o : Option Cell) → slice_get (cells_at g made i) j ≡ o → (x : ℕ) → pointer_in part (field_word (object_head made fragments) o) ≡ Some x
-      → KeptHead made owner fragments x
+      → CellRefers g made owner fragments i x
   cell_leads j part some None none x leads = let nowhere : pointer_in part 0 ≡ None = zero_leads part in absurd (cc (nowhere, leads))
   cell_leads j part some (Some cell) there x leads =
       let named = objects.named i j below kept cell there in
-      named_kept made owner fragments cell.value named.0 x
-      (sym (head_in-value (object_head made fragments) cell.value cell.stamp (has_room heap words g made owner fragments limits bits cell.value named.0) named.1)
-      ∙ sym (later_lead part (value_word (object_head made fragments) cell.value cell.stamp) some) ∙ leads)
+      record {
+        place = j;
+        cell = cell;
+        there = there;
+        refers = named_refers made owner fragments cell.value named.0 x
+            (sym (head_in-value (object_head made fragments) cell.value cell.stamp (has_room heap words g made owner fragments limits bits cell.value named.0) named.1)
+            ∙ sym (later_lead part (value_word (object_head made fragments) cell.value cell.stamp) some) ∙ leads);
+      }
 
-  pub object_leads : (k part x : ℕ) → k < length (fragments i) → WordPointsTo heap words (fragment_at (fragments i) k) part x
-      → IsNext (fragments i) small k x ⊎ KeptHead made owner fragments x
-  object_leads k part x within leads =
+  pub object_refers : (k part x : ℕ) → k < length (fragments i) → WordPointsTo heap words (fragment_at (fragments i) k) part x
+      → IsNext (fragments i) small k x ⊎ CellRefers g made owner fragments i x
+  object_refers k part x within leads =
       let word = the_object.stored k part within leads.below in
-      word_cases (λ w. pointer_in part w ≡ Some x → IsNext (fragments i) small k x ⊎ KeptHead made owner fragments x)
+      word_cases (λ w. pointer_in part w ≡ Some x → IsNext (fragments i) small k x ⊎ CellRefers g made owner fragments i x)
       (object_head made fragments) (name_of (id_at made i)) (cells_at g made i) (fragments i) k part
       (λ is to. inr (cell_leads (3 * k + part - 2) part (cell_part k part is) (slice_get (cells_at g made i) (3 * k + part - 2)) refl x to))
       (λ is to. inl (newborn_leads (fragments i) small (name_of (id_at made i)) (length (cells_at g made i)) k part x
       (name_small (id_at made i) (ids.fit i below)).0 (name_small (id_at made i) (ids.fit i below)).1 (omega (arith, the_object.sized.1)) to))
       (ap (pointer_in part) (sym word) ∙ leads.to)
+
+  pub object_leads : (k part x : ℕ) → k < length (fragments i) → WordPointsTo heap words (fragment_at (fragments i) k) part x
+      → IsNext (fragments i) small k x ⊎ KeptHead made owner fragments x
+  object_leads k part x within leads = elim (object_refers k part x within leads) [
+    | inl next ↦ inl next
+    | inr cell ↦ inr (refers_kept made owner fragments cell.cell.value x cell.refers)
+  ]

@@ -109,7 +109,7 @@ module _ (heap : Heap) (words now : List ℕ) (owner : ℕ → Owner) (colour : 
   sweep_shaded phase (stages.Examining group dead place) unclear stands = stands
   sweep_shaded phase (stages.Freeing group dead) unclear stands = stands
   sweep_shaded phase (stages.Clearing group kept) unclear stands = absurd unclear
-  sweep_shaded phase (stages.Cleared kept) unclear stands = absurd unclear
+  sweep_shaded phase (stages.Ending kept) unclear stands = absurd unclear
   sweep_shaded phase stages.Advancing unclear stands = stands
   sweep_shaded phase _ unclear stands = tt
 

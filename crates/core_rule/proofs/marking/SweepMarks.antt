@@ -20,7 +20,7 @@ after_swept_either P heap group on end = elim (leb_tells (suc (group + 1)) heap.
 ]
 
 -- and after one of the clearing
-pub after_cleared_either : (P : Stage → Type 0) (heap : Heap) (group kept : ℕ) → P (stages.Clearing (group + 1) kept) → (heap.groups ≤ group + 1 → P (stages.Cleared kept)) → P (after_cleared heap group kept)
+pub after_cleared_either : (P : Stage → Type 0) (heap : Heap) (group kept : ℕ) → P (stages.Clearing (group + 1) kept) → (heap.groups ≤ group + 1 → P (stages.Ending kept)) → P (after_cleared heap group kept)
 after_cleared_either P heap group kept on end = elim (leb_tells (suc (group + 1)) heap.groups) as (λ _. P (after_cleared heap group kept)) [
   | inl more ↦ rw more.0 on
   | inr last ↦ rw last.0 (end (omega (arith, last.1)))

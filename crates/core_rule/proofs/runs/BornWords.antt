@@ -168,6 +168,7 @@ module _ (heap : Heap) (state : State) (book : Book) (rule : Rule heap state boo
   -- a turn bears nothing
   turn_bears_none : (stage : Stage) → ¬ IsBorn heap (state_after_turn heap state (turn_at heap state.collector stage)).words f
   turn_bears_none stages.Advancing born = word_bears_none _ (at-put_apart heap words Phase (Control (f / 16)) _ (λ e. omega (arith, e))) born
+  turn_bears_none (stages.Ending kept) born = word_bears_none _ (at-put_apart heap words Phase (Control (f / 16)) _ (λ e. omega (arith, e))) born
   turn_bears_none (stages.Shading scan target next) born = bit_bears_none _ _ (bit_born _ 32 _ f (omega arith)) born
   turn_bears_none (stages.Freeing group dead) born = masked_bears_none _ _ _ refl born
   turn_bears_none (stages.Clearing group kept) born = masked_bears_none _ _ _ refl born

@@ -1,12 +1,12 @@
 -- A turn adds at most one entry, by what the rule says of the history with it.
 use Rattle.std.specs.Prelude.{count_ones}
-use Rattle.std.proofs.Common.{◌%◌, ◌≡◌, ℕ, ◌+◌, ◌-◌, ◌<◌, ◌^◌, Bool, true, false, if◌then◌else◌, [], ◌∷◌, ◌++◌, inl, inr, filter, refl, sym, ap, ◌∙◌, subst, arith}
+use Rattle.std.proofs.Common.{◌%◌, ◌/◌, ◌*◌, ◌≡◌, ℕ, ◌+◌, ◌-◌, ◌<◌, ◌^◌, Bool, true, false, if◌then◌else◌, [], ◌∷◌, ◌++◌, inl, inr, filter, refl, sym, ap, ◌∙◌, subst, arith}
 use Rattle.std.specs.List.{AllByRecursion}
 use Rattle.std.proofs.lemmas.List.{append-nil}
 use Rattle.std.proofs.lemmas.List.Elements.{filter-append}
 use Rattle.heap_model.specs.declared.calls.collector_calls.Turn.{Turn as TurnAnswer}
 use Rattle.heap_model.specs.declared.calls.collector_calls.Turn.TheVariants as answers
-use Rattle.heap_model.specs.declared.entry.Entry.TheVariants.{Advance, Frees}
+use Rattle.heap_model.specs.declared.entry.Entry.TheVariants.{Advance, Frees, Ends}
 use Rattle.heap_model.specs.declared.heap.Heap.{Heap}
 use Rattle.heap_model.specs.account.Account.{IsLegal}
 use Rattle.heap_model.specs.account.Noting.{is_collectors}
@@ -23,11 +23,12 @@ use Rattle.core_rule.specs.Rule.{Rule}
 use Rattle.core_rule.proofs.runs.Plays.{keeps_there}
 use Rattle.core_rule.proofs.runs.Waits.{each_wait_is_behind}
 
--- a turn adds nothing and ends no cycle, or it begins a phase, or frees, and is a step
+-- a turn adds nothing and ends no cycle, or it begins a phase, or frees, and is a step; or it ends a cycle
 data HasShape (turn : Turn) (found : ℕ) : Type 0 where
   adds_nothing : turn.adds ≡ [] → ((cycle kept : ℕ) → turn.answer found ≡ answers.Ended cycle kept → ⊥) → HasShape turn found
   begins : (p : ℕ) → turn.adds ≡ Advance p ∷ [] → turn.answer found ≡ answers.Stepped → HasShape turn found
   frees_some : (count : ℕ) → turn.adds ≡ Frees count ∷ [] → turn.answer found ≡ answers.Stepped → HasShape turn found
+  ends_cycle : (cycle kept : ℕ) → turn.adds ≡ Ends cycle kept ∷ [] → turn.answer found ≡ answers.Ended cycle kept → HasShape turn found
 
 no_end : (b : Bool) (seat answer p cycle kept : ℕ) → (if b then answers.Stepped else answers.Waits seat answer p) ≡ answers.Ended cycle kept → ⊥
 no_end true seat answer p cycle kept same = cc same
@@ -37,6 +38,7 @@ turn_shape : (heap : Heap) (collector : Collector) (stage : Stage) (found : ℕ)
 turn_shape heap collector stages.Advancing found = begins (collector.phase + 1) refl refl
 turn_shape heap collector stages.Looking found = adds_nothing refl (no_end (has_answered_of collector.phase found) collector.looked found collector.phase)
 turn_shape heap collector (stages.Freeing group dead) found = frees_some (count_ones dead) refl refl
+turn_shape heap collector (stages.Ending kept) found = ends_cycle (collector.phase / 7) kept refl refl
 turn_shape heap collector _ found = adds_nothing refl (λ cycle kept same. cc same)
 
 module _ (heap : Heap) (state : State) (book : Book) (old new : CollectorState) (rule : Rule heap state book) where
@@ -84,14 +86,26 @@ module _ (heap : Heap) (state : State) (book : Book) (old new : CollectorState) 
         = then_.log_told ∙ ap (filter is_collectors) with_it ∙ filter-append is_collectors book.history (Frees count ∷ []) ∙ ap (λ es. es ++ Frees count ∷ []) (sym told.log_told) in
         inr (Frees count, (here, sweeps.1, later), log)
 
+    ends_comes : (cycle kept : ℕ) → turn.adds ≡ Ends cycle kept ∷ [] → IsLegal heap false (book.history ++ turn.adds) → ComesTo old new (answers.Ended cycle kept)
+    ends_comes cycle kept adds legal =
+        let with_it : book.history ++ turn.adds ≡ book.history ++ Ends cycle kept ∷ [] = ap (λ es. book.history ++ es) adds in
+        let ends = (keeps_there heap false [] book.history [] (Ends cycle kept) (subst (IsLegal heap false) with_it legal).space).ends in
+        let phases : phase (book.history ++ Ends cycle kept ∷ []) ≡ phase book.history + 1 = total-more (λ e. e.phases) book.history (Ends cycle kept) in
+        let last : old.phase ≡ 7 * cycle + 6 = told.phase_told ∙ ends.0.0 in
+        let later : new.phase ≡ 7 * cycle + 7 = omega (arith, then_.phase_told ∙ ap phase with_it ∙ phases, ends.0.0) in
+        let log : new.log ≡ old.log ++ Ends cycle kept ∷ []
+        = then_.log_told ∙ ap (filter is_collectors) with_it ∙ filter-append is_collectors book.history (Ends cycle kept ∷ []) ∙ ap (λ es. es ++ Ends cycle kept ∷ []) (sym told.log_told) in
+        (log, last, later)
+
     comes : IsLegal heap false (book.history ++ turn.adds) → HasShape turn found
         → AllByRecursion (λ entry. is_collectors entry ≡ true) turn.adds × ComesTo old new (turn.answer found)
     comes legal (adds_nothing none goes_on) = (rw none tt, quiet_comes none goes_on (turn.answer found) refl)
     comes legal (begins p adds stepped) = (rw adds (refl, tt), subst (ComesTo old new) (sym stepped) (begins_comes p adds legal))
     comes legal (frees_some count adds stepped) = (rw adds (refl, tt), subst (ComesTo old new) (sym stepped) (frees_comes count adds legal))
+    comes legal (ends_cycle cycle kept adds ended) = (rw adds (refl, tt), subst (ComesTo old new) (sym ended) (ends_comes cycle kept adds legal))
 
 pub each_turn_comes_to : EachEventKeeps → EachTurnComesTo
-each_turn_comes_to each heap state book old new rule can told then_ =
-    let after = each heap state book Turns rule can in
-    comes heap state book old new rule told then_ (subst (IsLegal heap false) after.grown after.rule.heap_stands.legal)
+each_turn_comes_to each heap state book old new stands can told then_ =
+    let after = each heap state book Turns stands can in
+    comes heap state book old new stands.rule told then_ (subst (IsLegal heap false) after.grown after.stands.rule.heap_stands.legal)
     (turn_shape heap state.collector state.collector.stage (found_by heap state (next_turn heap state.collector).step))

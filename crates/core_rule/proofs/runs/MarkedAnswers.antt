@@ -91,6 +91,7 @@ module _ (heap : Heap) (state : State) (colour : ℕ → Colour) where
   turn_marked : (stage : Stage) → AreMarked (turn_at heap state.collector stage).adds
   turn_marked stages.Advancing = one_marked _ tt
   turn_marked (stages.Freeing group dead) = one_marked _ tt
+  turn_marked (stages.Ending kept) = one_marked _ tt
   turn_marked _ = none_marked
 
 pub each_answer_is_marked : EachAnswerIsMarked

@@ -40,7 +40,7 @@ nothing_made heap s = elim (cases_lt s heap.seats) [
   | inr past ↦ ap (λ (p : GraphSeat). p.objects) (get_or_past (replicate heap.seats opening_graph_seat) s absent_graph_seat (omega (arith, past, length-replicate heap.seats opening_graph_seat)))
 ]
 
-only_board : (heap : Heap) (id : Id) → IsMade (opening heap) id → Board ≡ id
+pub only_board : (heap : Heap) (id : Id) → IsMade (opening heap) id → Board ≡ id
 only_board heap Board is = refl
 only_board heap (Made s n) is = absurd (false≢true (subst (λ objects. IsSome (slice_get objects n)) (nothing_made heap s) is))
 

@@ -140,4 +140,12 @@ opening_rule heap state fits machine opens = record {
     never (inr (inr sweeps)) = omega (arith, sweeps)
 
 pub opening_stands : (heap : Heap) (state : State) → IsHeap heap → IsOpening heap state → StandsFor heap state [] []
-opening_stands heap state fits opens = record { book = opening_book; grown = refl; rule = opening_rule heap state fits (opening_machine heap state fits opens) opens }
+opening_stands heap state fits opens = record {
+  book = opening_book;
+  grown = refl;
+  stands = record {
+    rule = opening_rule heap state fits (opening_machine heap state fits opens) opens;
+    cycle = λ running. absurd (running refl);
+    no_arrays = refl;
+  };
+}

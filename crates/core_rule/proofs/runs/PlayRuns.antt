@@ -1,7 +1,7 @@
 -- A run of whole calls, one after another, has a history that is legal as a play.
 use Rattle.std.specs.List.{list_all}
 use Rattle.std.specs.Prelude.{Option, None, Some, IsSome}
-use Rattle.std.proofs.Common.{◌≡◌, ◌≢◌, ℕ, zero, suc, ◌+◌, ◌<◌, ◌≤◌, true, false, inl, inr, List, [], ◌∷◌, ◌++◌, length, drop, refl, sym, ap, ◌∙◌, subst, append_assoc}
+use Rattle.std.proofs.Common.{◌≡◌, ◌≢◌, ℕ, zero, suc, ◌+◌, ◌/◌, ◌<◌, ◌≤◌, true, false, inl, inr, List, [], ◌∷◌, ◌++◌, length, drop, refl, sym, ap, ◌∙◌, subst, append_assoc}
 use Rattle.std.proofs.lemmas.Bool.{false≢true, eq-eqb}
 use Rattle.std.proofs.lemmas.Bool.Decides.{eqb_tells}
 use Rattle.std.proofs.lemmas.List.{append-nil, get_or-set_other, drop-append-le}
@@ -9,7 +9,7 @@ use Rattle.std.proofs.lemmas.List.Folds.{list_all-append}
 use Rattle.std.specs.Prelude.{count_ones}
 use Rattle.heap_model.specs.declared.command.Command.{Command}
 use Rattle.heap_model.specs.declared.entry.Entry.{Entry}
-use Rattle.heap_model.specs.declared.entry.Entry.TheVariants.{Advance, Frees}
+use Rattle.heap_model.specs.declared.entry.Entry.TheVariants.{Advance, Frees, Ends}
 use Rattle.heap_model.specs.declared.heap.Heap.{Heap}
 use Rattle.heap_model.specs.account.Account.{IsLegal}
 use Rattle.heap_model.specs.account.Effects.{is_of}
@@ -23,16 +23,19 @@ use Rattle.core_machine.specs.Moves.{Move, move_at, next_move}
 use Rattle.core_machine.specs.seat.Seat.{Seat, absent_seat}
 use Rattle.core_rule.specs.Book.{Book}
 use Rattle.core_rule.specs.Laws.{IsAlone, AllIdle, OneCallAtATime, WholeCallsPlay, HappensAlone}
-use Rattle.core_rule.specs.Rule.{Rule}
+use Rattle.core_rule.specs.Stands.{Stands}
 use Rattle.core_rule.proofs.entries.Begins.{begins}
+use Rattle.core_rule.proofs.footprint.EndsRightly.{ends_rightly}
+use Rattle.core_rule.proofs.footprint.SeatCycle.{step_cycle, begin_cycle}
+use Rattle.core_rule.proofs.footprint.TurnCycle.{turn_cycle}
 use Rattle.core_rule.proofs.steps.Assemble.{Keeps}
 use Rattle.core_rule.proofs.runs.PlayEntries.{AddsPlay, adds_play}
-use Rattle.core_rule.proofs.runs.Plays.{MayPlay, play_more, advancing, freeing, plain_keeps}
+use Rattle.core_rule.proofs.runs.Plays.{MayPlay, play_more, advancing, freeing, ending, plain_keeps}
 use Rattle.core_rule.proofs.runs.Runs.{MachineStays, OpeningStands, EachStepKeeps, EachBeginKeeps, EachTurnKeeps, seat_of_step}
 
 -- the history is a play's, and since the call of a seat began all entries are its own
 pub record PlaysOn (heap : Heap) (state : State) (book : Book) : Type 0 where
-  pub rule : Rule heap state book
+  pub stands : Stands heap state book
   pub legal : IsLegal heap true book.history
   pub own : (number : ℕ) → number < heap.seats → (seat_at state number).place ≢ places.Idle → list_all (is_of number) (drop (book.begun number) book.history) ≡ true
 
@@ -64,28 +67,28 @@ own_alone heap state new now number alone all stay own r below active =
     ]
 
 -- so it is after the rule is kept, where what is added may stand in a play
-plays_next : {heap : Heap} {new : State} {book : Book} {begun : ℕ → ℕ} {added : List Entry} (keeps : Keeps heap new book begun added) → MayPlay heap book.history added → IsLegal heap true book.history
+plays_next : {heap : Heap} {before new : State} {book : Book} {begun : ℕ → ℕ} {added : List Entry} (keeps : Keeps heap before new book begun added) → Stands heap new keeps.now → MayPlay heap book.history added → IsLegal heap true book.history
     → ((r : ℕ) → r < heap.seats → (seat_at new r).place ≢ places.Idle → list_all (is_of r) (drop (keeps.now.begun r) keeps.now.history) ≡ true) → PlaysNext heap new book.history added
-plays_next {heap} {new} {book} {begun} {added} keeps may legal own =
+plays_next {heap} {before} {new} {book} {begun} {added} keeps stands may legal own =
     let run : IsLegal heap false (book.history ++ added) = subst (IsLegal heap false) keeps.grown keeps.rule.heap_stands.legal in
     record {
       now = keeps.now;
       grown = keeps.grown;
-      plays = record { rule = keeps.rule; legal = subst (IsLegal heap true) (sym keeps.grown) (play_more heap book.history added may legal run); own = own };
+      plays = record { stands = stands; legal = subst (IsLegal heap true) (sym keeps.grown) (play_more heap book.history added may legal run); own = own };
     }
 
 step_plays : MachineStays → EachStepKeeps → (heap : Heap) (state : State) (book : Book) (number : ℕ) → PlaysOn heap state book → IsAlone state number → Can heap state (Steps number)
     → PlaysNext heap (state_after heap state (Steps number)) book.history (entries heap state (Steps number))
 step_plays stays steps heap state book number plays alone can =
-    let here : number < heap.seats = seat_of_step heap state book number plays.rule can in
+    let here : number < heap.seats = seat_of_step heap state book number plays.stands.rule can in
     let active : (seat_at state number).place ≢ places.Idle = busy heap number (seat_at state number) can in
-    let keeps = steps heap state book number plays.rule here (stays heap state (Steps number) plays.rule.machine can) in
+    let keeps = steps heap state book number plays.stands.rule here (stays heap state (Steps number) plays.stands.rule.machine can) in
     let adds : AddsPlay heap book.history number (entries heap state (Steps number))
-    = adds_play heap state book number (seat_at state number).place plays.rule here refl (plays.own number here active) in
-    let earlier : book.begun number ≤ length book.history = (plays.rule.seats_stand number here).told.began.earlier in
+    = adds_play heap state book number (seat_at state number).place plays.stands.rule here refl (plays.own number here active) in
+    let earlier : book.begun number ≤ length book.history = (plays.stands.rule.seats_stand number here).told.began.earlier in
     let own_now : list_all (is_of number) (drop (keeps.now.begun number) keeps.now.history) ≡ true
     = rw (keeps.calls, keeps.grown) (own_more number (book.begun number) book.history (entries heap state (Steps number)) earlier (plays.own number here active) adds.own) in
-    plays_next keeps adds.may plays.legal (own_alone heap state (state_after heap state (Steps number)) keeps.now number alone plays.rule.machine.seated
+    plays_next keeps (step_cycle heap state book plays.stands number here keeps) adds.may plays.legal (own_alone heap state (state_after heap state (Steps number)) keeps.now number alone plays.stands.rule.machine.seated
     (λ r apart. moved_other heap state number r (next_move heap number (seat_at state number)) apart) own_now)
 
 nothing_since : (number : ℕ) (history : List Entry) → list_all (is_of number) (drop (length history) history) ≡ true
@@ -95,25 +98,26 @@ nothing_since number (entry ∷ history) = nothing_since number history
 begin_plays : MachineStays → EachBeginKeeps → (heap : Heap) (state : State) (book : Book) (number : ℕ) (command : Command) → PlaysOn heap state book → IsAlone state number
     → Can heap state (Begins number command) → PlaysNext heap (state_after heap state (Begins number command)) book.history []
 begin_plays stays begin heap state book number command plays alone can =
-    let keeps = begin heap state book number command plays.rule can (stays heap state (Begins number command) plays.rule.machine can) in
+    let keeps = begin heap state book number command plays.stands.rule can (stays heap state (Begins number command) plays.stands.rule.machine can) in
     let same : keeps.now.history ≡ book.history = keeps.grown ∙ append-nil book.history in
     let first : begins number (length book.history) book.begun number ≡ length book.history = rw (eq-eqb number number refl) refl in
     let own_now : list_all (is_of number) (drop (keeps.now.begun number) keeps.now.history) ≡ true
     = rw (keeps.calls, same, first) (nothing_since number book.history) in
-    plays_next keeps tt plays.legal (own_alone heap state (state_after heap state (Begins number command)) keeps.now number alone plays.rule.machine.seated
+    plays_next keeps (begin_cycle heap state book plays.stands number (rw (← plays.stands.rule.machine.seated) can.0) command (begins number (length book.history) book.begun) can keeps) tt plays.legal (own_alone heap state (state_after heap state (Begins number command)) keeps.now number alone plays.stands.rule.machine.seated
     (λ r apart. get_or-set_other state.seats number r _ absent_seat apart) own_now)
 
 -- what a turn of the collector adds may stand in a play
 turn_may : (heap : Heap) (before : List Entry) (collector : Collector) (stage : Stage) → MayPlay heap before (turn_at heap collector stage).adds
 turn_may heap before collector stages.Advancing = (plain_keeps heap before (Advance (collector.phase + 1)) (advancing (collector.phase + 1)), tt)
 turn_may heap before collector (stages.Freeing group dead) = (plain_keeps heap before (Frees (count_ones dead)) (freeing (count_ones dead)), tt)
+turn_may heap before collector (stages.Ending kept) = (plain_keeps heap before (Ends (collector.phase / 7) kept) (ending (collector.phase / 7) kept), tt)
 turn_may heap before collector _ = tt
 
 turn_plays : MachineStays → EachTurnKeeps → (heap : Heap) (state : State) (book : Book) → PlaysOn heap state book → AllIdle state → Can heap state Turns
     → PlaysNext heap (state_after heap state Turns) book.history (entries heap state Turns)
 turn_plays stays turn heap state book plays idle can =
-    let keeps = turn heap state book plays.rule can (stays heap state Turns plays.rule.machine can) in
-    plays_next keeps (turn_may heap book.history state.collector state.collector.stage) plays.legal (λ r below active. absurd (active (idle r (rw plays.rule.machine.seated below))))
+    let keeps = turn heap state book plays.stands.rule (ends_rightly heap state book plays.stands) can (stays heap state Turns plays.stands.rule.machine can) in
+    plays_next keeps (turn_cycle heap state book plays.stands state.collector.stage refl keeps) (turn_may heap book.history state.collector state.collector.stage) plays.legal (λ r below active. absurd (active (idle r (rw plays.stands.rule.machine.seated below))))
 
 module _ (stays : MachineStays) (steps : EachStepKeeps) (begin : EachBeginKeeps) (turn : EachTurnKeeps) where
   event_plays : (heap : Heap) (state : State) (book : Book) (event : Event) → PlaysOn heap state book → HappensAlone state event → Can heap state event
@@ -138,7 +142,7 @@ module _ (stays : MachineStays) (steps : EachStepKeeps) (begin : EachBeginKeeps)
       subst (λ before. IsLegal heap true (before ++ history heap state events)) first.grown
       (run_plays heap state first.book events
       record {
-        rule = first.rule;
+        stands = first.stands;
         legal = subst (IsLegal heap true) (sym first.grown) record { objects = tt; space = tt };
         own = λ number below active. rw first.grown (own_of_none number (first.book.begun number));
       } run alone)

@@ -1,6 +1,6 @@
 -- The laws over runs, from what each step keeps.
 use Rattle.std.specs.Prelude.{IsSome}
-use Rattle.std.proofs.Common.{◌≡◌, ℕ, ◌<◌, inl, inr, List, [], ◌∷◌, ◌++◌, length, sym, ap, ◌∙◌, subst, append_assoc}
+use Rattle.std.proofs.Common.{◌≡◌, ℕ, ◌<◌, inl, inr, List, [], ◌∷◌, ◌++◌, length, sym, ap, ◌∙◌, subst, append_assoc, refl}
 use Rattle.std.proofs.lemmas.Bool.Decides.{leb_tells}
 use Rattle.std.proofs.lemmas.List.{append-nil}
 use Rattle.std.proofs.Math.ListN.{get_or-eq_default}
@@ -16,23 +16,28 @@ use Rattle.core_machine.specs.machine.Value.{IsMachine}
 use Rattle.core_rule.specs.Book.{Book}
 use Rattle.core_rule.specs.Laws.{StandsFor, EachEventKeeps, EveryRunKeeps}
 use Rattle.core_rule.specs.Rule.{Rule}
-use Rattle.core_rule.proofs.steps.Assemble.{Keeps, stands_for}
+use Rattle.core_rule.specs.Stands.{Stands}
+use Rattle.core_rule.proofs.footprint.EndsRightly.{ends_rightly}
+use Rattle.core_rule.proofs.footprint.SeatCycle.{step_cycle, begin_cycle}
+use Rattle.core_rule.proofs.footprint.TurnCycle.{turn_cycle}
+use Rattle.core_rule.proofs.steps.Assemble.{Keeps}
 use Rattle.core_rule.proofs.entries.Begins.{begins}
+use Rattle.core_rule.proofs.steps.TurnSteps.{MayEnd}
 
 -- each step of a seat keeps the rule
 abbrev pub EachStepKeeps : Type 0
 EachStepKeeps = (heap : Heap) (state : State) (book : Book) (number : ℕ) → Rule heap state book → number < heap.seats
-    → IsMachine heap (state_after heap state (Steps number)) → Keeps heap (state_after heap state (Steps number)) book book.begun (entries heap state (Steps number))
+    → IsMachine heap (state_after heap state (Steps number)) → Keeps heap state (state_after heap state (Steps number)) book book.begun (entries heap state (Steps number))
 
 -- so does each begin
 abbrev pub EachBeginKeeps : Type 0
 EachBeginKeeps = (heap : Heap) (state : State) (book : Book) (number : ℕ) (command : Command) → Rule heap state book → Can heap state (Begins number command)
-    → IsMachine heap (state_after heap state (Begins number command)) → Keeps heap (state_after heap state (Begins number command)) book (begins number (length book.history) book.begun) []
+    → IsMachine heap (state_after heap state (Begins number command)) → Keeps heap state (state_after heap state (Begins number command)) book (begins number (length book.history) book.begun) []
 
--- and each turn of the collector
+-- and each turn of the collector, where a cycle that it is about to end may end
 abbrev pub EachTurnKeeps : Type 0
-EachTurnKeeps = (heap : Heap) (state : State) (book : Book) → Rule heap state book → Can heap state Turns
-    → IsMachine heap (state_after heap state Turns) → Keeps heap (state_after heap state Turns) book book.begun (entries heap state Turns)
+EachTurnKeeps = (heap : Heap) (state : State) (book : Book) → Rule heap state book → MayEnd heap state book → Can heap state Turns
+    → IsMachine heap (state_after heap state Turns) → Keeps heap state (state_after heap state Turns) book book.begun (entries heap state Turns)
 
 -- who makes a step is a seat
 pub seat_of_step : (heap : Heap) (state : State) (book : Book) (number : ℕ) → Rule heap state book → Can heap state (Steps number) → number < heap.seats
@@ -54,33 +59,35 @@ OpeningStands = (heap : Heap) (state : State) → IsHeap heap → IsOpening heap
 
 -- so each event does
 pub each_event_keeps : MachineStays → EachStepKeeps → EachBeginKeeps → EachTurnKeeps → EachEventKeeps
-each_event_keeps stays steps begin turn heap state book (Begins number command) rule can =
-    stands_for heap (state_after heap state (Begins number command)) book (begins number (length book.history) book.begun) []
-    (begin heap state book number command rule can (stays heap state (Begins number command) rule.machine can))
-each_event_keeps stays steps begin turn heap state book (Steps number) rule can =
-    stands_for heap (state_after heap state (Steps number)) book book.begun (entries heap state (Steps number))
-    (steps heap state book number rule (seat_of_step heap state book number rule can) (stays heap state (Steps number) rule.machine can))
-each_event_keeps stays steps begin turn heap state book Turns rule can =
-    stands_for heap (state_after heap state Turns) book book.begun (entries heap state Turns)
-    (turn heap state book rule can (stays heap state Turns rule.machine can))
+each_event_keeps stays steps begin turn heap state book (Begins number command) stands can =
+    let here : number < heap.seats = rw (← stands.rule.machine.seated) can.0 in
+    let keeps = begin heap state book number command stands.rule can (stays heap state (Begins number command) stands.rule.machine can) in
+    record { book = keeps.now; grown = keeps.grown; stands = begin_cycle heap state book stands number here command (begins number (length book.history) book.begun) can keeps }
+each_event_keeps stays steps begin turn heap state book (Steps number) stands can =
+    let here : number < heap.seats = seat_of_step heap state book number stands.rule can in
+    let keeps = steps heap state book number stands.rule here (stays heap state (Steps number) stands.rule.machine can) in
+    record { book = keeps.now; grown = keeps.grown; stands = step_cycle heap state book stands number here keeps }
+each_event_keeps stays steps begin turn heap state book Turns stands can =
+    let keeps = turn heap state book stands.rule (ends_rightly heap state book stands) can (stays heap state Turns stands.rule.machine can) in
+    record { book = keeps.now; grown = keeps.grown; stands = turn_cycle heap state book stands state.collector.stage refl keeps }
 
 -- each run keeps the rule
-run_keeps : EachEventKeeps → (heap : Heap) (state : State) (book : Book) (events : List Event) → Rule heap state book → Run heap state events
+run_keeps : EachEventKeeps → (heap : Heap) (state : State) (book : Book) (events : List Event) → Stands heap state book → Run heap state events
     → StandsFor heap (state_after_all heap state events) book.history (history heap state events)
-run_keeps each heap state book [] rule run = record { book = book; grown = sym (append-nil book.history); rule = rule }
-run_keeps each heap state book (event ∷ events) rule run =
-    let first = each heap state book event rule run.0 in
-    let rest = run_keeps each heap (state_after heap state event) first.book events first.rule run.1 in
+run_keeps each heap state book [] stands run = record { book = book; grown = sym (append-nil book.history); stands = stands }
+run_keeps each heap state book (event ∷ events) stands run =
+    let first = each heap state book event stands run.0 in
+    let rest = run_keeps each heap (state_after heap state event) first.book events first.stands run.1 in
     record {
       book = rest.book;
       grown = rest.grown ∙ ap (λ es. es ++ history heap (state_after heap state event) events) first.grown
           ∙ append_assoc book.history (entries heap state event) (history heap (state_after heap state event) events);
-      rule = rest.rule;
+      stands = rest.stands;
     }
 
 -- from the opening on
 pub every_run_keeps : EachEventKeeps → OpeningStands → EveryRunKeeps
 every_run_keeps each opens heap state events limits opening run =
     let first = opens heap state limits opening in
-    let rest = run_keeps each heap state first.book events first.rule run in
-    record { book = rest.book; grown = rest.grown ∙ ap (λ es. es ++ history heap state events) first.grown; rule = rest.rule }
+    let rest = run_keeps each heap state first.book events first.stands run in
+    record { book = rest.book; grown = rest.grown ∙ ap (λ es. es ++ history heap state events) first.grown; stands = rest.stands }

@@ -18,7 +18,6 @@ use Rattle.core_machine.specs.seat.Seat.{Seat, absent_seat}
 use Rattle.core_machine.specs.machine.Value.{IsMachine}
 use Rattle.core_rule.specs.Book.{Book}
 use Rattle.core_rule.specs.Counts.{is_collectors}
-use Rattle.core_rule.specs.Laws.{StandsFor}
 use Rattle.core_rule.specs.Phases.{CollectorAgrees}
 use Rattle.core_rule.specs.Roots.{RootsAreReached}
 use Rattle.core_rule.specs.Paths.{IsReached}
@@ -26,6 +25,7 @@ use Rattle.core_rule.specs.Rule.{Rule, HeapStands, SeatStands, MarksStand}
 pub use Rattle.core_rule.proofs.entries.AtRest.{seat_fits, in_flight}
 use Rattle.core_rule.proofs.entries.Begins.{begins, book_begun, heap_begins, other_begins}
 use Rattle.core_rule.proofs.entries.PhaseEntries.{seats_phase, answers_grow, was_present}
+use Rattle.core_rule.proofs.footprint.BookGoing.{BookGoesOn, book_stays}
 use Rattle.core_rule.proofs.marking.Marks.{MarksGoOn, RootsGoOn, roots_more, leaves_words, marks_go_on}
 
 -- a seat's new data leave the other seats'
@@ -61,34 +61,35 @@ few_answers heap words book number seat stands present =
       | inr before ↦ omega (arith, told.told, before)
     ]
 
--- a book stands for the state, whose history is the old one with these entries, and whose calls began then
-pub record Keeps (heap : Heap) (state : State) (book : Book) (begun : ℕ → ℕ) (added : List Entry) : Type 0 where
+-- a book stands for the state after this one, whose history is the old one with these entries, whose calls began then, and to which the old one goes on
+pub record Keeps (heap : Heap) (before state : State) (book : Book) (begun : ℕ → ℕ) (added : List Entry) : Type 0 where
   pub now : Book
   pub grown : now.history ≡ book.history ++ added
   pub calls : now.begun ≡ begun
   pub rule : Rule heap state now
+  pub goes : BookGoesOn heap before book now
 
 -- a book that has grown by them keeps it where each part stands for it
-pub parts_keep : {heap : Heap} {state : State} {book : Book} {added : List Entry} (now : Book) → now.history ≡ book.history ++ added → IsMachine heap state → HeapStands heap state.words now
+pub parts_keep : {heap : Heap} {before state : State} {book : Book} {added : List Entry} (now : Book) → now.history ≡ book.history ++ added → IsMachine heap state → HeapStands heap state.words now
     → ((r : ℕ) → r < heap.seats → SeatStands heap state.words now r (seat_at state r)) → CollectorAgrees heap state.collector now.history
-    → MarksStand heap state now.owner now.colour now.fragments → Keeps heap state book now.begun added
-parts_keep now grown machine heap_stands seats collector marks =
-    record { now = now; grown = grown; calls = refl; rule = record { machine = machine; heap_stands = heap_stands; seats_stand = seats; collector_stands = collector; marks_stand = marks } }
+    → MarksStand heap state now.owner now.colour now.fragments → BookGoesOn heap before book now → Keeps heap before state book now.begun added
+parts_keep now grown machine heap_stands seats collector marks goes = record {
+  now = now;
+  grown = grown;
+  calls = refl;
+  rule = record { machine = machine; heap_stands = heap_stands; seats_stand = seats; collector_stands = collector; marks_stand = marks };
+  goes = goes;
+}
 
 -- a seat's move keeps the rule
 abbrev pub MoveKeeps : Heap → State → Book → ℕ → Move → Type 0
 MoveKeeps heap state book number move = IsMachine heap (state_after_move heap state number move)
-    → Keeps heap (state_after_move heap state number move) book book.begun (move.shows state.words (found_by heap state move.step))
+    → Keeps heap state (state_after_move heap state number move) book book.begun (move.shows state.words (found_by heap state move.step))
 
 -- so does the move that is due to any seat at this place
 abbrev pub StepKeeps : Place → (Heap → ℕ → Seat → Move) → Type 0
 StepKeeps place move = (heap : Heap) (state : State) (book : Book) (number : ℕ) → Rule heap state book → number < heap.seats
     → (seat_at state number).place ≡ place → MoveKeeps heap state book number (move heap number (seat_at state number))
-
--- so some book stands for it
-pub stands_for : (heap : Heap) (state : State) (book : Book) (begun : ℕ → ℕ) (added : List Entry) → Keeps heap state book begun added
-    → StandsFor heap state book.history added
-stands_for heap state book begun added keeps = record { book = keeps.now; grown = keeps.grown; rule = keeps.rule }
 
 -- a seat that makes an object hasn't left
 pub present_at : (heap : Heap) (state : State) (book : Book) (number : ℕ) (making : Making) → Rule heap state book → number < heap.seats
@@ -103,9 +104,9 @@ pub seat_steps : (heap : Heap) (state : State) (book : Book) (number : ℕ) (wor
     → now.history ≡ book.history ++ added → filter is_collectors added ≡ []
     → HeapStands heap words now → SeatStands heap words now number seat
     → ((r : ℕ) → r < heap.seats → r ≢ number → SeatStands heap state.words book r (seat_at state r) → SeatStands heap words now r (seat_at state r))
-    → MarksGoOn heap state book now words seat
-    → Keeps heap (record state { words = words; seats = slice_set state.seats number seat }) book now.begun added
-seat_steps heap state book number words seat now added rule here machine grown none heap_after self others marks =
+    → MarksGoOn heap state book now words seat → BookGoesOn heap state book now
+    → Keeps heap state (record state { words = words; seats = slice_set state.seats number seat }) book now.begun added
+seat_steps heap state book number words seat now added rule here machine grown none heap_after self others marks goes =
     let stand : (r : ℕ) → r < heap.seats → SeatStands heap words now r (slice_index_or (slice_set state.seats number seat) r absent_seat)
     = λ r below. each_seat (λ n s. SeatStands heap words now n s) state.seats number seat (subst (λ n. number < n) (sym rule.machine.seated) here) self r
     (λ apart. others r below apart (rule.seats_stand r below)) in
@@ -116,14 +117,15 @@ seat_steps heap state book number words seat now added rule here machine grown n
       roots = λ r below. each_seat (λ n s. RootsAreReached heap words now.owner now.colour state.collector s) state.seats number seat (subst (λ n. number < n) (sym rule.machine.seated) here) marks.own_on r
           (λ apart is_marking answered. roots_more (IsReached heap state.words book.owner book.colour) (IsReached heap words now.owner now.colour) (marks.reached_on is_marking) (seat_at state r)
           (rule.marks_stand.roots r below is_marking answered));
-    }
+    } goes
 
 -- the rule after a begin, which leaves the words and the others
 pub seat_begins : (heap : Heap) (state : State) (book : Book) (number : ℕ) (seat : Seat) (rule : Rule heap state book) (here : number < heap.seats) → IsMachine heap (record state { seats = slice_set state.seats number seat })
     → SeatStands heap state.words (book_begun heap state.words book number) number seat
     → seat.answered ≡ (seat_at state number).answered → RootsGoOn heap state book rule number here seat
-    → Keeps heap (record state { seats = slice_set state.seats number seat }) book (begins number (length book.history) book.begun) []
+    → Keeps heap state (record state { seats = slice_set state.seats number seat }) book (begins number (length book.history) book.begun) []
 seat_begins heap state book number seat rule here machine self same roots =
     seat_steps heap state book number state.words seat (book_begun heap state.words book number) [] rule here machine (sym (append-nil book.history)) refl
     (heap_begins heap state.words book number rule.heap_stands) self (λ r below apart other. other_begins heap state.words book number r (seat_at state r) apart other)
     (marks_go_on heap state book rule number here state.words (book_begun heap state.words book number) seat (leaves_words heap state book rule state.words (λ f part g leads. leads) (λ f part g leads. leads)) same roots)
+    (book_stays heap state book book.history (begins number (length book.history) book.begun))

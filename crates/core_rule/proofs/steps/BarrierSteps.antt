@@ -34,6 +34,7 @@ use Rattle.core_rule.proofs.cycle.CycleFrames.{cycle_by_flight}
 use Rattle.core_rule.proofs.entries.InFlight.{began_on}
 use Rattle.core_rule.proofs.colours.Births.{births_stay}
 use Rattle.core_rule.proofs.colours.LeadsFrames.{leads_control}
+use Rattle.core_rule.proofs.footprint.BookGoing.{IsNamed}
 use Rattle.core_rule.proofs.ways.LoadedObjects.{KeptHead}
 use Rattle.core_rule.proofs.marking.CallRoots.{IsReachedNow, roots_on_way}
 use Rattle.core_rule.proofs.steps.Loads.{went, loaded_state, load_goes}
@@ -82,7 +83,7 @@ module _ (heap : Heap) (state : State) (book : Book) (number : ℕ) (rule : Rule
       → ShadedStands book.colour (went seat seat.registers seat.reached seat.links seat.part loaded (places.Access next) []) next
       → CallGoesOn (went seat seat.registers seat.reached seat.links seat.part loaded (places.Access next) []) next
       → IsMachine heap (loaded_state heap state number (Word seat.reached seat.part) (went seat seat.registers seat.reached seat.links seat.part loaded (places.Access next) []))
-      → Keeps heap (loaded_state heap state number (Word seat.reached seat.part) (went seat seat.registers seat.reached seat.links seat.part loaded (places.Access next) [])) book book.begun []
+      → Keeps heap state (loaded_state heap state number (Word seat.reached seat.part) (went seat seat.registers seat.reached seat.links seat.part loaded (places.Access next) [])) book book.begun []
   loads_on loaded next names way field shaded comes machine =
       let stands = rule.seats_stand number here in
       let new : Seat = went seat seat.registers seat.reached seat.links seat.part loaded (places.Access next) [] in
@@ -116,9 +117,10 @@ module _ (heap : Heap) (state : State) (book : Book) (number : ℕ) (rule : Rule
         → (IsBetween 1 5 p → ShadedStands coloured (shading seat seat.shaded (places.Access next)) next)
         → (IsInMarking state.collector → seat.answered ≡ state.collector.phase → IsReachedNow heap state book f)
         → CallGoesOn (shading seat seat.shaded (places.Access next)) next
+        → IsNamed heap state book f
         → IsMachine heap (shaded_state (shading seat seat.shaded (places.Access next)))
-        → Keeps heap (shaded_state (shading seat seat.shaded (places.Access next))) book book.begun []
-    shades_on next names way field shaded marked comes machine =
+        → Keeps heap state (shaded_state (shading seat seat.shaded (places.Access next))) book book.begun []
+    shades_on next names way field shaded marked comes named machine =
         let stands = rule.seats_stand number here in
         let new : Seat = shading seat seat.shaded (places.Access next) in
         shade_keeps heap state book number rule here f head.index head.kept head.is seat.shaded (places.Access next) (barrier_runs p seat.answered (is_near heap state book number rule here from place) (barrier_window seat on)) machine
@@ -131,4 +133,4 @@ module _ (heap : Heap) (state : State) (book : Book) (number : ℕ) (rule : Rule
         record { set = field; shaded = shaded; roots = λ begins. tt }
         (births_stay book.owner book.owner book.colour coloured number seat.answered (λ x borne. (borne, borne_unshaded heap state book number rule here f head.index head.kept head.is number x borne)) stands.cycle.births) stands.cycle)
         marked (λ marks roots. roots_on_way (IsReachedNow heap state book) seat new next refl refl (comes marks roots) roots)
-        (λ last. omega (arith, (barrier_window seat on).upto, last))
+        (λ last. omega (arith, (barrier_window seat on).upto, last)) named

@@ -36,6 +36,7 @@ use Rattle.core_rule.specs.Registers.{Registers}
 use Rattle.core_rule.specs.Rule.{Rule}
 use Rattle.core_rule.specs.Ways.{WayStands}
 use Rattle.core_rule.proofs.marking.Marks.{Leaves, RootsGoOn, marks_go_on, leaves_words}
+use Rattle.core_rule.proofs.footprint.BookGoing.{book_stays}
 use Rattle.core_rule.proofs.steps.Assemble.{Keeps, seat_steps}
 use Rattle.core_rule.proofs.cycle.CycleHistory.{cycle_own}
 use Rattle.core_rule.proofs.entries.Others.{gathers_stay}
@@ -61,14 +62,14 @@ loaded_state heap state number a seat = record state { words = put heap state.wo
 pub over_went : (heap : Heap) (state : State) (book : Book) (number : ℕ) (a : Address) (registers : List Register) (added shown : List Entry)
     → IsAtRest (seat_at state number) → IsSilent (seat_at state number)
     → (IsMachine heap (loaded_state heap state number a (went (seat_at state number) registers 0 0 0 0 places.Idle added))
-    → Keeps heap (loaded_state heap state number a (went (seat_at state number) registers 0 0 0 0 places.Idle added)) book book.begun shown)
+    → Keeps heap state (loaded_state heap state number a (went (seat_at state number) registers 0 0 0 0 places.Idle added)) book book.begun shown)
     → IsMachine heap (loaded_state heap state number a (with_entries (after_call (record (seat_at state number) { registers = registers })) added))
-    → Keeps heap (loaded_state heap state number a (with_entries (after_call (record (seat_at state number) { registers = registers })) added)) book book.begun shown
+    → Keeps heap state (loaded_state heap state number a (with_entries (after_call (record (seat_at state number) { registers = registers })) added)) book book.begun shown
 over_went heap state book number a registers added shown rest silent keeps =
     let seat : Seat = seat_at state number in
     let same : with_entries (after_call (record seat { registers = registers })) added ≡ went seat registers 0 0 0 0 places.Idle added
     = ap (λ (s : Seat). record s { registers = registers; mine = seat.mine ++ added }) (over_way seat rest silent) in
-    subst (λ (s : Seat). IsMachine heap (loaded_state heap state number a s) → Keeps heap (loaded_state heap state number a s) book book.begun shown) (sym same) keeps
+    subst (λ (s : Seat). IsMachine heap (loaded_state heap state number a s) → Keeps heap state (loaded_state heap state number a s) book book.begun shown) (sym same) keeps
 
 module _ (heap : Heap) (state : State) (book : Book) (number : ℕ) (rule : Rule heap state book) (here : number < heap.seats) (a : Address)
     (registers : List Register) (reached links part loaded : ℕ) (place : Place) (added : List Entry)
@@ -80,9 +81,9 @@ module _ (heap : Heap) (state : State) (book : Book) (number : ℕ) (rule : Rule
   same_machine : IsMachine heap (record state { words = state.words; seats = slice_set state.seats number new })
   same_machine = subst (λ words. IsMachine heap (record state { words = words; seats = slice_set state.seats number new })) (put-at heap state.words a) machine
 
-  from_same : (begun : ℕ → ℕ) (shown : List Entry) → Keeps heap (record state { words = state.words; seats = slice_set state.seats number new }) book begun shown
-      → Keeps heap (loaded_state heap state number a new) book begun shown
-  from_same begun shown keeps = subst (λ words. Keeps heap (record state { words = words; seats = slice_set state.seats number new }) book begun shown) (sym (put-at heap state.words a)) keeps
+  from_same : (begun : ℕ → ℕ) (shown : List Entry) → Keeps heap state (record state { words = state.words; seats = slice_set state.seats number new }) book begun shown
+      → Keeps heap state (loaded_state heap state number a new) book begun shown
+  from_same begun shown keeps = subst (λ words. Keeps heap state (record state { words = words; seats = slice_set state.seats number new }) book begun shown) (sym (put-at heap state.words a)) keeps
 
   -- the seat has its part in the cycle where it shades nothing
   pub went_cycle : IsUnwatchedAt (has_barrier_of (seat_at state number)) place
@@ -103,7 +104,7 @@ module _ (heap : Heap) (state : State) (book : Book) (number : ℕ) (rule : Rule
       → Began book.history number (book.begun number) place
       → SeatInCycle heap state.words (phase book.history) (last_answer number book.history) (has_left number book.history) book.owner book.colour number new
       → RootsGoOn heap state book rule number here new
-      → Keeps heap (loaded_state heap state number a new) book book.begun []
+      → Keeps heap state (loaded_state heap state number a new) book book.begun []
   load_goes held list way began cycle roots =
       let stands = rule.seats_stand number here in
       from_same book.begun []
@@ -120,7 +121,8 @@ module _ (heap : Heap) (state : State) (book : Book) (number : ℕ) (rule : Rule
         cycle = cycle;
       }
       (λ r below apart other. other)
-      (marks_go_on heap state book rule number here state.words book new words_lead refl roots))
+      (marks_go_on heap state book rule number here state.words book new words_lead refl roots)
+      (book_stays heap state book book.history book.begun))
 
   module _ (command : Command) (reply : Reply) (nothing : effect_of (Said number command reply) ≡ no_effect)
       (after : Graph) (grows : after_reply (graph_of heap book.history) number command reply ≡ after) (only : OnlyRegisters (graph_of heap book.history) after number) where
@@ -132,7 +134,7 @@ module _ (heap : Heap) (state : State) (book : Book) (number : ℕ) (rule : Rule
         → IsAnswered place → is_leave_of number (Said number command reply) ≡ false
         → SeatInCycle heap state.words (phase book.history) (last_answer number book.history) (has_left number book.history) book.owner book.colour number new
         → RootsGoOn heap state book rule number here new
-        → Keeps heap (loaded_state heap state number a new) book book.begun (Said number command reply ∷ [])
+        → Keeps heap state (loaded_state heap state number a new) book book.begun (Said number command reply ∷ [])
     load_tells accepts keeps held list way answers stays cycle roots =
         let entry : Entry = Said number command reply in
         let g : Graph = graph_of heap book.history in

@@ -59,7 +59,7 @@ pub local_reply_keeps : (heap : Heap) (state : State) (book : Book) (number : �
     → is_leave_of number (entries.Said number (seat_at state number).command reply) ≡ false
     → SeatTells (seat_at state number) now (entries.Said number (seat_at state number).command reply)
     → RootsGoOn heap state book rule number here now
-    → Keeps heap (record state { words = put heap state.words a (at heap state.words a); seats = slice_set state.seats number now }) book book.begun (entries.Said number (seat_at state number).command reply ∷ [])
+    → Keeps heap state (record state { words = put heap state.words a (at heap state.words a); seats = slice_set state.seats number now }) book book.begun (entries.Said number (seat_at state number).command reply ∷ [])
 local_reply_keeps heap state book number a now reply rule here machine rest told present ranges local stays tells roots =
     let seat : Seat = seat_at state number in
     let g : Graph = graph_of heap book.history in

@@ -42,6 +42,7 @@ use Rattle.core_rule.proofs.entries.Others.{of_other}
 use Rattle.core_rule.proofs.entries.OwnEntries.{own_grows}
 use Rattle.core_rule.proofs.entries.ReplyEntries.{said_own, said_used, said_taken, said_spent}
 use Rattle.core_rule.proofs.graph.SameNodes.{ids_stay, objects_stay, cells_stay}
+use Rattle.core_rule.proofs.footprint.BookGoing.{book_stays}
 use Rattle.core_rule.proofs.frames.SeatFrames.{SameParty, with_entry, seat_stays, same_party}
 use Rattle.core_rule.proofs.hand.StoredFrames.{SameUnkept, stored_stays}
 
@@ -106,7 +107,7 @@ module _ (heap : Heap) (state : State) (book : Book) (number : ℕ) (words : Lis
       → SeatInCycle heap words (phase later.history) (last_answer number later.history) (has_left number later.history) book.owner book.colour number now
       → ((r : ℕ) → r < heap.seats → r ≢ number → LeavesCycle heap state.words words book.owner book.owner book.colour book.colour (phase book.history) r)
       → MarksGoOn heap state book later words now
-      → Keeps heap (record state { words = words; seats = slice_set state.seats number now }) book book.begun (entry ∷ [])
+      → Keeps heap state (record state { words = words; seats = slice_set state.seats number now }) book book.begun (entry ∷ [])
   told_keeps legal same grows own names told heap_cycle cycle leaves marks =
       seat_steps heap state book number words now later (entry ∷ []) rule here machine refl refl
       record {
@@ -127,7 +128,7 @@ module _ (heap : Heap) (state : State) (book : Book) (number : ℕ) (words : Lis
       (cycle_stays heap state.words words book.owner book.owner book.colour book.colour (phase book.history) (last_answer r book.history) (has_left r book.history) r (seat_at state r)
       (leaves r below apart) (watched_born heap state book rule r below) other.cycle) (of_other number r apart))
       other)
-      marks
+      marks (book_stays heap state book later.history book.begun)
 
   -- the seat stands idle then
   pub reply_keeps : made_by command reply ≡ 0 → IsAtRest seat → seat.mine ≡ filter (is_of number) book.history → IsLegal heap false later.history
@@ -136,7 +137,7 @@ module _ (heap : Heap) (state : State) (book : Book) (number : ℕ) (words : Lis
       → SeatInCycle heap words (phase later.history) (last_answer number later.history) (has_left number later.history) book.owner book.colour number now
       → ((r : ℕ) → r < heap.seats → r ≢ number → LeavesCycle heap state.words words book.owner book.owner book.colour book.colour (phase book.history) r)
       → MarksGoOn heap state book later words now
-      → Keeps heap (record state { words = words; seats = slice_set state.seats number now }) book book.begun (entry ∷ [])
+      → Keeps heap state (record state { words = words; seats = slice_set state.seats number now }) book book.begun (entry ∷ [])
   reply_keeps none rest told legal same grows replies heap_cycle cycle leaves marks =
       let stands = rule.seats_stand number here in
       let idle : IsAtRest now = rw replies.idle at fit_after.at_place in

@@ -25,6 +25,7 @@ use Rattle.core_rule.specs.Paths.{IsReached}
 use Rattle.core_rule.specs.Registers.{Registers}
 use Rattle.core_rule.specs.Rule.{Rule}
 use Rattle.core_rule.specs.Ways.{WayStands}
+use Rattle.core_rule.proofs.footprint.BookGoing.{IsNamed, mark_goes}
 use Rattle.core_rule.proofs.frames.Recoloured.{Recolours, heap_recoloured, seat_recoloured}
 use Rattle.core_rule.proofs.colours.OneBit.{bits_marked}
 use Rattle.core_rule.proofs.words.Addresses.{at-put_apart}
@@ -85,8 +86,8 @@ module _ (heap : Heap) (state : State) (book : Book) (number : ℕ) (rule : Rule
       → SeatInCycle heap words_shaded (phase book.history) (last_answer number book.history) (has_left number book.history) book.owner (with_mark book.colour f) number (shading (seat_at state number) shaded place)
       → (IsInMarking state.collector → (seat_at state number).answered ≡ state.collector.phase → IsReached heap state.words book.owner book.colour f)
       → RootsGoOn heap state book rule number here (shading (seat_at state number) shaded place) → (seat_at state number).answered % 7 ≢ 6
-      → Keeps heap (record state { words = words_shaded; seats = slice_set state.seats number (shading (seat_at state number) shaded place) }) book book.begun []
-  shade_keeps shaded place runs machine held list way busy cycle comes roots early =
+      → IsNamed heap state book f → Keeps heap state (record state { words = words_shaded; seats = slice_set state.seats number (shading (seat_at state number) shaded place) }) book book.begun []
+  shade_keeps shaded place runs machine held list way busy cycle comes roots early named =
       let seat : Seat = seat_at state number in
       let new : Seat = shading seat shaded place in
       let stands = rule.seats_stand number here in
@@ -106,3 +107,4 @@ module _ (heap : Heap) (state : State) (book : Book) (number : ℕ) (rule : Rule
       (λ r less apart other. seat_recoloured heap state book rule (f / 16) _ group_below (with_mark book.colour f) (recolours runs) r less other)
       (marks_shaded heap state book rule f shade_within number here new record { index = index; place = 0; kept = owned }
       (in_flight rule number here (λ idle. busy (subst IsAnswered (sym idle) tt))) refl comes roots early)
+      (mark_goes heap state book f named)

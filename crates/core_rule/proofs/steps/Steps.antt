@@ -18,6 +18,7 @@ use Rattle.core_rule.specs.Book.{Book}
 use Rattle.core_rule.specs.Rule.{Rule}
 use Rattle.core_rule.proofs.steps.Assemble.{Keeps, MoveKeeps}
 use Rattle.core_rule.proofs.entries.Begins.{begins}
+use Rattle.core_rule.proofs.footprint.BookGoing.{book_stays}
 use Rattle.core_rule.proofs.runs.Runs.{EachStepKeeps, EachBeginKeeps, EachTurnKeeps}
 use Rattle.core_rule.proofs.steps.access
 use Rattle.core_rule.proofs.steps.collector.{turn_keeps_at}
@@ -27,8 +28,8 @@ use Rattle.core_rule.proofs.steps.making
 module _ (heap : Heap) (state : State) (book : Book) (number : ℕ) (rule : Rule heap state book) (here : number < heap.seats) where
   -- the step due at this place keeps the rule
   keeps_at : (place : Place) → (seat_at state number).place ≡ place → IsMachine heap (state_after_due heap state number (move_at heap number (seat_at state number) place))
-      → Keeps heap (state_after_due heap state number (move_at heap number (seat_at state number) place)) book book.begun (entries_shown heap state (move_at heap number (seat_at state number) place))
-  keeps_at places.Idle placed machine = record { now = book; grown = sym (append-nil book.history); calls = refl; rule = rule }
+      → Keeps heap state (state_after_due heap state number (move_at heap number (seat_at state number) place)) book book.begun (entries_shown heap state (move_at heap number (seat_at state number) place))
+  keeps_at places.Idle placed machine = record { now = book; grown = sym (append-nil book.history); calls = refl; rule = rule; goes = book_stays heap state book book.history book.begun }
   keeps_at (places.Making Gathering) placed machine = making.ClaimStep.claim_keeps heap state book number rule here placed machine
   keeps_at (places.Making Returning) placed machine = making.GiveBackStep.give_back_keeps heap state book number rule here placed machine
   keeps_at (places.Making Refusing) placed machine = making.RefusalStep.refusal_keeps heap state book number rule here placed machine
@@ -60,7 +61,7 @@ each_step_keeps heap state book number rule here machine = keeps_at heap state b
 
 -- so does the begin of a call
 begins_at : (heap : Heap) (state : State) (book : Book) (number : ℕ) (command : Command) → Rule heap state book → number < heap.seats → Can heap state (Begins number command)
-    → IsMachine heap (state_after heap state (Begins number command)) → Keeps heap (state_after heap state (Begins number command)) book (begins number (length book.history) book.begun) []
+    → IsMachine heap (state_after heap state (Begins number command)) → Keeps heap state (state_after heap state (Begins number command)) book (begins number (length book.history) book.begun) []
 begins_at heap state book number (commands.New d fields) rule here can machine = making.BeginStep.begin_keeps heap state book number (commands.New d fields) rule here can.1 tt machine
 begins_at heap state book number command rule here can machine = access.BeginOthers.begin_others_keep heap state book number command rule here can.1 (λ made. made) machine
 
@@ -69,4 +70,4 @@ each_begin_keeps heap state book number command rule can machine = begins_at hea
 
 -- each turn of the collector keeps the rule
 pub each_turn_keeps : EachTurnKeeps
-each_turn_keeps heap state book rule may machine = turn_keeps_at state.collector.stage heap state book rule refl machine
+each_turn_keeps heap state book rule ends may machine = turn_keeps_at heap state book rule ends state.collector.stage refl machine

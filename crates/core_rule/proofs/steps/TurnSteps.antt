@@ -1,10 +1,14 @@
 -- A turn of the collector keeps the rule, where the heap, each seat and the collector stand after it.
-use Rattle.std.proofs.Common.{◌≡◌, ℕ, ◌<◌, List, [], ◌++◌, refl, sym, ◌∙◌, subst}
+use Rattle.std.proofs.Common.{◌≡◌, ℕ, ◌/◌, ◌<◌, List, [], ◌++◌, refl, sym, ◌∙◌, subst}
 use Rattle.std.proofs.lemmas.List.{append-nil}
 use Rattle.heap_model.specs.declared.entry.Entry.{Entry}
+use Rattle.heap_model.specs.declared.entry.Entry.TheVariants.{Ends}
 use Rattle.heap_model.specs.declared.heap.Heap.{Heap}
+use Rattle.heap_model.specs.PhasePlan.{cycle_phases}
+use Rattle.heap_model.specs.account.Cycles.{EndsCycle}
 use Rattle.core_machine.specs.declared.table.address.Address.{Address}
 use Rattle.core_machine.specs.declared.collector.stage.Stage.{Stage}
+use Rattle.core_machine.specs.declared.collector.stage.Stage.TheVariants as stages
 use Rattle.core_machine.specs.collector.Collector.{Collector, Turn, turn_at}
 use Rattle.core_machine.specs.table.Layout.{at, put}
 use Rattle.core_machine.specs.machine.Machine.{State, seat_at, state_after_turn}
@@ -13,15 +17,20 @@ use Rattle.core_machine.proofs.table_lemmas.Addresses.{put-at}
 use Rattle.core_rule.specs.Book.{Book}
 use Rattle.core_rule.specs.Phases.{CollectorAgrees}
 use Rattle.core_rule.specs.Rule.{Rule, HeapStands, SeatStands, MarksStand}
+use Rattle.core_rule.proofs.footprint.BookGoing.{BookGoesOn, book_stays}
 use Rattle.core_rule.proofs.steps.Assemble.{Keeps, parts_keep}
 
 -- a turn of the collector keeps the rule
 abbrev pub TurnKeeps : Heap → State → Book → Turn → Type 0
-TurnKeeps heap state book turn = IsMachine heap (state_after_turn heap state turn) → Keeps heap (state_after_turn heap state turn) book book.begun turn.adds
+TurnKeeps heap state book turn = IsMachine heap (state_after_turn heap state turn) → Keeps heap state (state_after_turn heap state turn) book book.begun turn.adds
 
 -- so does the turn that is due at this stage
 abbrev pub StageKeeps : Stage → Type 0
 StageKeeps stage = (heap : Heap) (state : State) (book : Book) → Rule heap state book → state.collector.stage ≡ stage → TurnKeeps heap state book (turn_at heap state.collector stage)
+
+-- where the collector is about to end a cycle, that may end
+abbrev pub MayEnd : Heap → State → Book → Type 0
+MayEnd heap state book = (kept : ℕ) → state.collector.stage ≡ stages.Ending kept → EndsCycle heap book.history (Ends (state.collector.phase / cycle_phases) kept)
 
 -- the state after a turn
 abbrev pub after_turn : State → List ℕ → Collector → State
@@ -33,9 +42,9 @@ pub turn_steps : (heap : Heap) (state : State) (book : Book) (words : List ℕ) 
     → HeapStands heap words now
     → ((r : ℕ) → r < heap.seats → SeatStands heap state.words book r (seat_at state r) → SeatStands heap words now r (seat_at state r))
     → CollectorAgrees heap collector now.history → MarksStand heap (after_turn state words collector) now.owner now.colour now.fragments
-    → Keeps heap (after_turn state words collector) book now.begun added
-turn_steps heap state book words collector now added rule machine grown heap_after seats collector_after marks =
-    parts_keep now grown machine heap_after (λ r below. seats r below (rule.seats_stand r below)) collector_after marks
+    → BookGoesOn heap state book now → Keeps heap state (after_turn state words collector) book now.begun added
+turn_steps heap state book words collector now added rule machine grown heap_after seats collector_after marks goes =
+    parts_keep now grown machine heap_after (λ r below. seats r below (rule.seats_stand r below)) collector_after marks goes
 
 -- the collector with no entry added
 abbrev pub quiet : Collector → Collector
@@ -47,16 +56,17 @@ pub load_turns_with : (heap : Heap) (state : State) (book : Book) (a : Address) 
     → HeapStands heap state.words now
     → ((r : ℕ) → r < heap.seats → SeatStands heap state.words book r (seat_at state r) → SeatStands heap state.words now r (seat_at state r))
     → CollectorAgrees heap collector now.history → MarksStand heap (after_turn state state.words collector) now.owner now.colour now.fragments
-    → Keeps heap (after_turn state (put heap state.words a (at heap state.words a)) (quiet collector)) book now.begun []
-load_turns_with heap state book a collector now rule machine told heap_after seats stands marks =
-    subst (λ words. IsMachine heap (after_turn state words (quiet collector)) → Keeps heap (after_turn state words (quiet collector)) book now.begun []) (sym (put-at heap state.words a))
+    → BookGoesOn heap state book now → Keeps heap state (after_turn state (put heap state.words a (at heap state.words a)) (quiet collector)) book now.begun []
+load_turns_with heap state book a collector now rule machine told heap_after seats stands marks goes =
+    subst (λ words. IsMachine heap (after_turn state words (quiet collector)) → Keeps heap state (after_turn state words (quiet collector)) book now.begun []) (sym (put-at heap state.words a))
     (λ same. turn_steps heap state book state.words (quiet collector) now [] rule same (told ∙ sym (append-nil book.history)) heap_after seats
     (subst (λ log. CollectorAgrees heap (record collector { log = log }) now.history) (sym (append-nil collector.log)) stands)
-    record { heap_marks = marks.heap_marks; roots = λ r below is answered. marks.roots r below (record { phase = is.phase; goes_on = is.goes_on }) answered }) machine
+    record { heap_marks = marks.heap_marks; roots = λ r below is answered. marks.roots r below (record { phase = is.phase; goes_on = is.goes_on }) answered } goes) machine
 
 -- and after one that leaves the book
 pub load_turns : (heap : Heap) (state : State) (book : Book) (a : Address) (collector : Collector) → Rule heap state book
     → IsMachine heap (after_turn state (put heap state.words a (at heap state.words a)) (quiet collector))
     → CollectorAgrees heap collector book.history → MarksStand heap (after_turn state state.words collector) book.owner book.colour book.fragments
-    → Keeps heap (after_turn state (put heap state.words a (at heap state.words a)) (quiet collector)) book book.begun []
-load_turns heap state book a collector rule machine = load_turns_with heap state book a collector book rule machine refl rule.heap_stands (λ r below seat_stands. seat_stands)
+    → Keeps heap state (after_turn state (put heap state.words a (at heap state.words a)) (quiet collector)) book book.begun []
+load_turns heap state book a collector rule machine agrees marks =
+    load_turns_with heap state book a collector book rule machine refl rule.heap_stands (λ r below seat_stands. seat_stands) agrees marks (book_stays heap state book book.history book.begun)

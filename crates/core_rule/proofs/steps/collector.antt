@@ -10,21 +10,28 @@ pub mod ScanStep
 pub mod SweepStep
 pub mod FreeStep
 pub mod ClearStep
-pub mod ClearedStep
+pub mod EndStep
+use Rattle.std.proofs.Common.{◌≡◌}
+use Rattle.heap_model.specs.declared.heap.Heap.{Heap}
 use Rattle.core_machine.specs.declared.collector.stage.Stage.{Stage}
 use Rattle.core_machine.specs.declared.collector.stage.Stage.TheVariants as stages
-use Rattle.core_rule.proofs.steps.TurnSteps.{StageKeeps}
+use Rattle.core_machine.specs.collector.Collector.{turn_at}
+use Rattle.core_machine.specs.machine.Machine.{State}
+use Rattle.core_rule.specs.Book.{Book}
+use Rattle.core_rule.specs.Rule.{Rule}
+use Rattle.core_rule.proofs.steps.TurnSteps.{TurnKeeps, MayEnd}
 
--- each turn keeps the rule, by its stage
-pub turn_keeps_at : (stage : Stage) → StageKeeps stage
-turn_keeps_at stages.Looking = LookStep.look_keeps
-turn_keeps_at (stages.Scanning scan) = ScanStep.scan_keeps scan
-turn_keeps_at (stages.Shading scan target next) = MarkShadeStep.mark_shade_keeps scan target next
-turn_keeps_at (stages.Blackening scan) = BlackenStep.blacken_keeps scan
-turn_keeps_at stages.Advancing = AdvanceStep.advance_keeps
-turn_keeps_at (stages.Passing group found) = PassStep.pass_keeps group found
-turn_keeps_at (stages.Sweeping group) = SweepStep.sweep_keeps group
-turn_keeps_at (stages.Examining group dead place) = SweepStep.examine_keeps group dead place
-turn_keeps_at (stages.Freeing group dead) = FreeStep.free_keeps group dead
-turn_keeps_at (stages.Clearing group kept) = ClearStep.clear_keeps group kept
-turn_keeps_at (stages.Cleared kept) = ClearedStep.cleared_keeps kept
+module _ (heap : Heap) (state : State) (book : Book) (rule : Rule heap state book) (ends : MayEnd heap state book) where
+  -- each turn keeps the rule, by its stage
+  pub turn_keeps_at : (stage : Stage) → state.collector.stage ≡ stage → TurnKeeps heap state book (turn_at heap state.collector stage)
+  turn_keeps_at stages.Looking is = LookStep.look_keeps heap state book rule is
+  turn_keeps_at (stages.Scanning scan) is = ScanStep.scan_keeps scan heap state book rule is
+  turn_keeps_at (stages.Shading scan target next) is = MarkShadeStep.mark_shade_keeps scan target next heap state book rule is
+  turn_keeps_at (stages.Blackening scan) is = BlackenStep.blacken_keeps scan heap state book rule is
+  turn_keeps_at stages.Advancing is = AdvanceStep.advance_keeps heap state book rule is
+  turn_keeps_at (stages.Passing group found) is = PassStep.pass_keeps group found heap state book rule is
+  turn_keeps_at (stages.Sweeping group) is = SweepStep.sweep_keeps group heap state book rule is
+  turn_keeps_at (stages.Examining group dead place) is = SweepStep.examine_keeps group dead place heap state book rule is
+  turn_keeps_at (stages.Freeing group dead) is = FreeStep.free_keeps group dead heap state book rule is
+  turn_keeps_at (stages.Clearing group kept) is = ClearStep.clear_keeps group kept heap state book rule is
+  turn_keeps_at (stages.Ending kept) is = EndStep.end_keeps kept heap state book rule is (ends kept is)

@@ -33,12 +33,30 @@ pub record KeptHead (made : List Id) (owner : ℕ → Owner) (fragments : ℕ �
   pub kept : IsKept owner fragments index
   pub is : f ≡ fragment_at (fragments index) 0
 
+-- the value refers to a kept object, which begins with this fragment
+pub record RefersTo (made : List Id) (owner : ℕ → Owner) (fragments : ℕ → List ℕ) (value : Value) (f : ℕ) : Type 0 where
+  pub id : Id
+  pub is : value ≡ values.Object id
+  pub names : NamesKept made owner fragments (values.Object id)
+  pub head : f ≡ object_head made fragments id
+
+-- a cell of the object of this number refers to a kept object, which begins with this fragment
+pub record CellRefers (g : Graph) (made : List Id) (owner : ℕ → Owner) (fragments : ℕ → List ℕ) (i f : ℕ) : Type 0 where
+  pub place : ℕ
+  pub cell : Cell
+  pub there : slice_get (cells_at g made i) place ≡ Some cell
+  pub refers : RefersTo made owner fragments cell.value f
+
 module _ (made : List Id) (owner : ℕ → Owner) (fragments : ℕ → List ℕ) where
+  -- which is a kept object's first one then
+  pub refers_kept : (value : Value) (f : ℕ) → RefersTo made owner fragments value f → KeptHead made owner fragments f
+  refers_kept value f refers = record { index = object_number made refers.id; below = refers.names.0; kept = refers.names.1; is = refers.head }
+
   -- what a value refers to
-  pub named_kept : (value : Value) → NamesKept made owner fragments value → (f : ℕ) → named_head (object_head made fragments) value ≡ Some f → KeptHead made owner fragments f
-  named_kept (values.Object id) names f is = record { index = object_number made id; below = names.0; kept = names.1; is = cc }
-  named_kept values.Nil names f is = cc
-  named_kept (values.Number n) names f is = cc
+  pub named_refers : (value : Value) → NamesKept made owner fragments value → (f : ℕ) → named_head (object_head made fragments) value ≡ Some f → RefersTo made owner fragments value f
+  named_refers (values.Object id) names f is = record { id = id; is = refl; names = names; head = cc }
+  named_refers values.Nil names f is = cc
+  named_refers (values.Number n) names f is = cc
 
   -- what a register that holds a value refers to
   pub held_head : (held : Register) (value : Value) → HoldsValue made owner fragments held value → head_of_register held ≡ named_head (object_head made fragments) value
@@ -46,30 +64,39 @@ module _ (made : List Id) (owner : ℕ → Owner) (fragments : ℕ → List ℕ)
   held_head (registers.Number n) value holds = ap (named_head (object_head made fragments)) (sym holds.0)
   held_head (registers.Object head id) value holds = ap Some holds.2 ∙ ap (named_head (object_head made fragments)) (sym holds.0)
 
-  pub held_kept : (held : Register) (value : Value) → HoldsValue made owner fragments held value → (f : ℕ) → head_of_register held ≡ Some f → KeptHead made owner fragments f
-  held_kept registers.Nil value holds f is = cc
-  held_kept (registers.Number n) value holds f is = cc
-  held_kept (registers.Object head id) value holds f is = record { index = object_number made id; below = holds.1.0; kept = holds.1.1; is = cc (is, holds.2) }
+  pub held_refers : (held : Register) (value : Value) → HoldsValue made owner fragments held value → (f : ℕ) → head_of_register held ≡ Some f → RefersTo made owner fragments value f
+  held_refers registers.Nil value holds f is = cc
+  held_refers (registers.Number n) value holds f is = cc
+  held_refers (registers.Object head id) value holds f is = record { id = id; is = holds.0; names = holds.1; head = cc (is, holds.2) }
 
   -- each head of some registers is one's
-  pub heads_kept : (held : List Register) (value : ℕ → Value) → ((r : ℕ) → HoldsValue made owner fragments (get_or held r registers.Nil) (value r))
-      → (j : ℕ) → j < length (heads_of held) → KeptHead made owner fragments (slice_index_or (heads_of held) j 0)
-  heads_kept [] value holds j less = absurd (omega (arith, less))
-  heads_kept (registers.Nil ∷ held) value holds j less = heads_kept held (λ r. value (suc r)) (λ r. holds (suc r)) j less
-  heads_kept (registers.Number n ∷ held) value holds j less = heads_kept held (λ r. value (suc r)) (λ r. holds (suc r)) j less
-  heads_kept (registers.Object head id ∷ held) value holds zero less = held_kept (registers.Object head id) (value 0) (holds 0) head refl
-  heads_kept (registers.Object head id ∷ held) value holds (suc j) less = heads_kept held (λ r. value (suc r)) (λ r. holds (suc r)) j (omega (arith, less))
+  pub heads_refer : (held : List Register) (value : ℕ → Value) → ((r : ℕ) → HoldsValue made owner fragments (get_or held r registers.Nil) (value r))
+      → (j : ℕ) → j < length (heads_of held) → (r : ℕ) × RefersTo made owner fragments (value r) (slice_index_or (heads_of held) j 0)
+  heads_refer [] value holds j less = absurd (omega (arith, less))
+  heads_refer (registers.Nil ∷ held) value holds j less = let its = heads_refer held (λ r. value (suc r)) (λ r. holds (suc r)) j less in (suc its.0, its.1)
+  heads_refer (registers.Number n ∷ held) value holds j less = let its = heads_refer held (λ r. value (suc r)) (λ r. holds (suc r)) j less in (suc its.0, its.1)
+  heads_refer (registers.Object head id ∷ held) value holds zero less = (0, held_refers (registers.Object head id) (value 0) (holds 0) head refl)
+  heads_refer (registers.Object head id ∷ held) value holds (suc j) less = let its = heads_refer held (λ r. value (suc r)) (λ r. holds (suc r)) j (omega (arith, less)) in (suc its.0, its.1)
 
 module _ (heap : Heap) (words : List ℕ) (g : Graph) (made : List Id) (owner : ℕ → Owner) (fragments : ℕ → List ℕ)
     (limits : IsHeap heap) (bits : Bits heap words owner) (ids : AreMade g made) (objects : Objects heap words g made owner fragments) where
   -- what the field of a set refers to
-  pub loaded_kept : (seat : Seat) → seat.links ≡ 0 → Finds (cells_at g made) made owner fragments seat
-      → (f : ℕ) → head_of (at heap words (Word seat.reached seat.part)) ≡ Some f → KeptHead made owner fragments f
-  loaded_kept seat arrived finds f is =
+  pub loaded_refers : (seat : Seat) → seat.links ≡ 0 → (finds : Finds (cells_at g made) made owner fragments seat)
+      → (f : ℕ) → head_of (at heap words (Word seat.reached seat.part)) ≡ Some f → CellRefers g made owner fragments finds.index f
+  loaded_refers seat arrived finds f is =
       let field : ℕ = field_of seat.command in
       let cell : Cell = get_or (cells_at g made finds.index) field unset in
       let there : slice_get (cells_at g made finds.index) field ≡ Some cell = slice_get-get_or (cells_at g made finds.index) field unset finds.field.within in
       let named = objects.named finds.index field finds.way.below finds.way.kept cell there in
-      named_kept made owner fragments cell.value named.0 f
-      (sym (head_in-value (object_head made fragments) cell.value cell.stamp (has_room heap words g made owner fragments limits bits cell.value named.0) named.1)
-      ∙ ap head_of (sym (cell_reached heap words g made owner fragments limits bits ids objects seat finds arrived cell there)) ∙ is)
+      record {
+        place = field;
+        cell = cell;
+        there = there;
+        refers = named_refers made owner fragments cell.value named.0 f
+            (sym (head_in-value (object_head made fragments) cell.value cell.stamp (has_room heap words g made owner fragments limits bits cell.value named.0) named.1)
+            ∙ ap head_of (sym (cell_reached heap words g made owner fragments limits bits ids objects seat finds arrived cell there)) ∙ is);
+      }
+
+  pub loaded_kept : (seat : Seat) → seat.links ≡ 0 → Finds (cells_at g made) made owner fragments seat
+      → (f : ℕ) → head_of (at heap words (Word seat.reached seat.part)) ≡ Some f → KeptHead made owner fragments f
+  loaded_kept seat arrived finds f is = let cell = loaded_refers seat arrived finds f is in refers_kept made owner fragments cell.cell.value f cell.refers

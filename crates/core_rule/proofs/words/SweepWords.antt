@@ -6,7 +6,7 @@ use Rattle.core_machine.specs.declared.table.address.Address.TheVariants.{Contro
 use Rattle.core_machine.specs.table.Layout.{at, put, table_length}
 use Rattle.core_machine.specs.table.Operation.{free_mask_of, marks_cleared}
 use Rattle.core_rule.specs.Book.{Colour, White, Grey}
-use Rattle.core_rule.specs.Colours.{Marks, marked_bit, scanned_bit}
+use Rattle.core_rule.specs.Colours.{Marks, marked_bit, scanned_bit, IsMarked}
 use Rattle.core_rule.specs.ControlWords.{Bits}
 use Rattle.core_rule.specs.Sweep.{AreDead, AreCleared}
 use Rattle.core_rule.specs.Owners.{Owner, Free, taken_bit, born_bit, owner_after}
@@ -42,6 +42,9 @@ module _ (group : ℕ) (colour : ℕ → Colour) (f : ℕ) where
   ]
 
   -- and what is grey was
+  pub cleared_was : IsMarked (cleared_in group colour) f → IsMarked colour f
+  cleared_was marked white = marked (cleared_white white)
+
   pub cleared_grey : cleared_in group colour f ≡ Grey → colour f ≡ Grey
   cleared_grey grey = elim (eqb_tells (f / 16) group) as (λ _. colour f ≡ Grey) [
     | inl same ↦ absurd (let white = cleared_here same.1 in cc (grey, white))

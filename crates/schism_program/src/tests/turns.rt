@@ -1,4 +1,4 @@
-//! Plays with turns of the collector between the commands, up to where the marks of a cycle are cleared.
+//! Plays with turns of the collector between the commands, up to the end of a cycle.
 
 use super::ended;
 use super::several_seats::text_of;
@@ -45,12 +45,12 @@ const BARRIERS: (&str, &str, &str) = (
 );
 
 // A record of three fragments is dropped before the cycle begins. Marking ends in the third phase, the fourth has no work, and
-// the fifth frees the three, which the next record takes again. In the sixth the marks are cleared, and turns change nothing
-// from then on.
+// the fifth frees the three, which the next record takes again. In the sixth the marks are cleared and the cycle ends: the
+// board's fragments, the first record's and the reserve's are taken, 13. Then the next cycle's rest waits for an answer.
 const SWEPT: (&str, &str, &str) = (
     "schism 1; heap 1 0 1; 0 new 1 2; 0 new 2 8; 0 nil 2; c turns 2; 0 poll; c turns 2; 0 poll; c turns 2; 0 poll; c turns 1000; 0 poll; c turns 2; 0 new 3 5; 0 poll; c turns 1000; 0 poll; c turns 1000; 0 new 3 5",
-    "history 1 play; heap 1 0 1; 0 takes 5; 0 new 1 2 = 0.0; 0 new 2 8 = 0.1; 0 nil 2 = ok; c phase 1; c turns 2 = done; 0 answers 1; 0 poll = 1; c phase 2; c turns 2 = done; 0 answers 2; 0 poll = 2; c phase 3; c turns 2 = done; 0 answers 3; 0 poll = 3; c phase 4; c turns 1000 = waits 0 answered 3 phase 4; 0 answers 4; 0 poll = 4; c phase 5; c turns 2 = done; 0 new 3 5 = full need 2 found 1; 0 answers 5; 0 poll = 5; c frees 3; c phase 6; c turns 1000 = waits 0 answered 5 phase 6; 0 answers 6; 0 poll = 6; c turns 1000 = done; 0 takes 3; 0 new 3 5 = 0.2; space used 16 of 16 spine 0 of 0; 0 gives back 2; 0 leave = ok; end used 14",
-    "legal 35",
+    "history 1 play; heap 1 0 1; 0 takes 5; 0 new 1 2 = 0.0; 0 new 2 8 = 0.1; 0 nil 2 = ok; c phase 1; c turns 2 = done; 0 answers 1; 0 poll = 1; c phase 2; c turns 2 = done; 0 answers 2; 0 poll = 2; c phase 3; c turns 2 = done; 0 answers 3; 0 poll = 3; c phase 4; c turns 1000 = waits 0 answered 3 phase 4; 0 answers 4; 0 poll = 4; c phase 5; c turns 2 = done; 0 new 3 5 = full need 2 found 1; 0 answers 5; 0 poll = 5; c frees 3; c phase 6; c turns 1000 = waits 0 answered 5 phase 6; 0 answers 6; 0 poll = 6; c ends 0 kept 13; c turns 1000 = waits 0 answered 6 phase 7; 0 takes 3; 0 new 3 5 = 0.2; space used 16 of 16 spine 0 of 0; 0 gives back 2; 0 leave = ok; end used 14",
+    "legal 36",
 );
 
 #[test]

@@ -10,6 +10,7 @@ use Rattle.core_rule.proofs.runs.PlayRuns.{whole_calls_play}
 use Rattle.core_rule.proofs.runs.ComingTurns.{each_turn_comes_to}
 use Rattle.core_rule.proofs.runs.Runs.{each_event_keeps, every_run_keeps}
 use Rattle.core_rule.proofs.steps.Steps.{each_step_keeps, each_begin_keeps, each_turn_keeps}
+use Rattle.core_rule.proofs.turns.{each_turn_leaves_fewer}
 use Rattle.core_rule.proofs.law.law_every_run.Goals as goal
 
 pub returns-clause-step : goal.returns-clause-step
@@ -47,3 +48,6 @@ returns-clause-frees c = no_free_takes_held
 
 pub returns-clause-marked : goal.returns-clause-marked
 returns-clause-marked c = each_held_is_marked
+
+pub returns-clause-fewer : goal.returns-clause-fewer
+returns-clause-fewer c = each_turn_leaves_fewer

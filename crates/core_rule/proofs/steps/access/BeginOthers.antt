@@ -30,7 +30,7 @@ use Rattle.core_rule.proofs.entries.Starting.{Starts, starts_other}
 -- the begin of any call but a new object's keeps the rule
 pub begin_others_keep : (heap : Heap) (state : State) (book : Book) (number : ℕ) (command : Command) → Rule heap state book → number < heap.seats
     → MayBegin (seat_at state number) command → (IsRecord command → ⊥) → IsMachine heap (state_after heap state (Begins number command))
-    → Keeps heap (state_after heap state (Begins number command)) book (begins number (length book.history) book.begun) []
+    → Keeps heap state (state_after heap state (Begins number command)) book (begins number (length book.history) book.begun) []
 begin_others_keep heap state book number command rule here may other machine =
     let old : Seat = seat_at state number in
     let seat : Seat = record old { command = command } in

@@ -76,7 +76,7 @@ module _ (heap : Heap) (state : State) (book : Book) (number : ℕ) (rule : Rule
       → Accepts (graph_of heap book.history) (Said number (seat_at state number).command (Got (value_of new) stamp))
       → IsMachine heap (loaded_state heap state number (Word (seat_at state number).reached (seat_at state number).part)
       (went (seat_at state number) (slice_set (seat_at state number).registers (target_of (seat_at state number).command) new) 0 0 0 0 places.Idle (reply_entries number (seat_at state number) (Got (value_of new) stamp))))
-      → Keeps heap (loaded_state heap state number (Word (seat_at state number).reached (seat_at state number).part)
+      → Keeps heap state (loaded_state heap state number (Word (seat_at state number).reached (seat_at state number).part)
       (went (seat_at state number) (slice_set (seat_at state number).registers (target_of (seat_at state number).command) new) 0 0 0 0 places.Idle (reply_entries number (seat_at state number) (Got (value_of new) stamp))))
       book book.begun (reply_entries number (seat_at state number) (Got (value_of new) stamp))
   filled_keeps new stamp none holds accepts machine =
@@ -103,7 +103,7 @@ module _ (heap : Heap) (state : State) (book : Book) (number : ℕ) (rule : Rule
       → Accepts (graph_of heap book.history) (Said number (seat_at state number).command (Got (values.Object id) (stamp_of found)))
       → IsMachine heap (loaded_state heap state number (Word (seat_at state number).reached (seat_at state number).part)
       (went (seat_at state number) (seat_at state number).registers (seat_at state number).reached (seat_at state number).links (seat_at state number).part found (places.Access Naming) []))
-      → Keeps heap (loaded_state heap state number (Word (seat_at state number).reached (seat_at state number).part)
+      → Keeps heap state (loaded_state heap state number (Word (seat_at state number).reached (seat_at state number).part)
       (went (seat_at state number) (seat_at state number).registers (seat_at state number).reached (seat_at state number).links (seat_at state number).part found (places.Access Naming) []))
       book book.begun (reply_entries number (seat_at state number) (Got (values.Object id) (stamp_of found)))
   pending_keeps found id kept loads comes accepts machine =
@@ -158,7 +158,7 @@ get_keeps heap state book number rule here place machine =
     (heap_stands.ids.in_graph index way.below) (way_object heap state book number rule here Getting place (λ d r. subst (λ p. IsAwaited p d r) place) index finds.row way)
     gets.1 cell there) in
     let goal = λ (o : Option ℕ). IsMachine heap (loaded_state heap state number (Word seat.reached seat.part) (with_entries (after_get seat found o) (got_adds number seat found o)))
-    → Keeps heap (loaded_state heap state number (Word seat.reached seat.part) (with_entries (after_get seat found o) (got_adds number seat found o))) book book.begun (got_shows heap number seat words found o) in
+    → Keeps heap state (loaded_state heap state number (Word seat.reached seat.part) (with_entries (after_get seat found o) (got_adds number seat found o))) book book.begun (got_shows heap number seat words found o) in
     let filled = filled_keeps heap state book number rule here place gets.1 gets.0.in_range (plain_of found) (stamp_of found) in
     let told : List Entry = reply_entries number seat (Got (value_of (plain_of found)) (stamp_of found)) in
     let ends = over_went heap state book number (Word seat.reached seat.part) (slice_set seat.registers (target_of seat.command) (plain_of found)) told told
@@ -175,7 +175,7 @@ get_keeps heap state book number rule here place machine =
           let name : id_of (at heap words (Word (head id) 1)) ≡ id
           = name_found heap words g book.made book.owner book.fragments rule.machine.limits bits heap_stands.ids heap_stands.objects (object_number book.made id) kept.0 kept.1
           ∙ id_at-number_of book.made id kept.0 in
-          subst (λ x. Keeps heap (loaded_state heap state number (Word seat.reached seat.part) (with_entries (after_get seat found (Some (head id))) [])) book book.begun (reply_entries number seat (Got (values.Object x) (stamp_of found)))) (sym name)
+          subst (λ x. Keeps heap state (loaded_state heap state number (Word seat.reached seat.part) (with_entries (after_get seat found (Some (head id))) [])) book book.begun (reply_entries number seat (Got (values.Object x) (stamp_of found)))) (sym name)
           (pending_keeps heap state book number rule here place gets.1 gets.0.in_range found id kept (loads ∙ ap (named_head head) e)
           (λ marks comes. field_comes heap state book number rule here marks comes gets.2.field_part (head id) record { index = object_number book.made id; below = kept.0; kept = kept.1; is = refl } (loads ∙ ap (named_head head) e))
           (subst (λ v. Accepts g (Said number seat.command (Got v (stamp_of found)))) e accepted) machine)

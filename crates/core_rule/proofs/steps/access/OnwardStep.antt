@@ -47,7 +47,7 @@ module _ (heap : Heap) (state : State) (book : Book) (number : ℕ) (rule : Rule
       → (IsInMarking state.collector → IsReachedNow heap state book (seat_at state number).reached → IsReachedNow heap state book reached)
       → IsMachine heap (loaded_state heap state number (Word (seat_at state number).reached 0)
       (went (seat_at state number) (seat_at state number).registers reached links part (seat_at state number).loaded (places.Access (way_place_of next)) []))
-      → Keeps heap (loaded_state heap state number (Word (seat_at state number).reached 0)
+      → Keeps heap state (loaded_state heap state number (Word (seat_at state number).reached 0)
       (went (seat_at state number) (seat_at state number).registers reached links part (seat_at state number).loaded (places.Access (way_place_of next)) [])) book book.begun []
   goes_to reached links part next same finds comes machine =
       let seat : Seat = seat_at state number in
@@ -70,12 +70,12 @@ module _ (heap : Heap) (state : State) (book : Book) (number : ℕ) (rule : Rule
   -- the way goes on, or the field's fragment is reached
   pub onward_keeps : (links part : ℕ) → Finds (cells_at (graph_of heap book.history) book.made) book.made book.owner book.fragments (record (seat_at state number) { links = links; part = part })
       → IsMachine heap (loaded_state heap state number (Word (seat_at state number).reached 0) (with_entries (after_walk (record (seat_at state number) { links = links; part = part }) found_first) []))
-      → Keeps heap (loaded_state heap state number (Word (seat_at state number).reached 0) (with_entries (after_walk (record (seat_at state number) { links = links; part = part }) found_first) [])) book book.begun []
+      → Keeps heap state (loaded_state heap state number (Word (seat_at state number).reached 0) (with_entries (after_walk (record (seat_at state number) { links = links; part = part }) found_first) [])) book book.begun []
   onward_keeps links part finds =
       let seat : Seat = record (seat_at state number) { links = links; part = part } in
       let g : Graph = graph_of heap book.history in
       onward_cases (λ s. IsMachine heap (loaded_state heap state number (Word seat.reached 0) (with_entries s []))
-      → Keeps heap (loaded_state heap state number (Word seat.reached 0) (with_entries s [])) book book.begun []) seat found_first
+      → Keeps heap state (loaded_state heap state number (Word seat.reached 0) (with_entries s [])) book book.begun []) seat found_first
       (λ arrived. goes_to seat.reached links part seat refl
       (finds_at (cells_at g book.made) book.made book.owner book.fragments seat seat.loaded (way_place_of seat) _ finds) (λ marks comes. comes))
       (λ more. goes_to (link_of found_first) (links - 1) part (after_link seat found_first) refl

@@ -69,7 +69,7 @@ module _ (heap : Heap) (state : State) (book : Book) (number : ℕ) (rule : Rule
       → is_leave_of number (Said number (seat_at state number).command reply) ≡ false
       → IsMachine heap (loaded_state heap state number (Word (seat_at state number).reached 0)
       (went (seat_at state number) (seat_at state number).registers 0 0 0 0 places.Idle (reply_entries number (seat_at state number) reply)))
-      → Keeps heap (loaded_state heap state number (Word (seat_at state number).reached 0)
+      → Keeps heap state (loaded_state heap state number (Word (seat_at state number).reached 0)
       (went (seat_at state number) (seat_at state number).registers 0 0 0 0 places.Idle (reply_entries number (seat_at state number) reply))) book book.begun (reply_entries number (seat_at state number) reply)
   met_keeps reply nothing stays accepts keeps stays_here machine =
       let seat : Seat = seat_at state number in
@@ -108,7 +108,7 @@ open_keeps heap state book number rule here place machine =
     let leaves_none = λ (reply : Reply). no_leave_told number number seat.command reply (λ leaves. subst NamesObject leaves opens.names) in
     let ends = λ (reply : Reply). over_went heap state book number (Word seat.reached 0) seat.registers (reply_entries number seat reply) (reply_entries number seat reply) (rw place at (seat_fits rule number here).at_place) (rw place at (seat_fits rule number here).answer_at_place) in
     meta_cases (λ reply. IsMachine heap (loaded_state heap state number (Word seat.reached 0) (with_entries (after_meta seat found reply) (reply_entries_if number seat reply)))
-    → Keeps heap (loaded_state heap state number (Word seat.reached 0) (with_entries (after_meta seat found reply) (reply_entries_if number seat reply))) book book.begun (reply_entries_if number seat reply))
+    → Keeps heap state (loaded_state heap state number (Word seat.reached 0) (with_entries (after_meta seat found reply) (reply_entries_if number seat reply))) book book.begun (reply_entries_if number seat reply))
     seat.command found opens.names
     (λ len. ends (replies.Length (length_of found)) (met_keeps heap state book number rule here place (replies.Length (length_of found)) refl (graph_length g number (length_of found) seat.command len)
     (subst (λ n. Accepts g (Said number seat.command (replies.Length n))) (sym size) (accepts_length g number id seat.command opens.works.in_range present made held len))

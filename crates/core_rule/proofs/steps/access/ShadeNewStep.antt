@@ -3,6 +3,7 @@ use Rattle.std.specs.Prelude.{unwrap_or}
 use Rattle.std.proofs.Common.{◌≡◌, ℕ, true, [], ◌++◌, Option, Some, None, IfSome, inl, refl, subst, IsSome}
 use Rattle.heap_model.specs.account.Cycles.{graph_of}
 use Rattle.heap_model.specs.account.PhaseCounts.{phase}
+use Rattle.heap_model.specs.graph.Objects.{register_value}
 use Rattle.heap_model.specs.graph.Graph.{Graph}
 use Rattle.core_machine.specs.declared.place.Place.TheVariants as places
 use Rattle.core_machine.specs.declared.place.Access.TheVariants.{ShadingNew, Swapping}
@@ -22,7 +23,8 @@ use Rattle.core_rule.specs.Ways.{Finds, OldKept}
 use Rattle.core_rule.proofs.steps.Assemble.{StepKeeps, seat_fits}
 use Rattle.core_rule.proofs.steps.BarrierSteps.{shades_on, leads_back, holds_all}
 use Rattle.core_rule.proofs.cycle.CycleFrames.{watches_stay}
-use Rattle.core_rule.proofs.ways.LoadedObjects.{held_kept}
+use Rattle.core_rule.proofs.footprint.BookGoing.{by_register}
+use Rattle.core_rule.proofs.ways.LoadedObjects.{refers_kept, held_refers}
 use Rattle.core_rule.proofs.ways.OnwardWays.{finds_at, loaded_at}
 use Rattle.core_rule.proofs.lists.Options.{if_some, some_holds, of_some}
 use Rattle.core_rule.proofs.marking.CallRoots.{IsReachedNow, at_call}
@@ -40,8 +42,9 @@ shade_new_keeps heap state book number rule here place machine =
     let way : Finds (cells_at g book.made) book.made book.owner book.fragments seat × OldKept book.made book.owner book.fragments seat = rw place at stands.names.way in
     let f : ℕ = unwrap_or (register_head (new_register_of seat)) 0 in
     let some : register_head (new_register_of seat) ≡ Some f = whole (register_head (new_register_of seat)) fits.2 in
-    let head = held_kept book.made book.owner book.fragments (new_register_of seat) _
+    let refers = held_refers book.made book.owner book.fragments (new_register_of seat) (register_value g number (source_of seat.command))
     (holds_all heap state book number rule here ShadingNew place (λ answered. answered) (λ d r awaited. awaited) (source_of seat.command)) f some in
+    let head = refers_kept book.made book.owner book.fragments (register_value g number (source_of seat.command)) f refers in
     let coloured : ℕ → Colour = with_mark book.colour f in
     let back = leads_back heap state book number rule here ShadingNew place (λ answered. answered) (λ d r awaited. awaited) f head fits.1 in
     let watched : IsBetween 2 5 p → IsBetween 2 5 seat.answered → DeletionBarrier heap state.words book.colour seat.reached seat.part None
@@ -60,6 +63,7 @@ shade_new_keeps heap state book number rule here place machine =
     ))
     (λ marks answered. of_some (IsReachedNow heap state book) (register_head (new_register_of seat)) f some ((rule.marks_stand.roots number here marks answered).registers (source_of seat.command)))
     (λ marks. at_call (IsReachedNow heap state book) seat ShadingNew place)
+    (by_register number (source_of seat.command) refers)
     machine
   where
     whole : (o : Option ℕ) → IsSome o → o ≡ Some (unwrap_or o 0)

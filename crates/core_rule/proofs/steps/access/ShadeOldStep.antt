@@ -22,6 +22,7 @@ use Rattle.core_rule.specs.Objects.{cells_at}
 use Rattle.core_rule.specs.Ways.{Finds, LoadedKept}
 use Rattle.core_rule.proofs.steps.Assemble.{Keeps, StepKeeps, seat_fits}
 use Rattle.core_rule.proofs.steps.BarrierSteps.{new_cases, shades_on, leads_back}
+use Rattle.core_rule.proofs.footprint.BookGoing.{IsNamed, by_set}
 use Rattle.core_rule.proofs.ways.LoadedObjects.{KeptHead}
 use Rattle.core_rule.proofs.ways.OnwardWays.{finds_at, loaded_at}
 use Rattle.core_rule.proofs.lists.Options.{some_holds, none_holds, from_some, of_some}
@@ -42,6 +43,7 @@ shade_old_keeps heap state book number rule here place machine =
     let is : f ≡ fragment_at (book.fragments way.1.index) 0 = from_some (head_of seat.loaded) _ way.1.loads in
     let loads : head_of seat.loaded ≡ Some f = way.1.loads ∙ ap Some (sym is) in
     let head : KeptHead book.made book.owner book.fragments f = record { index = way.1.index; below = way.1.below; kept = way.1.kept; is = is } in
+    let named : IsNamed heap state book f = by_set number here place loads in
     let coloured : ℕ → Colour = with_mark book.colour f in
     let on = shades_on heap state book number rule here ShadingOld place (λ answered. answered) (λ d r awaited. awaited) f head fits.1 in
     let back = leads_back heap state book number rule here ShadingOld place (λ answered. answered) (λ d r awaited. awaited) f head fits.1 in
@@ -60,9 +62,9 @@ shade_old_keeps heap state book number rule here place machine =
       | inr was ↦ inr (mark_keeps book.colour f x was)
     ] in
     new_cases (λ next. IsMachine heap (record state { words = words_shaded heap state book number rule here f head.index head.kept head.is; seats = slice_set state.seats number (shading seat seat.shaded (places.Access next)) })
-    → Keeps heap (record state { words = words_shaded heap state book number rule here f head.index head.kept head.is; seats = slice_set state.seats number (shading seat seat.shaded (places.Access next)) }) book book.begun [])
+    → Keeps heap state (record state { words = words_shaded heap state book number rule here f head.index head.kept head.is; seats = slice_set state.seats number (shading seat seat.shaded (places.Access next)) }) book book.begun [])
     (register_head (new_register_of seat))
     (λ no_new. on Swapping (λ s. refl) (at_next Swapping, kept_at Swapping) (λ making snapped. field making snapped)
-    (λ making is_on. (marked, none_holds (IsMarked coloured) (register_head (new_register_of seat)) no_new)) comes reached)
-    (λ x some. on ShadingNew (λ s. refl) (at_next ShadingNew, kept_at ShadingNew) field (λ making. marked) comes reached)
+    (λ making is_on. (marked, none_holds (IsMarked coloured) (register_head (new_register_of seat)) no_new)) comes reached named)
+    (λ x some. on ShadingNew (λ s. refl) (at_next ShadingNew, kept_at ShadingNew) field (λ making. marked) comes reached named)
     machine

@@ -18,7 +18,7 @@ use Rattle.core_rule.specs.Owners.{Borne, Kept}
 use Rattle.core_rule.specs.Paths.{IsWhite, Edge, IsReached}
 use Rattle.core_rule.specs.Rule.{Rule}
 use Rattle.core_rule.proofs.colours.OneBit.{bits_marked}
-use Rattle.core_rule.proofs.colours.BlackenColours.{with_scan, scan_away, scan_keeps, scan_grey, marks_blacken, coloured_blacken}
+use Rattle.core_rule.proofs.colours.BlackenColours.{with_scan, scan_away, scan_keeps, scan_was, scan_grey, marks_blacken, coloured_blacken}
 use Rattle.core_rule.proofs.colours.LeadsFrames.{control_leads}
 use Rattle.core_rule.proofs.frames.Recoloured.{Recolours}
 use Rattle.core_rule.proofs.marking.Marks.{marks_at, none_dead}
@@ -85,3 +85,4 @@ pub blacken_keeps : (scan : Scan) → StageKeeps (stages.Blackening scan)
 blacken_keeps scan heap state book rule blackening machine =
     colour_turns heap state book rule (stages.Blackening scan) (stages.Passing (scan.fragment / 16) true) blackening (scan.fragment / 16) _ (below heap state book rule scan blackening)
     (with_scan book.colour scan.fragment) (new heap state book rule scan blackening) machine (marks heap state book rule scan blackening) (λ e. cc) (comes heap state book rule scan blackening)
+    (λ x i k owned before marked. inl (scan_was book.colour scan.fragment (seen heap state book rule scan blackening).grey x marked))

@@ -1,5 +1,5 @@
 -- The collector clears the marks of a group: that keeps the rule.
-use Rattle.std.proofs.Common.{◌≡◌, ℕ, ◌+◌, ◌%◌, ◌≤◌, List, [], sym, ap, ◌∙◌, subst, arith}
+use Rattle.std.proofs.Common.{◌≡◌, ℕ, ◌+◌, ◌%◌, ◌≤◌, List, [], sym, ap, ◌∙◌, subst, arith, inl}
 use Rattle.std.proofs.lemmas.List.{append-nil}
 use Rattle.heap_model.specs.declared.heap.Heap.{Heap}
 use Rattle.heap_model.specs.account.PhaseCounts.{phase}
@@ -14,12 +14,13 @@ use Rattle.core_rule.specs.Book.{Book}
 use Rattle.core_rule.specs.Marking.{ScanStands, PassStands, MarkingStands}
 use Rattle.core_rule.specs.Sweep.{IsSettled, SweepStands, AreCleared}
 use Rattle.core_rule.specs.Rule.{Rule}
+use Rattle.core_rule.proofs.footprint.BookGoing.{colours_go}
 use Rattle.core_rule.proofs.frames.Clearing.{words_cleared, book_cleared, heap_cleared, seat_cleared}
 use Rattle.core_rule.proofs.marking.Marks.{settled_phase}
 use Rattle.core_rule.proofs.marking.SweepMarks.{after_cleared_either}
 use Rattle.core_rule.proofs.steps.collector.ColourTurn.{at_stage, agrees_at}
 use Rattle.core_rule.proofs.steps.TurnSteps.{StageKeeps, quiet, turn_steps}
-use Rattle.core_rule.proofs.words.SweepWords.{cleared_further, cleared_grey}
+use Rattle.core_rule.proofs.words.SweepWords.{cleared_further, cleared_grey, cleared_in, cleared_was}
 
 module _ (heap : Heap) (state : State) (book : Book) (rule : Rule heap state book) (group kept : ℕ) (clearing : state.collector.stage ≡ stages.Clearing group kept) where
   fits : IsClearing heap state.collector.phase state.collector.looked group kept
@@ -60,7 +61,7 @@ module _ (heap : Heap) (state : State) (book : Book) (rule : Rule heap state boo
   marks : (n : ℕ) → MarkingStands heap words book.owner now.colour book.fragments state.collector.phase (after_cleared heap group n)
   marks n = after_cleared_either (MarkingStands heap words book.owner now.colour book.fragments state.collector.phase) heap group n
       (marks_at (stages.Clearing (group + 1) n) tt tt (cleared_further group book.colour cleared))
-      (λ all. marks_at (stages.Cleared n) tt tt (cleared_all all))
+      (λ all. marks_at (stages.Ending n) tt tt (cleared_all all))
 
 pub clear_keeps : (group kept : ℕ) → StageKeeps (stages.Clearing group kept)
 clear_keeps group kept heap state book rule clearing machine =
@@ -76,3 +77,4 @@ clear_keeps group kept heap state book rule clearing machine =
       heap_marks = marks heap state book rule group kept clearing (kept + taken_count_of (at heap state.words (Control group)));
       roots = λ r below is. absurd (omega (arith, is.phase, fits.for_clearing));
     }
+    (colours_go heap state book (cleared_in group book.colour) (λ f i k owned below marked. inl (cleared_was group book.colour f marked)))

@@ -16,6 +16,7 @@ use Rattle.core_rule.specs.Roots.{RootsAreReached}
 use Rattle.core_rule.specs.Paths.{IsReached}
 use Rattle.core_rule.specs.Phases.{CollectorAgrees}
 use Rattle.core_rule.specs.Rule.{Rule}
+use Rattle.core_rule.proofs.footprint.BookGoing.{ColoursGoOn, colours_go}
 use Rattle.core_rule.proofs.frames.Recoloured.{Recolours, heap_recoloured, seat_recoloured}
 use Rattle.core_rule.proofs.marking.Marks.{roots_more}
 use Rattle.core_rule.proofs.steps.Assemble.{Keeps}
@@ -46,17 +47,18 @@ module _ (heap : Heap) (state : State) (book : Book) (rule : Rule heap state boo
       → MarkingStands heap (put heap state.words (Control g) n) book.owner coloured book.fragments state.collector.phase stage
       → from ≢ stages.Advancing
       → ((f : ℕ) → IsReached heap state.words book.owner book.colour f → IsReached heap (put heap state.words (Control g) n) book.owner coloured f)
-      → Keeps heap (after_turn state (put heap state.words (Control g) n) (quiet (at_stage state.collector stage))) book book.begun []
-  colour_turns g n below coloured new machine marks goes reached =
+      → ColoursGoOn heap state book book.owner coloured
+      → Keeps heap state (after_turn state (put heap state.words (Control g) n) (quiet (at_stage state.collector stage))) book book.begun []
+  colour_turns g n below coloured new machine marks goes reached named =
       turn_steps heap state book (put heap state.words (Control g) n) (quiet (at_stage state.collector stage)) (record book { colour = coloured }) [] rule machine (sym (append-nil book.history))
       (heap_recoloured heap state book rule g n below coloured new) (λ r less stands. seat_recoloured heap state book rule g n below coloured new r less stands)
       (agrees_at heap state book rule stage)
-      record { heap_marks = marks; roots = roots_at (put heap state.words (Control g) n) coloured goes reached }
+      record { heap_marks = marks; roots = roots_at (put heap state.words (Control g) n) coloured goes reached } (colours_go heap state book coloured named)
 
   -- a turn that loads
   pub load_turns_on : (a : Address) → IsMachine heap (after_turn state (put heap state.words a (at heap state.words a)) (quiet (at_stage state.collector stage)))
       → MarkingStands heap state.words book.owner book.colour book.fragments state.collector.phase stage → from ≢ stages.Advancing
-      → Keeps heap (after_turn state (put heap state.words a (at heap state.words a)) (quiet (at_stage state.collector stage))) book book.begun []
+      → Keeps heap state (after_turn state (put heap state.words a (at heap state.words a)) (quiet (at_stage state.collector stage))) book book.begun []
   load_turns_on a machine marks goes =
       load_turns heap state book a (at_stage state.collector stage) rule machine record { log = rule.collector_stands.log; phase_told = rule.collector_stands.phase_told; looked = rule.collector_stands.looked }
       record {

@@ -1,5 +1,5 @@
 -- The collector frees the dead fragments of a group: that keeps the rule.
-use Rattle.std.proofs.Common.{◌≡◌, ℕ, zero, suc, ◌+◌, ◌%◌, ◌≤◌, List, [], ◌∷◌, ◌++◌, length, count_ones, inr, refl, sym, ap, ◌∙◌, subst, arith}
+use Rattle.std.proofs.Common.{◌≡◌, ℕ, zero, suc, ◌%◌, ◌≤◌, List, [], ◌∷◌, ◌++◌, length, count_ones, inr, refl, sym, ap, ◌∙◌, subst, arith}
 use Rattle.std.proofs.lemmas.List.Elements.{filter-append}
 use Rattle.std.proofs.lemmas.Nat.{zero_from_ones}
 use Rattle.heap_model.specs.declared.entry.Entry.TheVariants.{Frees}
@@ -18,10 +18,13 @@ use Rattle.core_rule.specs.Sweep.{AreFreed, AreDead, SweepStands}
 use Rattle.core_rule.specs.Phases.{CollectorAgrees}
 use Rattle.core_rule.specs.Rule.{Rule}
 use Rattle.core_rule.proofs.entries.PhaseEntries.{phase_stays, answered_stays, left_stays}
+use Rattle.core_rule.proofs.footprint.BookGoing.{owners_go}
+use Rattle.core_rule.proofs.footprint.OwnersGo.{free_goes}
 use Rattle.core_rule.proofs.frames.Freeing.{words_freed, book_freed, heap_freed, seat_freed}
 use Rattle.core_rule.proofs.marking.SweepMarks.{swept_further}
 use Rattle.core_rule.proofs.owners.DeadOwners.{set_dead, after_freed, freed_further}
 use Rattle.core_rule.proofs.steps.Assemble.{Keeps}
+use Rattle.core_rule.proofs.owners.OwnerLemmas.{is_dead}
 use Rattle.core_rule.proofs.steps.TurnSteps.{StageKeeps, after_turn, turn_steps}
 use Rattle.core_rule.proofs.words.SetBits.{set_in, length-set}
 
@@ -72,16 +75,18 @@ module _ (heap : Heap) (state : State) (book : Book) (rule : Rule heap state boo
       (freed_further book.owner group dead fits.dead_within told.1 told.0)
 
   keeps : IsMachine heap (after_turn state words (freed (length (set_in group dead))))
-      → Keeps heap (after_turn state words (freed (length (set_in group dead)))) book book.begun (Frees (length (set_in group dead)) ∷ [])
+      → Keeps heap state (after_turn state words (freed (length (set_in group dead)))) book book.begun (Frees (length (set_in group dead)) ∷ [])
   keeps machine = turn_steps heap state book words (freed (length (set_in group dead))) now (Frees (length (set_in group dead)) ∷ []) rule machine refl
       (heap_freed heap state book rule group dead fits.sweeps.group_within fits.dead_within told.1 sweeps some after)
       (seat_freed heap state book rule group dead fits.sweeps.group_within fits.dead_within told.1)
       agrees
       record { heap_marks = marks; roots = λ r below is. absurd (omega (arith, is.phase, fits.sweeps.for_sweep)) }
+      (owners_go heap state book now.history book.begun now.owner (free_goes (length book.made) book.owner (set_in group dead)
+      (λ f there. is_dead (book.owner f) (set_dead book.owner group dead fits.dead_within told.1 f there))))
 
   -- so many fragments are told to be freed as there are bits
-  free_kept : IsMachine heap (after_turn state words (freed (count_ones dead))) → Keeps heap (after_turn state words (freed (count_ones dead))) book book.begun (Frees (count_ones dead) ∷ [])
-  free_kept = subst (λ n. IsMachine heap (after_turn state words (freed n)) → Keeps heap (after_turn state words (freed n)) book book.begun (Frees n ∷ []))
+  free_kept : IsMachine heap (after_turn state words (freed (count_ones dead))) → Keeps heap state (after_turn state words (freed (count_ones dead))) book book.begun (Frees (count_ones dead) ∷ [])
+  free_kept = subst (λ n. IsMachine heap (after_turn state words (freed n)) → Keeps heap state (after_turn state words (freed n)) book book.begun (Frees n ∷ []))
       (length-set group dead fits.dead_within) keeps
 
 pub free_keeps : (group dead : ℕ) → StageKeeps (stages.Freeing group dead)

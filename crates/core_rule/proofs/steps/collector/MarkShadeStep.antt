@@ -15,6 +15,7 @@ use Rattle.core_rule.specs.Owners.{Borne, Kept}
 use Rattle.core_rule.specs.Rule.{Rule}
 use Rattle.core_rule.proofs.colours.OneBit.{bits_marked}
 use Rattle.core_rule.proofs.colours.ShadeColours.{with_mark, mark_keeps, mark_marks, mark_away, marks_shade, coloured_shade}
+use Rattle.core_rule.proofs.footprint.BookGoing.{by_scan, mark_goes}
 use Rattle.core_rule.proofs.frames.Recoloured.{Recolours}
 use Rattle.core_rule.proofs.marking.Marks.{marks_at, none_dead}
 use Rattle.core_rule.proofs.marking.Paths.{grey_on}
@@ -90,3 +91,4 @@ mark_shade_keeps scan m next heap state book rule shading machine =
     colour_turns heap state book rule (stages.Shading scan m next) (scan_at (scan_step scan) next) shading (m / 16) _ (omega (arith, (fits heap state book rule scan m next shading).target_within))
     (with_mark book.colour m) (new heap state book rule scan m next shading) machine (marks heap state book rule scan m next shading) (λ e. cc)
     (comes_shaded heap state book rule m (fits heap state book rule scan m next shading).target_within)
+    (mark_goes heap state book m (by_scan scan next shading)).marked

@@ -1,5 +1,5 @@
 -- A load of a group's control word keeps the rule: a grey fragment of it is scanned, or the next group's turn comes, or another pass, or marking ends.
-use Rattle.std.proofs.Common.{◌≡◌, ◌≢◌, ℕ, suc, ◌+◌, ◌*◌, ◌≤◌, Bool, true, false, [], Option, Some, None, inl, inr, refl, subst, arith}
+use Rattle.std.proofs.Common.{◌≡◌, ◌≢◌, ℕ, suc, ◌+◌, ◌*◌, ◌≤◌, Bool, true, false, [], Option, Some, None, inl, inr, refl, subst, arith, length}
 use Rattle.std.proofs.lemmas.Bool.Decides.{leb_tells}
 use Rattle.heap_model.specs.declared.heap.Heap.{Heap}
 use Rattle.core_machine.specs.collector.Collector.{Collector}
@@ -16,6 +16,7 @@ use Rattle.core_rule.specs.Marking.{ScanStands, PassStands, MarkingStands}
 use Rattle.core_rule.specs.Sweep.{SweepStands}
 use Rattle.core_rule.specs.Phases.{CollectorAgrees}
 use Rattle.core_rule.specs.Rule.{Rule}
+use Rattle.core_rule.proofs.footprint.OwnersGo.{settled_go}
 use Rattle.core_rule.proofs.marking.Marks.{marks_at, none_dead}
 use Rattle.core_rule.proofs.marking.GreyPlaces.{lowest_is_grey, pass_further, nothing_grey, pass_anew, scan_anew}
 use Rattle.core_rule.proofs.marking.Settled.{settled_book}
@@ -42,7 +43,7 @@ module _ (heap : Heap) (state : State) (book : Book) (rule : Rule heap state boo
   -- the rule is kept where this stage comes
   abbrev KeepsAt : Stage → Type 0
   KeepsAt stage = IsMachine heap (after_turn state (put heap state.words (Control group) word) (quiet (goes_to stage)))
-      → Keeps heap (after_turn state (put heap state.words (Control group) word) (quiet (goes_to stage))) book book.begun []
+      → Keeps heap state (after_turn state (put heap state.words (Control group) word) (quiet (goes_to stage))) book book.begun []
 
   collector_at : (stage : Stage) → CollectorAgrees heap (goes_to stage) book.history
   collector_at stage = record { log = rule.collector_stands.log; phase_told = rule.collector_stands.phase_told; looked = rule.collector_stands.looked }
@@ -61,6 +62,7 @@ module _ (heap : Heap) (state : State) (book : Book) (rule : Rule heap state boo
   ends none machine = load_turns_with heap state book (Control group) (goes_to stages.Advancing) (settled_book book) rule machine refl
       (heap_settles heap state book rule passes.marks goes_on none) (seat_settles heap state book rule passes.marks goes_on none) (collector_at stages.Advancing)
       record { heap_marks = marking_settles heap state book rule passes.marks goes_on none; roots = λ r below is. absurd (is.goes_on refl) }
+      record { made = λ i below. refl; owners = settled_go (length book.made) book.owner book.colour; marked = λ f i k owned below marked. inl marked }
 
   module _ (none : lowest_grey_of word ≡ None) where
     -- the last group was seen

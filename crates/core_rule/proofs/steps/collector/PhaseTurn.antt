@@ -32,6 +32,7 @@ use Rattle.core_rule.proofs.words.Addresses.{at-put_apart}
 use Rattle.core_rule.proofs.steps.Assemble.{Keeps}
 use Rattle.core_rule.proofs.steps.TurnSteps.{after_turn, turn_steps}
 use Rattle.core_rule.proofs.cycle.CycleFrames.{cycle_told}
+use Rattle.core_rule.proofs.footprint.BookGoing.{book_stays}
 use Rattle.core_rule.proofs.frames.EntryFrames.{UsesNothing, fragments_phase, heap_past, seat_past}
 use Rattle.core_rule.proofs.colours.LeadsFrames.{leads_apart}
 use Rattle.core_rule.proofs.colours.MarkWords.{marks_same}
@@ -117,7 +118,7 @@ module _ (heap : Heap) (state : State) (book : Book) (rule : Rule heap state boo
   -- so the rule is kept, where the entry is legal, the colours are right then, and of marking stands what stands while the collector looks
   pub phase_turns : IsLegal heap false later.history → Coloured heap words_next book.owner book.colour book.fragments (phase book.history + 1)
       → MarkingStands heap words_next book.owner book.colour book.fragments next stages.Looking
-      → IsMachine heap (after_turn state words_next begun_collector) → Keeps heap (after_turn state words_next begun_collector) book book.begun (entry ∷ [])
+      → IsMachine heap (after_turn state words_next begun_collector) → Keeps heap state (after_turn state words_next begun_collector) book book.begun (entry ∷ [])
   phase_turns legal coloured marks machine =
       turn_steps heap state book words_next begun_collector later (entry ∷ []) rule machine refl (heap_on legal coloured)
       (λ r below stands. seat_on r below)
@@ -127,3 +128,4 @@ module _ (heap : Heap) (state : State) (book : Book) (rule : Rule heap state boo
         looked = λ number none below present. absurd (omega (arith, none));
       }
       record { heap_marks = marks; roots = λ r below marking answered. no_roots r below answered }
+      (book_stays heap state book later.history book.begun)

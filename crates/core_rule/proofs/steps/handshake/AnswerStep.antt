@@ -38,6 +38,7 @@ use Rattle.core_machine.specs.seat.Registers.{register_in, register_head}
 use Rattle.core_rule.proofs.marking.Marks.{MarksGoOn, Leaves, leaves_words, heap_marks_on, comes_on}
 use Rattle.core_rule.proofs.entries.AnswerEntries.{graph_answer, graph_reply, phase_answer, accepts_reply, has_answered, keeps_answer, keeps_reply}
 use Rattle.core_rule.proofs.cycle.AnswerWords.{fragments_answer, heap_cycle_answer, leaves_answer}
+use Rattle.core_rule.proofs.footprint.BookGoing.{book_stays}
 use Rattle.core_rule.proofs.steps.Assemble.{Keeps, seat_steps, StepKeeps}
 use Rattle.core_rule.proofs.entries.AtRest.{seat_fits, in_flight, none_awaited, spent_own, few_own}
 use Rattle.core_rule.proofs.cycle.CycleFrames.{cycle_stays}
@@ -223,8 +224,9 @@ module _ (heap : Heap) (state : State) (book : Book) (number : ℕ) (rule : Rule
       }
 
   -- the answer keeps the rule
-  answer_kept : Keeps heap (state_after_move heap state number (answer_move number seat)) book book.begun (first ∷ second ∷ [])
+  answer_kept : Keeps heap state (state_after_move heap state number (answer_move number seat)) book book.begun (first ∷ second ∷ [])
   answer_kept = seat_steps heap state book number words now later (first ∷ second ∷ []) rule here machine (append_assoc book.history (first ∷ []) (second ∷ [])) refl heap_later own_stands other_stands marks_on
+      (book_stays heap state book later.history book.begun)
 
 pub answer_keeps : StepKeeps (places.Polling Answering) (λ heap. answer_move)
 answer_keeps heap state book number rule here place machine = answer_kept heap state book number rule here place machine

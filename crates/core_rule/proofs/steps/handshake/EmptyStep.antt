@@ -21,6 +21,8 @@ use Rattle.core_machine.specs.Moves.{seat_after}
 use Rattle.core_machine.specs.seat.Seat.{Seat}
 use Rattle.core_rule.specs.Book.{Book}
 use Rattle.core_rule.specs.Gathers.{IsAnswered}
+use Rattle.core_rule.proofs.footprint.BookGoing.{owners_go}
+use Rattle.core_rule.proofs.footprint.OwnersGo.{give_goes}
 use Rattle.core_rule.proofs.frames.SeatFrames.{registers_owners}
 use Rattle.core_rule.proofs.steps.Assemble.{seat_steps, StepKeeps}
 use Rattle.core_rule.proofs.entries.AtRest.{seat_fits, in_flight, own_reserve, none_awaited}
@@ -78,3 +80,4 @@ empty_keeps heap state book number rule here place machine =
     }
     (other_given heap state book number rule here seat.cursor fs below held once)
     (marks_given heap state book number rule here seat.cursor fs below held once now refl refl tt)
+    (owners_go heap state book later.history book.begun later.owner (give_goes (length book.made) book.owner fs number held))

@@ -30,6 +30,7 @@ use Rattle.core_rule.specs.Phases.{Asks, PollingStands}
 use Rattle.core_rule.specs.Paths.{IsReached}
 use Rattle.core_rule.specs.Rule.{Rule, SeatStands}
 use Rattle.core_rule.proofs.marking.Marks.{roots_off_way, leaves_words, marks_off_way}
+use Rattle.core_rule.proofs.footprint.BookGoing.{book_stays}
 use Rattle.core_rule.proofs.steps.Assemble.{Keeps, seat_steps, StepKeeps}
 use Rattle.core_rule.proofs.cycle.Roots.{roots_marked}
 use Rattle.core_rule.proofs.entries.AtRest.{seat_fits, in_flight, none_awaited}
@@ -89,7 +90,7 @@ module _ (heap : Heap) (state : State) (book : Book) (number : ℕ) (rule : Rule
   holds i = stands.names.registers i (none_awaited seat.place (places.Polling Asking) (target_of seat.command) i place (λ none. none))
 
   -- the seat has answered the phase
-  poll_tells : found ≡ seat.answered → IsMachine heap (polls heap state number true) → Keeps heap (polls heap state number true) book book.begun (entries.Said number seat.command (replies.Phase found) ∷ [])
+  poll_tells : found ≡ seat.answered → IsMachine heap (polls heap state number true) → Keeps heap state (polls heap state number true) book book.begun (entries.Said number seat.command (replies.Phase found) ∷ [])
   poll_tells same machine =
       let local : IsLocalReply heap book.history g number book.made book.owner book.fragments commands.Poll (replies.Phase found) seat.registers
       = record {
@@ -125,11 +126,11 @@ module _ (heap : Heap) (state : State) (book : Book) (number : ℕ) (rule : Rule
         births = stands.cycle.births;
       }
 
-  poll_goes : found ≢ seat.answered → IsMachine heap (polls heap state number false) → Keeps heap (polls heap state number false) book book.begun []
+  poll_goes : found ≢ seat.answered → IsMachine heap (polls heap state number false) → Keeps heap state (polls heap state number false) book book.begun []
   poll_goes apart machine =
       let next : Seat = polled number seat found false in
       subst (λ words. IsMachine heap (record state { words = words; seats = slice_set state.seats number next })
-      → Keeps heap (record state { words = words; seats = slice_set state.seats number next }) book book.begun []) (sym (put-at heap state.words Phase))
+      → Keeps heap state (record state { words = words; seats = slice_set state.seats number next }) book book.begun []) (sym (put-at heap state.words Phase))
       (λ same. seat_steps heap state book number state.words next book [] rule here same (sym (append-nil book.history)) refl rule.heap_stands
       record {
         own = record { holding = stands.own.holding; stored = stands.own.stored; together = stands.own.together };
@@ -143,7 +144,8 @@ module _ (heap : Heap) (state : State) (book : Book) (number : ℕ) (rule : Rule
         cycle = own_cycle apart;
       }
       (λ r below apart other. other)
-      (marks_off_way heap state book rule number here state.words book next (leaves_words heap state book rule state.words (λ f part x leads. leads) (λ f part x leads. leads)) refl refl tt)) machine
+      (marks_off_way heap state book rule number here state.words book next (leaves_words heap state book rule state.words (λ f part x leads. leads) (λ f part x leads. leads)) refl refl tt)
+      (book_stays heap state book book.history book.begun)) machine
 
 -- a poll's load keeps the rule
 pub poll_keeps : StepKeeps (places.Polling Asking) (λ heap. poll_move)
@@ -156,9 +158,9 @@ poll_keeps heap state book number rule here place machine =
   where
     by : (b : Bool) → (at heap state.words Phase == (seat_at state number).answered) ≡ b
         → (IsMachine heap (polls heap state number b)
-        → Keeps heap (polls heap state number b) book book.begun (if b then entries.Said number (seat_at state number).command (replies.Phase (at heap state.words Phase)) ∷ [] else []))
-        → Keeps heap (polls heap state number (at heap state.words Phase == (seat_at state number).answered)) book book.begun
+        → Keeps heap state (polls heap state number b) book book.begun (if b then entries.Said number (seat_at state number).command (replies.Phase (at heap state.words Phase)) ∷ [] else []))
+        → Keeps heap state (polls heap state number (at heap state.words Phase == (seat_at state number).answered)) book book.begun
         (if at heap state.words Phase == (seat_at state number).answered then entries.Said number (seat_at state number).command (replies.Phase (at heap state.words Phase)) ∷ [] else [])
     by b is kept =
         subst (λ (b : Bool). IsMachine heap (polls heap state number b)
-        → Keeps heap (polls heap state number b) book book.begun (if b then entries.Said number (seat_at state number).command (replies.Phase (at heap state.words Phase)) ∷ [] else [])) (sym is) kept machine
+        → Keeps heap state (polls heap state number b) book book.begun (if b then entries.Said number (seat_at state number).command (replies.Phase (at heap state.words Phase)) ∷ [] else [])) (sym is) kept machine

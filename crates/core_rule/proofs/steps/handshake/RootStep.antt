@@ -21,12 +21,13 @@ use Rattle.core_rule.specs.Gathers.{IsAnswered}
 use Rattle.core_rule.specs.Phases.{Asks, PollingStands, AnswerStands}
 use Rattle.core_rule.specs.Registers.{IsAwaited, HoldsValue}
 use Rattle.core_rule.specs.Paths.{IsReached}
+use Rattle.core_rule.proofs.footprint.BookGoing.{by_register}
 use Rattle.core_rule.proofs.marking.Marks.{roots_off_way}
 use Rattle.core_rule.proofs.steps.Assemble.{StepKeeps, seat_fits}
 use Rattle.core_rule.proofs.cycle.CycleFrames.{cycle_by_flight}
 use Rattle.core_rule.proofs.colours.Births.{births_stay}
 use Rattle.core_rule.proofs.cycle.Roots.{FrontMarked, front_more, roots_all, roots_marked}
-use Rattle.core_rule.proofs.ways.LoadedObjects.{KeptHead, heads_kept}
+use Rattle.core_rule.proofs.ways.LoadedObjects.{KeptHead, RefersTo, refers_kept, heads_refer}
 use Rattle.core_rule.proofs.entries.SeatLists.{list_more}
 use Rattle.core_rule.proofs.colours.ShadeColours.{with_mark}
 use Rattle.core_rule.proofs.steps.ShadeStep.{shading, words_shaded, shade_keeps, answer_shaded, borne_unshaded}
@@ -56,9 +57,10 @@ root_keeps heap state book number rule here place machine =
     let busy : ¬ IsAnswered seat.place = λ done. subst IsAnswered place done in
     let held : (r : ℕ) → HoldsValue book.made book.owner book.fragments (register_in seat.registers r) (register_value g number r)
     = λ r. stands.names.registers r (λ awaited. subst (λ x. IsAwaited x (target_of seat.command) r) place awaited) in
-    let head : KeptHead book.made book.owner book.fragments f
-    = subst (λ (fs : List ℕ). KeptHead book.made book.owner book.fragments (slice_index_or fs seat.shaded 0)) (sym all)
-    (heads_kept book.made book.owner book.fragments seat.registers (λ r. register_value g number r) held seat.shaded (subst (λ (fs : List ℕ). seat.shaded < length fs) all fits.1)) in
+    let refers : (r : ℕ) × RefersTo book.made book.owner book.fragments (register_value g number r) f
+    = subst (λ (fs : List ℕ). (r : ℕ) × RefersTo book.made book.owner book.fragments (register_value g number r) (slice_index_or fs seat.shaded 0)) (sym all)
+    (heads_refer book.made book.owner book.fragments seat.registers (λ r. register_value g number r) held seat.shaded (subst (λ (fs : List ℕ). seat.shaded < length fs) all fits.1)) in
+    let head : KeptHead book.made book.owner book.fragments f = refers_kept book.made book.owner book.fragments (register_value g number refers.0) f refers.1 in
     let front : FrontMarked book.colour seat.registers seat.shaded
     = subst (λ x. seat.asked % 7 ≡ 3 → WhilePolling (RootsStand book.colour seat) x) place stands.cycle.flight.roots is_third in
     let new : Seat = shading seat (seat.shaded + 1) (places.Polling (answer_place (record seat { shaded = seat.shaded + 1 }))) in
@@ -82,3 +84,4 @@ root_keeps heap state book number rule here place machine =
     (λ marks answered. absurd (omega (arith, asks.next, asks.now, rule.collector_stands.phase_told, answered)))
     (λ marks. roots_off_way (IsReached heap state.words book.owner book.colour) seat new refl tt)
     (λ last. omega (arith, asks.next, is_third, last))
+    (by_register number refers.0 refers.1)

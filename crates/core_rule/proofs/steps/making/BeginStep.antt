@@ -28,7 +28,7 @@ use Rattle.core_rule.proofs.entries.SeatLists.{list_of_making, idle_list}
 -- the begin of a call keeps the rule
 pub begin_keeps : (heap : Heap) (state : State) (book : Book) (number : ℕ) (command : Command) → Rule heap state book → number < heap.seats
     → MayBegin (seat_at state number) command → IsRecord command → IsMachine heap (record state { seats = slice_set state.seats number (gather_next heap (record (seat_at state number) { command = command })) })
-    → Keeps heap (record state { seats = slice_set state.seats number (gather_next heap (record (seat_at state number) { command = command })) }) book (begins number (length book.history) book.begun) []
+    → Keeps heap state (record state { seats = slice_set state.seats number (gather_next heap (record (seat_at state number) { command = command })) }) book (begins number (length book.history) book.begun) []
 begin_keeps heap state book number command rule here may a_record machine =
     let seat : Seat = record (seat_at state number) { command = command } in
     let next : Seat = gather_next heap seat in

@@ -1,5 +1,5 @@
 -- A birth of some fragments of an object keeps the rule.
-use Rattle.std.proofs.Common.{◌≡◌, ◌≢◌, ℕ, ◌<◌, Bool, false, List, [], drop, bit_or, refl, sym, ap, ◌∙◌, arith, subst}
+use Rattle.std.proofs.Common.{◌≡◌, ◌≢◌, ℕ, ◌<◌, Bool, false, List, [], drop, bit_or, refl, sym, ap, ◌∙◌, arith, subst, length}
 use Rattle.std.proofs.lemmas.List.{append-nil}
 use Rattle.heap_model.specs.declared.heap.Heap.{Heap}
 use Rattle.heap_model.specs.account.Cycles.{graph_of}
@@ -27,6 +27,8 @@ use Rattle.core_rule.proofs.steps.Assemble.{in_flight, seat_steps, MoveKeeps, se
 use Rattle.core_rule.proofs.colours.Births.{birth_colour, births_are, are_births}
 use Rattle.core_rule.proofs.colours.BirthColours.{painted_cases}
 use Rattle.core_rule.proofs.cycle.BirthCycle.{words_born, colours_born, group_born, some_born, marks_born, heap_born}
+use Rattle.core_rule.proofs.footprint.BirthsGo.{painted_goes}
+use Rattle.core_rule.proofs.footprint.OwnersGo.{birth_goes}
 use Rattle.core_rule.proofs.hand.Bodies.{whole_full}
 use Rattle.core_rule.proofs.hand.ClaimOrder.{together_bears}
 use Rattle.core_rule.proofs.words.ControlSteps.{birth_bits_after}
@@ -119,3 +121,8 @@ birth_keeps heap state book number rule here place more machine =
     (leaves_borne heap state book rule g word below (Borne number) part (λ f there. ap born_bit (held f there)) (λ i k e. cc) black
     (dark_now heap state book rule number here (in_flight rule number here (λ idle. absurd (cc (place, idle)))))
     (pale_now heap state book rule number here (in_flight rule number here (λ idle. absurd (cc (place, idle)))))) refl refl (rw place tt))
+    record {
+      made = λ i less. refl;
+      owners = birth_goes (length book.made) book.owner part number held;
+      marked = painted_goes heap state book owner (birth_colour black) part number held (λ f i k keeps less. kept.was f i k keeps);
+    }

@@ -30,6 +30,8 @@ use Rattle.core_rule.specs.Holding.{fragments_in_hand}
 use Rattle.core_rule.specs.Owners.{Owner, Free, Taken, Borne, Kept as KeepsPart, free_bit, born_bit, owner_after}
 use Rattle.core_rule.specs.Together.{AreTogether}
 use Rattle.core_rule.proofs.cycle.FieldFrames.{watched_born}
+use Rattle.core_rule.proofs.footprint.BookGoing.{owners_go}
+use Rattle.core_rule.proofs.footprint.OwnersGo.{claim_goes}
 use Rattle.core_rule.proofs.frames.SeatFrames.{same_party, kept_owners, seat_left, registers_owners}
 use Rattle.core_rule.proofs.marking.MakingMarks.{leaves_handed}
 use Rattle.core_rule.proofs.marking.Marks.{marks_off_way}
@@ -167,3 +169,4 @@ claim_keeps heap state book number rule here place machine =
     } other)
     (marks_off_way heap state book rule number here words (record book { history = history; owner = owner }) next
     (leaves_handed heap state book rule g word below (Taken number) fs (λ f there. ap born_bit (free f there)) (λ i k e. cc) refl) same.answered same.registers (rw stays.placed tt))
+    (owners_go heap state book history book.begun owner (claim_goes (length book.made) book.owner fs number free))

@@ -18,6 +18,8 @@ use Rattle.core_machine.specs.Moves.{give_back_move, seat_after}
 use Rattle.core_machine.specs.seat.Seat.{Seat}
 use Rattle.core_rule.specs.Book.{Book}
 use Rattle.core_rule.specs.Holding.{fragments_in_hand}
+use Rattle.core_rule.proofs.footprint.BookGoing.{owners_go}
+use Rattle.core_rule.proofs.footprint.OwnersGo.{give_goes}
 use Rattle.core_rule.proofs.frames.SeatFrames.{registers_owners}
 use Rattle.core_rule.proofs.steps.Assemble.{present_at, seat_steps, StepKeeps, seat_fits}
 use Rattle.core_rule.proofs.hand.Bodies.{whole_empty}
@@ -87,3 +89,4 @@ give_back_keeps heap state book number rule here place machine =
     }
     (other_given heap state book number rule here g part below held once)
     (marks_given heap state book number rule here g part below held once now refl refl tt)
+    (owners_go heap state book later.history book.begun later.owner (give_goes (length book.made) book.owner part number held))

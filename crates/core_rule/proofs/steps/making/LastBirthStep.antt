@@ -26,7 +26,7 @@ use Rattle.core_rule.specs.Rule.{Rule}
 use Rattle.core_rule.proofs.cycle.FieldFrames.{watched_born}
 use Rattle.core_rule.proofs.marking.LastBirthMarks.{book_born, marks_made}
 use Rattle.core_rule.proofs.steps.Assemble.{present_at, seat_steps, MoveKeeps, seat_fits}
-use Rattle.core_rule.proofs.colours.Births.{AreBorne, births_are, are_births}
+use Rattle.core_rule.proofs.colours.Births.{birth_colour, AreBorne, births_are, are_births}
 use Rattle.core_rule.proofs.cycle.BirthCycle.{words_born, group_born, some_born, marks_born, heap_born}
 use Rattle.core_rule.proofs.hand.Bodies.{body_once, body_own}
 use Rattle.core_rule.proofs.counts.CountMoves.{used_same}
@@ -37,6 +37,11 @@ use Rattle.core_rule.proofs.graph.GraphGrowth.{party_other}
 use Rattle.core_rule.proofs.graph.GraphRegisters.{registers_length}
 use Rattle.core_rule.proofs.graph.IdsGrowth.{OneMore, ids_grown, number_new}
 use Rattle.core_rule.proofs.entries.InFlight.{awaits_none, began_idle}
+use Rattle.core_rule.proofs.footprint.BirthsGo.{painted_goes}
+use Rattle.core_rule.proofs.footprint.OwnersGo.{parts_go}
+use Rattle.core_rule.proofs.graph.Numbering.{id_at-append}
+use Rattle.core_rule.proofs.hand.HandMoves.{part_held}
+use Rattle.core_rule.proofs.owners.Keeping.{kept_was}
 use Rattle.core_rule.proofs.owners.KeptOwners.{kept_free, kept_taken, kept_holding, kept_others, kept_bits}
 use Rattle.core_rule.proofs.objects.LastBirth.{one_more, all_stored, registers_own}
 use Rattle.core_rule.proofs.colours.LastColours.{kept_bears, kept_own, kept_borne, kept_first}
@@ -162,3 +167,9 @@ last_birth_keeps heap state book number rule here place last machine =
           (kept_borne book.owner book.colour number seat.reserve seat.hand body stands.own.holding some group (length book.made) last black births r) (watched_born heap state book rule r less) other.cycle) (of_other number r apart);
     } other)
     (marks_made heap state book number rule here place last found)
+    record {
+      made = λ i less. id_at-append book.made id i less;
+      owners = parts_go (length book.made) book.owner body number (λ f there. body_own book.owner number seat.reserve seat.hand body stands.own.holding f there);
+      marked = painted_goes heap state book now.owner (birth_colour black) (last_part seat) number (part_held book.owner number seat.reserve seat.hand body stands.own.holding group)
+          (λ f i k keeps less. kept_was (length book.made) body book.owner f i k (λ same. omega (arith, same, less)) keeps);
+    }

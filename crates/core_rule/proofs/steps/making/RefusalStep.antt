@@ -22,6 +22,7 @@ use Rattle.core_machine.specs.machine.Value.{IsMachine}
 use Rattle.core_machine.proofs.table_lemmas.Addresses.{put-at}
 use Rattle.core_rule.specs.Gathers.{GathersRight}
 use Rattle.core_rule.proofs.marking.Marks.{leaves_words, marks_off_way}
+use Rattle.core_rule.proofs.footprint.BookGoing.{book_stays}
 use Rattle.core_rule.proofs.steps.Assemble.{present_at, Keeps, seat_steps, StepKeeps, seat_fits}
 use Rattle.core_rule.proofs.hand.Bodies.{bare_hand}
 use Rattle.core_rule.proofs.cycle.CycleHistory.{heap_cycle_more, cycle_own, cycle_other}
@@ -68,7 +69,7 @@ refusal_keeps heap state book number rule here place machine =
     (accepts_full seat.command refuses.makes.a_record g number (need seat) (length seat.reserve + seat.given) refuses.makes.in_range present)
     (full_keeps seat.command refuses.makes.a_record heap false book.history number (length seat.reserve + seat.given)
     (omega (arith, own)) (omega (arith, own, fits.own.small_reserve)) less finds) in
-    subst (λ words. Keeps heap (record state { words = words; seats = slice_set state.seats number (seat_after (refusal_move number seat) (at heap state.words Phase)) }) book book.begun (entry ∷ []))
+    subst (λ words. Keeps heap state (record state { words = words; seats = slice_set state.seats number (seat_after (refusal_move number seat) (at heap state.words Phase)) }) book book.begun (entry ∷ []))
     (sym (put-at heap state.words Phase))
     (seat_steps heap state book number state.words (seat_after (refusal_move number seat) (at heap state.words Phase)) (record book { history = history }) (entry ∷ [])
     rule here whole refl refl
@@ -96,4 +97,5 @@ refusal_keeps heap state book number rule here place machine =
     (λ r below apart other. seat_past heap state.words state.words (fragments_same heap state.words) book entry nodes r (seat_at state r) (of_other number r apart) (ap (λ (x : Graph). graph_seat x r) graph)
     (cycle_other heap state.words book.owner book.colour book.history entry refl r (seat_at state r) other.cycle (of_other number r apart)) other)
     (marks_off_way heap state book rule number here state.words (record book { history = history }) (seat_after (refusal_move number seat) (at heap state.words Phase))
-    (leaves_words heap state book rule state.words (λ f part x leads. leads) (λ f part x leads. leads)) refl refl tt))
+    (leaves_words heap state book rule state.words (λ f part x leads. leads) (λ f part x leads. leads)) refl refl tt)
+    (book_stays heap state book history book.begun))

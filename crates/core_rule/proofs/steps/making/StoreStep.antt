@@ -19,6 +19,7 @@ use Rattle.core_rule.specs.Owners.{born_bit}
 use Rattle.core_rule.proofs.words.Addresses.{at-put_apart}
 use Rattle.core_rule.proofs.marking.MakingMarks.{leaves_stored}
 use Rattle.core_rule.proofs.marking.Marks.{marks_off_way}
+use Rattle.core_rule.proofs.footprint.BookGoing.{book_stays}
 use Rattle.core_rule.proofs.steps.Assemble.{seat_steps, StepKeeps, seat_fits}
 use Rattle.core_rule.proofs.hand.Bodies.{body_once, body_at-own}
 use Rattle.core_rule.proofs.cycle.CycleFrames.{cycle_stays}
@@ -94,3 +95,4 @@ store_keeps heap state book number rule here place machine =
           (watched_born heap state book rule r below) other.cycle;
     })
     (marks_off_way heap state book rule number here words book (seat_after (store_move number seat) found) (leaves_stored heap state book rule f part word fits_part unborn) refl refl tt)
+    (book_stays heap state book book.history book.begun)

@@ -1,0 +1,76 @@
+-- How the footprint of a cycle goes on by a step that begins no cycle.
+use Rattle.std.proofs.Common.{◌≡◌, ℕ, ◌+◌, ◌%◌, ◌<◌, inl, inr, true, Bool, List, ◌++◌, length, Some, subst, arith}
+use Rattle.heap_model.specs.declared.entry.Entry.{Entry}
+use Rattle.heap_model.specs.declared.heap.Heap.{Heap}
+use Rattle.heap_model.specs.declared.id.Id.{Id}
+use Rattle.heap_model.specs.account.Cycles.{graph_of}
+use Rattle.heap_model.specs.account.PhaseCounts.{phase}
+use Rattle.heap_model.specs.account.Space.{total}
+use Rattle.heap_model.specs.account.Windows.{up_to_cycle}
+use Rattle.heap_model.specs.graph.Reach.{IsReach}
+use Rattle.core_machine.specs.declared.collector.stage.Stage.{Stage}
+use Rattle.core_machine.specs.declared.collector.stage.Stage.TheVariants as stages
+use Rattle.core_machine.specs.declared.place.Access.TheVariants.{ShadingOld}
+use Rattle.core_machine.specs.declared.place.Place.TheVariants as places
+use Rattle.core_machine.specs.machine.Machine.{State, seat_at}
+use Rattle.core_machine.specs.table.Decode.{head_of}
+use Rattle.core_rule.specs.Book.{Book, id_at}
+use Rattle.core_rule.specs.Counts.{AreUsed}
+use Rattle.core_rule.specs.Footprint.{Footprint, StageStandsInside, is_inside}
+use Rattle.core_rule.specs.Owners.{Kept}
+use Rattle.core_rule.specs.Rule.{Rule}
+use Rattle.core_rule.proofs.footprint.BookGoing.{BookGoesOn}
+use Rattle.core_rule.proofs.footprint.Named.{named_inside}
+use Rattle.core_rule.proofs.footprint.StaysInside.{inside_from, new_apart}
+use Rattle.core_rule.proofs.footprint.WeightGrowth.{size_grows, cleared_goes_on}
+
+module _ (heap : Heap) (state new : State) (book now : Book) (added : List Entry) (rule : Rule heap state book) (after : Rule heap new now) (grown : now.history ≡ book.history ++ added)
+    (goes : BookGoesOn heap state book now) (begun : List Id) (reach : IsReach (graph_of heap (up_to_cycle book.history)) begun) (most : ℕ) where
+  abbrev inside : Id → Bool
+  inside = is_inside (graph_of heap (up_to_cycle book.history)) begun
+
+  abbrev taken : ℕ
+  taken = total (λ e. e.taken) added
+
+  within : (f i k : ℕ) → book.owner f ≡ Kept i k → i < length book.made
+  within f i k owned = (rule.heap_stands.objects.back f i k owned).0
+
+  used_now : AreUsed heap now.owner (book.history ++ added)
+  used_now = subst (AreUsed heap now.owner) grown after.heap_stands.used
+
+  -- what was said of a stage
+  pub stage_goes : (stage : Stage) → StageStandsInside heap book.made begun inside book.owner most stage → StageStandsInside heap now.made begun inside now.owner (most + taken) stage
+  stage_goes (stages.Shading scan target next) stands = λ i k owned. inside_from heap state new book now rule after goes begun reach target i k owned (λ was below. stands i k was)
+  stage_goes (stages.Clearing group kept) stands =
+      cleared_goes_on heap book.made now.made book.owner now.owner goes.owners goes.made within begun (new_apart heap state new book now rule after goes begun reach)
+      book.history added rule.heap_stands.used used_now most group kept stands
+  stage_goes (stages.Ending kept) stands =
+      cleared_goes_on heap book.made now.made book.owner now.owner goes.owners goes.made within begun (new_apart heap state new book now rule after goes begun reach)
+      book.history added rule.heap_stands.used used_now most heap.groups kept stands
+  stage_goes _ stands = tt
+
+  module _ (foot : Footprint heap state book begun inside most) where
+    -- an old value that was loaded before
+    pub old_goes : (number f i k : ℕ) → number < heap.seats → (seat_at state number).place ≡ places.Access ShadingOld → head_of (seat_at state number).loaded ≡ Some f
+        → now.owner f ≡ Kept i k → inside (id_at now.made i) ≡ true
+    old_goes number f i k here placed loads owned =
+        inside_from heap state new book now rule after goes begun reach f i k owned (λ was below. foot.olds number f i k here placed loads was)
+
+    -- the footprint goes on where all that is kept is inside in the last phase, and what sets and the collector have loaded is
+    pub footprint_goes : (phase now.history % 7 ≡ 6 → (f i k : ℕ) → book.owner f ≡ Kept i k → inside (id_at book.made i) ≡ true)
+        → ((number f i k : ℕ) → number < heap.seats → (seat_at new number).place ≡ places.Access ShadingOld → head_of (seat_at new number).loaded ≡ Some f
+        → now.owner f ≡ Kept i k → inside (id_at now.made i) ≡ true)
+        → StageStandsInside heap now.made begun inside now.owner (most + taken) new.collector.stage
+        → Footprint heap new now begun inside (most + taken)
+    footprint_goes last olds stage = record {
+      kept = λ f i k owned why. inside_from heap state new book now rule after goes begun reach f i k owned (λ was below. elim why [
+        | inl marked ↦ elim (goes.marked f i k owned below marked) [
+          | inl before ↦ foot.kept f i k was (inl before)
+          | inr named ↦ named_inside heap state book rule begun reach most foot f i k named was
+        ]
+        | inr ends ↦ last ends f i k was
+      ]);
+      olds = olds;
+      stage = stage;
+      size = let grows = size_grows heap book.made now.made book.owner now.owner goes.owners goes.made within book.history added rule.heap_stands.used used_now inside in omega (arith, foot.size, grows);
+    }

@@ -1,0 +1,51 @@
+-- Which ids are inside: those reached when the cycle began, and those of objects that were made since.
+use Rattle.std.proofs.Common.{◌≡◌, ◌⊎◌, inl, inr, true, not, is_some, List, Contains, refl, sym, ◌∙◌, subst, Any}
+use Rattle.std.proofs.lemmas.Bool.{cases_Bool, cond-true, cond-false, both_ways, not-true, not_from_false, false_from_ne_true}
+use Rattle.std.proofs.lemmas.List.Folds.{Any-from_list_any, list_any-from_Any}
+use Rattle.heap_model.specs.declared.id.Id.{Id}
+use Rattle.heap_model.specs.graph.Graph.{Graph}
+use Rattle.heap_model.specs.graph.Objects.{node}
+use Rattle.heap_model.specs.graph.Reach.{IsMade}
+use Rattle.core_machine.specs.seat.Registers.{is_same_id}
+use Rattle.core_rule.specs.Footprint.{is_among, is_inside}
+use Rattle.core_rule.proofs.graph.Numbering.{id_tells}
+
+-- the test of two ids
+pub same_by_test : (a b : Id) → is_same_id a b ≡ true → a ≡ b
+same_by_test a b test = elim (id_tells a b) [ inl e ↦ e.1 | inr e ↦ absurd (both_ways (is_same_id a b) e.0 test) ]
+
+pub test_of_same : (a b : Id) → a ≡ b → is_same_id a b ≡ true
+test_of_same a b same = elim (id_tells a b) [ inl e ↦ e.0 | inr e ↦ absurd (e.1 same) ]
+
+-- the test finds what stands in the list
+pub contains_by_test : (ids : List Id) (id : Id) → is_among ids id ≡ true → Contains ids id
+contains_by_test ids id among =
+    let any : Any (λ x. is_same_id id x ≡ true) ids = Any-from_list_any (is_same_id id) ids among in
+    subst (Contains ids) (sym (same_by_test id any.1 any.4)) (any.0, any.2, any.3)
+
+pub among_contained : (ids : List Id) (id : Id) → Contains ids id → is_among ids id ≡ true
+among_contained ids id there = list_any-from_Any (is_same_id id) ids (there.0, id, there.1, there.2, test_of_same id id refl)
+
+module _ (earlier : Graph) (begun : List Id) (id : Id) where
+  -- an id that was reached then is inside
+  pub inside_begun : Contains begun id → is_inside earlier begun id ≡ true
+  inside_begun there = cond-true (is_among begun id) true (not (is_some (node earlier id))) (among_contained begun id there)
+
+  -- and one of an object that wasn't made then
+  pub inside_new : ¬ IsMade earlier id → is_inside earlier begun id ≡ true
+  inside_new unmade = elim (cases_Bool (is_among begun id)) [
+    | inl among ↦ cond-true (is_among begun id) true (not (is_some (node earlier id))) among
+    | inr other ↦ cond-false (is_among begun id) true (not (is_some (node earlier id))) other ∙ not_from_false (is_some (node earlier id)) (false_from_ne_true (is_some (node earlier id)) unmade)
+  ]
+
+  -- no others are
+  pub inside_means : is_inside earlier begun id ≡ true → Contains begun id ⊎ ¬ IsMade earlier id
+  inside_means inside = elim (cases_Bool (is_among begun id)) [
+    | inl among ↦ inl (contains_by_test begun id among)
+    | inr other ↦ inr (both_ways (is_some (node earlier id))
+        (not-true (is_some (node earlier id)) (sym (cond-false (is_among begun id) true (not (is_some (node earlier id))) other) ∙ inside)))
+  ]
+
+  -- so what was made and is inside was reached
+  pub begun_inside : is_inside earlier begun id ≡ true → IsMade earlier id → Contains begun id
+  begun_inside inside made = elim (inside_means inside) [ inl there ↦ there | inr unmade ↦ absurd (unmade made) ]

@@ -1,0 +1,190 @@
+-- What stands of a cycle goes on by each event of a seat.
+use Rattle.std.proofs.Common.{◌≡◌, ◌≢◌, ℕ, ◌+◌, ◌*◌, ◌%◌, ◌<◌, ◌≤◌, ◌⊎◌, inl, inr, true, List, [], length, Option, Some, None, refl, sym, ap, ◌∙◌, subst, arith}
+use Rattle.std.proofs.lemmas.Bool.Decides.{eqb_tells}
+use Rattle.std.proofs.lemmas.List.{get_or-set_same, get_or-set_other}
+use Rattle.heap_model.specs.declared.command.Command.{Command}
+use Rattle.heap_model.specs.declared.entry.Entry.{Entry}
+use Rattle.heap_model.specs.declared.heap.Heap.{Heap}
+use Rattle.heap_model.specs.declared.id.Id.{Id}
+use Rattle.heap_model.specs.account.Cycles.{graph_of, bound}
+use Rattle.heap_model.specs.account.PhaseCounts.{phase}
+use Rattle.heap_model.specs.account.Space.{total, words_granted}
+use Rattle.heap_model.specs.account.Windows.{up_to_cycle}
+use Rattle.heap_model.specs.graph.Graph.{Graph}
+use Rattle.heap_model.specs.graph.Objects.{register_value}
+use Rattle.heap_model.specs.graph.Reach.{IsReach}
+use Rattle.core_machine.specs.declared.place.Access.TheVariants.{LoadingOld, ShadingOld}
+use Rattle.core_machine.specs.declared.place.Making.TheVariants.{Bearing}
+use Rattle.core_machine.specs.declared.place.Place.TheVariants as places
+use Rattle.core_machine.specs.declared.table.address.Address.TheVariants.{Word}
+use Rattle.core_machine.specs.collector.Collector.{Collector}
+use Rattle.core_machine.specs.machine.Machine.{State, seat_at, Begins, Steps, Can, state_after, state_after_due, entries, found_by, after_begin}
+use Rattle.core_machine.specs.Moves.{Move, next_move, move_at, seat_after_due}
+use Rattle.core_machine.specs.seat.Access.{has_barrier_of, after_old_load}
+use Rattle.core_machine.specs.seat.Commands.{IsRecord, object_of, target_of}
+use Rattle.core_machine.specs.seat.FitsAccess.{SeatIsAtSet}
+use Rattle.core_machine.specs.seat.FitsMaking.{HasBody}
+use Rattle.core_machine.specs.seat.Registers.{register_in}
+use Rattle.core_machine.specs.seat.Seat.{Seat, absent_seat}
+use Rattle.core_machine.specs.table.Decode.{head_of}
+use Rattle.core_machine.specs.table.Layout.{at}
+use Rattle.core_rule.specs.Book.{Book, id_at}
+use Rattle.core_rule.specs.Footprint.{CycleStands, StageStandsInside, is_inside}
+use Rattle.core_rule.specs.Objects.{cells_at}
+use Rattle.core_rule.specs.Owners.{Kept}
+use Rattle.core_rule.specs.Registers.{HoldsValue, IsAwaited}
+use Rattle.core_rule.specs.Rule.{Rule}
+use Rattle.core_rule.specs.Stands.{Stands}
+use Rattle.core_rule.specs.Ways.{Finds}
+use Rattle.core_rule.proofs.entries.AtRest.{seat_fits}
+use Rattle.core_rule.proofs.footprint.CarryCycle.{carry_cycle}
+use Rattle.core_rule.proofs.footprint.Closed.{registers_inside}
+use Rattle.core_rule.proofs.footprint.FootprintGoes.{footprint_goes, stage_goes, old_goes}
+use Rattle.core_rule.proofs.footprint.Named.{cell_inside}
+use Rattle.core_rule.proofs.footprint.OldLoads.{IsOld, only_loads, begin_old}
+use Rattle.core_rule.proofs.footprint.Shown.{AreMute, mute_begins, mute_phase, mute_words, shown_mute}
+use Rattle.core_rule.proofs.footprint.StaysInside.{inside_from}
+use Rattle.core_rule.proofs.footprint.WeightGrowth.{total-added}
+use Rattle.core_rule.proofs.steps.Assemble.{Keeps}
+use Rattle.core_rule.proofs.ways.LoadedObjects.{loaded_refers}
+
+-- an old value was loaded
+old_loaded : (seat : Seat) (head : Option ℕ) → (after_old_load seat head).loaded ≡ seat.loaded
+old_loaded seat None = refl
+old_loaded seat (Some f) = refl
+
+-- the collector stays
+due_collector : (heap : Heap) (state : State) (number : ℕ) (move : Option Move) → (state_after_due heap state number move).collector ≡ state.collector
+due_collector heap state number None = refl
+due_collector heap state number (Some move) = refl
+
+-- and each other seat
+due_other : (heap : Heap) (state : State) (number r : ℕ) (move : Option Move) → r ≢ number → seat_at (state_after_due heap state number move) r ≡ seat_at state r
+due_other heap state number r None apart = refl
+due_other heap state number r (Some move) apart = get_or-set_other state.seats number r _ absent_seat apart
+
+-- the seat makes its move
+due_own : (heap : Heap) (state : State) (number : ℕ) (move : Option Move) → number < length state.seats
+    → (found : ℕ) × (seat_at (state_after_due heap state number move) number ≡ seat_after_due (seat_at state number) move found)
+due_own heap state number None here = (0, refl)
+due_own heap state number (Some move) here = (found_by heap state move.step, get_or-set_same state.seats number _ absent_seat here)
+
+module _ (heap : Heap) (state new : State) (book : Book) (begun_at : ℕ → ℕ) (added : List Entry) (stands : Stands heap state book) (keeps : Keeps heap state new book begun_at added) (mute : AreMute added) where
+  abbrev rule : Rule heap state book
+  rule = stands.rule
+
+  abbrev now : Book
+  now = keeps.now
+
+  phase_same : phase now.history ≡ phase book.history
+  phase_same = omega (arith, ap phase keeps.grown, total-added (λ e. e.phases) book.history added, mute_phase added mute)
+
+  -- no array is told of
+  pub none_told : words_granted now.history ≡ 0
+  none_told = omega (arith, ap words_granted keeps.grown, total-added (λ e. e.words) book.history added, mute_words added mute, stands.no_arrays)
+
+  -- the cycle goes on where the collector stays, and what sets have loaded is inside
+  pub quiet_cycle : new.collector ≡ state.collector
+      → ((begun : List Id) → IsReach (graph_of heap (up_to_cycle book.history)) begun → (number f i k : ℕ) → number < heap.seats → (seat_at new number).place ≡ places.Access ShadingOld
+      → head_of (seat_at new number).loaded ≡ Some f → (seat_at new number ≡ seat_at state number)
+      ⊎ (book.owner f ≡ Kept i k → is_inside (graph_of heap (up_to_cycle book.history)) begun (id_at book.made i) ≡ true))
+      → CycleStands heap new now
+  quiet_cycle same olds = carry_cycle heap state new book now added keeps.grown (mute_begins added mute) (λ running rests. running (ap (λ p. p % 7) phase_same ∙ rests)) stands.cycle (λ begun reach foot.
+      let most : ℕ = bound heap begun book.history in
+      footprint_goes heap state new book now added rule keeps.rule keeps.grown keeps.goes begun reach most foot
+      (λ last f i k owned. foot.kept f i k owned (inr (ap (λ p. p % 7) (sym phase_same) ∙ last)))
+      (λ number f i k here placed loads owned. elim (olds begun reach number f i k here placed loads) [
+        | inl stays ↦ old_goes heap state new book now added rule keeps.rule keeps.grown keeps.goes begun reach most foot number f i k here
+            (ap (λ (s : Seat). s.place) (sym stays) ∙ placed) (ap (λ (s : Seat). head_of s.loaded) (sym stays) ∙ loads) owned
+        | inr its ↦ inside_from heap state new book now rule keeps.rule keeps.goes begun reach f i k owned (λ was below. its was)
+      ])
+      (subst (λ (c : Collector). StageStandsInside heap now.made begun (is_inside (graph_of heap (up_to_cycle book.history)) begun) now.owner (most + total (λ e. e.taken) added) c.stage) (sym same)
+      (stage_goes heap state new book now added rule keeps.rule keeps.grown keeps.goes begun reach most state.collector.stage foot.stage)))
+
+module _ (heap : Heap) (state : State) (book : Book) (stands : Stands heap state book) (number : ℕ) (here : number < heap.seats) where
+  abbrev seat : Seat
+  seat = seat_at state number
+
+  abbrev g : Graph
+  g = graph_of heap book.history
+
+  seated : number < length state.seats
+  seated = rw stands.rule.machine.seated here
+
+  -- a seat that makes an object makes a record
+  makes : seat.place ≡ places.Making Bearing → IsRecord seat.command
+  makes placed =
+      let fits : HasBody seat × (0 < length seat.hand) × (length seat.hand ≤ length seat.body) × (seat.stored ≡ 4 * length seat.body) = rw placed at (seat_fits stands.rule number here).at_place in
+      fits.0.makes.a_record
+
+  -- what a set loads from its field is inside
+  loads_inside : (begun : List Id) → IsReach (graph_of heap (up_to_cycle book.history)) begun → seat.place ≡ places.Access LoadingOld → (f i k : ℕ)
+      → head_of (at heap state.words (Word seat.reached seat.part)) ≡ Some f → book.owner f ≡ Kept i k → is_inside (graph_of heap (up_to_cycle book.history)) begun (id_at book.made i) ≡ true
+  loads_inside begun reach placed f i k loads owned =
+      let rule = stands.rule in
+      let seat_stands = rule.seats_stand number here in
+      let fits : SeatIsAtSet seat × (has_barrier_of seat ≡ true) × (seat.loaded ≡ 0) = rw placed at (seat_fits rule number here).way_at_place in
+      let finds : Finds (cells_at g book.made) book.made book.owner book.fragments seat = rw placed at seat_stands.names.way in
+      let r : ℕ = object_of seat.command in
+      let holds : HoldsValue book.made book.owner book.fragments (register_in seat.registers r) (register_value g number r)
+      = seat_stands.names.registers r (λ awaited. subst (λ x. IsAwaited x (target_of seat.command) r) placed awaited) in
+      let held = subst (λ held. HoldsValue book.made book.owner book.fragments held (register_value g number r)) finds.way.holds holds in
+      let holder = registers_inside heap book.history begun rule.heap_stands.legal.objects reach number r (id_at book.made finds.index) held.0 in
+      cell_inside heap state book rule begun reach finds.index f i k holder
+      (loaded_refers heap state.words g book.made book.owner book.fragments rule.machine.limits rule.heap_stands.control_words rule.heap_stands.ids rule.heap_stands.objects seat fits.0.2.arrived finds f loads) owned
+
+  abbrev after : State
+  after = state_after heap state (Steps number)
+
+  step_mute : AreMute (entries heap state (Steps number))
+  step_mute = shown_mute heap state number makes seat.place refl
+
+  step_olds : (begun : List Id) → IsReach (graph_of heap (up_to_cycle book.history)) begun → (r f i k : ℕ) → r < heap.seats → (seat_at after r).place ≡ places.Access ShadingOld
+      → head_of (seat_at after r).loaded ≡ Some f → (seat_at after r ≡ seat_at state r)
+      ⊎ (book.owner f ≡ Kept i k → is_inside (graph_of heap (up_to_cycle book.history)) begun (id_at book.made i) ≡ true)
+  step_olds begun reach r f i k below placed loads = elim (eqb_tells r number) [
+    | inr apart ↦ inl (due_other heap state number r (next_move heap number seat) apart.1)
+    | inl same ↦ inr (own same.1)
+  ]
+    where
+      own : r ≡ number → book.owner f ≡ Kept i k → is_inside (graph_of heap (up_to_cycle book.history)) begun (id_at book.made i) ≡ true
+      own same =
+          let moved = due_own heap state number (next_move heap number seat) seated in
+          let is_now : (seat_at after number).place ≡ places.Access ShadingOld = subst (λ n. (seat_at after n).place ≡ places.Access ShadingOld) same placed in
+          let old : IsOld (seat_after_due seat (move_at heap number seat seat.place) moved.0).place = subst IsOld (sym is_now ∙ ap (λ (s : Seat). s.place) moved.1) tt in
+          let before : seat.place ≡ places.Access LoadingOld = only_loads heap number seat moved.0 seat.place refl old in
+          let loaded : head_of (seat_at after number).loaded ≡ Some f = subst (λ n. head_of (seat_at after n).loaded ≡ Some f) same loads in
+          loads_inside begun reach before f i k (sym (ap head_of (found_now before)) ∙ loaded)
+        where
+          found_now : seat.place ≡ places.Access LoadingOld → (seat_at after number).loaded ≡ at heap state.words (Word seat.reached seat.part)
+          found_now before = subst (λ p. (seat_at (state_after_due heap state number (move_at heap number seat p)) number).loaded ≡ at heap state.words (Word seat.reached seat.part)) (sym before)
+              (ap (λ (s : Seat). s.loaded) (get_or-set_same state.seats number _ absent_seat seated) ∙ old_loaded (record seat { loaded = at heap state.words (Word seat.reached seat.part) }) (head_of (at heap state.words (Word seat.reached seat.part))))
+
+  -- by a step of a seat
+  pub step_cycle : (keeps : Keeps heap state after book book.begun (entries heap state (Steps number))) → Stands heap after keeps.now
+  step_cycle keeps = record {
+    rule = keeps.rule;
+    cycle = quiet_cycle heap state after book book.begun (entries heap state (Steps number)) stands keeps step_mute (due_collector heap state number (next_move heap number seat)) step_olds;
+    no_arrays = none_told heap state after book book.begun (entries heap state (Steps number)) stands keeps step_mute;
+  }
+
+  -- and by the begin of a call
+  pub begin_cycle : (command : Command) (begun_at : ℕ → ℕ) → Can heap state (Begins number command)
+      → (keeps : Keeps heap state (state_after heap state (Begins number command)) book begun_at []) → Stands heap (state_after heap state (Begins number command)) keeps.now
+  begin_cycle command begun_at can keeps = record {
+    rule = keeps.rule;
+    cycle = quiet_cycle heap state (state_after heap state (Begins number command)) book begun_at [] stands keeps tt refl olds;
+    no_arrays = none_told heap state (state_after heap state (Begins number command)) book begun_at [] stands keeps tt;
+  }
+    where
+      olds : (begun : List Id) → IsReach (graph_of heap (up_to_cycle book.history)) begun → (r f i k : ℕ) → r < heap.seats → (seat_at (state_after heap state (Begins number command)) r).place ≡ places.Access ShadingOld
+          → head_of (seat_at (state_after heap state (Begins number command)) r).loaded ≡ Some f → (seat_at (state_after heap state (Begins number command)) r ≡ seat_at state r)
+          ⊎ (book.owner f ≡ Kept i k → is_inside (graph_of heap (up_to_cycle book.history)) begun (id_at book.made i) ≡ true)
+      olds begun reach r f i k below placed loads = elim (eqb_tells r number) [
+        | inr apart ↦ inl (get_or-set_other state.seats number r _ absent_seat apart.1)
+        | inl same ↦
+            let there : seat_at (state_after heap state (Begins number command)) number ≡ after_begin heap seat command = get_or-set_same state.seats number _ absent_seat seated in
+            let is_now : (after_begin heap seat command).place ≡ places.Access ShadingOld
+            = sym (ap (λ (s : Seat). s.place) there) ∙ subst (λ n. (seat_at (state_after heap state (Begins number command)) n).place ≡ places.Access ShadingOld) same.1 placed in
+            absurd (begin_old heap seat command can.1.idle (subst IsOld (sym is_now) tt))
+      ]

@@ -1,0 +1,160 @@
+-- What the collector comes to by a turn that begins no phase is inside, and what it counts is right.
+use Rattle.std.specs.Prelude.{if◌then◌else◌}
+use Rattle.std.proofs.Common.{◌≡◌, ℕ, ◌+◌, ◌%◌, ◌==◌, inl, inr, true, false, nat_lt, Bool, List, Option, Some, None, refl, sym, ap, ◌∙◌, subst, arith}
+use Rattle.std.proofs.lemmas.Bool.Decides.{eqb_tells}
+use Rattle.heap_model.specs.declared.heap.Heap.{Heap}
+use Rattle.heap_model.specs.declared.id.Id.{Id}
+use Rattle.heap_model.specs.account.Cycles.{graph_of}
+use Rattle.heap_model.specs.account.PhaseCounts.{phase}
+use Rattle.heap_model.specs.account.Windows.{up_to_cycle}
+use Rattle.heap_model.specs.graph.Graph.{Graph}
+use Rattle.heap_model.specs.graph.Reach.{IsReach}
+use Rattle.core_machine.specs.collector.Collector.{turn_at, first_work, after_last_look, after_counted_look, after_look, has_answered_of}
+use Rattle.core_machine.specs.collector.FitsTurns.{IsScanning, IsClearing}
+use Rattle.core_machine.specs.collector.Marking.{after_last_group, after_pass, scan_step, scan_at, after_scan_load}
+use Rattle.core_machine.specs.collector.Sweeping.{after_swept, after_examined, after_cleared, taken_count_of, next_place_of, dead_bits_of}
+use Rattle.core_machine.specs.declared.collector.stage.Scan.{Scan}
+use Rattle.core_machine.specs.declared.collector.stage.Stage.{Stage}
+use Rattle.core_machine.specs.declared.collector.stage.Stage.TheVariants as stages
+use Rattle.core_machine.specs.declared.table.address.Address.TheVariants.{Control, Word}
+use Rattle.core_machine.specs.machine.Machine.{State, found_by}
+use Rattle.core_machine.specs.table.Decode.{pointer_in}
+use Rattle.core_machine.specs.table.Layout.{at}
+use Rattle.core_rule.specs.Book.{Book, id_at}
+use Rattle.core_rule.specs.Colours.{WordPointsTo}
+use Rattle.core_rule.specs.Footprint.{Footprint, StageStandsInside, ClearedWithin, is_inside}
+use Rattle.core_rule.specs.Marking.{IsSeen, IsPart}
+use Rattle.core_rule.specs.Owners.{Kept}
+use Rattle.core_rule.specs.Rule.{Rule}
+use Rattle.core_rule.proofs.footprint.Clears.{clears_on, clears_begin}
+use Rattle.core_rule.proofs.footprint.Named.{cell_inside}
+use Rattle.core_rule.proofs.marking.Marks.{settled_phase}
+use Rattle.core_rule.proofs.marking.ObjectEdges.{object_refers}
+use Rattle.core_rule.proofs.marking.SweepMarks.{after_swept_either, after_cleared_either}
+
+module _ (heap : Heap) (state : State) (book : Book) (rule : Rule heap state book) (begun : List Id) (reach : IsReach (graph_of heap (up_to_cycle book.history)) begun) (most : ℕ)
+    (foot : Footprint heap state book begun (is_inside (graph_of heap (up_to_cycle book.history)) begun) most) where
+  abbrev inside : Id → Bool
+  inside = is_inside (graph_of heap (up_to_cycle book.history)) begun
+
+  -- it stands so at the stage
+  abbrev pub Inside : Stage → Type 0
+  Inside stage = StageStandsInside heap book.made begun inside book.owner most stage
+
+  abbrev g : Graph
+  g = graph_of heap book.history
+
+  -- in the last phase all is inside that is kept, and nothing is to be freed
+  begins_clearing : state.collector.phase % 7 ≡ 6 → ClearedWithin heap book.made begun book.owner most 0 0
+  begins_clearing last =
+      let told : phase book.history % 7 ≡ 6 = ap (λ p. p % 7) (sym rule.collector_stands.phase_told) ∙ last in
+      clears_begin heap book.made book.owner inside (λ f i k owned. foot.kept f i k owned (inr told))
+      (rule.marks_stand.heap_marks.alive (λ settled. let between = settled_phase state.collector.phase state.collector.stage settled in omega (arith, between.upto, last)))
+      begun most foot.size
+
+  -- after a look
+  work_inside : Inside (first_work state.collector.phase)
+  work_inside = elim (eqb_tells (state.collector.phase % 7) 3) as (λ _. Inside (first_work state.collector.phase)) [
+    | inl third ↦ rw third.0 tt
+    | inr other ↦ rw other.0 (elim (eqb_tells (state.collector.phase % 7) 5) as (λ _. Inside (if state.collector.phase % 7 == 5 then stages.Sweeping 0 else if state.collector.phase % 7 == 6 then stages.Clearing 0 0 else stages.Advancing)) [
+      | inl sweeps ↦ rw sweeps.0 tt
+      | inr neither ↦ rw neither.0 (elim (eqb_tells (state.collector.phase % 7) 6) as (λ _. Inside (if state.collector.phase % 7 == 6 then stages.Clearing 0 0 else stages.Advancing)) [
+        | inl clears ↦ rw clears.0 (begins_clearing clears.1)
+        | inr none ↦ rw none.0 tt
+      ])
+    ])
+  ]
+
+  look_inside : (found : ℕ) → Inside (after_look heap state.collector found).stage
+  look_inside found = by (has_answered_of state.collector.phase found)
+    where
+      last : (b : Bool) → Inside (if b then record state.collector { looked = state.collector.looked + 1 } else after_last_look heap state.collector).stage
+      last true = foot.stage
+      last false = work_inside
+
+      by : (b : Bool) → Inside (if b then after_counted_look heap state.collector else state.collector).stage
+      by true = last (nat_lt (state.collector.looked + 1) heap.seats)
+      by false = foot.stage
+
+  -- after a pass
+  pass_inside : (group : ℕ) (found : Bool) (place : Option ℕ) → Inside (after_pass heap group found place)
+  pass_inside group found (Some place) = tt
+  pass_inside group found None = by (nat_lt (group + 1) heap.groups)
+    where
+      last : (some : Bool) → Inside (after_last_group some)
+      last true = tt
+      last false = tt
+
+      by : (b : Bool) → Inside (if b then stages.Passing (group + 1) found else after_last_group found)
+      by true = tt
+      by false = last found
+
+  at_inside : (scan : Scan) (part : ℕ) → Inside (scan_at scan part)
+  at_inside scan part = by (nat_lt part 4)
+    where
+      by : (b : Bool) → Inside (if b then stages.Scanning (record scan { part = part }) else stages.Blackening (record scan { part = part }))
+      by true = tt
+      by false = tt
+
+  -- what a scanned word leads to is inside, since its fragment's object is
+  leads_inside : (scan : Scan) → state.collector.stage ≡ stages.Scanning scan → (target : ℕ) → pointer_in scan.part (at heap state.words (Word scan.fragment scan.part)) ≡ Some target
+      → (i k : ℕ) → book.owner target ≡ Kept i k → inside (id_at book.made i) ≡ true
+  leads_inside scan scanning target leads i k owned =
+      let fits : IsScanning heap state.collector.phase state.collector.looked scan = rw scanning at rule.machine.collector_fit.at_stage in
+      let seen : IsSeen heap state.words book.colour scan.fragment scan.part = rw scanning at rule.marks_stand.heap_marks.scan in
+      let part : IsPart book.owner scan.fragment = rule.marks_stand.heap_marks.grey scan.fragment seen.grey in
+      let back = rule.heap_stands.objects.back scan.fragment part.index part.place part.kept in
+      let holder = foot.kept scan.fragment part.index part.place part.kept (inl (λ white. absurd (let grey = seen.grey in cc (grey, white)))) in
+      elim (object_refers heap state.words g book.made book.owner book.fragments rule.machine.limits rule.heap_stands.control_words rule.heap_stands.ids rule.heap_stands.objects
+      part.index back.0 back.1 part.place scan.part target back.2
+      (subst (λ x. WordPointsTo heap state.words x scan.part target) back.3 record { within = fits.fragment_within; below = fits.part_within; to = leads })) as (λ _. inside (id_at book.made i) ≡ true) [
+        | inl next ↦
+            let same : Kept part.index (part.place + 1) ≡ Kept i k
+            = sym (ap book.owner next.1 ∙ (rule.heap_stands.objects.kept part.index back.0 back.1).owned (part.place + 1) next.0) ∙ owned in
+            let index : part.index ≡ i = cc in
+            subst (λ n. inside (id_at book.made n) ≡ true) index holder
+        | inr cell ↦ cell_inside heap state book rule begun reach part.index target i k holder cell owned
+      ]
+
+  scan_inside : (scan : Scan) → state.collector.stage ≡ stages.Scanning scan → (next : ℕ) (found : Option ℕ) → pointer_in scan.part (at heap state.words (Word scan.fragment scan.part)) ≡ found
+      → Inside (after_scan_load scan next found)
+  scan_inside scan scanning next None is = at_inside (scan_step scan) next
+  scan_inside scan scanning next (Some target) is = leads_inside scan scanning target is
+
+  -- after a group of the sweep
+  swept_inside : (group : ℕ) → Inside (after_swept heap group)
+  swept_inside group = after_swept_either Inside heap group tt (λ all. tt)
+
+  examined_inside : (group dead : ℕ) (place : Option ℕ) → Inside (after_examined heap group dead place)
+  examined_inside group dead (Some place) = tt
+  examined_inside group dead None = by (dead == 0)
+    where
+      by : (b : Bool) → Inside (if b then after_swept heap group else stages.Freeing group dead)
+      by true = swept_inside group
+      by false = tt
+
+  -- after one of the clearing
+  cleared_inside : (group kept : ℕ) → state.collector.stage ≡ stages.Clearing group kept → Inside (after_cleared heap group (kept + taken_count_of (at heap state.words (Control group))))
+  cleared_inside group kept clearing =
+      let fits : IsClearing heap state.collector.phase state.collector.looked group kept = rw clearing at rule.machine.collector_fit.at_stage in
+      let stands : ClearedWithin heap book.made begun book.owner most group kept = subst Inside clearing foot.stage in
+      let on = clears_on heap state.words book.owner rule.heap_stands.control_words group fits.group_within book.made begun most kept stands in
+      after_cleared_either Inside heap group (kept + taken_count_of (at heap state.words (Control group))) on
+      (λ all. let last : group + 1 ≡ heap.groups = omega (arith, all, fits.group_within) in
+      subst (λ n. ClearedWithin heap book.made begun book.owner most n (kept + taken_count_of (at heap state.words (Control group)))) last on)
+
+  -- so it is after each turn
+  pub turn_inside : (stage : Stage) → state.collector.stage ≡ stage → Inside ((turn_at heap state.collector stage).told (found_by heap state (turn_at heap state.collector stage).step)).stage
+  turn_inside stages.Looking is = look_inside _
+  turn_inside (stages.Passing group found) is = pass_inside group found _
+  turn_inside (stages.Scanning scan) is = scan_inside scan is _ _ refl
+  turn_inside (stages.Shading scan target next) is = at_inside (scan_step scan) next
+  turn_inside (stages.Blackening scan) is = tt
+  turn_inside (stages.Sweeping group) is =
+      let dead : ℕ = dead_bits_of (at heap state.words (Control group)) in
+      examined_inside group dead (next_place_of dead 0)
+  turn_inside (stages.Examining group dead place) is = examined_inside group dead (next_place_of dead (place + 1))
+  turn_inside (stages.Freeing group dead) is = swept_inside group
+  turn_inside (stages.Clearing group kept) is = cleared_inside group kept is
+  turn_inside (stages.Ending kept) is = tt
+  turn_inside stages.Advancing is = tt

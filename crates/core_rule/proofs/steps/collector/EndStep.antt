@@ -1,0 +1,96 @@
+-- The end of a cycle keeps the rule, where the cycle may end.
+use Rattle.std.proofs.Common.{◌≡◌, ◌≢◌, ℕ, ◌+◌, ◌*◌, ◌/◌, ◌%◌, false, refl, sym, ap, ◌∙◌, subst, arith, inl, inr}
+use Rattle.std.proofs.lemmas.Bool.{cases_lt}
+use Rattle.heap_model.specs.declared.entry.Entry.{Entry}
+use Rattle.heap_model.specs.declared.entry.Entry.TheVariants.{Ends}
+use Rattle.heap_model.specs.declared.heap.Heap.{Heap}
+use Rattle.heap_model.specs.account.Cycles.{EndsCycle}
+use Rattle.heap_model.specs.account.PhaseCounts.{phase}
+use Rattle.core_machine.specs.declared.collector.stage.Stage.TheVariants as stages
+use Rattle.core_machine.specs.collector.Collector.{turn_at}
+use Rattle.core_machine.specs.collector.FitsTurns.{FitsStage, HasCleared}
+use Rattle.core_machine.specs.machine.Machine.{State}
+use Rattle.core_rule.specs.Book.{Book, White}
+use Rattle.core_rule.specs.Marking.{MarkingStands, AfterMarking}
+use Rattle.core_rule.specs.Owners.{Dead}
+use Rattle.core_rule.specs.Rule.{Rule}
+use Rattle.core_rule.specs.Sweep.{SweepStands, IsSettled}
+use Rattle.core_rule.proofs.cycle.NextPhase.{coloured_rest}
+use Rattle.core_rule.proofs.entries.Legality.{legal_more, keeps_ends}
+use Rattle.core_rule.proofs.steps.TurnSteps.{TurnKeeps}
+use Rattle.core_rule.proofs.steps.collector.PhaseTurn.{BeginsNext, words_next, phase_turns}
+
+end_begins : (cycle kept : ℕ) → BeginsNext (Ends cycle kept)
+end_begins cycle kept = record {
+  phases = refl;
+  uses = record { taken = refl; given = refl; freed = refl };
+  answers = refl;
+  nobodys = λ r. refl;
+  no_leave = λ r. refl;
+  collectors = refl;
+  graph_stays = λ g. refl;
+}
+
+module _ (kept : ℕ) (heap : Heap) (state : State) (book : Book) (rule : Rule heap state book) (ending : state.collector.stage ≡ stages.Ending kept) where
+  abbrev p : ℕ
+  p = state.collector.phase
+
+  abbrev entry : Entry
+  entry = Ends (p / 7) kept
+
+  has_cleared : HasCleared heap p state.collector.looked kept
+  has_cleared = subst (FitsStage heap p state.collector.looked) ending rule.machine.collector_fit.at_stage
+
+  -- it is the last phase of a cycle
+  last : phase book.history % 7 ≡ 6
+  last = ap (λ n. n % 7) (sym rule.collector_stands.phase_told) ∙ has_cleared.for_clearing
+
+  -- every group is cleared
+  all_white : (f : ℕ) → book.colour f ≡ White
+  all_white f = elim (cases_lt f (16 * heap.groups)) [
+    | inl below ↦ subst (SweepStands heap book.owner book.colour p) ending rule.marks_stand.heap_marks.sweep_stands f (omega (arith, below))
+    | inr past ↦ rule.heap_stands.cycle.marks.outside f past
+  ]
+
+  -- what was to be freed is freed long since
+  none_dead : (f i k : ℕ) → book.owner f ≢ Dead i k
+  none_dead = rule.marks_stand.heap_marks.alive (λ settled. elim settled [
+    | inl marked ↦ omega (arith, marked.0, has_cleared.for_clearing)
+    | inr later ↦ elim later [
+      | inl copies ↦ omega (arith, copies, has_cleared.for_clearing)
+      | inr sweeps ↦ omega (arith, sweeps, has_cleared.for_clearing)
+    ]
+  ])
+
+  -- and the phase of rest isn't one in which anything is
+  not_after : IsSettled (p + 1) stages.Looking → AfterMarking book.owner book.colour
+  not_after settled = elim settled [
+    | inl marked ↦ absurd (omega (arith, marked.0, has_cleared.for_clearing))
+    | inr later ↦ elim later [
+      | inl copies ↦ absurd (omega (arith, copies, has_cleared.for_clearing))
+      | inr sweeps ↦ absurd (omega (arith, sweeps, has_cleared.for_clearing))
+    ]
+  ]
+
+  marks_then : MarkingStands heap (words_next heap state book rule has_cleared.all entry (end_begins (p / 7) kept)) book.owner book.colour book.fragments (p + 1) stages.Looking
+  marks_then = record {
+    grey = rule.marks_stand.heap_marks.grey;
+    scan = tt;
+    pass = tt;
+    sweep_stands = tt;
+    alive = λ unsettled. none_dead;
+    after = not_after;
+  }
+
+-- the end of a cycle keeps the rule
+pub end_keeps : (kept : ℕ) (heap : Heap) (state : State) (book : Book) → Rule heap state book → state.collector.stage ≡ stages.Ending kept
+    → EndsCycle heap book.history (Ends (state.collector.phase / 7) kept) → TurnKeeps heap state book (turn_at heap state.collector (stages.Ending kept))
+end_keeps kept heap state book rule ending ends machine =
+    let all = (has_cleared kept heap state book rule ending).all in
+    let cycle : ℕ = state.collector.phase / 7 in
+    let begins = end_begins cycle kept in
+    phase_turns heap state book rule all (Ends cycle kept) begins
+    (legal_more heap false book.history (Ends cycle kept) rule.heap_stands.legal tt (keeps_ends heap false book.history cycle kept ends))
+    (coloured_rest heap state.words (words_next heap state book rule all (Ends cycle kept) begins) book.owner book.colour book.fragments (phase book.history)
+    (last kept heap state book rule ending) (all_white kept heap state book rule ending) rule.heap_stands.cycle.coloured)
+    (marks_then kept heap state book rule ending) machine

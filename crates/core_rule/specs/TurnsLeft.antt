@@ -1,0 +1,87 @@
+-- How many turns the collector makes at most up to the end of its cycle, where no seat makes a step between and it waits for none.
+use Rattle.std.specs.Prelude.{◌≡◌, ℕ, ◌+◌, ◌-◌, ◌*◌, ◌/◌, ◌%◌, ◌<◌, ◌==◌, Bool, if◌then◌else◌, List}
+use Rattle.std.specs.Int.{bit_at}
+use Rattle.heap_model.specs.declared.calls.collector_calls.Turn.TheVariants.{Stepped}
+use Rattle.heap_model.specs.declared.heap.Heap.{Heap}
+use Rattle.heap_model.specs.Limits.{group_fragments}
+use Rattle.heap_model.specs.PhasePlan.{cycle_phases, marking, sweep, clearing}
+use Rattle.core_machine.specs.collector.Collector.{next_turn}
+use Rattle.core_machine.specs.declared.collector.stage.Scan.{Scan}
+use Rattle.core_machine.specs.declared.collector.stage.Stage.{Stage}
+use Rattle.core_machine.specs.declared.collector.stage.Stage.TheVariants as stages
+use Rattle.core_machine.specs.machine.Machine.{State, found_by, Turns, state_after}
+use Rattle.core_machine.specs.machine.Sums.{sum_upto}
+use Rattle.core_rule.specs.Book.{Book}
+use Rattle.core_rule.specs.ControlWords.{control_of}
+use Rattle.core_rule.specs.Rule.{Rule}
+
+-- how many of the heap's fragments are scanned
+abbrev pub scanned_count : Heap → List ℕ → ℕ
+scanned_count heap words = sum_upto (group_fragments * heap.groups) (λ f. bit_at (control_of heap words f) (48 + f % group_fragments))
+
+-- the most steps of one scan: those of an array's first fragment, of which two words are loaded, two steps are made for each of 1,024 array words, and
+-- it is told to be scanned
+abbrev pub scan_most : ℕ
+scan_most = 2051
+
+-- the most turns that are made for one fragment: those of its scan, and those of another pass over all groups
+abbrev pub fragment_most : ℕ → ℕ
+fragment_most groups = groups + 2060
+
+-- a pass that has found something is followed by another one
+abbrev pub next_pass : ℕ → Bool → ℕ
+next_pass groups found = if found then groups + 1 else 0
+
+-- what is left of marking: for each fragment that isn't seen yet the most of one, of the scan under way its steps, the groups from this one on, and the
+-- next pass
+abbrev pub marking_left : ℕ → ℕ → ℕ → ℕ → ℕ → ℕ
+marking_left groups seen scan group again = (group_fragments * groups - seen) * fragment_most groups + scan + (groups - group) + again
+
+-- the same while a fragment is scanned: it counts as seen, and the pass has found something
+abbrev pub scanning_left : Heap → List ℕ → Scan → ℕ
+scanning_left heap words scan =
+    marking_left heap.groups (scanned_count heap words + 1) (scan_most - scan.steps) (scan.fragment / group_fragments) (heap.groups + 1)
+
+-- the most turns for one group of the sweep: its word is loaded, each of its sixteen fragments is looked at, and they are freed
+abbrev pub sweep_most : ℕ
+sweep_most = 18
+
+-- the most turns of what a phase is for, which is nothing but in those of marking, of the sweep and of the clearing
+abbrev pub work_most : ℕ → ℕ → ℕ
+work_most groups phase =
+    if phase % cycle_phases == marking then group_fragments * groups * fragment_most groups + groups
+    else if phase % cycle_phases == sweep then sweep_most * groups
+    else if phase % cycle_phases == clearing then groups
+    else 0
+
+-- how many turns are left before the one with which the next phase begins or the cycle ends
+abbrev pub stage_left : Heap → List ℕ → ℕ → ℕ → Stage → ℕ
+stage_left heap words phase looked stages.Looking = heap.seats - looked + work_most heap.groups phase
+stage_left heap words phase looked (stages.Passing group found) = marking_left heap.groups (scanned_count heap words) 0 group (next_pass heap.groups found)
+stage_left heap words phase looked (stages.Scanning scan) = scanning_left heap words scan
+stage_left heap words phase looked (stages.Shading scan target next) = scanning_left heap words scan
+stage_left heap words phase looked (stages.Blackening scan) = scanning_left heap words scan
+stage_left heap words phase looked (stages.Sweeping group) = sweep_most * (heap.groups - group)
+stage_left heap words phase looked (stages.Examining group dead place) = sweep_most * (heap.groups - group) - (place + 1)
+stage_left heap words phase looked (stages.Freeing group dead) = sweep_most * (heap.groups - group) - group_fragments - 1
+stage_left heap words phase looked (stages.Clearing group kept) = heap.groups - group
+stage_left heap words phase looked (stages.Ending kept) = 0
+stage_left heap words phase looked stages.Advancing = 0
+
+-- no phase has more turns than this: a look at each seat, what a phase is for, and the begin of the next one
+abbrev pub phase_most : Heap → ℕ
+phase_most heap = heap.seats + group_fragments * heap.groups * fragment_most heap.groups + sweep_most * heap.groups + 1
+
+-- how many turns are left before the one that ends the cycle, by where the collector stands: the most of each phase to come, and those of this one
+abbrev pub turns_left_at : Heap → List ℕ → ℕ → ℕ → Stage → ℕ
+turns_left_at heap words phase looked stage = (clearing - phase % cycle_phases) * phase_most heap + stage_left heap words phase looked stage
+
+-- how many are left in a state
+abbrev pub turns_left : Heap → State → ℕ
+turns_left heap state = turns_left_at heap state.words state.collector.phase state.collector.looked state.collector.stage
+
+-- a turn that neither waits nor ends a cycle leaves fewer turns
+abbrev pub EachTurnLeavesFewer : Type 0
+EachTurnLeavesFewer = (heap : Heap) (state : State) (book : Book) → Rule heap state book
+    → (next_turn heap state.collector).answer (found_by heap state (next_turn heap state.collector).step) ≡ Stepped
+    → turns_left heap (state_after heap state Turns) < turns_left heap state
