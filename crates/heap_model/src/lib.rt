@@ -17,6 +17,7 @@ mod reply;
 pub use account::Account;
 pub use account::effect::Effect;
 pub use account::laws::account_laws;
+pub use calls::collect::{CollectReply, Inner};
 pub use calls::collector_calls::{CollectorCalls, Turn};
 pub use calls::laws::seat_laws;
 pub use calls::seat_calls::SeatCalls;
