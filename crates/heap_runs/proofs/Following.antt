@@ -1,5 +1,5 @@
 -- A play's history after a call or some turns more.
-use Rattle.std.proofs.Common.{◌≡◌, ℕ, true, List, [], ◌∷◌, ◌++◌, refl, sym, ap, subst, ◌∙◌, append_assoc, append-nil, arith}
+use Rattle.std.proofs.Common.{◌≡◌, ℕ, Bool, true, false, ◌⊎◌, List, [], ◌∷◌, ◌++◌, inl, inr, refl, sym, ap, subst, ◌∙◌, append_assoc, append-nil, arith}
 use Rattle.std.specs.List.{AllByRecursion}
 use Rattle.std.proofs.lemmas.List.{append_cancel_left}
 use Rattle.std.proofs.lemmas.List.Elements.{filter-append}
@@ -17,11 +17,12 @@ use Rattle.heap_model.specs.account.Phases.{TurnShows}
 use Rattle.heap_model.specs.account.Space.{words_granted}
 use Rattle.heap_model.specs.account.Turned.{is_of_heap, without_turned, AnswersRightly, AllAnswerRightly, TurnedHoldNobody}
 use Rattle.core_machine.specs.seat.Commands.{IsServed}
+use Rattle.heap_runs.specs.Play.{tells_step, EndsCycle, IsLastCycle}
 use Rattle.heap_runs.specs.PlayHeap.{PlayState}
-use Rattle.heap_runs.specs.Playing.{NotesCall, NotesTurns, Follows}
-use Rattle.heap_runs.specs.Turning.{ServesCommand}
+use Rattle.heap_runs.specs.Playing.{NotesCall, NotesTurns, NotesLastCycle, Follows}
+use Rattle.heap_runs.specs.Turning.{GoesOnward, IsStep, ServesCommand}
 use Rattle.heap_runs.proofs.Beside.{comes_beside, beside_of_heap, granted_more}
-use Rattle.heap_runs.proofs.TurnFacts.{IsOwnStep, AddsSteps, turns_add, steps_more}
+use Rattle.heap_runs.proofs.TurnFacts.{IsOwnStep, AddsSteps, turns_add, came_add, ends_added, own_more}
 
 abbrev AreOfHeap : List Entry → Type 0
 AreOfHeap told = AllByRecursion (λ entry. is_of_heap entry ≡ true) told
@@ -66,10 +67,12 @@ follows_call heap old new before after number command served notes follows =
 
 -- what the turns of a command added
 pub serves_adds : (old new : PlayState) (command : TurnCommand) (reply : TurnReply) → ServesCommand old new command reply → AddsSteps old new
-serves_adds old new (commands.Turns n) replies.Done serves = turns_add n old new serves.taken
-serves_adds old new (commands.Turns n) (replies.Waits number answer p) serves = steps_more old serves.now new _ (turns_add serves.earlier old serves.now serves.turned.taken) serves.waits
+serves_adds old new (commands.Turns n) replies.Done serves = turns_add GoesOnward n old new serves.taken
+serves_adds old new (commands.Turns n) (replies.Waits number answer p) serves = came_add GoesOnward old new _ _ serves.0
 serves_adds old new (commands.Turns n) (replies.Cycle cycle) serves = absurd serves
-serves_adds old new commands.Cycle reply serves = absurd serves
+serves_adds old new commands.Cycle replies.Done serves = absurd serves
+serves_adds old new commands.Cycle (replies.Waits number answer p) serves = came_add IsStep old new _ _ serves
+serves_adds old new commands.Cycle (replies.Cycle cycle) serves = came_add IsStep old new _ _ serves.1
 
 own_of_heap : (added : List Entry) → AllByRecursion IsOwnStep added → AreOfHeap added
 own_of_heap [] own = tt
@@ -88,15 +91,26 @@ own_noted old new before after command notes =
     let adds = serves_adds old new command notes.reply notes.serves in
     (subst (AllByRecursion IsOwnStep) (append_cancel_left old.entries adds.added notes.added (sym adds.told ∙ notes.told)) adds.own, adds.same_heap)
 
--- the reply shows what is so, by the history too
-reply_shows : TurnedHoldNobody → (old new : PlayState) (told : List Entry) (command : TurnCommand) (reply : TurnReply) → ServesCommand old new command reply → without_turned told ≡ new.entries
-    → TurnShows new.heap told reply
-reply_shows holds old new told (commands.Turns n) replies.Done serves same = tt
-reply_shows holds old new told (commands.Turns n) (replies.Waits number answer p) serves same =
-    let shows = serves.shows in
-    (shows.0, shows.1, holds number answer p told (rw same shows.2))
-reply_shows holds old new told (commands.Turns n) (replies.Cycle cycle) serves same = absurd serves
-reply_shows holds old new told commands.Cycle reply serves same = absurd serves
+-- the reply shows what is so
+serves_shows : (old new : PlayState) (command : TurnCommand) (reply : TurnReply) → ServesCommand old new command reply → TurnShows new.heap new.entries reply
+serves_shows old new (commands.Turns n) replies.Done serves = tt
+serves_shows old new (commands.Turns n) (replies.Waits number answer p) serves = serves.0.shows
+serves_shows old new (commands.Turns n) (replies.Cycle cycle) serves = absurd serves
+serves_shows old new commands.Cycle replies.Done serves = tt
+serves_shows old new commands.Cycle (replies.Waits number answer p) serves = serves.shows
+serves_shows old new commands.Cycle (replies.Cycle cycle) serves = serves.1.shows
+
+-- by the history too
+reply_shows : TurnedHoldNobody → (old new : PlayState) (before added : List Entry) (command : TurnCommand) (reply : TurnReply) → ServesCommand old new command reply → new.entries ≡ old.entries ++ added
+    → without_turned (before ++ added) ≡ new.entries → TurnShows new.heap (before ++ added) reply
+reply_shows holds old new before added command replies.Done serves told same = tt
+reply_shows holds old new before added (commands.Turns n) (replies.Cycle cycle) serves told same = absurd serves
+reply_shows holds old new before added commands.Cycle (replies.Cycle cycle) serves told same =
+    let last = ends_added old new cycle serves.0 (replies.Cycle cycle) added serves.1 told in
+    (before ++ last.0, serves.0, ap (λ es. before ++ es) last.1 ∙ sym (append_assoc before last.0 (entries.Ends cycle serves.0 ∷ [])))
+reply_shows holds old new before added command (replies.Waits number answer p) serves told same =
+    let shows = serves_shows old new command (replies.Waits number answer p) serves in
+    (shows.0, shows.1, holds number answer p (before ++ added) (rw same shows.2))
 
 -- after some turns
 pub follows_turns : TurnedHoldNobody → (heap : Heap) (old new : PlayState) (before after : List Entry) (command : TurnCommand) → NotesTurns old new before after command
@@ -110,7 +124,7 @@ follows_turns holds heap old new before after command notes follows =
     let noted : after ≡ (before ++ notes.added) ++ turned = notes.noted ∙ sym (append_assoc before notes.added turned) in
     let of_heap = own.1 ∙ follows.of_heap in
     let shows : TurnShows heap (before ++ notes.added) notes.reply
-    = subst (λ h. TurnShows h (before ++ notes.added) notes.reply) of_heap (reply_shows holds old new (before ++ notes.added) command notes.reply notes.serves left) in
+    = subst (λ h. TurnShows h (before ++ notes.added) notes.reply) of_heap (reply_shows holds old new before notes.added command notes.reply notes.serves notes.told left) in
     record {
       of_heap = of_heap;
       same = ap without_turned noted ∙ filter-append is_of_heap (before ++ notes.added) turned ∙ append-nil (without_turned (before ++ notes.added)) ∙ left;
@@ -118,4 +132,35 @@ follows_turns holds heap old new before after command notes follows =
           (rightly_more heap [] before notes.added follows.right (all_rightly heap before notes.added plain)) (shows, tt));
       none_granted = ap words_granted notes.told ∙ sum_by-append (λ e. (effect_of e).words) old.entries notes.added
           ∙ omega (arith, follows.none_granted, own_grants notes.added own.0);
+    }
+
+-- the entries of a last cycle are steps and ends of cycles
+own_steps : (told : List Entry) → AllByRecursion (λ entry. tells_step entry ≡ true) told → AllByRecursion IsOwnStep told
+own_steps [] own = tt
+own_steps (entries.Advance p ∷ told) own = ((refl, refl), own_steps told own.1)
+own_steps (entries.Frees count ∷ told) own = ((refl, refl), own_steps told own.1)
+own_steps (entries.Returns count ∷ told) own = ((refl, refl), own_steps told own.1)
+own_steps (entries.Swings id ∷ told) own = ((refl, refl), own_steps told own.1)
+own_steps (_ ∷ told) own = cc own.0
+
+own_end : (began : Bool) (turned : List Entry) → EndsCycle began turned → AllByRecursion IsOwnStep turned
+own_end began turned ends = rw ends.ends (own_more ends.steps (entries.Ends ends.cycle ends.kept ∷ []) (own_steps ends.steps ends.own) ((refl, refl), tt))
+
+own_cycle : (turned : List Entry) → IsLastCycle turned → AllByRecursion IsOwnStep turned
+own_cycle turned cycle = rw cycle.both (own_more cycle.under_way cycle.whole (first cycle.first) (own_end true cycle.whole cycle.last))
+  where
+    first : (cycle.under_way ≡ []) ⊎ EndsCycle false cycle.under_way → AllByRecursion IsOwnStep cycle.under_way
+    first (inl none) = rw none tt
+    first (inr ends) = own_end false cycle.under_way ends
+
+-- after a last cycle
+pub follows_cycle : (heap : Heap) (old new : PlayState) (before after : List Entry) → NotesLastCycle old new before after → Follows heap old before → Follows heap new after
+follows_cycle heap old new before after notes follows =
+    let own = own_cycle notes.turned notes.cycle in
+    let plain = own_of_heap notes.turned own in
+    record {
+      of_heap = notes.same_heap ∙ follows.of_heap;
+      same = ap without_turned notes.noted ∙ filter-append is_of_heap before notes.turned ∙ ap (λ es. without_turned before ++ es) (all_left notes.turned plain) ∙ ap (λ es. es ++ notes.turned) follows.same ∙ sym notes.told;
+      right = subst (AllAnswerRightly heap []) (sym notes.noted) (rightly_more heap [] before notes.turned follows.right (all_rightly heap before notes.turned plain));
+      none_granted = ap words_granted notes.told ∙ sum_by-append (λ e. (effect_of e).words) old.entries notes.turned ∙ omega (arith, follows.none_granted, own_grants notes.turned own);
     }

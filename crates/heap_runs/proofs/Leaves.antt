@@ -1,7 +1,9 @@
 -- The seats leave one after another.
-use Rattle.std.proofs.Common.{◌≡◌, ℕ, zero, suc, ◌+◌, ◌<◌, ◌==◌, if◌then◌else◌, List, [], ◌∷◌, ◌++◌, refl, sym, ap, ◌∙◌, append_assoc, append-nil, arith}
+use Rattle.std.proofs.Common.{◌≡◌, ℕ, zero, suc, ◌+◌, ◌<◌, ◌==◌, if◌then◌else◌, Bool, true, false, List, [], ◌∷◌, ◌++◌, inl, inr, refl, sym, ap, ◌∙◌, append_assoc, append-nil, arith}
 use Rattle.std.specs.List.{flat_map, range_with_len}
-use Rattle.std.proofs.lemmas.Bool.{eq-eqb, ne_eqb}
+use Rattle.std.proofs.lemmas.Bool.{eq-eqb, ne_eqb, or_left, or_right}
+use Rattle.std.proofs.lemmas.Bool.Decides.{eqb_tells}
+use Rattle.std.proofs.lemmas.List.Folds.{list_any-append}
 use Rattle.std.proofs.lemmas.Grind.{flat_map-append}
 use Rattle.std.proofs.lemmas.List.{map-id}
 use Rattle.std.proofs.lemmas.List.FromFn.{map-range_with_len_more}
@@ -10,6 +12,7 @@ use Rattle.heap_model.specs.declared.command.Command.TheVariants.{Leave}
 use Rattle.heap_model.specs.declared.entry.Entry.{Entry}
 use Rattle.heap_model.specs.declared.entry.Entry.TheVariants.{Said}
 use Rattle.heap_model.specs.declared.reply.Reply.{Reply}
+use Rattle.heap_model.specs.account.PhaseCounts.{has_left, is_leave_of}
 use Rattle.heap_model.specs.calls.SeatCalls.{leave_entries, last_gives}
 use Rattle.heap_model.specs.calls.SeatLaws.{EachCallCounts, EachCallSparesOthers}
 use Rattle.script_text.specs.declared.script.Line.{Line}
@@ -17,6 +20,7 @@ use Rattle.heap_runs.specs.PlayHeap.{PlayState}
 use Rattle.heap_runs.specs.Playing.{NotesCall, HasAnsweredLines, HaveLeft}
 use Rattle.heap_runs.proofs.Answering.{still_there}
 use Rattle.heap_runs.proofs.Following.{follows_call}
+use Rattle.heap_runs.proofs.LastCycle.{left_still}
 
 -- one number more
 range_more : (n : ℕ) → range_with_len 0 (n + 1) ≡ range_with_len 0 n ++ n ∷ []
@@ -36,6 +40,17 @@ same_below f g (suc n) agree =
     ∙ ap (λ (l : List Entry). l ++ f n) (same_below f g n (λ k below. agree k (omega (arith, below)))) ∙ ap (λ (l : List Entry). flat_map g (range_with_len 0 n) ++ l) (agree n (omega arith))
     ∙ sym (each_more g n) ∙ ap (λ (k : ℕ). flat_map g (range_with_len 0 k)) (sym one)
 
+-- it has left then, and those before it stay so
+gone_then : (number n : ℕ) (told before : List Entry) (reply : Reply) (after : List Entry) → after ≡ told ++ (before ++ Said n Leave reply ∷ []) → (number < n → has_left number told ≡ true) → number < n + 1
+    → has_left number after ≡ true
+gone_then number n told before reply after is gone under = elim (eqb_tells number n) [
+  | inl same ↦ (
+      let said : has_left number (Said n Leave reply ∷ []) ≡ true = or_left (n == number) false (eq-eqb n number (sym same.1)) in
+      let behind : has_left number (before ++ Said n Leave reply ∷ []) ≡ true = list_any-append (is_leave_of number) before (Said n Leave reply ∷ []) ∙ or_right _ _ said in
+      ap (has_left number) is ∙ list_any-append (is_leave_of number) told (before ++ Said n Leave reply ∷ []) ∙ or_right _ _ behind)
+  | inr apart ↦ ap (has_left number) is ∙ left_still number told (before ++ Said n Leave reply ∷ []) (gone (omega (arith, under, apart.1)))
+]
+
 -- the next seat leaves
 pub left_more : EachCallCounts → EachCallSparesOthers → (heap : Heap) (now new : PlayState) (before told after : List Entry) (n : ℕ) → HaveLeft heap now before told n → NotesCall now new told after n Leave
     → HaveLeft heap new before after (n + 1)
@@ -51,12 +66,16 @@ left_more counts others heap now new before told after n left notes =
     record {
       follows = follows_call heap now new told after n Leave tt notes left.follows;
       others = λ number past below. still_there counts others heap now new told after n Leave notes number (λ same. absurd (omega (arith, same, past))) (left.others number (omega (arith, past)) below);
+      gone = λ number under. gone_more number under;
       left = more;
       leaves = notes.noted ∙ ap (λ (l : List Entry). told ++ l) said ∙ ap (λ (l : List Entry). l ++ leaves n) left.leaves
           ∙ append_assoc before (flat_map each (range_with_len 0 n)) (leaves n) ∙ ap (λ (l : List Entry). before ++ (l ++ leaves n)) earlier ∙ ap (λ (l : List Entry). before ++ l) (sym (each_more leaves n));
     }
+  where
+    gone_more : (number : ℕ) → number < n + 1 → has_left number new.entries ≡ true
+    gone_more number under = gone_then number n now.entries notes.answers.adds.before notes.reply new.entries notes.answers.adds.entries (left.gone number) under
 
 -- no seat has left yet
 pub left_none : (heap : Heap) (state : PlayState) (history : List Entry) (lines : List Line) → HasAnsweredLines heap state history lines → HaveLeft heap state history history 0
 left_none heap state history lines has =
-    record { follows = has.follows; others = λ number past below. has.present number below; left = λ number. 0; leaves = sym (append-nil history) }
+    record { follows = has.follows; others = λ number past below. has.present number below; gone = λ number under. absurd (omega (arith, under)); left = λ number. 0; leaves = sym (append-nil history) }

@@ -5,6 +5,7 @@ pub mod Calling
 pub mod Collectors
 pub mod Following
 pub mod Growing
+pub mod LastCycle
 pub mod Leaves
 pub mod MachineCalls
 pub mod MachineTurns

@@ -7,13 +7,14 @@ use Rattle.heap_model.specs.declared.calls.collector_calls.Turn.{Turn}
 use Rattle.heap_model.specs.declared.calls.collector_calls.Turn.TheVariants as turns
 use Rattle.heap_model.specs.declared.entry.Entry.{Entry}
 use Rattle.heap_model.specs.declared.entry.Entry.TheVariants as entries
+use Rattle.heap_model.specs.declared.reply.TurnReply.{TurnReply}
 use Rattle.heap_model.specs.declared.reply.TurnReply.TheVariants as replies
 use Rattle.heap_model.specs.account.Noting.{is_collectors}
 use Rattle.heap_model.specs.account.Phases.{IsBehind, TurnShows}
 use Rattle.heap_model.specs.account.Turned.{is_of_heap}
 use Rattle.heap_model.specs.calls.CollectorCalls.{ComesTo, StepsTo}
 use Rattle.heap_runs.specs.PlayHeap.{PlayState, TakesTurn, collector_state_of}
-use Rattle.heap_runs.specs.Turning.{TakesTurns}
+use Rattle.heap_runs.specs.Turning.{IsStep, TakesTurns, HasTurned, HasComeTo}
 use Rattle.heap_runs.proofs.Collectors.{all_collectors}
 
 -- an entry of the collector that isn't what one of its commands was answered
@@ -29,12 +30,12 @@ steps_own now later _ steps = absurd steps
 
 module _ (old new : PlayState) (turn : Turn) (takes : TakesTurn old new turn) where
   -- the collector's list has just what was added more
-  added_is : (more : List Entry) → (collector_state_of new).log ≡ (collector_state_of old).log ++ more → takes.added ≡ more
+  pub added_is : (more : List Entry) → (collector_state_of new).log ≡ (collector_state_of old).log ++ more → takes.added ≡ more
   added_is more log =
       let own = ap (λ es. filter is_collectors old.entries ++ es) (sym (all_collectors takes.added takes.own)) in
       append_cancel_left (filter is_collectors old.entries) takes.added more (own ∙ sym (filter-append is_collectors old.entries takes.added) ∙ ap (filter is_collectors) (sym takes.entries) ∙ log)
 
-  none_is : (collector_state_of new).log ≡ (collector_state_of old).log → takes.added ≡ []
+  pub none_is : (collector_state_of new).log ≡ (collector_state_of old).log → takes.added ≡ []
   none_is log = added_is [] (log ∙ sym (append-nil (filter is_collectors old.entries)))
 
   own_by : (turn : Turn) → ComesTo (collector_state_of old) (collector_state_of new) turn → AllByRecursion IsOwnStep takes.added
@@ -54,7 +55,12 @@ wait_shows old new number answer p takes =
     let same : new.entries ≡ old.entries = takes.entries ∙ ap (λ es. old.entries ++ es) none ∙ append-nil old.entries in
     (rw takes.heap takes.waits.0, omega (arith, takes.waits.2), subst (IsBehind number answer p) (sym same) takes.waits.1)
 
-own_more : (front behind : List Entry) → AllByRecursion IsOwnStep front → AllByRecursion IsOwnStep behind → AllByRecursion IsOwnStep (front ++ behind)
+-- a turn that ends a cycle adds that end alone
+pub end_shows : (old new : PlayState) (cycle kept : ℕ) → TakesTurn old new (turns.Ended cycle kept) → TurnShows new.heap new.entries (replies.Cycle cycle)
+end_shows old new cycle kept takes =
+    (old.entries, kept, takes.entries ∙ ap (λ es. old.entries ++ es) (added_is old new (turns.Ended cycle kept) takes (entries.Ends cycle kept ∷ []) takes.turned.comes_to.0))
+
+pub own_more : (front behind : List Entry) → AllByRecursion IsOwnStep front → AllByRecursion IsOwnStep behind → AllByRecursion IsOwnStep (front ++ behind)
 own_more [] behind own more = more
 own_more (entry ∷ front) behind own more = (own.0, own_more front behind own.1 more)
 
@@ -73,6 +79,30 @@ steps_more old now new turn adds takes = record {
   own = own_more adds.added takes.added adds.own (own_steps now new turn takes);
 }
 
-pub turns_add : (n : ℕ) (old new : PlayState) → TakesTurns n old new → AddsSteps old new
-turns_add zero old new same = record { same_heap = ap (λ s. s.heap) same; added = []; told = ap (λ s. s.entries) same ∙ sym (append-nil old.entries); own = tt }
-turns_add (suc n) old new taken = steps_more old taken.0 new taken.1 (turns_add n old taken.0 taken.2) taken.3
+pub turns_add : (Is : Turn → Type 0) (n : ℕ) (old new : PlayState) → TakesTurns Is n old new → AddsSteps old new
+turns_add Is zero old new same = record { same_heap = ap (λ s. s.heap) same; added = []; told = ap (λ s. s.entries) same ∙ sym (append-nil old.entries); own = tt }
+turns_add Is (suc n) old new taken = steps_more old taken.0 new taken.1 (turns_add Is n old taken.0 taken.2) taken.3
+
+-- one more turn with such an answer, or a last one
+pub turned_more : (Is : Turn → Type 0) (old now new : PlayState) (n : ℕ) (turn : Turn) → HasTurned Is old now n → TakesTurn now new turn → Is turn → HasTurned Is old new (suc n)
+turned_more Is old now new n turn turned takes is = record { taken = (now, turn, turned.taken, takes, is); counted = omega (arith, turned.counted, takes.turned.counted) }
+
+pub comes_to : (Is : Turn → Type 0) (old now new : PlayState) (n : ℕ) (last : Turn) (reply : TurnReply) → HasTurned Is old now n → TakesTurn now new last → TurnShows new.heap new.entries reply
+    → HasComeTo Is old new last reply
+comes_to Is old now new n last reply turned takes shows =
+    record { earlier = n; now = now; turned = turned; takes = takes; counted = omega (arith, turned.counted, takes.turned.counted); shows = shows }
+
+-- what was added up to an answer
+pub came_add : (Is : Turn → Type 0) (old new : PlayState) (last : Turn) (reply : TurnReply) → HasComeTo Is old new last reply → AddsSteps old new
+came_add Is old new last reply came = steps_more old came.now new last (turns_add Is came.earlier old came.now came.turned.taken) came.takes
+
+-- where that was the end of a cycle, the last entry is that end
+pub ends_added : (old new : PlayState) (cycle kept : ℕ) (reply : TurnReply) (added : List Entry) → HasComeTo IsStep old new (turns.Ended cycle kept) reply → new.entries ≡ old.entries ++ added
+    → (steps : List Entry) × (added ≡ steps ++ entries.Ends cycle kept ∷ [])
+ends_added old new cycle kept reply added came told =
+    let first = turns_add IsStep came.earlier old came.now came.turned.taken in
+    let last = added_is came.now new (turns.Ended cycle kept) came.takes (entries.Ends cycle kept ∷ []) came.takes.turned.comes_to.0 in (
+      first.added,
+      append_cancel_left old.entries added _ (sym told ∙ came.takes.entries ∙ ap (λ es. es ++ came.takes.added) first.told ∙ append_assoc old.entries first.added came.takes.added
+          ∙ ap (λ es. old.entries ++ (first.added ++ es)) last),
+    )

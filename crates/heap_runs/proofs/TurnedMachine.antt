@@ -13,6 +13,7 @@ use Rattle.heap_model.specs.account.PhaseCounts.{phase}
 use Rattle.heap_model.specs.calls.CollectorCalls.{ComesTo}
 use Rattle.core_machine.specs.machine.Machine.{State, Turns, Can, Event, Run, next_turn, found_by, state_after, state_after_all, entries, history}
 use Rattle.core_rule.specs.Laws.{OneCallAtATime, StandsFor, EachTurnComesTo, EachWaitIsBehind, IsToldBy}
+use Rattle.core_rule.specs.TurnsLeft.{EachTurnLeavesFewer}
 use Rattle.heap_runs.specs.MachineHeap.{MachineHeapValue, play_state_of, IsBetweenCalls, TurnsMachine}
 use Rattle.heap_runs.specs.PlayHeap.{TakesTurn, WaitsRightly, collector_state_of}
 use Rattle.heap_runs.proofs.Collectors.{all_collectors}
@@ -49,10 +50,10 @@ waits_rightly each whole (turns.Waits number answer p) s answered =
 waits_rightly each whole _ s answered = tt
 
 -- the machine's turn is one of a heap that is played on
-pub takes_turn : EachTurnComesTo → EachWaitIsBehind → (old new : MachineHeapValue) (turn : Turn) → StandsFor old.machine.heap old.machine.state [] old.entries
+pub takes_turn : EachTurnComesTo → EachWaitIsBehind → EachTurnLeavesFewer → (old new : MachineHeapValue) (turn : Turn) → StandsFor old.machine.heap old.machine.state [] old.entries
     → TurnsMachine old new turn → old.spare + length old.entries ≤ new.spare + length new.entries → new.turns ≡ min (old.turns + 1) (2 ^ 64 - 1) → new.last_turn ≡ Some turn
     → TakesTurn (play_state_of old) (play_state_of new) turn
-takes_turn each waits old new turn s turned spare counted last =
+takes_turn each waits lowers old new turn s turned spare counted last =
     let heap = old.machine.heap in
     let state = old.machine.state in
     let told : IsToldBy s.book.history (collector_state_of (play_state_of old)) = record { log_told = ap (filter is_collectors) (sym s.grown); phase_told = ap phase (sym s.grown) } in
@@ -71,6 +72,7 @@ takes_turn each waits old new turn s turned spare counted last =
         last = last;
       };
       waits = waits_rightly waits old turn s turned.answered;
+      fewer = λ is. rw (turned.same_heap, turned.after) (lowers heap state s.book s.rule (sym turned.answered ∙ is));
     }
   where
     log_spare : (before after added : List Entry) → after ≡ before ++ added → AllByRecursion (λ entry. is_collectors entry ≡ true) added → old.spare + length before ≤ new.spare + length after

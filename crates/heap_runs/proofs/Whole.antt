@@ -1,21 +1,28 @@
 -- A script that was answered and whose seats have left was played.
-use Rattle.std.proofs.Common.{◌≡◌, true, ℕ, ◌*◌, ◌≤◌, List, length, take, drop, Some, refl, sym, ap, subst, ◌∙◌, arith}
-use Rattle.std.specs.List.{flat_map}
+use Rattle.std.proofs.Common.{◌≡◌, true, ℕ, ◌*◌, ◌<◌, ◌≤◌, List, [], ◌∷◌, ◌++◌, length, take, drop, Some, refl, sym, ap, subst, ◌∙◌, append_assoc, arith}
+use Rattle.std.specs.List.{flat_map, range_with_len}
 use Rattle.std.proofs.lemmas.List.{take_at, drop_at}
 use Rattle.heap_model.specs.declared.heap.Heap.{Heap}
 use Rattle.heap_model.specs.declared.entry.Entry.{Entry}
+use Rattle.heap_model.specs.declared.entry.Entry.TheVariants.{Ends}
 use Rattle.heap_model.specs.account.Account.{IsLegal}
-use Rattle.heap_model.specs.account.Space.{words_granted, words_returned}
+use Rattle.heap_model.specs.account.PhaseCounts.{has_left}
+use Rattle.heap_model.specs.account.Windows.{begins_cycle, up_to_cycle}
+use Rattle.heap_model.specs.calls.SeatCalls.{leave_entries}
+use Rattle.core_rule.specs.SweepLaws.{EachLastCycleEmpties}
+use Rattle.heap_model.specs.account.Space.{fragments_gained, fragments_lost, fragments_used, words_granted, words_returned}
 use Rattle.heap_model.specs.account.Turned.{TurnedMayStand, TurnedCountNothing}
 use Rattle.script_text.specs.declared.script.Form.TheVariants as forms
 use Rattle.script_text.specs.declared.script.Script.{Script}
 use Rattle.reply_text.specs.declared.history.History.{History}
 use Rattle.reply_text.specs.declared.history.SpaceMark.{SpaceMark}
 use Rattle.log_merge.specs.Legal.{ShowsUse, ShowsCounts}
-use Rattle.heap_runs.specs.Play.{lines_answered, IsPlay}
+use Rattle.heap_runs.specs.Play.{lines_answered, IsLastCycle, IsPlay}
 use Rattle.heap_runs.specs.PlayHeap.{PlayState, IsPlayed}
-use Rattle.heap_runs.specs.Playing.{Follows, HasAnsweredLines, HaveLeft}
+use Rattle.heap_runs.specs.Playing.{Follows, HasAnsweredLines, HaveLeft, NotesLastCycle}
 use Rattle.heap_runs.proofs.Bounds.{returned_within}
+use Rattle.heap_runs.proofs.Following.{follows_cycle}
+use Rattle.heap_runs.proofs.LastCycle.{left_still, up_to_last_later}
 
 -- what is in use by the heap's entries is so by the history
 shows_use : TurnedCountNothing → (heap : Heap) (state : PlayState) (history : List Entry) (used : ℕ) → Follows heap state history → ShowsUse state.entries used → ShowsUse history used
@@ -24,13 +31,33 @@ shows_use counts heap state history used follows shows =
     let same = subst (λ es. ShowsUse es used) (sym follows.same) shows in
     omega (arith, same, stay.gained_stay, stay.lost_stay)
 
-pub whole_play : TurnedMayStand → TurnedCountNothing → (script : Script) (middle last : PlayState) (front entries : List Entry) (mark : SpaceMark) (used : ℕ) (told : History)
-    → HasAnsweredLines script.heap middle front script.lines → HaveLeft script.heap last front entries script.heap.seats → IsPlayed script.heap middle.entries → IsPlayed script.heap last.entries
+-- nothing is in use where the last cycle began after every seat had left
+none_used : EachLastCycleEmpties → (heap : Heap) (told turned : List Entry) → IsPlayed heap (told ++ turned) → ((number : ℕ) → number < heap.seats → has_left number told ≡ true) → IsLastCycle turned
+    → fragments_lost (told ++ turned) ≡ fragments_gained (told ++ turned)
+none_used empties heap told turned played gone cycle =
+    let last = cycle.last in
+    let ending : List Entry = Ends last.cycle last.kept ∷ [] in
+    let before : List Entry = told ++ cycle.under_way in
+    let all : told ++ turned ≡ (before ++ last.steps) ++ ending
+    = ap (λ es. told ++ es) (cycle.both ∙ ap (λ es. cycle.under_way ++ es) last.ends) ∙ sym (append_assoc told cycle.under_way (last.steps ++ ending)) ∙ sym (append_assoc before last.steps ending) in
+    let left : (number : ℕ) → number < heap.seats → has_left number (up_to_cycle (before ++ last.steps)) ≡ true
+    = λ number under. ap (has_left number) (up_to_last_later begins_cycle before last.steps last.begins)
+    ∙ left_still number before (up_to_cycle last.steps) (left_still number told cycle.under_way (gone number under)) in
+    let empty = empties heap true (before ++ last.steps) last.cycle last.kept (subst (IsLegal heap true) all played.legal) left in
+    omega (arith, ap fragments_used all, empty, played.none_short)
+
+-- the whole play: the script was answered, the seats have left, and a last cycle was made
+pub whole_play : TurnedMayStand → TurnedCountNothing → EachLastCycleEmpties → (script : Script) (middle gone last : PlayState) (front between entries : List Entry) (mark : SpaceMark) (used : ℕ) (told : History)
+    → HasAnsweredLines script.heap middle front script.lines → HaveLeft script.heap gone front between script.heap.seats → NotesLastCycle gone last between entries → IsPlayed script.heap middle.entries → IsPlayed script.heap last.entries
     → mark.before ≡ length front → ShowsUse middle.entries mark.used → mark.total ≡ 16 * script.heap.groups → mark.spine ≡ 0 → mark.budget ≡ script.heap.spine
     → ShowsUse last.entries used → told ≡ record { form = forms.Play; heap = script.heap; entries = entries; mark = Some mark; end_used = used } → IsPlay script told
-whole_play stand counts script middle last front entries mark used told answered left played_middle played_last before in_use total spine budget at_end is =
-    let front_is : take mark.before entries ≡ front = rw left.leaves (take_at front _ mark.before (sym before)) in
-    let behind_is = ap (drop mark.before) left.leaves ∙ drop_at front _ mark.before (sym before) in
+whole_play stand counts empties script middle gone last front between entries mark used told answered left notes played_middle played_last before in_use total spine budget at_end is =
+    let leaving : List Entry = flat_map (λ number. leave_entries number (left.left number)) (range_with_len 0 script.heap.seats) in
+    let all : entries ≡ front ++ (leaving ++ notes.turned) = notes.noted ∙ ap (λ es. es ++ notes.turned) left.leaves ∙ append_assoc front leaving notes.turned in
+    let front_is : take mark.before entries ≡ front = rw all (take_at front _ mark.before (sym before)) in
+    let behind_is = ap (drop mark.before) all ∙ drop_at front _ mark.before (sym before) in
+    let follows = follows_cycle script.heap gone last between entries notes left.follows in
+    let empty = none_used empties script.heap gone.entries notes.turned (subst (IsPlayed script.heap) notes.told played_last) left.gone notes.cycle in
     let stay = counts front in
     let granted = subst (λ es. words_granted es ≡ 0) (sym answered.follows.same) answered.follows.none_granted in
     let returned = subst (λ es. words_returned es ≤ words_granted es) (sym answered.follows.same) (returned_within script.heap middle.entries played_middle.legal) in
@@ -44,13 +71,18 @@ whole_play stand counts script middle last front entries mark used told answered
       form = refl;
       heap = refl;
       legal = record {
-        entries = stand script.heap entries (subst (IsLegal script.heap true) (sym left.follows.same) played_last.legal) left.follows.right;
+        entries = stand script.heap entries (subst (IsLegal script.heap true) (sym follows.same) played_last.legal) follows.right;
         mark = rw front_is shown;
-        end_used = shows_use counts script.heap last entries used left.follows at_end;
+        end_used = shows_use counts script.heap last entries used follows at_end;
       };
+      none_used = omega (arith, at_end, ap fragments_lost notes.told, ap fragments_gained notes.told, empty);
       parted = record {
         commands = ap (flat_map lines_answered) front_is ∙ answered.commands;
         last = rw front_is answered.last;
-        leaves = (left.left, behind_is);
+        leaving = leaving;
+        turned = notes.turned;
+        leaves = (left.left, refl);
+        cycle = notes.cycle;
+        behind_is = behind_is;
       };
     })

@@ -14,6 +14,7 @@ use Rattle.core_machine.specs.machine.Machine.{State, Event, Turns, Can, Run, ne
 use Rattle.core_machine.specs.machine.Opening.{IsOpening}
 use Rattle.core_machine.specs.machine.Value.{MachineValue, spare_of}
 use Rattle.core_rule.specs.Laws.{AllIdle, OneCallAtATime}
+use Rattle.core_rule.specs.TurnsLeft.{turns_left}
 use Rattle.heap_runs.specs.PlayHeap.{PlayState}
 
 -- the machine, the entries of all its parties in their order, for how many more of the collector's there is room, and its turns
@@ -32,6 +33,7 @@ play_state_of whole = record {
   spare = whole.spare;
   turns = whole.turns;
   last_turn = whole.last_turn;
+  turns_left = turns_left whole.machine.heap whole.machine.state;
 }
 
 -- whole calls, one after another, and turns between them lead from the opening of a heap within the limits to this state, and these are their entries

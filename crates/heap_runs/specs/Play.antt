@@ -1,8 +1,9 @@
 -- What a play is.
-use Rattle.std.specs.Prelude.{◌≡◌, ℕ, ◌⊎◌, List, [], ◌∷◌, ◌++◌, drop, take, IsSomeAnd}
-use Rattle.std.specs.List.{flat_map, range_with_len}
+use Rattle.std.specs.Prelude.{◌≡◌, ℕ, Bool, true, false, ◌⊎◌, List, [], ◌∷◌, ◌++◌, drop, take, IsSomeAnd}
+use Rattle.std.specs.List.{AllByRecursion, flat_map, list_any, range_with_len}
 use Rattle.heap_model.specs.declared.entry.Entry.{Entry}
-use Rattle.heap_model.specs.declared.entry.Entry.TheVariants.{Said, Turned}
+use Rattle.heap_model.specs.declared.entry.Entry.TheVariants.{Said, Advance, Frees, Returns, Swings, Ends, Turned}
+use Rattle.heap_model.specs.account.Windows.{begins_cycle}
 use Rattle.heap_model.specs.calls.SeatCalls.{leave_entries}
 use Rattle.script_text.specs.declared.script.Form.TheVariants as forms
 use Rattle.script_text.specs.declared.script.Line.{Line}
@@ -26,15 +27,45 @@ EndsInReply entries =
 abbrev pub AreLeaves : ℕ → List Entry → Type 0
 AreLeaves seats entries = (left : ℕ → ℕ) × (entries ≡ flat_map (λ seat. leave_entries seat (left seat)) (range_with_len 0 seats))
 
--- the entries before the mark answer the script's lines in order, each once, and those behind it are the seats' leaves
+-- the entry tells a step of the collector that ends no cycle
+abbrev pub tells_step : Entry → Bool
+tells_step (Advance p) = true
+tells_step (Frees count) = true
+tells_step (Returns count) = true
+tells_step (Swings id) = true
+tells_step _ = false
+
+-- steps of the collector up to the end of a cycle, which began among them or had begun before
+pub record EndsCycle (began : Bool) (turned : List Entry) : Type 0 where
+  pub steps : List Entry
+  pub own : AllByRecursion (λ entry. tells_step entry ≡ true) steps
+  pub begins : list_any begins_cycle steps ≡ began
+  pub cycle : ℕ
+  pub kept : ℕ
+  pub ends : turned ≡ steps ++ Ends cycle kept ∷ []
+
+-- the cycle under way came to its end, where there was one; then a cycle began and ended
+pub record IsLastCycle (turned : List Entry) : Type 0 where
+  pub under_way : List Entry
+  pub whole : List Entry
+  pub first : (under_way ≡ []) ⊎ EndsCycle false under_way
+  pub last : EndsCycle true whole
+  pub both : turned ≡ under_way ++ whole
+
+-- the entries before the mark answer the script's lines in order, each once, and behind it the seats leave, and then a last cycle is made
 pub record IsParted (script : Script) (front behind : List Entry) : Type 0 where
   pub commands : flat_map lines_answered front ≡ script.lines
   pub last : EndsInReply front
-  pub leaves : AreLeaves script.heap.seats behind
+  pub leaving : List Entry
+  pub turned : List Entry
+  pub leaves : AreLeaves script.heap.seats leaving
+  pub cycle : IsLastCycle turned
+  pub behind_is : behind ≡ leaving ++ turned
 
--- the history is a play of the script: it is legal, in full, and parted by its mark
+-- the history is a play of the script: it is legal, in full, and parted by its mark, and at its end no fragment is in use
 pub record IsPlay (script : Script) (history : History) : Type 0 where
   pub form : history.form ≡ forms.Play
   pub heap : history.heap ≡ script.heap
   pub legal : IsLegalHistory history
+  pub none_used : history.end_used ≡ 0
   pub parted : IsSomeAnd history.mark (λ mark. IsParted script (take mark.before history.entries) (drop mark.before history.entries))

@@ -8,7 +8,7 @@ use Rattle.heap_model.specs.declared.entry.Entry.{Entry}
 use Rattle.heap_model.specs.declared.reply.Reply.{Reply}
 use Rattle.heap_model.specs.declared.reply.Reply.TheVariants.{Made, Done}
 use Rattle.heap_model.specs.declared.calls.collector_calls.Turn.{Turn}
-use Rattle.heap_model.specs.declared.calls.collector_calls.Turn.TheVariants.{Waits}
+use Rattle.heap_model.specs.declared.calls.collector_calls.Turn.TheVariants.{Stepped, Waits}
 use Rattle.heap_model.specs.Command.{IsCommand}
 use Rattle.heap_model.specs.Limits.{group_fragments}
 use Rattle.heap_model.specs.account.Account.{IsLegal}
@@ -23,13 +23,14 @@ use Rattle.heap_model.specs.calls.SeatState.{SeatState, own_graph_seat}
 use Rattle.core_machine.specs.seat.Commands.{IsRecord, IsServed}
 
 -- the heap, the entries of all its parties in their order, for how many more of the collector's there is room, the number of turns as far
--- as it is counted, and what the last of them answered
+-- as it is counted, what the last of them answered, and a number which falls at each turn that is a step alone
 pub record PlayState : Type 0 where
   pub heap : Heap
   pub entries : List Entry
   pub spare : ℕ
   pub turns : ℕ
   pub last_turn : Option Turn
+  pub turns_left : ℕ
 
 -- the entries are legal as a play, and no more fragments were lost than gained
 pub record IsPlayed (heap : Heap) (entries : List Entry) : Type 0 where
@@ -64,7 +65,7 @@ IsEnough state number command =
     need_of command + fragments_gained state.entries + spent_of number state.entries ≤ group_fragments * state.heap.groups + fragments_lost state.entries + taken_of number state.entries
 
 -- the call added the entries that a call of the seat adds, the reply last, and made no turn; a record was made exactly where there was
--- enough, and a leave is done
+-- enough, and a leave is done. Of how many turns are left nothing is said: a call may put them up
 pub record AnswersCall (old new : PlayState) (number : ℕ) (command : Command) (reply : Reply) : Type 0 where
   pub adds : Adds (seat_state_of old number) (seat_state_of new number) command reply
   pub turns_stay : new.turns ≡ old.turns
@@ -77,7 +78,7 @@ abbrev pub WaitsRightly : PlayState → Turn → Type 0
 WaitsRightly state (Waits number answer p) = (number < state.heap.seats) × IsBehind number answer p state.entries × (answer + 1 ≡ p)
 WaitsRightly state _ = Unit {0}
 
--- one turn of the collector was made, which added its own entries alone
+-- one turn of the collector was made, which added its own entries alone; where it neither waited nor ended a cycle, fewer turns are left
 pub record TakesTurn (old new : PlayState) (turn : Turn) : Type 0 where
   pub heap : new.heap ≡ old.heap
   pub added : List Entry
@@ -85,3 +86,4 @@ pub record TakesTurn (old new : PlayState) (turn : Turn) : Type 0 where
   pub own : AllByRecursion (λ entry. is_collectors entry ≡ true) added
   pub turned : Turns (collector_state_of old) (collector_state_of new) turn
   pub waits : WaitsRightly old turn
+  pub fewer : turn ≡ Stepped → new.turns_left < old.turns_left

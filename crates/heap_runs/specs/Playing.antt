@@ -1,5 +1,5 @@
 -- A play that has answered some lines of its script, and one whose seats have left.
-use Rattle.std.specs.Prelude.{◌≡◌, ℕ, ◌<◌, ◌≤◌, false, List, [], ◌∷◌, ◌++◌, length}
+use Rattle.std.specs.Prelude.{◌≡◌, ℕ, ◌<◌, ◌≤◌, ◌%◌, ◌==◌, true, false, List, [], ◌∷◌, ◌++◌, length}
 use Rattle.std.specs.List.{flat_map, range_with_len}
 use Rattle.heap_model.specs.declared.heap.Heap.{Heap}
 use Rattle.heap_model.specs.declared.command.Command.{Command}
@@ -8,12 +8,14 @@ use Rattle.heap_model.specs.declared.entry.Entry.{Entry}
 use Rattle.heap_model.specs.declared.entry.Entry.TheVariants.{Said, Turned}
 use Rattle.heap_model.specs.declared.reply.Reply.{Reply}
 use Rattle.heap_model.specs.declared.reply.TurnReply.{TurnReply}
+use Rattle.heap_model.specs.PhasePlan.{cycle_phases, rest}
+use Rattle.heap_model.specs.account.PhaseCounts.{phase, has_left}
 use Rattle.heap_model.specs.account.Space.{words_granted}
 use Rattle.heap_model.specs.account.Turned.{without_turned, AllAnswerRightly}
 use Rattle.heap_model.specs.calls.SeatCalls.{leave_entries}
 use Rattle.heap_model.specs.calls.SeatState.{own_graph_seat}
 use Rattle.script_text.specs.declared.script.Line.{Line}
-use Rattle.heap_runs.specs.Play.{lines_answered, EndsInReply}
+use Rattle.heap_runs.specs.Play.{lines_answered, EndsInReply, EndsCycle, IsLastCycle}
 use Rattle.heap_runs.specs.PlayHeap.{PlayState, seat_state_of, AnswersCall}
 use Rattle.heap_runs.specs.Turning.{ServesCommand}
 
@@ -59,5 +61,27 @@ pub record HasAnsweredLines (heap : Heap) (state : PlayState) (history : List En
 pub record HaveLeft (heap : Heap) (state : PlayState) (before after : List Entry) (count : ℕ) : Type 0 where
   pub follows : Follows heap state after
   pub others : (number : ℕ) → count ≤ number → number < heap.seats → IsThere state number
+  pub gone : (number : ℕ) → number < count → has_left number state.entries ≡ true
   pub left : ℕ → ℕ
   pub leaves : after ≡ before ++ flat_map (λ number. leave_entries number (left number)) (range_with_len 0 count)
+
+-- every seat has left
+abbrev pub AllGone : PlayState → Type 0
+AllGone state = (number : ℕ) → number < state.heap.seats → has_left number state.entries ≡ true
+
+-- turns were made up to the end of a cycle, which had begun before where one was under way, and their entries are noted behind those from before
+pub record NotesCycle (old new : PlayState) (before after : List Entry) : Type 0 where
+  pub same_heap : new.heap ≡ old.heap
+  pub turned : List Entry
+  pub told : new.entries ≡ old.entries ++ turned
+  pub noted : after ≡ before ++ turned
+  pub ended : EndsCycle (phase old.entries % cycle_phases == rest) turned
+  pub at_rest : phase new.entries % cycle_phases ≡ rest
+
+-- a last cycle was made, and its entries are noted behind those from before
+pub record NotesLastCycle (old new : PlayState) (before after : List Entry) : Type 0 where
+  pub same_heap : new.heap ≡ old.heap
+  pub turned : List Entry
+  pub told : new.entries ≡ old.entries ++ turned
+  pub noted : after ≡ before ++ turned
+  pub cycle : IsLastCycle turned

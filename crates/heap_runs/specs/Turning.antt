@@ -14,37 +14,47 @@ abbrev pub GoesOnward : Turn → Type 0
 GoesOnward (turns.Waits number answer p) = ⊥
 GoesOnward _ = Unit {0}
 
--- so many turns were made, one after another, and none waited
-abbrev pub TakesTurns : ℕ → PlayState → PlayState → Type 0
-TakesTurns zero old new = new ≡ old
-TakesTurns (suc n) old new = (now : PlayState) × (turn : Turn) × TakesTurns n old now × TakesTurn now new turn × GoesOnward turn
+-- it is a step alone: it neither waits nor ends a cycle
+abbrev pub IsStep : Turn → Type 0
+IsStep turn = turn ≡ turns.Stepped
+
+-- so many turns were made, one after another, and each came to such an answer
+abbrev pub TakesTurns : (Turn → Type 0) → ℕ → PlayState → PlayState → Type 0
+TakesTurns Is zero old new = new ≡ old
+TakesTurns Is (suc n) old new = (now : PlayState) × (turn : Turn) × TakesTurns Is n old now × TakesTurn now new turn × Is turn
 
 -- the number of turns rose by so many, or it stands at its last value
 abbrev pub CountsTurns : PlayState → PlayState → ℕ → Type 0
 CountsTurns old new n = min new.turns (2 ^ 64 - 1) ≡ min (old.turns + n) (2 ^ 64 - 1)
 
--- so many turns were made, and none waited
-pub record HasTurned (old new : PlayState) (n : ℕ) : Type 0 where
-  pub taken : TakesTurns n old new
+-- so many turns were made, each with such an answer, and counted
+pub record HasTurned (Is : Turn → Type 0) (old new : PlayState) (n : ℕ) : Type 0 where
+  pub taken : TakesTurns Is n old new
   pub counted : CountsTurns old new n
 
--- fewer turns than these were made of which none waited, and then one that did: it shows a seat that is behind
-pub record HasWaited (old new : PlayState) (n number answer p : ℕ) : Type 0 where
+-- turns with such answers were made, and one more with the last answer, of which the reply shows what is so
+pub record HasComeTo (Is : Turn → Type 0) (old new : PlayState) (last : Turn) (reply : TurnReply) : Type 0 where
   pub earlier : ℕ
-  pub fewer : earlier < n
   pub now : PlayState
-  pub turned : HasTurned old now earlier
-  pub waits : TakesTurn now new (turns.Waits number answer p)
+  pub turned : HasTurned Is old now earlier
+  pub takes : TakesTurn now new last
   pub counted : CountsTurns old new (earlier + 1)
-  pub shows : TurnShows new.heap new.entries (replies.Waits number answer p)
+  pub shows : TurnShows new.heap new.entries reply
 
--- the turns were made, or the reply shows the first that waited, the last among them
+-- the turns were made, or fewer of them, and then the first that waited, as the reply shows
 abbrev pub ServesTurns : PlayState → PlayState → ℕ → TurnReply → Type 0
-ServesTurns old new n replies.Done = HasTurned old new n
-ServesTurns old new n (replies.Waits number answer p) = HasWaited old new n number answer p
+ServesTurns old new n replies.Done = HasTurned GoesOnward old new n
+ServesTurns old new n (replies.Waits number answer p) =
+    (came : HasComeTo GoesOnward old new (turns.Waits number answer p) (replies.Waits number answer p)) × (came.earlier < n)
 ServesTurns old new n (replies.Cycle cycle) = ⊥
 
--- a command for turns by their number was served; no other is so far
+-- steps were made, and then the first turn that ended a cycle or waited, as the reply shows
+abbrev pub ServesCycle : PlayState → PlayState → TurnReply → Type 0
+ServesCycle old new replies.Done = ⊥
+ServesCycle old new (replies.Waits number answer p) = HasComeTo IsStep old new (turns.Waits number answer p) (replies.Waits number answer p)
+ServesCycle old new (replies.Cycle cycle) = (kept : ℕ) × HasComeTo IsStep old new (turns.Ended cycle kept) (replies.Cycle cycle)
+
+-- a command of the collector was served
 abbrev pub ServesCommand : PlayState → PlayState → TurnCommand → TurnReply → Type 0
 ServesCommand old new (commands.Turns n) reply = ServesTurns old new n reply
-ServesCommand old new commands.Cycle reply = ⊥
+ServesCommand old new commands.Cycle reply = ServesCycle old new reply

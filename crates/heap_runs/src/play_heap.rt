@@ -7,15 +7,17 @@ use heap_model::{Command, Entry, Memory, Reply, Turn};
 /// A heap that a play is made on: whole calls of its seats, one after another, and turns of its collector between them.
 /// After want of memory in a call or a turn it is only dropped.
 pub trait PlayHeap {
-    /// Its heap, the entries of all its parties, the room for more of the collector's, and its turns.
+    /// Its heap, the entries of all its parties, the room for more of the collector's, its turns, and a number which falls at
+    /// each turn that neither waits nor ends a cycle.
     ghost state: { Self → PlayState };
 
-    /// Makes a whole call of the seat.
+    /// Makes a whole call of the seat, after which more turns may be left.
     fn call(&mut self, seat: u8, command: &Command) -> Result<Reply, Memory>
         requires may { MayCall (state self.old) seat command.now }
         ensures answers { IfOk result (AnswersCall (state self.old) (state self.new) seat command.now) };
 
-    /// Makes one turn of the collector, which is one operation on one word of the heap.
+    /// Makes one turn of the collector, which is one operation on one word of the heap. After one that neither waits nor ends a
+    /// cycle fewer turns are left.
     fn turn(&mut self) -> Result<Turn, Memory>
         ensures turn { IfOk result (TakesTurn (state self.old) (state self.new)) }
         ensures memory { OnErr result ((state self.old).spare < 2) };

@@ -3,12 +3,14 @@ ghost use Rattle.script_text.specs.declared.script.Form.TheVariants.{Play};
 ghost use Rattle.script_text.specs.Built.{IsBuilt};
 ghost use Rattle.script_text.specs.Writing.{IsOfForm};
 ghost use Rattle.heap_runs.specs.Play.{IsPlay};
-ghost use Rattle.heap_runs.specs.Playing.{HasAnsweredLines, HaveLeft};
+ghost use Rattle.heap_runs.specs.Playing.{HasAnsweredLines, HaveLeft, AllGone, NotesLastCycle};
 
 use crate::play_heap::PlayHeap;
-use crate::playing::noting::{note_call, note_turns};
+use crate::playing::noting::{note_call, note_cycle, note_turns};
 use crate::playing::use_count::in_use;
+use core_rule::law_sweep_exact;
 use heap_model::limits::GROUP_FRAGMENTS;
+use heap_model::phase_plan::{CYCLE_PHASES, REST};
 use heap_model::{Command, Entry, Heap, Memory, account_laws, seat_laws};
 use reply_text::{History, SpaceMark};
 use script_text::{Form, Line, Script, Sequence};
@@ -57,7 +59,19 @@ fn leave_all<H: PlayHeap>(
     Ok(())
 }
 
-/// The history of a play of the script on the heap, which is the script's.
+/// Brings the cycle under way to its end, if there is one, makes a whole one behind it, and notes what is told.
+fn make_last_cycle<H: PlayHeap>(whole: &mut H, history: &mut Vec<Entry>) -> Result<(), Memory>
+    requires gone { AllGone (H.state whole.old) }
+    ensures notes { OnOk result (NotesLastCycle (H.state whole.old) (H.state whole.new) history.old.items history.new.items) }
+{
+    if whole.phase() % CYCLE_PHASES != REST {
+        note_cycle(whole, history)?;
+    }
+    note_cycle(whole, history)?;
+    Ok(())
+}
+
+/// The history of a play of the script on the heap, which is the script's. At its end nothing is in use.
 pub fn play<H: PlayHeap + Drop>(
     alloc: Global,
     mut whole: H,
@@ -72,6 +86,7 @@ pub fn play<H: PlayHeap + Drop>(
     ensures { IfOk result (IsPlay script.now) }
 {
     account_laws();
+    law_sweep_exact();
     let mut history = Vec::new(alloc);
     answer_lines(&mut whole, &mut history, script)?;
     let mark = SpaceMark {
@@ -82,6 +97,7 @@ pub fn play<H: PlayHeap + Drop>(
         budget: u64::from(heap.spine),
     };
     leave_all(&mut whole, &mut history, script)?;
+    make_last_cycle(&mut whole, &mut history)?;
     Ok(History {
         form: Form::Play,
         heap,

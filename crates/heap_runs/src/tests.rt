@@ -37,7 +37,7 @@ fn plays_on_the_machine(rt: HostRuntime) -> Result<(), Fail> {
     let history = play(alloc, whole, script.heap, &script)?;
     let text = render_history(alloc, &history)?;
     let wanted =
-        "history 1 play\nheap 1 0 1\nc phase 1\nc turns 2 = done\n0 takes 5\n0 new 1 2 = 0.0\nc turns 3 = waits 0 answered 0 phase 1\n0 answers 1\n0 poll = 1\nspace used 16 of 16 spine 0 of 0\n0 gives back 4\n0 leave = ok\nend used 12\n";
+        "history 1 play\nheap 1 0 1\nc phase 1\nc turns 2 = done\n0 takes 5\n0 new 1 2 = 0.0\nc turns 3 = waits 0 answered 0 phase 1\n0 answers 1\n0 poll = 1\nspace used 16 of 16 spine 0 of 0\n0 gives back 4\n0 leave = ok\nc phase 2\nc phase 3\nc phase 4\nc phase 5\nc frees 12\nc phase 6\nc ends 0 kept 0\nc phase 8\nc phase 9\nc phase 10\nc phase 11\nc phase 12\nc phase 13\nc ends 1 kept 0\nend used 0\n";
     assert_eq!(rt; text.as_slice(), wanted.as_bytes());
     Ok(())
 }
@@ -61,7 +61,8 @@ fn turns_on_the_machine(rt: HostRuntime) -> Result<(), Fail> {
         phase: 1,
     };
     assert_eq!(rt; turn_line(&mut whole, &TurnCommand::Turns(9))?, waits);
-    assert_eq!(rt; whole.turns(), 3);
+    assert_eq!(rt; turn_line(&mut whole, &TurnCommand::Cycle)?, waits);
+    assert_eq!(rt; whole.turns(), 4);
     assert_eq!(rt; whole.entries().len(), 1);
     Ok(())
 }
@@ -85,6 +86,7 @@ fn calls_the_machine(rt: HostRuntime) -> Result<(), Fail> {
     Ok(())
 }
 
+// The script's lines are answered, but there are too few turns for a cycle to end.
 #[test]
 fn plays_on_a_growing_graph(rt: HostRuntime) -> Result<(), Fail> {
     let alloc = rt.alloc();
@@ -93,10 +95,26 @@ fn plays_on_a_growing_graph(rt: HostRuntime) -> Result<(), Fail> {
         "schism 1\nheap 1 0 2\n0 num 1 5\nc turns 3\n1 copy 2 0\n0 nil 1\n",
     )?;
     let whole = Growing::new(alloc, script.heap)?;
-    let history = play(alloc, whole, script.heap, &script)?;
-    let text = render_history(alloc, &history)?;
-    let wanted =
-        "history 1 play\nheap 1 0 2\n0 num 1 5 = ok\nc turns 3 = done\n1 copy 2 0 = ok\n0 nil 1 = ok\nspace used 11 of 16 spine 0 of 0\n0 leave = ok\n1 leave = ok\nend used 11\n";
-    assert_eq!(rt; text.as_slice(), wanted.as_bytes());
+    assert_eq!(rt;
+        play(alloc, whole, script.heap, &script).err(),
+        Some(Memory)
+    );
+    Ok(())
+}
+
+#[test]
+fn turns_on_a_growing_graph(rt: HostRuntime) -> Result<(), Fail> {
+    let alloc = rt.alloc();
+    let heap = Heap::make(1, 0, 1).ok_or("a heap")?;
+    let mut whole = Growing::new(alloc, heap)?;
+    assert_eq!(rt;
+        turn_line(&mut whole, &TurnCommand::Turns(3))?,
+        TurnReply::Done
+    );
+    assert_eq!(rt; whole.turns(), 3);
+    assert_eq!(rt;
+        turn_line(&mut whole, &TurnCommand::Cycle).err(),
+        Some(Memory)
+    );
     Ok(())
 }

@@ -1,19 +1,13 @@
-ghost use Rattle.std.specs.Prelude.{◌≡◌, true, IfOk};
-ghost use Rattle.script_text.specs.Built.{is_built_turn};
-ghost use Rattle.heap_runs.specs.Turning.{ServesCommand};
+ghost use Rattle.std.specs.Prelude.{IfOk};
+ghost use Rattle.heap_runs.specs.Turning.{ServesTurns, ServesCycle, ServesCommand};
 
 use crate::play_heap::PlayHeap;
 use heap_model::{Memory, Turn, TurnCommand, TurnReply};
 
-/// Makes the turns that a line of a script asks of the collector, up to the first that waits, and answers what they came to.
-/// So far a line asks for turns by their number alone. After want of memory the heap is only dropped.
-pub fn turn_line<H: PlayHeap>(whole: &mut H, command: &TurnCommand) -> Result<TurnReply, Memory>
-    requires built { is_built_turn command.now ≡ true }
-    ensures { IfOk result (ServesCommand (H.state whole.old) (H.state whole.new) command.now) }
+/// Makes so many turns, or those up to the first that waits, and answers what they came to. An end of a cycle is a turn as others.
+fn make_turns<H: PlayHeap>(whole: &mut H, count: u32) -> Result<TurnReply, Memory>
+    ensures { IfOk result (ServesTurns (H.state whole.old) (H.state whole.new) count) }
 {
-    let TurnCommand::Turns(count) = *command else {
-        unreachable!();
-    };
     for _ in 0..count {
         if let Turn::Waits {
             seat,
@@ -29,4 +23,38 @@ pub fn turn_line<H: PlayHeap>(whole: &mut H, command: &TurnCommand) -> Result<Tu
         }
     }
     Ok(TurnReply::Done)
+}
+
+/// Makes turns up to the first that ends a cycle or waits, and answers which of these it was.
+pub fn end_cycle<H: PlayHeap>(whole: &mut H) -> Result<TurnReply, Memory>
+    ensures { IfOk result (ServesCycle (H.state whole.old) (H.state whole.new)) }
+{
+    loop {
+        match whole.turn()? {
+            Turn::Stepped => (),
+            Turn::Waits {
+                seat,
+                answered,
+                phase,
+            } => {
+                return Ok(TurnReply::Waits {
+                    seat,
+                    answered,
+                    phase,
+                });
+            }
+            Turn::Ended { cycle, .. } => return Ok(TurnReply::Cycle(cycle)),
+        }
+    }
+}
+
+/// Makes the turns that a line of a script asks of the collector, and answers what they came to. They stop at the first that waits.
+/// After want of memory the heap is only dropped.
+pub fn turn_line<H: PlayHeap>(whole: &mut H, command: &TurnCommand) -> Result<TurnReply, Memory>
+    ensures { IfOk result (ServesCommand (H.state whole.old) (H.state whole.new) command.now) }
+{
+    match *command {
+        TurnCommand::Turns(count) => make_turns(whole, count),
+        TurnCommand::Cycle => end_cycle(whole),
+    }
 }

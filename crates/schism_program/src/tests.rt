@@ -1,3 +1,4 @@
+mod cycles;
 mod judged;
 mod machine;
 mod several_seats;
@@ -15,7 +16,7 @@ use std::test::Fail;
 const FIRST: &str = "schism 1\nheap 1 0 1\n0 new 1 2\n0 num 2 9\n0 set 1 0 2\n0 get 3 1 0\n";
 
 const FIRST_PLAYED: &str =
-    "history 1 play\nheap 1 0 1\n0 takes 5\n0 new 1 2 = 0.0\n0 num 2 9 = ok\n0 set 1 0 2 = was -\n0 get 3 1 0 = number 9 at 0:1\nspace used 16 of 16 spine 0 of 0\n0 gives back 4\n0 leave = ok\nend used 12\n";
+    "history 1 play\nheap 1 0 1\n0 takes 5\n0 new 1 2 = 0.0\n0 num 2 9 = ok\n0 set 1 0 2 = was -\n0 get 3 1 0 = number 9 at 0:1\nspace used 16 of 16 spine 0 of 0\n0 gives back 4\n0 leave = ok\nc phase 1\nc phase 2\nc phase 3\nc phase 4\nc phase 5\nc frees 12\nc phase 6\nc ends 0 kept 0\nend used 0\n";
 
 // The history of a seat that made one record and left, and of the cycle that then freed it with the board. The reply in the
 // fourth line says which object was made.
@@ -33,12 +34,13 @@ fn one_dropped(alloc: Global, kept: u64) -> Result<String, AllocError> {
     )
 }
 
-// The end of each play in which the first group was claimed for one fragment.
+// The end of each play in which the first group was claimed for one fragment: a last cycle frees that and the board's eleven.
 const ONE_MADE: &str =
-    "space used 16 of 16 spine 0 of 0\n0 gives back 4\n0 leave = ok\nend used 12\n";
+    "space used 16 of 16 spine 0 of 0\n0 gives back 4\n0 leave = ok\nc phase 1\nc phase 2\nc phase 3\nc phase 4\nc phase 5\nc frees 12\nc phase 6\nc ends 0 kept 0\nend used 0\n";
 
-// The end of a play in which nothing was claimed.
-const NONE_MADE: &str = "space used 11 of 16 spine 0 of 0\n0 leave = ok\nend used 11\n";
+// The end of a play in which nothing was claimed: the board is freed.
+const NONE_MADE: &str =
+    "space used 11 of 16 spine 0 of 0\n0 leave = ok\nc phase 1\nc phase 2\nc phase 3\nc phase 4\nc phase 5\nc frees 11\nc phase 6\nc ends 0 kept 0\nend used 0\n";
 
 fn refused(line: u32, cause: Cause) -> Status {
     Status::Refused { line, cause }
@@ -67,48 +69,48 @@ fn ended(
 #[test]
 fn plays_scripts_and_checks_the_plays(rt: HostRuntime) -> Result<(), Fail> {
     for (text, status, written, verdict) in [
-        (FIRST, Status::Done, FIRST_PLAYED, "legal 7\n"),
+        (FIRST, Status::Done, FIRST_PLAYED, "legal 15\n"),
         (
             "schism 1\nheap 1 0 1\n",
             Status::Done,
-            "history 1 play\nheap 1 0 1\nspace used 11 of 16 spine 0 of 0\n0 leave = ok\nend used 11\n",
-            "legal 1\n",
+            "history 1 play\nheap 1 0 1\nspace used 11 of 16 spine 0 of 0\n0 leave = ok\nc phase 1\nc phase 2\nc phase 3\nc phase 4\nc phase 5\nc frees 11\nc phase 6\nc ends 0 kept 0\nend used 0\n",
+            "legal 9\n",
         ),
         (
             "schism 1\nheap 1 0 1\n0 new 1 1\n0 new 1 1\n0 new 1 1\n0 new 1 1\n0 new 1 1\n0 new 1 1\n",
             Status::Done,
-            "history 1 play\nheap 1 0 1\n0 takes 5\n0 new 1 1 = 0.0\n0 new 1 1 = 0.1\n0 new 1 1 = 0.2\n0 new 1 1 = 0.3\n0 new 1 1 = 0.4\n0 new 1 1 = full need 1 found 0\nspace used 16 of 16 spine 0 of 0\n0 leave = ok\nend used 16\n",
-            "legal 8\n",
+            "history 1 play\nheap 1 0 1\n0 takes 5\n0 new 1 1 = 0.0\n0 new 1 1 = 0.1\n0 new 1 1 = 0.2\n0 new 1 1 = 0.3\n0 new 1 1 = 0.4\n0 new 1 1 = full need 1 found 0\nspace used 16 of 16 spine 0 of 0\n0 leave = ok\nc phase 1\nc phase 2\nc phase 3\nc phase 4\nc phase 5\nc frees 16\nc phase 6\nc ends 0 kept 0\nend used 0\n",
+            "legal 16\n",
         ),
         (
             "schism 1\nheap 1 0 1\n0 get 1 0 32\n0 get 1 5 0\n0 len 0\n0 len 5\n0 copy 2 0\n0 same 0 2\n0 same 0 3\n0 poll\n",
             Status::Done,
-            "history 1 play\nheap 1 0 1\n0 get 1 0 32 = no field\n0 get 1 5 0 = no object\n0 len 0 = 32\n0 len 5 = no object\n0 copy 2 0 = ok\n0 same 0 2 = yes\n0 same 0 3 = no\n0 poll = 0\nspace used 11 of 16 spine 0 of 0\n0 leave = ok\nend used 11\n",
-            "legal 9\n",
+            "history 1 play\nheap 1 0 1\n0 get 1 0 32 = no field\n0 get 1 5 0 = no object\n0 len 0 = 32\n0 len 5 = no object\n0 copy 2 0 = ok\n0 same 0 2 = yes\n0 same 0 3 = no\n0 poll = 0\nspace used 11 of 16 spine 0 of 0\n0 leave = ok\nc phase 1\nc phase 2\nc phase 3\nc phase 4\nc phase 5\nc frees 11\nc phase 6\nc ends 0 kept 0\nend used 0\n",
+            "legal 17\n",
         ),
         (
             "schism 1\nheap 17 0 1\n0 num 1 1073741823\n0 set 0 31 1\n0 nil 1\n0 get 2 0 31\n",
             Status::Done,
-            "history 1 play\nheap 17 0 1\n0 num 1 1073741823 = ok\n0 set 0 31 1 = was -\n0 nil 1 = ok\n0 get 2 0 31 = number 1073741823 at 0:1\nspace used 11 of 272 spine 0 of 0\n0 leave = ok\nend used 11\n",
-            "legal 5\n",
+            "history 1 play\nheap 17 0 1\n0 num 1 1073741823 = ok\n0 set 0 31 1 = was -\n0 nil 1 = ok\n0 get 2 0 31 = number 1073741823 at 0:1\nspace used 11 of 272 spine 0 of 0\n0 leave = ok\nc phase 1\nc phase 2\nc phase 3\nc phase 4\nc phase 5\nc frees 11\nc phase 6\nc ends 0 kept 0\nend used 0\n",
+            "legal 13\n",
         ),
         (
             "schism 1\nheap 1 0 1\n0 new 1 2\n0 new 2 47\n0 len 1\n",
             Status::Done,
-            "history 1 play\nheap 1 0 1\n0 takes 5\n0 new 1 2 = 0.0\n0 new 2 47 = full need 16 found 4\n0 len 1 = 2\nspace used 16 of 16 spine 0 of 0\n0 gives back 4\n0 leave = ok\nend used 12\n",
-            "legal 6\n",
+            "history 1 play\nheap 1 0 1\n0 takes 5\n0 new 1 2 = 0.0\n0 new 2 47 = full need 16 found 4\n0 len 1 = 2\nspace used 16 of 16 spine 0 of 0\n0 gives back 4\n0 leave = ok\nc phase 1\nc phase 2\nc phase 3\nc phase 4\nc phase 5\nc frees 12\nc phase 6\nc ends 0 kept 0\nend used 0\n",
+            "legal 14\n",
         ),
         (
             "schism 1\nheap 4 0 1\n0 new 1 47\n0 num 2 9\n0 set 1 46 2\n0 get 3 1 46\n0 set 1 47 2\n",
             Status::Done,
-            "history 1 play\nheap 4 0 1\n0 takes 5\n0 takes 16\n0 new 1 47 = 0.0\n0 num 2 9 = ok\n0 set 1 46 2 = was -\n0 get 3 1 46 = number 9 at 0:1\n0 set 1 47 2 = no field\nspace used 32 of 64 spine 0 of 0\n0 gives back 5\n0 leave = ok\nend used 27\n",
-            "legal 9\n",
+            "history 1 play\nheap 4 0 1\n0 takes 5\n0 takes 16\n0 new 1 47 = 0.0\n0 num 2 9 = ok\n0 set 1 46 2 = was -\n0 get 3 1 46 = number 9 at 0:1\n0 set 1 47 2 = no field\nspace used 32 of 64 spine 0 of 0\n0 gives back 5\n0 leave = ok\nc phase 1\nc phase 2\nc phase 3\nc phase 4\nc phase 5\nc frees 16\nc frees 11\nc phase 6\nc ends 0 kept 0\nend used 0\n",
+            "legal 18\n",
         ),
         (
             "schism 1\nheap 4 0 2\n0 new 1 2\n1 new 1 2\n0 num 2 7\n0 set 0 3 2\n1 get 3 0 3\n1 set 0 3 1\n0 get 4 0 3\n",
             Status::Done,
-            "history 1 play\nheap 4 0 2\n0 takes 5\n0 new 1 2 = 0.0\n1 takes 16\n1 new 1 2 = 1.0\n0 num 2 7 = ok\n0 set 0 3 2 = was -\n1 get 3 0 3 = number 7 at 0:1\n1 set 0 3 1 = was 0:1\n0 get 4 0 3 = object 1.0 at 1:1\nspace used 32 of 64 spine 0 of 0\n0 gives back 4\n0 leave = ok\n1 gives back 15\n1 leave = ok\nend used 13\n",
-            "legal 13\n",
+            "history 1 play\nheap 4 0 2\n0 takes 5\n0 new 1 2 = 0.0\n1 takes 16\n1 new 1 2 = 1.0\n0 num 2 7 = ok\n0 set 0 3 2 = was -\n1 get 3 0 3 = number 7 at 0:1\n1 set 0 3 1 = was 0:1\n0 get 4 0 3 = object 1.0 at 1:1\nspace used 32 of 64 spine 0 of 0\n0 gives back 4\n0 leave = ok\n1 gives back 15\n1 leave = ok\nc phase 1\nc phase 2\nc phase 3\nc phase 4\nc phase 5\nc frees 12\nc frees 1\nc phase 6\nc ends 0 kept 0\nend used 0\n",
+            "legal 22\n",
         ),
     ] {
         let alloc = rt.alloc();
@@ -136,7 +138,7 @@ fn refuses_scripts(rt: HostRuntime) -> Result<(), Fail> {
             Cause::Unbuilt,
         ),
         (
-            "schism 1\nheap 4 0 2\nc turns 1\nc cycle\n",
+            "schism 1\nheap 4 0 2\nc cycle\n1 collect\n",
             4,
             Cause::Unbuilt,
         ),
@@ -314,7 +316,7 @@ fn says_usage_of_other_words(rt: HostRuntime) -> Result<(), Fail> {
     Ok(())
 }
 
-// The first script is read in 14 calls, the last of which gives nothing, and its text is written in 24.
+// The first script is read in 14 calls, the last of which gives nothing, and its text is written in 35.
 #[test]
 fn says_which_side_failed(rt: HostRuntime) -> Result<(), Fail> {
     for (source_fail, sink_fail, status, front) in [
@@ -323,8 +325,8 @@ fn says_which_side_failed(rt: HostRuntime) -> Result<(), Fail> {
         (13, 99, Status::ReadFault, 0),
         (14, 0, Status::WriteFault, 0),
         (14, 1, Status::WriteFault, 8),
-        (14, 23, Status::WriteFault, 184),
-        (14, 24, Status::Done, 190),
+        (14, 34, Status::WriteFault, 272),
+        (14, 35, Status::Done, 276),
     ] {
         let (ended, taken) = ended(
             rt.alloc(),
@@ -340,16 +342,17 @@ fn says_which_side_failed(rt: HostRuntime) -> Result<(), Fail> {
     Ok(())
 }
 
-// The history of the first script's play is read in 39 calls, and what is found is written in one.
+// The history of the first script's play is read in 57 calls, and what is found is written in two.
 #[test]
 fn says_which_side_failed_in_a_check(rt: HostRuntime) -> Result<(), Fail> {
     let text = FIRST_PLAYED.as_bytes();
-    assert_eq!(rt; text.len(), 190);
+    assert_eq!(rt; text.len(), 276);
     for (source_fail, sink_fail, status, front) in [
         (0, 99, Status::ReadFault, ""),
-        (38, 99, Status::ReadFault, ""),
-        (39, 0, Status::WriteFault, ""),
-        (39, 1, Status::Done, "legal 7\n"),
+        (56, 99, Status::ReadFault, ""),
+        (57, 0, Status::WriteFault, ""),
+        (57, 1, Status::WriteFault, "legal 15"),
+        (57, 2, Status::Done, "legal 15\n"),
     ] {
         let (end, told) = ended(rt.alloc(), &["check"], text, &[source_fail], &[sink_fail])?;
         assert_eq!(rt; end, status, "read {source_fail}, write {sink_fail}");
@@ -363,11 +366,11 @@ fn says_which_side_failed_in_a_check(rt: HostRuntime) -> Result<(), Fail> {
 fn ends_as_it_should_where_no_side_fails(rt: HostRuntime) -> Result<(), Fail> {
     let alloc = rt.alloc();
     for (word, text, room, status, told) in [
-        ("play", FIRST, 190, Status::Done, Some(FIRST_PLAYED)),
-        ("play", FIRST, 189, Status::Done, None),
+        ("play", FIRST, 276, Status::Done, Some(FIRST_PLAYED)),
+        ("play", FIRST, 275, Status::Done, None),
         ("play", "", 0, refused(1, Cause::NoHeader), Some("")),
-        ("check", FIRST_PLAYED, 8, Status::Done, Some("legal 7\n")),
-        ("check", FIRST_PLAYED, 7, Status::Done, None),
+        ("check", FIRST_PLAYED, 9, Status::Done, Some("legal 15\n")),
+        ("check", FIRST_PLAYED, 8, Status::Done, None),
         ("plays", FIRST, 0, Status::Usage, Some("")),
     ] {
         let mut source = NeverSource::new(Vec::from_slice(alloc, text.as_bytes())?);

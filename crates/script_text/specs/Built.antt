@@ -2,29 +2,22 @@
 use Rattle.std.specs.Prelude.{◌≡◌, ℕ, ◌+◌, ◌==◌, Bool, true, false, not, if◌then◌else◌, All, Option, Some, option_map, position}
 use Rattle.heap_model.specs.declared.command.Command.{Command}
 use Rattle.heap_model.specs.declared.command.Command.TheVariants.{Array, Collect, Leave}
-use Rattle.heap_model.specs.declared.command.TurnCommand.{TurnCommand}
-use Rattle.heap_model.specs.declared.command.TurnCommand.TheVariants as turns
 use Rattle.heap_model.specs.declared.heap.Heap.{Heap}
 use Rattle.script_text.specs.declared.script.Line.{Line}
 use Rattle.script_text.specs.declared.script.Line.TheVariants.{Seat, Turns}
 use Rattle.script_text.specs.declared.script.Script.{Script}
 
--- what needs neither spine words nor a whole cycle of the collector
+-- what needs no spine words, and no cycle that the seat itself brings to its end
 abbrev pub is_built_command : Command → Bool
 is_built_command (Array d cells) = false
 is_built_command Collect = false
 is_built_command Leave = false
 is_built_command _ = true
 
--- turns of the collector by their number; there is no end of a cycle yet up to which they could be made
-abbrev pub is_built_turn : TurnCommand → Bool
-is_built_turn (turns.Turns n) = true
-is_built_turn turns.Cycle = false
-
--- a line with such a command of a seat, or with such turns
+-- a line with such a command of a seat, or with any of the collector
 abbrev pub is_built_line : Line → Bool
 is_built_line (Seat seat command) = is_built_command command
-is_built_line (Turns command) = is_built_turn command
+is_built_line (Turns command) = true
 
 -- a heap without spine words
 abbrev pub is_built_heap : Heap → Bool

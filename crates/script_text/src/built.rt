@@ -3,7 +3,7 @@ ghost use Rattle.script_text.specs.Built.{IsBuilt, is_built_heap, is_built_line,
 ghost use Rattle.script_text.specs.Grammar.{most_lines};
 
 use crate::script::{Line, Script};
-use heap_model::{Command, Heap, TurnCommand};
+use heap_model::{Command, Heap};
 
 /// The lines in front of those that follow the heap line, and one more, since lines are counted from 1.
 const BEFORE: usize = 3;
@@ -16,7 +16,7 @@ fn is_built(line: &Line) -> bool
             command,
             Command::Array { .. } | Command::Collect | Command::Leave
         ),
-        Line::Turns { command } => matches!(command, TurnCommand::Turns(_)),
+        Line::Turns { .. } => true,
     }
 }
 

@@ -243,9 +243,9 @@ fn built(rt: HostRuntime) -> Result<(), Fail> {
         (b"schism 1\nheap 4 0 2\n1 collect\n0 array 1 1\n", Some(3)),
         (b"schism 1\nheap 16 0 1\n0 new 1 3\n0 collect\n", Some(4)),
         (b"schism 1\nheap 16 0 1\n0 num 2 9\n0 collect\n", Some(4)),
-        (b"schism 1\nheap 16 0 1\nc cycle\n0 num 2 9\n", Some(3)),
+        (b"schism 1\nheap 16 0 1\nc cycle\n0 array 2 9\n", Some(4)),
         (b"schism 1\nheap 16 0 1\nc turns 1000000\nc turns 0\n", None),
-        (b"schism 1\nheap 16 0 1\nc turns 2\nc cycle\n", Some(4)),
+        (b"schism 1\nheap 16 0 1\nc turns 2\nc cycle\n", None),
         (
             b"schism 1\nheap 16 0 1\n0 num 2 9\n0 poll\n0 array 1 4\n",
             Some(5),

@@ -1,10 +1,9 @@
-ghost use Rattle.std.specs.Prelude.{◌≡◌, true, OnOk};
-ghost use Rattle.script_text.specs.Built.{is_built_turn};
+ghost use Rattle.std.specs.Prelude.{OnOk};
 ghost use Rattle.heap_runs.specs.PlayHeap.{MayCall};
-ghost use Rattle.heap_runs.specs.Playing.{NotesCall, NotesTurns};
+ghost use Rattle.heap_runs.specs.Playing.{NotesCall, NotesTurns, AllGone, NotesCycle};
 
 use crate::play_heap::PlayHeap;
-use crate::turning::turn_line;
+use crate::turning::{end_cycle, turn_line};
 use heap_model::{Command, Entry, Memory, TurnCommand};
 
 /// Makes a whole call of the seat, and notes its entries.
@@ -30,7 +29,6 @@ pub fn note_turns<H: PlayHeap>(
     history: &mut Vec<Entry>,
     command: &TurnCommand,
 ) -> Result<(), Memory>
-    requires built { is_built_turn command.now ≡ true }
     ensures notes { OnOk result (NotesTurns (H.state whole.old) (H.state whole.new) history.old.items history.new.items command.now) }
 {
     let before = whole.entries().len();
@@ -41,5 +39,17 @@ pub fn note_turns<H: PlayHeap>(
         command: *command,
         reply,
     })?;
+    Ok(())
+}
+
+/// Makes turns up to the end of a cycle, for which no seat is left to be waited for, and notes their entries.
+pub fn note_cycle<H: PlayHeap>(whole: &mut H, history: &mut Vec<Entry>) -> Result<(), Memory>
+    requires gone { AllGone (H.state whole.old) }
+    ensures notes { OnOk result (NotesCycle (H.state whole.old) (H.state whole.new) history.old.items history.new.items) }
+{
+    let before = whole.entries().len();
+    end_cycle(whole)?;
+    let (_, told) = whole.entries().split_at(before);
+    history.extend_from_slice(told)?;
     Ok(())
 }

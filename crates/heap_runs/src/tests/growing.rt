@@ -10,15 +10,16 @@ use heap_model::{Command, Entry, Graph, Heap, Memory, Reply, Turn};
 use std::alloc::Global;
 use std::marker::Model;
 
-/// Each of its turns is a step that adds nothing. For all that takes fragments or looks at a field it has no memory.
+/// Each of its turns is a step that adds nothing, and there are few. For more, for room, and for all that takes fragments or looks
+/// at a field it has no memory.
 #[derive(Drop)]
 pub struct Growing {
     heap: Heap,
     entries: Vec<Entry>,
     graph: Graph,
-    spare: usize,
     turns: u64,
     last_turn: Option<Turn>,
+    turns_left: u8,
 }
 
 impl Model for Growing {
@@ -30,9 +31,10 @@ impl Model for Growing {
     ghost view = { λ whole. record {
       heap = whole.heap;
       entries = whole.entries.items;
-      spare = whole.spare;
+      spare = 0;
       turns = whole.turns;
       last_turn = whole.last_turn;
+      turns_left = whole.turns_left;
     } };
 
     ghost invariant = { λ whole. IsGrowing whole.heap whole.entries.items whole.graph };
@@ -48,9 +50,9 @@ impl Growing {
             heap,
             entries: Vec::new(alloc),
             graph: Graph::new(alloc, heap)?,
-            spare: 0,
             turns: 0,
             last_turn: None,
+            turns_left: 5,
         })
     }
 }
@@ -86,18 +88,21 @@ impl PlayHeap for Growing {
     }
 
     fn turn(&mut self) -> Result<Turn, Memory> {
+        if self.turns_left == 0 {
+            return Err(Memory);
+        }
+        self.turns_left -= 1;
         self.turns = self.turns.saturating_add(1);
         self.last_turn = Some(Turn::Stepped);
         Ok(Turn::Stepped)
     }
 
-    fn room(&mut self, n: usize) -> Result<(), Memory> {
-        self.spare = self.spare.max(n);
-        Ok(())
+    fn room(&mut self, _n: usize) -> Result<(), Memory> {
+        Err(Memory)
     }
 
     fn spare(&self) -> usize {
-        self.spare
+        0
     }
 
     fn phase(&self) -> u64 {

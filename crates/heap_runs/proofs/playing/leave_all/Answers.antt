@@ -1,5 +1,6 @@
-use Rattle.std.proofs.Common.{arith}
+use Rattle.std.proofs.Common.{◌≡◌, ℕ, subst, arith}
 use Rattle.heap_runs.specs.PlayHeap.{PlayState}
+use Rattle.heap_runs.specs.Playing.{HaveLeft}
 use Rattle.heap_runs.proofs.Leaves.{left_none, left_more}
 use Rattle.heap_runs.proofs.NextLine.{may_leave}
 use Rattle.heap_runs.proofs.playing.leave_all.Goals as goal
@@ -18,3 +19,8 @@ loop-seat-preserved g c =
     let laws = c.seat_laws.ensures in
     left_more laws.counts laws.others c.args.script.now.heap (g.H.PlayHeap.state c.loop-seat.whole) (g.H.PlayHeap.state c.note_call.new.whole) c.args.history.now.items c.loop-seat.history.items c.note_call.new.history.items
     c.loop-seat.seat c.loop-seat.invariant c.in_ok-note_call.ensures.notes
+
+pub returns : goal.returns
+returns g c =
+    let all : c.loop-seat.seat ≡ c.args.script.now.heap.seats = omega (arith, c.loop-seat-test.false, c.loop-seat.auto.seat-end) in
+    subst (λ (n : ℕ). HaveLeft c.args.script.now.heap (g.H.PlayHeap.state c.loop-seat.whole) c.args.history.now.items c.loop-seat.history.items n) all c.loop-seat.invariant

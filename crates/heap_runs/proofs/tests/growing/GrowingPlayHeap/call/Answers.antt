@@ -17,7 +17,7 @@ invariant_of-self-2 c =
 
 pub returns : goal.returns
 returns c =
-    let old : PlayState = record { heap = c.self.inside.heap; entries = c.self.inside.entries.items; spare = c.self.inside.spare; turns = c.self.inside.turns; last_turn = c.self.inside.last_turn } in
+    let old : PlayState = record { heap = c.self.inside.heap; entries = c.self.inside.entries.items; spare = 0; turns = c.self.inside.turns; last_turn = c.self.inside.last_turn; turns_left = c.self.inside.turns_left } in
     let plain : is_plain c.args.command.now ≡ true = search rules in
     let listed : c.note.new.list.items ≡ old.entries ++ Said c.args.seat c.args.command.now Done ∷ [] = search rules in
     let new : PlayState = record old { entries = c.note.new.list.items } in
