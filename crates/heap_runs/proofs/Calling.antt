@@ -31,7 +31,7 @@ pub may_begin : (whole : MachineHeapValue) (number : ℕ) (command : Command) �
 may_begin whole number command s between may =
     let heap = whole.machine.heap in
     let state = whole.machine.state in
-    let within : number < length state.seats = rw s.rule.machine.seated may.within in
+    let within : number < length state.seats = rw s.stands.rule.machine.seated may.within in
     let idle = between.all_idle number within in (
       within,
       record {
@@ -89,14 +89,14 @@ pub answers_call : FreeIsUnused → (old new : MachineHeapValue) (number : ℕ) 
 answers_call unused old new number command reply s between may calls spare turns last =
     let heap = old.machine.heap in
     let state = old.machine.state in
-    let within : number < length state.seats = rw s.rule.machine.seated may.within in
+    let within : number < length state.seats = rw s.stands.rule.machine.seated may.within in
     let idle = between.all_idle number within in
     let seat : Seat = seat_at state number in
     let present : seat.left ≡ false = sym (gone_is heap state old.entries s number may.within idle) ∙ may.present in
     let had = own_reserve heap state old.entries s number may.within idle in
     let last_is = answered_last heap state old.entries s number may.within idle in
     let free : free_count heap state.words + fragments_gained old.entries ≡ 16 * heap.groups + fragments_lost old.entries
-    = subst (λ es. free_count heap state.words + fragments_gained es ≡ 16 * heap.groups + fragments_lost es) s.grown (unused heap state s.book s.rule) in
+    = subst (λ es. free_count heap state.words + fragments_gained es ≡ 16 * heap.groups + fragments_lost es) s.grown (unused heap state s.book s.stands.rule) in
     record {
       adds = record {
         heap = calls.same_heap;

@@ -41,7 +41,7 @@ call_facts runs each_short whole one two seat command reply between may same roo
     let heap = whole.machine.heap in
     let state = whole.machine.state in
     let s = stands runs heap state whole.entries between.calls in
-    let seats : length state.seats ≡ heap.seats = s.rule.machine.seated in
+    let seats : length state.seats ≡ heap.seats = s.stands.rule.machine.seated in
     let here : seat < length state.seats = omega (arith, may.within, seats) in
     let same_state : one.state ≡ state = ap (λ (m : MachineValue). m.state) same in
     let within : seat < length one.state.seats = subst (λ (t : State). seat < length t.seats) (sym same_state) here in
@@ -70,7 +70,7 @@ pub noted_call : EveryRunKeeps → EachCallIsShort → (whole self : MachineHeap
 noted_call runs each_short whole self one two seat command reply between is may same others call answer leave refused spent =
     let here = subst (λ (v : MachineHeapValue). MayCall (play_state_of v) seat command) (sym is) may in
     let s = stands runs whole.machine.heap whole.machine.state whole.entries between.calls in
-    call_facts runs each_short whole one two seat command reply between here same (others (length whole.machine.state.seats) (λ e. omega (arith, e, here.within, s.rule.machine.seated))) call answer leave refused spent
+    call_facts runs each_short whole one two seat command reply between here same (others (length whole.machine.state.seats) (λ e. omega (arith, e, here.within, s.stands.rule.machine.seated))) call answer leave refused spent
 
 -- what comes in the log behind what was there before is what the seat has more
 pub told_since : (one two : MachineValue) (seat : ℕ) (told before now : List Entry) → told ≡ drop (length before) now → before ≡ log_of one seat → now ≡ log_of two seat → told ≡ since one two seat

@@ -36,14 +36,14 @@ pub turn_facts : EachEventKeeps → EachTurnComesTo → (one two : MachineValue)
     → two.state ≡ state_after one.heap one.state Turns → party ≡ length one.state.seats → TurnFacts one two party
 turn_facts keeps each one two told party s can after is =
     let added = entries one.heap one.state Turns in
-    let next = keeps one.heap one.state s.book Turns s.rule can in
+    let next = keeps one.heap one.state s.book Turns s.stands can in
     let old : CollectorState = record { log = one.state.collector.log; spare = 0; phase = phase s.book.history; turns = 0; last_turn = None } in
     let new : CollectorState = record { log = two.state.collector.log; spare = 0; phase = phase (s.book.history ++ added); turns = 0; last_turn = None } in
     let log_is : two.state.collector.log ≡ filter is_collectors (s.book.history ++ added)
-    = ap (λ (t : State). t.collector.log) after ∙ next.rule.collector_stands.log ∙ ap (filter is_collectors) next.grown in
-    let comes = each one.heap one.state s.book old new s.rule can (record { log_told = s.rule.collector_stands.log; phase_told = refl }) (record { log_told = log_is; phase_told = refl }) in
+    = ap (λ (t : State). t.collector.log) after ∙ next.stands.rule.collector_stands.log ∙ ap (filter is_collectors) next.grown in
+    let comes = each one.heap one.state s.book old new s.stands can (record { log_told = s.stands.rule.collector_stands.log; phase_told = refl }) (record { log_told = log_is; phase_told = refl }) in
     let more : two.state.collector.log ≡ one.state.collector.log ++ added
-    = log_is ∙ filter-append is_collectors s.book.history added ∙ ap (λ es. filter is_collectors s.book.history ++ es) (all_collectors added comes.0) ∙ ap (λ es. es ++ added) (sym s.rule.collector_stands.log) in
+    = log_is ∙ filter-append is_collectors s.book.history added ∙ ap (λ es. filter is_collectors s.book.history ++ es) (all_collectors added comes.0) ∙ ap (λ es. es ++ added) (sym s.stands.rule.collector_stands.log) in
     let one_log = log_of_collector one party is in
     let two_log = log_of_collector two party (is ∙ ap (λ (t : State). length t.seats) (sym after)) in
     let logs : log_of two party ≡ log_of one party ++ added = two_log ∙ more ∙ ap (λ es. es ++ added) (sym one_log) in
@@ -60,7 +60,7 @@ pub noted_turn : EveryRunKeeps → EachEventKeeps → EachTurnComesTo → (whole
     → Can whole.machine.heap whole.machine.state Turns → two.state ≡ state_after whole.machine.heap whole.machine.state Turns → heap ≡ whole.machine.heap → TurnFacts whole.machine two heap.seats
 noted_turn runs keeps each whole two heap between can after same =
     let s = stands runs whole.machine.heap whole.machine.state whole.entries between.calls in
-    turn_facts keeps each whole.machine two whole.entries heap.seats s can after (ap (λ (h : Heap). h.seats) same ∙ sym s.rule.machine.seated)
+    turn_facts keeps each whole.machine two whole.entries heap.seats s can after (ap (λ (h : Heap). h.seats) same ∙ sym s.stands.rule.machine.seated)
 
 -- what comes in the log behind what was there before is what the turn added
 pub told_by_turn : (one two : MachineValue) (party : ℕ) → TurnFacts one two party → (told before now : List Entry) → told ≡ drop (length before) now → before ≡ log_of one party → now ≡ log_of two party

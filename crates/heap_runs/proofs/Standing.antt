@@ -30,14 +30,14 @@ stands runs heap state told calls =
 module _ (heap : Heap) (state : State) (told : List Entry) (s : StandsFor heap state [] told) where
   -- the phase word is the phase
   pub word_is : at heap state.words Phase ≡ phase told
-  word_is = s.rule.heap_stands.cycle.word ∙ ap phase s.grown
+  word_is = s.stands.rule.heap_stands.cycle.word ∙ ap phase s.grown
 
   -- no more fragments were lost than gained
   pub none_short : fragments_lost told ≤ fragments_gained told
-  none_short = subst (λ es. fragments_lost es ≤ fragments_gained es) s.grown (omega (arith, s.rule.heap_stands.used))
+  none_short = subst (λ es. fragments_lost es ≤ fragments_gained es) s.grown (omega (arith, s.stands.rule.heap_stands.used))
 
   pub seated : length state.seats ≡ heap.seats
-  seated = s.rule.machine.seated
+  seated = s.stands.rule.machine.seated
 
   module _ (number : ℕ) (below : number < heap.seats) (idle : (seat_at state number).place ≡ Idle) where
     abbrev seat : Seat
@@ -46,32 +46,32 @@ module _ (heap : Heap) (state : State) (told : List Entry) (s : StandsFor heap s
     -- what it has of its own is its reserve
     pub own_reserve : spent_of number told + length seat.reserve ≡ taken_of number told
     own_reserve =
-        let rest : IsAtRest seat = subst (FitsPlace heap seat) idle (s.rule.machine.fit number (rw seated below)).at_place in
-        let unborn = (s.rule.seats_stand number below).told.counts.unborn in
+        let rest : IsAtRest seat = subst (FitsPlace heap seat) idle (s.stands.rule.machine.fit number (rw seated below)).at_place in
+        let unborn = (s.stands.rule.seats_stand number below).told.counts.unborn in
         let none : length (fragments_in_hand seat.hand seat.body) ≡ 0 = rw (rest.no_body, rest.empty_hand) refl in
         subst (λ es. spent_of number es + length seat.reserve ≡ taken_of number es) s.grown (omega (arith, unborn, none))
 
     pub answered_last : seat.answered ≡ last_answer number told
-    answered_last = sym (s.rule.seats_stand number below).cycle.answers_told.told ∙ ap (last_answer number) s.grown
+    answered_last = sym (s.stands.rule.seats_stand number below).cycle.answers_told.told ∙ ap (last_answer number) s.grown
 
     pub gone_is : (graph_seat (graph_of heap told) number).left ≡ seat.left
-    gone_is = ap (λ es. (graph_seat (graph_of heap es) number).left) (sym s.grown) ∙ (s.rule.seats_stand number below).told.counts.leaves
+    gone_is = ap (λ es. (graph_seat (graph_of heap es) number).left) (sym s.grown) ∙ (s.stands.rule.seats_stand number below).told.counts.leaves
 
     pub made_is : seat.made ≡ length (graph_seat (graph_of heap told) number).objects
-    made_is = (s.rule.seats_stand number below).told.counts.numbered ∙ ap (λ es. length (graph_seat (graph_of heap es) number).objects) s.grown
+    made_is = (s.stands.rule.seats_stand number below).told.counts.numbered ∙ ap (λ es. length (graph_seat (graph_of heap es) number).objects) s.grown
 
     pub sets_are : seat.sets ≡ (graph_seat (graph_of heap told) number).sets
-    sets_are = (s.rule.seats_stand number below).told.counts.stamped ∙ ap (λ es. (graph_seat (graph_of heap es) number).sets) s.grown
+    sets_are = (s.stands.rule.seats_stand number below).told.counts.stamped ∙ ap (λ es. (graph_seat (graph_of heap es) number).sets) s.grown
 
     -- the phase word is the phase that the seat answered last, or the next
     pub phase_near : seat.left ≡ false → IsPhaseNear heap state number
-    phase_near present = elim ((s.rule.seats_stand number below).cycle.answers_told.near present) [
+    phase_near present = elim ((s.stands.rule.seats_stand number below).cycle.answers_told.near present) [
       | inl same ↦ inl (word ∙ sym same)
       | inr next ↦ inr (word ∙ sym next)
     ]
       where
         word : at heap state.words Phase ≡ phase s.book.history
-        word = s.rule.heap_stands.cycle.word
+        word = s.stands.rule.heap_stands.cycle.word
 
     pub number_left : (command : Command) → HasNumber (record { heap = heap; number = number; mine = told; spare = 0 }) command → HasNumberLeft seat.made seat.sets command
     number_left (commands.New d fields) has = rw made_is has

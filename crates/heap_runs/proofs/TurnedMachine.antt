@@ -45,7 +45,7 @@ waits_rightly : EachWaitIsBehind → (whole : MachineHeapValue) (turn : Turn) �
     → turn ≡ (next_turn whole.machine.heap whole.machine.state.collector).answer (found_by whole.machine.heap whole.machine.state (next_turn whole.machine.heap whole.machine.state.collector).step)
     → WaitsRightly (play_state_of whole) turn
 waits_rightly each whole (turns.Waits number answer p) s answered =
-    let behind = each whole.machine.heap whole.machine.state s.book number answer p s.rule (sym answered) in
+    let behind = each whole.machine.heap whole.machine.state s.book number answer p s.stands.rule (sym answered) in
     (behind.0, subst (IsBehind number answer p) s.grown behind.1, behind.2)
 waits_rightly each whole _ s answered = tt
 
@@ -59,7 +59,7 @@ takes_turn each waits lowers old new turn s turned spare counted last =
     let told : IsToldBy s.book.history (collector_state_of (play_state_of old)) = record { log_told = ap (filter is_collectors) (sym s.grown); phase_told = ap phase (sym s.grown) } in
     let with_it : new.entries ≡ s.book.history ++ entries heap state Turns = turned.noted ∙ ap (λ es. es ++ entries heap state Turns) (sym s.grown) in
     let then_ : IsToldBy (s.book.history ++ entries heap state Turns) (collector_state_of (play_state_of new)) = record { log_told = ap (filter is_collectors) with_it; phase_told = ap phase with_it } in
-    let comes = each heap state s.book (collector_state_of (play_state_of old)) (collector_state_of (play_state_of new)) s.rule turned.can told then_ in
+    let comes = each heap state s.book (collector_state_of (play_state_of old)) (collector_state_of (play_state_of new)) s.stands turned.can told then_ in
     record {
       heap = turned.same_heap;
       added = entries heap state Turns;
@@ -72,7 +72,7 @@ takes_turn each waits lowers old new turn s turned spare counted last =
         last = last;
       };
       waits = waits_rightly waits old turn s turned.answered;
-      fewer = λ is. rw (turned.same_heap, turned.after) (lowers heap state s.book s.rule (sym turned.answered ∙ is));
+      fewer = λ is. rw (turned.same_heap, turned.after) (lowers heap state s.book s.stands.rule (sym turned.answered ∙ is));
     }
   where
     log_spare : (before after added : List Entry) → after ≡ before ++ added → AllByRecursion (λ entry. is_collectors entry ≡ true) added → old.spare + length before ≤ new.spare + length after

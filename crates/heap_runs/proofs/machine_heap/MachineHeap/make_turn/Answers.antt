@@ -54,7 +54,7 @@ returns-clause-turn c =
     let left : whole.spare + length whole.entries ≤ new.spare + length new.entries
     = omega (arith, c.saturating_sub-self-inside.ensures, ap (length {A = Entry}) c.note_all.ensures.items, length-append whole.entries c.split_at.result.1.now) in
     subst (λ (v : MachineHeapValue). TakesTurn (play_state_of v) (play_state_of new) c.play_turn-turn.result) c.self.view_is
-    (takes_turn c.law_every_run.ensures.turns c.law_every_run.ensures.waits c.law_every_run.ensures.lowers whole new c.play_turn-turn.result s turned left c.saturating_add-self-inside.ensures refl)
+    (takes_turn c.law_every_run.ensures.turns c.law_every_run.ensures.waits c.law_every_run.ensures.fewer whole new c.play_turn-turn.result s turned left c.saturating_add-self-inside.ensures refl)
 
 pub returns-clause-machine : goal.returns-clause-machine
 returns-clause-machine c =

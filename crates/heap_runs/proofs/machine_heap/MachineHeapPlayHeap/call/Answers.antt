@@ -14,7 +14,7 @@ room-requires c =
     let whole : MachineHeapValue = the_view c.self.inside in
     let may = subst (λ (v : MachineHeapValue). MayCall (play_state_of v) c.args.seat c.args.command.now) (sym c.self.view_is) c.requires.may in
     let s = stands c.law_every_run.ensures.run whole.machine.heap whole.machine.state whole.entries c.self.invariant.0.calls in
-    omega (arith, may.within, s.rule.machine.seated)
+    omega (arith, may.within, s.stands.rule.machine.seated)
 
 pub split_at-requires : goal.split_at-requires
 split_at-requires c =
