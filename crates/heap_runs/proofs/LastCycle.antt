@@ -1,5 +1,5 @@
 -- Turns up to the end of a cycle, and a last cycle once every seat has left.
-use Rattle.std.proofs.Common.{◌≡◌, ◌≢◌, ℕ, zero, suc, ◌+◌, ◌*◌, ◌%◌, ◌==◌, ◌<◌, ◌||◌, cond, Bool, true, false, ◌⊎◌, List, [], ◌∷◌, ◌++◌, inl, inr, refl, sym, ap, subst, ◌∙◌, append_assoc, arith}
+use Rattle.std.proofs.Common.{◌≡◌, ◌≢◌, ℕ, zero, suc, ◌+◌, ◌%◌, ◌==◌, ◌<◌, ◌||◌, Bool, true, false, ◌⊎◌, List, [], ◌∷◌, ◌++◌, inl, inr, refl, sym, ap, subst, ◌∙◌, append_assoc, arith}
 use Rattle.std.specs.List.{AllByRecursion, list_any}
 use Rattle.std.proofs.Math.Bool.{or-false}
 use Rattle.std.proofs.lemmas.Bool.{eq-eqb, ne_eqb, cond-true, or_right, or_left}
@@ -18,7 +18,7 @@ use Rattle.heap_model.specs.account.Windows.{begins_cycle, up_to_last}
 use Rattle.heap_model.specs.calls.CollectorCalls.{StepsTo}
 use Rattle.heap_model.proofs.account_lemmas.Windows.{any-more}
 use Rattle.heap_runs.specs.Play.{tells_step, EndsCycle}
-use Rattle.heap_runs.specs.PlayHeap.{PlayState, TakesTurn, collector_state_of}
+use Rattle.heap_runs.specs.PlayHeap.{PlayState, TakesTurn}
 use Rattle.heap_runs.specs.Playing.{AllGone, NotesCycle, NotesLastCycle}
 use Rattle.heap_runs.specs.Turning.{IsStep, TakesTurns, HasComeTo, ServesCycle}
 use Rattle.heap_runs.proofs.TurnFacts.{added_is, none_is, came_add}

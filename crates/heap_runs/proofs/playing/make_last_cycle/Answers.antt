@@ -1,5 +1,4 @@
-use Rattle.std.proofs.Common.{◌≡◌, ◌%◌, ap, ◌∙◌, arith}
-use Rattle.heap_model.specs.PhasePlan.{cycle_phases, rest}
+use Rattle.std.proofs.Common.{◌≡◌, arith}
 use Rattle.heap_model.specs.account.PhaseCounts.{phase}
 use Rattle.heap_runs.specs.PlayHeap.{PlayState}
 use Rattle.heap_runs.specs.Playing.{NotesCycle}
