@@ -1,8 +1,6 @@
 //! Plays in which cycles of the collector end, by lines for it between the commands.
 
-use super::ended;
-use super::several_seats::text_of;
-use crate::status::Status;
+use super::several_seats::plays;
 use std::test::Fail;
 
 /// A script, the history of its play, and how many entries that has. Lines stand with "; " between them.
@@ -79,16 +77,5 @@ const TWO_CYCLES: (&str, &str, &str) = (
 
 #[test]
 fn plays_cycles(rt: HostRuntime) -> Result<(), Fail> {
-    let alloc = rt.alloc();
-    for (script, history, verdict) in PLAYS {
-        let script = text_of(alloc, script)?;
-        let history = text_of(alloc, history)?;
-        let (end, written) = ended(alloc, &["play"], script.as_bytes(), &[], &[])?;
-        assert_eq!(rt; end, Status::Done, "{script}");
-        assert_eq!(rt; written.as_slice(), history.as_bytes(), "{script}");
-        let (end, told) = ended(alloc, &["check"], history.as_bytes(), &[], &[])?;
-        assert_eq!(rt; end, Status::Done, "{script}");
-        assert_eq!(rt; told.as_slice(), text_of(alloc, verdict)?.as_bytes());
-    }
-    Ok(())
+    plays(&rt, rt.alloc(), &PLAYS)
 }

@@ -3,6 +3,7 @@
 use super::ended;
 use crate::status::Status;
 use std::alloc::{AllocError, Global};
+use std::process::Abort;
 use std::test::Fail;
 
 /// A script, the history of its play, and how many entries that has. Lines stand with "; " between them.
@@ -72,10 +73,13 @@ pub(super) fn text_of(alloc: Global, lines: &str) -> Result<String, AllocError> 
     Ok(text)
 }
 
-#[test]
-fn plays_several_seats(rt: HostRuntime) -> Result<(), Fail> {
-    let alloc = rt.alloc();
-    for (script, history, verdict) in PLAYS {
+/// Plays each row's script, compares what is written with its history, and what the check of that says with its verdict.
+pub(super) fn plays(
+    rt: &impl Abort,
+    alloc: Global,
+    rows: &[(&str, &str, &str)],
+) -> Result<(), Fail> {
+    for &(script, history, verdict) in rows {
         let script = text_of(alloc, script)?;
         let history = text_of(alloc, history)?;
         let (end, written) = ended(alloc, &["play"], script.as_bytes(), &[], &[])?;
@@ -86,4 +90,9 @@ fn plays_several_seats(rt: HostRuntime) -> Result<(), Fail> {
         assert_eq!(rt; told.as_slice(), text_of(alloc, verdict)?.as_bytes());
     }
     Ok(())
+}
+
+#[test]
+fn plays_several_seats(rt: HostRuntime) -> Result<(), Fail> {
+    plays(&rt, rt.alloc(), &PLAYS)
 }

@@ -1,8 +1,6 @@
 //! Plays with turns of the collector between the commands, up to the end of a cycle.
 
-use super::ended;
-use super::several_seats::text_of;
-use crate::status::Status;
+use super::several_seats::plays;
 use std::test::Fail;
 
 /// A script, the history of its play, and how many entries that has. Lines stand with "; " between them.
@@ -55,16 +53,5 @@ const SWEPT: (&str, &str, &str) = (
 
 #[test]
 fn plays_turns(rt: HostRuntime) -> Result<(), Fail> {
-    let alloc = rt.alloc();
-    for (script, history, verdict) in PLAYS {
-        let script = text_of(alloc, script)?;
-        let history = text_of(alloc, history)?;
-        let (end, written) = ended(alloc, &["play"], script.as_bytes(), &[], &[])?;
-        assert_eq!(rt; end, Status::Done, "{script}");
-        assert_eq!(rt; written.as_slice(), history.as_bytes(), "{script}");
-        let (end, told) = ended(alloc, &["check"], history.as_bytes(), &[], &[])?;
-        assert_eq!(rt; end, Status::Done, "{script}");
-        assert_eq!(rt; told.as_slice(), text_of(alloc, verdict)?.as_bytes());
-    }
-    Ok(())
+    plays(&rt, rt.alloc(), &PLAYS)
 }
