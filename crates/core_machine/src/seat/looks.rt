@@ -1,0 +1,78 @@
+ghost use Rattle.std.specs.Prelude.{◌≡◌};
+ghost use Rattle.core_machine.specs.seat.Looks.{no_looks, forgotten, looked, seen_phase, compared};
+
+/// What a seat has found out by the inner calls of its collects.
+#[derive(Clone, Copy)]
+pub struct Looks {
+    /// The phase that its first look since its last reply loaded.
+    pub first: Option<u64>,
+    /// The phase that it last loaded to look at it; 0 at the opening.
+    pub seen: u64,
+    /// What it last found since its last reply when it asked whether another seat is behind.
+    pub behind: Option<FoundBehind>,
+    /// How often it found a seat behind, up to the largest number of 64 bits.
+    pub waits: u64,
+}
+
+/// A seat whose last answer was found to be below the phase.
+#[derive(Clone, Copy)]
+pub struct FoundBehind {
+    pub seat: u8,
+    pub answered: u64,
+    pub phase: u64,
+}
+
+impl Looks {
+    /// At the opening nothing was found.
+    pub fn none() -> Looks
+        ensures { result ≡ no_looks }
+    {
+        Looks {
+            first: None,
+            seen: 0,
+            behind: None,
+            waits: 0,
+        }
+    }
+
+    /// A reply forgets what was found since the one before it.
+    pub fn forget(&mut self)
+        ensures { self.new ≡ forgotten self.old }
+    {
+        self.first = None;
+        self.behind = None;
+    }
+
+    /// A look found this phase.
+    pub fn look(&mut self, found: u64)
+        ensures { self.new ≡ looked found self.old }
+    {
+        if self.first.is_none() {
+            self.first = Some(found);
+        }
+        self.seen = found;
+    }
+
+    /// This phase was found, with which the answer of a seat is to be compared.
+    pub fn see(&mut self, found: u64)
+        ensures { self.new ≡ seen_phase found self.old }
+    {
+        self.seen = found;
+    }
+
+    /// Compares the word of another seat with the phase.
+    pub fn compare(&mut self, other: u8, phase: u64, word: u64)
+        ensures { self.new ≡ compared other phase word self.old }
+    {
+        if word >= phase {
+            self.behind = None;
+            return;
+        }
+        self.behind = Some(FoundBehind {
+            seat: other,
+            answered: word,
+            phase,
+        });
+        self.waits = self.waits.saturating_add(1);
+    }
+}
