@@ -114,7 +114,7 @@ nears_phase heap number seat found =
     let few = few_roots (record seat { asked = found }) in
     elim (eqb_tells found seat.answered) as (λ _. Nears heap (seat_after (poll_move number seat) found) 2 (length seat.registers + 2) (length ((poll_move number seat).adds found))) [
       | inl same ↦ rw same.0 (over_cases (λ s more. Nears heap (with_entries s more) 2 (length seat.registers + 2) (length more)) number seat.command seat found
-        (λ collects. record { fewer = omega arith; paid = omega arith }) (λ tells. record { fewer = omega arith; paid = omega arith }))
+          (λ collects. record { fewer = omega arith; paid = omega arith }) (λ tells. record { fewer = omega arith; paid = omega arith }))
       | inr new ↦ rw new.0 (nears_shades_on heap (record seat { asked = found }) (length seat.registers + 2) (omega arith))
     ]
 
@@ -140,7 +140,7 @@ poll_stands heap number seat here =
       says = λ old command words told is found.
           elim (eqb_tells found seat.answered) as (λ _. Says old number command (with_entries (after_phase_load seat found) (poll_adds number seat found)) (told ++ poll_adds number seat found) (after_phase_load seat found).place) [
             | inl known ↦ rw known.0 (over_cases (λ s more. Says old number command (with_entries s more) (told ++ more) s.place) number seat.command seat found (λ collects. absurd (cc (collects, is.0.same, is.1)))
-              (λ tells. ends old number command seat (seat_after_reply number seat (replies.Phase found)) told [] (replies.Phase found) (is.0, λ e. cc (e, is.1)) (omega arith) (omega arith) refl tt))
+                (λ tells. ends old number command seat (seat_after_reply number seat (replies.Phase found)) told [] (replies.Phase found) (is.0, λ e. cc (e, is.1)) (omega arith) (omega arith) refl tt))
             | inr new ↦ rw new.0 (on old number command seat (with_entries (answer_next (record seat { asked = found })) []) told [] is.0 refl refl refl refl tt, is.1)
           ];
     }
