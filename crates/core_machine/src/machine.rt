@@ -9,6 +9,7 @@ ghost use Rattle.core_machine.specs.machine.Value.{spare_of, log_of, due_of, eve
 
 use crate::collector::CollectorParty;
 use crate::seat::SeatParty;
+use crate::seat::looks::Looks;
 use crate::step::Step;
 use crate::table::address::Address;
 use crate::table::words::{load, perform};
@@ -118,6 +119,16 @@ impl Machine {
         party.begin(&heap, command);
     }
 
+    /// Whether an inner call of a seat's collect may be begun now.
+    pub fn may_begin_inner(&self, seat: u8, inner: &Inner) -> bool
+        ensures { IsTrue result ↔ Can self.now.heap self.now.state (BeginsInner seat inner.now) }
+    {
+        match self.seats.get(seat as usize) {
+            Some(party) => party.may_begin_inner(&self.heap, seat, inner),
+            None => false,
+        }
+    }
+
     /// Puts an inner call of a seat's collect in flight.
     pub fn begin_inner(&mut self, seat: u8, inner: Inner)
         requires can { Can self.old.heap self.old.state (BeginsInner seat inner) }
@@ -126,6 +137,14 @@ impl Machine {
     {
         let party = &mut self.seats[seat as usize];
         party.begin_inner(inner);
+    }
+
+    /// What the seat has found out by the inner calls of its collects.
+    pub fn looks(&self, seat: u8) -> Looks
+        requires { seat < length self.now.state.seats }
+        ensures { result ≡ (seat_at self.now.state seat).looks }
+    {
+        self.seats[seat as usize].looks
     }
 
     /// How often the seat found another one behind the phase.

@@ -1,5 +1,9 @@
-ghost use Rattle.std.specs.Prelude.{◌≡◌};
-ghost use Rattle.core_machine.specs.seat.Looks.{no_looks, forgotten, looked, seen_phase, compared};
+ghost use Rattle.std.specs.Prelude.{◌≡◌, ◌↔◌, IsTrue, ◌*◌, ◌+◌, ◌≤◌};
+ghost use Rattle.heap_model.specs.declared.calls.collect.CollectReply.TheVariants.{Cycle};
+ghost use Rattle.core_machine.specs.seat.Looks.{no_looks, forgotten, looked, seen_phase, compared, FirstUpTo, MayNote, MayMake};
+
+use heap_model::phase_plan::CYCLE_PHASES;
+use heap_model::{CollectReply, Heap, Inner};
 
 /// What a seat has found out by the inner calls of its collects.
 #[derive(Clone, Copy)]
@@ -15,7 +19,7 @@ pub struct Looks {
 }
 
 /// A seat whose last answer was found to be below the phase.
-#[derive(Clone, Copy)]
+#[derive(Clone, Copy, PartialEq, Eq)]
 pub struct FoundBehind {
     pub seat: u8,
     pub answered: u64,
@@ -74,5 +78,49 @@ impl Looks {
             phase,
         });
         self.waits = self.waits.saturating_add(1);
+    }
+    /// Whether a cycle is known to have begun after the first look since the last reply, and to have ended.
+    fn saw_cycle(&self, cycle: u64) -> bool
+        ensures { IsTrue result ↔ MayNote self.now (Cycle cycle) }
+    {
+        let Some(first) = self.first else {
+            return false;
+        };
+        if cycle >= self.seen / CYCLE_PHASES {
+            return false;
+        }
+        first <= CYCLE_PHASES * cycle
+    }
+
+    /// Whether what was found allows this reply.
+    fn may_note(&self, reply: CollectReply) -> bool
+        ensures { IsTrue result ↔ MayNote self.now reply }
+    {
+        match reply {
+            CollectReply::Cycle(cycle) => self.saw_cycle(cycle),
+            CollectReply::Waits {
+                seat,
+                answered,
+                phase,
+            } => {
+                let told = FoundBehind {
+                    seat,
+                    answered,
+                    phase,
+                };
+                self.behind == Some(told)
+            }
+        }
+    }
+
+    /// Whether the seat of this number may make the inner call after what it found.
+    pub fn may_make(&self, heap: &Heap, number: u8, inner: &Inner) -> bool
+        ensures { IsTrue result ↔ MayMake heap.now number self.now inner.now }
+    {
+        match *inner {
+            Inner::Look | Inner::Answer => true,
+            Inner::Behind { seat } => seat < heap.seats && seat != number,
+            Inner::Note(reply) => self.may_note(reply),
+        }
     }
 }
