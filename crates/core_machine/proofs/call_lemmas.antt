@@ -4,9 +4,11 @@ pub mod CallEnd
 pub mod CallRoom
 pub mod Calling
 pub mod Claiming
+pub mod InnerCalls
 pub mod Owes
 pub mod Playing
 pub mod PlayingBegins
+pub mod PlayingInner
 pub mod PlayingOn
 pub mod RepliesAlone
 pub mod Restoring

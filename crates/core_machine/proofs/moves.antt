@@ -1,5 +1,6 @@
 -- What is asked of each move of a seat, a file for each call.
 pub mod Birth
+pub mod Collect
 pub mod Gather
 pub mod Get
 pub mod Leave
@@ -13,6 +14,7 @@ use Rattle.std.proofs.Common.{ℕ, ◌<◌, refl}
 use Rattle.std.specs.Prelude.{IfSome}
 use Rattle.heap_model.specs.declared.heap.Heap.{Heap}
 use Rattle.heap_model.specs.Heap.{IsHeap}
+use Rattle.core_machine.specs.declared.place.Collecting.TheVariants.{Looking, Asking as AskingBehind, Comparing, Noting}
 use Rattle.core_machine.specs.declared.place.Leaving.TheVariants.{Emptying, Parting}
 use Rattle.core_machine.specs.declared.place.Making.TheVariants.{Gathering, Returning, Refusing, Storing, Bearing}
 use Rattle.core_machine.specs.declared.place.Place.{Place}
@@ -47,6 +49,10 @@ stands_at (places.Access Swapping) = Set.swap_stands
 stands_at (places.Polling Asking) = Poll.poll_stands
 stands_at (places.Polling Shading) = Poll.root_stands
 stands_at (places.Polling Answering) = Poll.answer_stands
+stands_at (places.Collecting Looking) = Collect.look_stands
+stands_at (places.Collecting (AskingBehind other)) = Collect.asking_stands other
+stands_at (places.Collecting (Comparing other phase)) = Collect.comparing_stands other phase
+stands_at (places.Collecting (Noting reply)) = Collect.note_stands reply
 stands_at (places.Leaving Emptying) = Leave.empty_stands
 stands_at (places.Leaving Parting) = Leave.leave_stands
 

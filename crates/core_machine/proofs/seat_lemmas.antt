@@ -4,3 +4,4 @@ pub mod FieldPlaces
 pub mod Fitting
 pub mod FittingEntries
 pub mod FittingAccess
+pub mod PollingOver

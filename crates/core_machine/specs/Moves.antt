@@ -9,6 +9,7 @@ pub use Rattle.core_machine.specs.Move.{Move, plain_move, seat_after}
 pub use Rattle.core_machine.specs.seat.MakingMoves.{takes_some, claim_move, first_part, give_back_move, full_entry, refusal_move, word_store, due_store, store_move, bears_black_of, last_part, is_last_birth, birth_move, made_entry, last_birth_move, bearing_move, making_move}
 pub use Rattle.core_machine.specs.seat.AccessMoves.{access_move}
 pub use Rattle.core_machine.specs.seat.HandshakeMoves.{local_move, polling_move, leaving_move}
+pub use Rattle.core_machine.specs.seat.Collecting.{collecting_move}
 
 -- the move that is due at a place; none where no call is in flight
 abbrev pub move_at : Heap → ℕ → Seat → Place → Option Move
@@ -17,6 +18,7 @@ move_at heap number seat (places.Making place) = Some (making_move heap number s
 move_at heap number seat places.Local = Some (local_move number seat)
 move_at heap number seat (places.Access place) = Some (access_move heap number seat place)
 move_at heap number seat (places.Polling place) = Some (polling_move number seat place)
+move_at heap number seat (places.Collecting place) = Some (collecting_move number seat place)
 move_at heap number seat (places.Leaving place) = Some (leaving_move number seat place)
 
 -- the seat's next move; none exactly where no call is in flight

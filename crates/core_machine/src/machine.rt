@@ -1,6 +1,6 @@
 ghost use Rattle.std.specs.Prelude.{◌≡◌, ◌≢◌, ℕ, ◌+◌, ◌-◌, ◌*◌, ◌<◌, ◌≤◌, ◌↔◌, IsTrue, [], ◌∷◌, ◌++◌, length, Some, OnOk, OnErr};
 ghost use Rattle.heap_model.specs.account.Space.{need_of};
-ghost use Rattle.core_machine.specs.machine.Machine.{Begins, Steps, Turns, Can, state_after, seat_at, found_by};
+ghost use Rattle.core_machine.specs.machine.Machine.{Begins, BeginsInner, Steps, Turns, Can, state_after, seat_at, found_by};
 ghost use Rattle.core_machine.specs.declared.table.address.Address.TheVariants.{Phase};
 ghost use Rattle.core_machine.specs.table.Layout.{at, InTable};
 ghost use Rattle.core_machine.specs.collector.Collector.{next_turn};
@@ -9,10 +9,11 @@ ghost use Rattle.core_machine.specs.machine.Value.{spare_of, log_of, due_of, eve
 
 use crate::collector::CollectorParty;
 use crate::seat::SeatParty;
+use crate::seat::looks::Looks;
 use crate::step::Step;
 use crate::table::address::Address;
 use crate::table::words::{load, perform};
-use heap_model::{Command, Entry, Heap, Memory, Turn};
+use heap_model::{Command, Entry, Heap, Inner, Memory, Turn};
 use std::marker::Model;
 
 mod opening;
@@ -116,6 +117,42 @@ impl Machine {
         let heap = self.heap;
         let party = &mut self.seats[seat as usize];
         party.begin(&heap, command);
+    }
+
+    /// Whether an inner call of a seat's collect may be begun now.
+    pub fn may_begin_inner(&self, seat: u8, inner: &Inner) -> bool
+        ensures { IsTrue result ↔ Can self.now.heap self.now.state (BeginsInner seat inner.now) }
+    {
+        match self.seats.get(seat as usize) {
+            Some(party) => party.may_begin_inner(&self.heap, seat, inner),
+            None => false,
+        }
+    }
+
+    /// Puts an inner call of a seat's collect in flight.
+    pub fn begin_inner(&mut self, seat: u8, inner: Inner)
+        requires can { Can self.old.heap self.old.state (BeginsInner seat inner) }
+        requires room { 4 ≤ spare_of self.old seat }
+        ensures { self.new ≡ record self.old { state = state_after self.old.heap self.old.state (BeginsInner seat inner) } }
+    {
+        let party = &mut self.seats[seat as usize];
+        party.begin_inner(inner);
+    }
+
+    /// What the seat has found out by the inner calls of its collects.
+    pub fn looks(&self, seat: u8) -> Looks
+        requires { seat < length self.now.state.seats }
+        ensures { result ≡ (seat_at self.now.state seat).looks }
+    {
+        self.seats[seat as usize].looks
+    }
+
+    /// How often the seat found another one behind the phase.
+    pub fn waits(&self, seat: u8) -> u64
+        requires { seat < length self.now.state.seats }
+        ensures { result ≡ (seat_at self.now.state seat).looks.waits }
+    {
+        self.seats[seat as usize].looks.waits
     }
 
     /// Makes the due step of the party, and answers the word as it was before.

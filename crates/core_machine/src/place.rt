@@ -1,3 +1,5 @@
+use heap_model::CollectReply;
+
 /// Where a seat stands in its call: which step is due.
 #[derive(Clone, Copy)]
 pub enum Place {
@@ -11,6 +13,8 @@ pub enum Place {
     Access(Access),
     /// The phase is answered.
     Polling(Polling),
+    /// A seat looks at what its collect is to tell, or tells it.
+    Collecting(Collecting),
     /// The seat leaves.
     Leaving(Leaving),
 }
@@ -60,6 +64,19 @@ pub enum Polling {
     Shading,
     /// The answer is stored.
     Answering,
+}
+
+/// Where a seat stands in an inner call of a collect.
+#[derive(Clone, Copy)]
+pub enum Collecting {
+    /// The phase is loaded to look at it.
+    Looking,
+    /// The phase is loaded, with which the answer of another seat is to be compared.
+    Asking { other: u8 },
+    /// The other seat's word is loaded and compared with the phase.
+    Comparing { other: u8, phase: u64 },
+    /// The reply is told.
+    Noting(CollectReply),
 }
 
 /// Where a seat stands while it leaves.

@@ -1,10 +1,11 @@
 ghost use Rattle.std.specs.Prelude.{◌≡◌, ◌+◌, ◌<◌, ◌≤◌, ◌∷◌, [], OnOk, OnErr};
 ghost use Rattle.heap_model.specs.Heap.{IsHeap};
-ghost use Rattle.core_machine.specs.seat.Seat.{with_entries, after_call, seat_after_reply};
+ghost use Rattle.core_machine.specs.seat.Seat.{with_entries, call_over, after_call, seat_after_reply};
 ghost use Rattle.core_machine.specs.machine.Opening.{opening_seat};
 
 use crate::log::Log;
 use crate::place::Place;
+use crate::seat::looks::Looks;
 use crate::seat::register::Register;
 use crate::table::fragments::{Hand, Reserve};
 use heap_model::limits::REGISTER_COUNT;
@@ -15,11 +16,13 @@ use std::marker::Model;
 mod access;
 mod begins;
 mod birth;
+mod collecting;
 pub(crate) mod commands;
 mod due;
 mod gather;
 mod handshake;
 mod local;
+pub(crate) mod looks;
 mod moves;
 pub(crate) mod register;
 mod walk;
@@ -46,6 +49,7 @@ pub struct SeatParty {
     pub(crate) asked: u64,
     pub(crate) shaded: u8,
     pub(crate) sets: u32,
+    pub(crate) looks: Looks,
     pub(crate) left: bool,
     pub(crate) mine: Log,
 }
@@ -76,6 +80,7 @@ impl Model for SeatParty {
         asked = party.asked;
         shaded = party.shaded;
         sets = party.sets;
+        looks = party.looks;
         left = party.left;
         mine = party.mine.entries;
       };
@@ -114,6 +119,7 @@ impl SeatParty {
             asked: 0,
             shaded: 0,
             sets: 0,
+            looks: Looks::none(),
             left: false,
             mine: Log::new(alloc),
         }
@@ -139,8 +145,8 @@ impl SeatParty {
     }
 
     /// The call is over, and nothing of it is left.
-    fn finish(&mut self)
-        ensures seat { self.new.seat ≡ after_call self.old.seat }
+    pub(crate) fn finish(&mut self)
+        ensures seat { self.new.seat ≡ call_over self.old.seat }
         ensures spare { self.new.spare ≡ self.old.spare }
     {
         self.hand.clear();
@@ -164,6 +170,7 @@ impl SeatParty {
         ensures spare { self.old.spare ≤ self.new.spare + 1 }
     {
         self.finish();
+        self.looks.forget();
         self.note(Entry::Said {
             seat: number,
             command: self.command,

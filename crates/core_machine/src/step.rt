@@ -21,7 +21,7 @@ pub enum Step {
     Access(AccessStep),
     /// A step by which a seat tells what it has answered.
     Handshake(HandshakeStep),
-    /// A step of the collector.
+    /// A step of the collector; a seat too looks at another one's word.
     Turning(TurningStep),
 }
 

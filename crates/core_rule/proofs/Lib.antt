@@ -11,6 +11,7 @@ pub mod growth
 pub mod held
 pub mod marking
 pub mod lists
+pub mod looks
 pub mod objects
 pub mod owners
 pub mod runs

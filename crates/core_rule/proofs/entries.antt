@@ -13,3 +13,5 @@ pub mod RecordCommands
 pub mod MadeEntry
 pub mod ReplyEntries
 pub mod AnswerEntries
+pub mod PhasesTold
+pub mod Noted

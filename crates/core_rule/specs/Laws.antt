@@ -16,7 +16,12 @@ use Rattle.heap_model.specs.calls.CollectorCalls.{CollectorState, ComesTo}
 use Rattle.core_machine.specs.declared.place.Place.TheVariants.{Idle}
 use Rattle.core_machine.specs.machine.Calls.{free_count}
 use Rattle.core_machine.specs.collector.Collector.{next_turn}
-use Rattle.core_machine.specs.machine.Machine.{State, seat_at, found_by, Event, Begins, Steps, Turns, Can, state_after, entries, Run, state_after_all, history}
+use Rattle.heap_model.specs.declared.calls.collect.Inner.{Inner}
+use Rattle.heap_model.specs.declared.calls.collect.Inner.TheVariants.{Note}
+use Rattle.heap_model.specs.declared.calls.collect.CollectReply.TheVariants as notes
+use Rattle.core_machine.specs.declared.table.address.Address.TheVariants.{Phase, Answer}
+use Rattle.core_machine.specs.table.Layout.{at}
+use Rattle.core_machine.specs.machine.Machine.{State, seat_at, found_by, Event, Begins, BeginsInner, Steps, Turns, Can, state_after, entries, Run, state_after_all, history}
 use Rattle.core_machine.specs.machine.Opening.{IsOpening}
 use Rattle.core_rule.specs.Book.{Book, Colour}
 use Rattle.core_rule.specs.Colours.{HasBirthColour}
@@ -50,16 +55,27 @@ IsAlone state number = (other : ℕ) → other < length state.seats → other �
 abbrev pub AllIdle : State → Type 0
 AllIdle state = (number : ℕ) → number < length state.seats → (seat_at state number).place ≡ Idle
 
--- the event is that of a seat that is alone, or a turn between two calls
-abbrev pub HappensAlone : State → Event → Type 0
-HappensAlone state (Begins number command) = IsAlone state number
-HappensAlone state (Steps number) = IsAlone state number
-HappensAlone state Turns = AllIdle state
+-- the other seat's word is this one now, and the phase is this one
+pub record IsBehindNow (heap : Heap) (words : List ℕ) (other answer p : ℕ) : Type 0 where
+  pub word : at heap words (Answer other) ≡ answer
+  pub here : at heap words Phase ≡ p
+
+-- where a seat that was found to be behind is noted, it is so now
+abbrev pub NotesNow : Heap → State → Inner → Type 0
+NotesNow heap state (Note (notes.Waits other answer p)) = IsBehindNow heap state.words other answer p
+NotesNow heap state _ = Unit {0}
+
+-- the event is that of a seat that is alone, which notes no seat that isn't behind any more, or a turn between two calls
+abbrev pub HappensAlone : Heap → State → Event → Type 0
+HappensAlone heap state (Begins number command) = IsAlone state number
+HappensAlone heap state (BeginsInner number inner) = IsAlone state number × NotesNow heap state inner
+HappensAlone heap state (Steps number) = IsAlone state number
+HappensAlone heap state Turns = AllIdle state
 
 -- whole calls, one after another, and turns of the collector between them
 abbrev pub OneCallAtATime : Heap → State → List Event → Type 0
 OneCallAtATime heap state [] = Unit {0}
-OneCallAtATime heap state (event ∷ events) = HappensAlone state event × OneCallAtATime heap (state_after heap state event) events
+OneCallAtATime heap state (event ∷ events) = HappensAlone heap state event × OneCallAtATime heap (state_after heap state event) events
 
 -- a run of whole calls, one after another, has a history that is legal as a play
 abbrev pub WholeCallsPlay : Type 0

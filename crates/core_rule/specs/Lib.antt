@@ -18,6 +18,7 @@ pub mod Roots
 pub mod Together
 pub mod Cycle
 pub mod Rule
+pub mod Looks
 pub mod Stands
 pub mod Laws
 pub mod SweepLaws

@@ -35,6 +35,7 @@ idle_at heap number seat (places.Making place) none = cc
 idle_at heap number seat places.Local none = cc
 idle_at heap number seat (places.Access place) none = cc
 idle_at heap number seat (places.Polling place) none = cc
+idle_at heap number seat (places.Collecting place) none = cc
 idle_at heap number seat (places.Leaving place) none = cc
 
 pub idle_from : (heap : Heap) (number : ℕ) (seat : Seat) → due_step heap number seat ≡ None → seat.place ≡ places.Idle

@@ -8,6 +8,8 @@ use Rattle.core_machine.specs.declared.place.Access.{Access}
 use Rattle.core_machine.specs.declared.place.Access.TheVariants.{LoadingMeta, Walking, Getting, Naming, LoadingOld, ShadingOld, ShadingNew, Swapping}
 use Rattle.core_machine.specs.declared.place.Polling.{Polling}
 use Rattle.core_machine.specs.declared.place.Polling.TheVariants.{Asking, Shading, Answering}
+use Rattle.core_machine.specs.declared.place.Collecting.{Collecting}
+use Rattle.core_machine.specs.declared.place.Collecting.TheVariants.{Looking, Asking as AskingBehind, Comparing, Noting}
 use Rattle.core_machine.specs.declared.place.Leaving.TheVariants.{Emptying, Parting}
 use Rattle.core_machine.specs.seat.Access.{row_of}
 use Rattle.core_machine.specs.seat.Commands.{field_of}
@@ -31,6 +33,7 @@ owes_at seat (places.Making place) = owes_making seat place
 owes_at seat places.Local = 1
 owes_at seat (places.Access place) = 1
 owes_at seat (places.Polling place) = 2
+owes_at seat (places.Collecting place) = 1
 owes_at seat (places.Leaving Emptying) = 2
 owes_at seat (places.Leaving Parting) = 1
 
@@ -62,6 +65,13 @@ polling_steps seat Asking = length seat.registers + 2
 polling_steps seat Shading = (length (roots seat) - seat.shaded) + 1
 polling_steps seat Answering = 1
 
+-- and the other inner calls of a collect
+abbrev pub collecting_steps : Collecting → ℕ
+collecting_steps Looking = 1
+collecting_steps (AskingBehind other) = 2
+collecting_steps (Comparing other phase) = 1
+collecting_steps (Noting reply) = 1
+
 -- the most steps that a call makes from its place on
 abbrev pub steps_at : Heap → Seat → Place → ℕ
 steps_at heap seat places.Idle = 0
@@ -69,6 +79,7 @@ steps_at heap seat (places.Making place) = making_steps heap seat place
 steps_at heap seat places.Local = 1
 steps_at heap seat (places.Access place) = access_steps (row_of (field_of seat.command)) seat.links place
 steps_at heap seat (places.Polling place) = polling_steps seat place
+steps_at heap seat (places.Collecting place) = collecting_steps place
 steps_at heap seat (places.Leaving Emptying) = 2
 steps_at heap seat (places.Leaving Parting) = 1
 

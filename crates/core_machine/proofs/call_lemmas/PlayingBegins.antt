@@ -13,14 +13,14 @@ use Rattle.core_machine.specs.seat.Seat.{Seat}
 use Rattle.core_machine.specs.machine.Machine.{State, seat_at, after_begin}
 use Rattle.core_machine.specs.seat.Fits.{Fits}
 use Rattle.core_machine.proofs.call_lemmas.Playing.{stage_begun_new}
-use Rattle.core_machine.proofs.seat_lemmas.Aside.{over_idle}
+use Rattle.core_machine.proofs.seat_lemmas.Aside.{over_forgets}
 use Rattle.core_machine.proofs.call_lemmas.Stages.{Untouched, Stage}
 
 module _ (heap : Heap) (old : State) (number : ℕ) (now : State) (fits : Fits heap (seat_at old number)) (idle : (seat_at old number).place ≡ places.Idle) (same : now.words ≡ old.words) where
   -- a seat that has begun a call and made no step
   untouched : (seat : Seat) → seat ≡ record (seat_at old number) { command = seat.command; reached = seat.reached; place = seat.place; mine = seat.mine }
       → Untouched old now number [] seat
-  untouched seat is = record { resting = over_idle heap (seat_at old number) fits idle; words_stay = same; seat_stays = is; none_told = refl }
+  untouched seat is = record { resting = over_forgets heap (seat_at old number) fits idle; words_stay = same; seat_stays = is; none_told = refl }
 
   opened_stage : (command : Command) (register : Register)
       → Stage heap old now number command [] (access_start (record (seat_at old number) { command = command }) register) (access_start (record (seat_at old number) { command = command }) register).place
@@ -43,6 +43,6 @@ module _ (heap : Heap) (old : State) (number : ℕ) (now : State) (fits : Fits h
   stage_begun (commands.Copy d r) served = telling_stage (commands.Copy d r)
   stage_begun (commands.Same a b) served = telling_stage (commands.Same a b)
   stage_begun (commands.Len r) served = opened_stage (commands.Len r) (register_in (seat_at old number).registers r)
-  stage_begun commands.Poll served = (refl, untouched (after_begin heap (seat_at old number) commands.Poll) refl)
+  stage_begun commands.Poll served = (refl, refl, untouched (after_begin heap (seat_at old number) commands.Poll) refl)
   stage_begun commands.Collect served = absurd served
   stage_begun commands.Leave served = refl

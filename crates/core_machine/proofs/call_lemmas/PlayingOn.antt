@@ -31,10 +31,12 @@ use Rattle.core_machine.specs.table.Decode.{head_of, id_of, stamp_of}
 use Rattle.core_machine.specs.seat.Registers.{register_in, register_head}
 use Rattle.core_machine.specs.seat.Access.{at_access, with_field_place, field_place_of, way_place_of, after_link, after_walk, meta_reply_of, after_meta, after_get, new_place_of, after_old, after_old_load}
 use Rattle.core_machine.specs.seat.AccessMoves.{reply_entries_if, got_adds, got_shows}
-use Rattle.core_machine.specs.seat.HandshakeMoves.{poll_move}
+use Rattle.core_machine.specs.seat.HandshakeMoves.{poll_move, phase_told}
 use Rattle.core_machine.specs.seat.Local.{local_reply_of, local_registers}
-use Rattle.core_machine.specs.seat.Handshake.{roots, answer_next}
+use Rattle.core_machine.specs.seat.Handshake.{roots, answer_next, polling_over}
+use Rattle.core_machine.specs.seat.Looks.{forgotten}
 use Rattle.core_machine.specs.seat.Seat.{Seat, with_entries, after_call}
+use Rattle.core_machine.proofs.seat_lemmas.PollingOver.{over_cases}
 use Rattle.core_machine.specs.Moves.{Move, move_at, local_move, access_move, polling_move, leaving_move, next_move, seat_after}
 use Rattle.core_machine.specs.machine.Machine.{State, seat_at, found_by, state_after_move}
 use Rattle.core_machine.specs.seat.FitsAccess.{NamesObject, FitsAccess}
@@ -81,29 +83,33 @@ module _ (heap : Heap) (old : State) (number : ℕ) (command : Command) (now : S
       ended new seat reply same (alone_makes_none seat.command alone) refused
       (λ stays near. alone_comes number (length (seat_at old number).reserve) (seat_at old number).answered command reply told_ (subst RepliesAlone same alone) none)
 
+  -- the seat of the begin, with this command and these entries, which has forgotten what it found
+  abbrev replied_seat : Command → List Entry → Seat
+  replied_seat last mine = record (seat_at old number) { command = last; looks = forgotten (seat_at old number).looks; mine = mine }
+
   -- a seat that was left alone, and then has an entry more
   left_alone : (seat : Seat) (more : List Entry) → Untouched old now number told_ seat
-      → with_entries (after_call seat) more ≡ record (seat_at old number) { command = seat.command; mine = seat.mine ++ more }
+      → with_entries (after_call seat) more ≡ replied_seat seat.command (seat.mine ++ more)
   left_alone seat more is =
       ap (λ (s : Seat). record (after_call s) { command = seat.command; mine = seat.mine ++ more }) is.seat_stays
       ∙ ap (λ (s : Seat). record s { command = seat.command; mine = seat.mine ++ more }) is.resting
 
   -- the state after the seat's last step, where its word was loaded
   leaves_all : (seat : Seat) (move : Move) → seat_at now number ≡ seat → Untouched old now number told_ seat → put heap now.words (address_of move.step) (word_after move.step (found_by heap now move.step)) ≡ now.words
-      → seat_after move (found_by heap now move.step) ≡ record (seat_at old number) { command = seat.command; mine = (seat_after move (found_by heap now move.step)).mine }
+      → seat_after move (found_by heap now move.step) ≡ replied_seat seat.command (seat_after move (found_by heap now move.step)).mine
       → (seat_after move (found_by heap now move.step)).command ≡ seat.command → LeavesAll old (state_after_move heap now number move) number
   leaves_all seat move here is words next same =
       let last = seat_after move (found_by heap now move.step) in
       let there : seat_at (state_after_move heap now number move) number ≡ last = seat_at-set now.seats number last within in
       record {
         words_stay = words ∙ is.words_stay;
-        seat_stays = subst (λ (s : Seat). s ≡ record (seat_at old number) { command = s.command; mine = s.mine }) (sym there)
-            (next ∙ ap (λ (c : Command). record (seat_at old number) { command = c; mine = last.mine }) (sym same));
+        seat_stays = subst (λ (s : Seat). s ≡ replied_seat s.command s.mine) (sym there)
+            (next ∙ ap (λ (c : Command). replied_seat c last.mine) (sym same));
       }
 
   -- a seat with the same registers
   told_alone : (seat : Seat) (registers : List Register) (more : List Entry) → registers ≡ seat.registers → Untouched old now number told_ seat
-      → with_entries (after_call (record seat { registers = registers })) more ≡ record (seat_at old number) { command = seat.command; mine = seat.mine ++ more }
+      → with_entries (after_call (record seat { registers = registers })) more ≡ replied_seat seat.command (seat.mine ++ more)
   told_alone seat registers more same is = ap (λ (r : List Register). with_entries (after_call (record seat { registers = r })) more) same ∙ left_alone seat more is
 
   stage_telling : FitsPlace heap the_seat places.Local → FitsWay the_seat places.Local → the_seat.command ≡ command → Untouched old now number told_ the_seat
@@ -147,7 +153,7 @@ module _ (heap : Heap) (old : State) (number : ℕ) (command : Command) (now : S
   met_stage (Some reply) found same names new refused none = ended_alone new the_seat reply same (object_alone the_seat.command names) refused none
 
   closed_after : (reply : Option Reply) (found : ℕ) → IsPlaceRefusalOf reply → Untouched old now number told_ the_seat
-      → (with_entries (after_meta the_seat found reply) (reply_entries_if number the_seat reply) ≡ record (seat_at old number) { command = the_seat.command; mine = (with_entries (after_meta the_seat found reply) (reply_entries_if number the_seat reply)).mine })
+      → (with_entries (after_meta the_seat found reply) (reply_entries_if number the_seat reply) ≡ replied_seat the_seat.command (with_entries (after_meta the_seat found reply) (reply_entries_if number the_seat reply)).mine)
       × ((with_entries (after_meta the_seat found reply) (reply_entries_if number the_seat reply)).command ≡ the_seat.command)
   closed_after None found refusal is = absurd refusal
   closed_after (Some reply) found refusal is = (left_alone the_seat (Said number the_seat.command reply ∷ []) is, refl)
@@ -212,6 +218,9 @@ module _ (heap : Heap) (old : State) (number : ℕ) (command : Command) (now : S
   poll_makes_none : the_seat.command ≡ commands.Poll → IsRecord the_seat.command → ⊥
   poll_makes_none polls a_record = rw polls at a_record
 
+  no_collect : the_seat.command ≡ commands.Collect → the_seat.command ≡ commands.Poll → ⊥
+  no_collect collects polls = cc
+
   leave_makes_none : the_seat.command ≡ commands.Leave → IsRecord the_seat.command → ⊥
   leave_makes_none leaves a_record = rw leaves at a_record
 
@@ -223,54 +232,57 @@ module _ (heap : Heap) (old : State) (number : ℕ) (command : Command) (now : S
 
   -- the answer is prepared, whatever comes next
   prepared : (new : State) (seat : Seat) → seat.command ≡ command → Prepares heap old number (told_ ++ []) seat
-      → Stage heap old new number command (told_ ++ []) (with_entries (answer_next seat) []) (with_entries (answer_next seat) []).place
-  prepared new seat same is =
+      → command ≡ commands.Poll → Stage heap old new number command (told_ ++ []) (with_entries (answer_next seat) []) (with_entries (answer_next seat) []).place
+  prepared new seat same is polls =
       elim (bool_tells (nat_lt seat.shaded (length (roots seat)))) as (λ _. Stage heap old new number command (told_ ++ []) (with_entries (answer_next seat) []) (with_entries (answer_next seat) []).place) [
-        | inl more ↦ rw more (same, keeps Shading)
-        | inr all ↦ rw all (same, keeps Answering)
+        | inl more ↦ rw more (same, polls, keeps Shading)
+        | inr all ↦ rw all (same, polls, keeps Answering)
       ]
     where
       keeps : (place : Polling) → Prepares heap old number (told_ ++ []) (with_entries (record seat { place = places.Polling place }) [])
       keeps place = record { found = is.found; answered_stays = is.answered_stays; none_told = is.none_told }
 
-  stage_polling : (place : Polling) → FitsPolling the_seat place → (the_seat.command ≡ command) × PollingStage heap old now number told_ the_seat place → Leads (polling_move number the_seat place)
+  stage_polling : (place : Polling) → FitsPolling the_seat place → (the_seat.command ≡ command) × (command ≡ commands.Poll) × PollingStage heap old now number told_ the_seat place → Leads (polling_move number the_seat place)
   stage_polling Asking is stage = by (eqb found the_seat.answered) (eqb-true found the_seat.answered)
     where
       found : ℕ
       found = found_by heap now (poll_move number the_seat).step
 
       stays : the_seat.answered ≡ (seat_at old number).answered
-      stays = ap (λ (s : Seat). s.answered) stage.1.seat_stays
+      stays = ap (λ (s : Seat). s.answered) stage.2.seat_stays
 
       by : (known : Bool) → (known ≡ true → found ≡ the_seat.answered) → Stage heap old (state_after_move heap now number (poll_move number the_seat)) number command
-          (told_ ++ cond known (Said number the_seat.command (replies.Phase found) ∷ []) [])
-          (with_entries (cond known (after_call the_seat) (answer_next (record the_seat { asked = found }))) (cond known (Said number the_seat.command (replies.Phase found) ∷ []) []))
-          (with_entries (cond known (after_call the_seat) (answer_next (record the_seat { asked = found }))) (cond known (Said number the_seat.command (replies.Phase found) ∷ []) [])).place
+          (told_ ++ cond known (phase_told number the_seat.command found) [])
+          (with_entries (cond known (polling_over the_seat.command the_seat) (answer_next (record the_seat { asked = found }))) (cond known (phase_told number the_seat.command found) []))
+          (with_entries (cond known (polling_over the_seat.command the_seat) (answer_next (record the_seat { asked = found }))) (cond known (phase_told number the_seat.command found) [])).place
       by true same =
-          ended (state_after_move heap now number (poll_move number the_seat)) the_seat (replies.Phase found) stage.0 (poll_makes_none is.1) (λ refusal. absurd refusal)
-          (λ not_leave. poll_comes found told_ (sym stage.0 ∙ is.1) (λ near. inl (same refl ∙ stays, stage.1.none_told)))
+          over_cases (λ s more. Stage heap old (state_after_move heap now number (poll_move number the_seat)) number command (told_ ++ more) (with_entries s more) s.place) number the_seat.command the_seat found
+          (λ collects. absurd (no_collect collects (stage.0 ∙ stage.1)))
+          (λ tells. ended (state_after_move heap now number (poll_move number the_seat)) the_seat (replies.Phase found) stage.0 (poll_makes_none (stage.0 ∙ stage.1)) (λ refusal. absurd refusal)
+          (λ not_leave. poll_comes found told_ stage.1 (λ near. inl (same refl ∙ stays, stage.2.none_told))))
       by false same =
           prepared (state_after_move heap now number (poll_move number the_seat)) (record the_seat { asked = found }) stage.0
-          (record { found = ap (λ (words : List ℕ). at heap words Phase) stage.1.words_stay; answered_stays = stays; none_told = none_more stage.1.none_told })
+          (record { found = ap (λ (words : List ℕ). at heap words Phase) stage.2.words_stay; answered_stays = stays; none_told = none_more stage.2.none_told }) stage.1
   stage_polling Shading is stage =
       prepared (state_after_move heap now number (polling_move number the_seat Shading)) (record the_seat { shaded = the_seat.shaded + 1 }) stage.0
-      (record { found = stage.1.found; answered_stays = stage.1.answered_stays; none_told = none_more stage.1.none_told })
+      (record { found = stage.2.found; answered_stays = stage.2.answered_stays; none_told = none_more stage.2.none_told }) stage.1
   stage_polling Answering is stage =
       let answer = Answers number the_seat.asked in
-      record {
+      over_cases (λ s more. Stage heap old (state_after_move heap now number (polling_move number the_seat Answering)) number command (told_ ++ answer ∷ more) (with_entries s (answer ∷ more)) s.place) number the_seat.command (record the_seat { answered = the_seat.asked }) the_seat.asked
+      (λ collects. absurd (no_collect collects (stage.0 ∙ stage.1))) (λ tells. record {
         reply = replies.Phase the_seat.asked;
         before = told_ ++ answer ∷ [];
         last = ap (λ (c : Command). told_ ++ answer ∷ Said number c (replies.Phase the_seat.asked) ∷ []) stage.0
             ∙ sym (append_assoc told_ (answer ∷ []) (Said number command (replies.Phase the_seat.asked) ∷ []));
-        answer = λ a_record. absurd (poll_makes_none is.0.polls (subst IsRecord (sym stage.0) a_record));
+        answer = λ a_record. absurd (poll_makes_none (stage.0 ∙ stage.1) (subst IsRecord (sym stage.0) a_record));
         refused = λ refusal. absurd refusal;
-        comes = λ not_leave. poll_comes the_seat.asked (told_ ++ answer ∷ []) (sym stage.0 ∙ is.0.polls) (λ near.
-            inr (next near, ap (λ (l : List Entry). l ++ answer ∷ []) stage.1.none_told));
-      }
+        comes = λ not_leave. poll_comes the_seat.asked (told_ ++ answer ∷ []) stage.1 (λ near.
+            inr (next near, ap (λ (l : List Entry). l ++ answer ∷ []) stage.2.none_told));
+      })
     where
       next : IsPhaseNear heap old number → the_seat.asked ≡ (seat_at old number).answered + 1
-      next (inl same) = absurd (is.0.anew (stage.1.found ∙ same ∙ sym stage.1.answered_stays))
-      next (inr after_) = stage.1.found ∙ after_
+      next (inl same) = absurd (is.0.anew (stage.2.found ∙ same ∙ sym stage.2.answered_stays))
+      next (inr after_) = stage.2.found ∙ after_
 
   stage_leaving : (place : Leaving) → FitsPlace heap the_seat (places.Leaving place) → the_seat.command ≡ command → Leads (leaving_move number the_seat place)
   stage_leaving Emptying is same = same
@@ -285,6 +297,7 @@ module _ (heap : Heap) (old : State) (number : ℕ) (command : Command) (now : S
   stage_at machine small places.Local here fits way answer stage = stage_telling fits way stage.0 stage.1
   stage_at machine small (places.Access place) here fits way answer stage = stage_access place way stage
   stage_at machine small (places.Polling place) here fits way answer stage = stage_polling place answer stage
+  stage_at machine small (places.Collecting place) here fits way answer stage = absurd stage
   stage_at machine small (places.Leaving place) here fits way answer stage = stage_leaving place fits stage
 
   -- each move leads on

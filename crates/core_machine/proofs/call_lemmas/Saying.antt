@@ -58,6 +58,8 @@ module _ (old : Seat) (number : ℕ) (command : Command) where
   Says seat told places.Idle = IsOver seat told
   Says seat told (places.Access Naming) = AwaitsName seat told × (command ≢ commands.Leave)
   Says seat told (places.Leaving place) = IsGoing seat told × (command ≡ commands.Leave) × Leaves seat told place
+  Says seat told (places.Polling place) = IsGoing seat told × (command ≡ commands.Poll)
+  Says seat told (places.Collecting place) = ⊥
   Says seat told _ = IsGoing seat told × (command ≢ commands.Leave)
 
   -- what a move leads to

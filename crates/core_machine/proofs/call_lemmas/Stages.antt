@@ -17,6 +17,7 @@ use Rattle.core_machine.specs.declared.place.Making.TheVariants.{Gathering, Retu
 use Rattle.core_machine.specs.table.Fragments.{clear_in}
 use Rattle.core_machine.specs.table.Layout.{at}
 use Rattle.core_machine.specs.seat.Making.{next_object_id}
+use Rattle.core_machine.specs.seat.Looks.{forgotten}
 use Rattle.core_machine.specs.seat.Seat.{Seat, after_call}
 use Rattle.core_machine.specs.machine.Machine.{State, seat_at}
 use Rattle.heap_model.specs.declared.id.Value.{Value}
@@ -67,7 +68,7 @@ pub record Answered (heap : Heap) (old new : State) (number : ℕ) (command : Co
 
 -- while nothing was changed or told, but for the call itself
 pub record Untouched (old now : State) (number : ℕ) (told : List Entry) (seat : Seat) : Type 0 where
-  pub resting : after_call (seat_at old number) ≡ seat_at old number
+  pub resting : after_call (seat_at old number) ≡ record (seat_at old number) { looks = forgotten (seat_at old number).looks }
   pub words_stay : now.words ≡ old.words
   pub seat_stays : seat ≡ record (seat_at old number) { command = seat.command; reached = seat.reached; place = seat.place; mine = seat.mine }
   pub none_told : told ≡ []
@@ -107,5 +108,6 @@ Stage heap old now number command told seat places.Idle = Answered heap old now 
 Stage heap old now number command told seat (places.Making place) = (seat.command ≡ command) × StageOf heap old now number command told seat place
 Stage heap old now number command told seat places.Local = (seat.command ≡ command) × Untouched old now number told seat
 Stage heap old now number command told seat (places.Access place) = (seat.command ≡ command) × AccessStage old now number command told seat place
-Stage heap old now number command told seat (places.Polling place) = (seat.command ≡ command) × PollingStage heap old now number told seat place
+Stage heap old now number command told seat (places.Polling place) = (seat.command ≡ command) × (command ≡ Poll) × PollingStage heap old now number told seat place
+Stage heap old now number command told seat (places.Collecting place) = ⊥
 Stage heap old now number command told seat (places.Leaving place) = seat.command ≡ command

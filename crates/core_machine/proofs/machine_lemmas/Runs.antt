@@ -15,12 +15,13 @@ use Rattle.core_machine.specs.table.Operation.{address_of, word_after}
 use Rattle.core_machine.specs.seat.Seat.{Seat, absent_seat}
 use Rattle.core_machine.specs.declared.step.Step.{Step}
 use Rattle.core_machine.specs.Moves.{Move, next_move, due_step, seat_after}
-use Rattle.core_machine.specs.machine.Machine.{State, seat_at, found_by, Event, Begins, Steps, Turns, state_after_turn, Can, state_after, state_after_due, entries, Run, state_after_all, history, after_begin}
+use Rattle.core_machine.specs.machine.Machine.{State, seat_at, found_by, Event, Begins, BeginsInner, Steps, Turns, state_after_turn, Can, state_after, state_after_due, entries, Run, state_after_all, history, after_begin, after_inner_begin}
 use Rattle.core_machine.specs.seat.Fits.{Fits}
 use Rattle.core_machine.specs.machine.Value.{IsMachine}
 use Rattle.core_machine.specs.machine.Calls.{call_events}
 use Rattle.core_machine.proofs.moves.Standing.{MoveStands}
 use Rattle.core_machine.proofs.moves.{move_stands, begin_stands}
+use Rattle.core_machine.proofs.moves.Collect.{inner_stands}
 use Rattle.core_machine.proofs.table_lemmas.Addresses.{length-put, All-put, at-lt}
 use Rattle.core_machine.proofs.seat_lemmas.FittingEntries.{fits_entries}
 use Rattle.core_machine.proofs.collector_lemmas.{turn_stands}
@@ -138,6 +139,8 @@ due_within_table heap state number step machine within due =
 pub machine_after : (heap : Heap) (state : State) (event : Event) → IsMachine heap state → Can heap state event → IsMachine heap (state_after heap state event)
 machine_after heap state (Begins number command) machine can =
     machine_with heap state state.words number (after_begin heap (seat_at state number) command) machine can.0 refl machine.wide machine.leads (begin_stands heap number (seat_at state number) command machine.limits (machine.fit number can.0) can.1).fits
+machine_after heap state (BeginsInner number inner) machine can =
+    machine_with heap state state.words number (after_inner_begin (seat_at state number) inner) machine can.0 refl machine.wide machine.leads (inner_stands heap number (seat_at state number) inner (machine.fit number can.0) can.1).fits
 machine_after heap state (Steps number) machine can =
     let within = mover_within heap state number can in
     machine_moved heap state number (next_move heap number (seat_at state number)) machine within (moves_stand heap state number machine within)

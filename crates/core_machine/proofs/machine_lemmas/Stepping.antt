@@ -6,6 +6,7 @@ use Rattle.std.proofs.lemmas.Bool.Decides.{leb_tells}
 use Rattle.std.proofs.lemmas.List.{length-set, length-map, map-set, get_or-set_same, get_or-set_other, set-append_left, get_or_past}
 use Rattle.std.proofs.Math.Seq.{map-set_same}
 use Rattle.heap_model.specs.declared.heap.Heap.{Heap}
+use Rattle.heap_model.specs.declared.calls.collect.Inner.{Inner}
 use Rattle.heap_model.specs.declared.command.Command.{Command}
 use Rattle.core_machine.specs.declared.step.Step.{Step}
 use Rattle.core_machine.specs.table.Layout.{put, InTable}
@@ -14,7 +15,7 @@ use Rattle.core_machine.specs.table.Operation.{address_of, word_after}
 use Rattle.core_machine.specs.collector.Collector.{Collector}
 use Rattle.core_machine.specs.seat.Seat.{Seat, absent_seat}
 use Rattle.core_machine.specs.Moves.{Move, next_move, due_step, seat_after_due}
-use Rattle.core_machine.specs.machine.Machine.{seat_at, found_by, MayBegin, after_begin, Begins, Steps, state_after, state_after_due}
+use Rattle.core_machine.specs.machine.Machine.{seat_at, found_by, MayBegin, MayBeginInner, after_begin, after_inner_begin, Begins, BeginsInner, Steps, state_after, state_after_due}
 use Rattle.core_machine.specs.machine.Value.{SeatWithRoom, spare_of, log_of, SpendsRoom, IsMachine}
 use Rattle.core_machine.proofs.machine_lemmas.Runs.{machine_after, due_within_table}
 use Rattle.core_machine.proofs.machine_lemmas.Parties.{state_of, value_of, seat_of, seats_set, spares_same, spare_at}
@@ -69,6 +70,26 @@ module _ (heap : Heap) (words : List ℕ) (parties : List SeatWithRoom) (collect
       ≡ record (value_of heap words parties collector room) { state = state_after heap (state_of words parties collector) (Begins number command) }
   begin_value command is same =
       let seats = seats_set parties number next (after_begin heap (seat_at (state_of words parties collector) number) command) (is ∙ ap (λ (s : Seat). after_begin heap s command) (sym the_seat)) in
+      let spares = spares_same parties number next party (same ∙ ap (λ (s : SeatWithRoom). s.spare) here) in
+      rw (seats, spares) refl
+
+  inner_state : (inner : Inner) → next.seat ≡ after_inner_begin party.seat inner
+      → state_of words (set parties number next) collector ≡ state_after heap (state_of words parties collector) (BeginsInner number inner)
+  inner_state inner is =
+      let seats = seats_set parties number next (after_inner_begin (seat_at (state_of words parties collector) number) inner) (is ∙ ap (λ (s : Seat). after_inner_begin s inner) (sym the_seat)) in
+      rw seats refl
+
+  pub inner_machine : (inner : Inner) → MayBeginInner heap number (seat_at (state_of words parties collector) number) inner → next.seat ≡ after_inner_begin party.seat inner
+      → IsMachine heap (state_of words parties collector) → IsMachine heap (state_of words (set parties number next) collector)
+  inner_machine inner may is machine =
+      let state = inner_state inner is in
+      subst (IsMachine heap) (sym state) (machine_after heap (state_of words parties collector) (BeginsInner number inner) machine (seat_within, may))
+
+  pub inner_value : (inner : Inner) → next.seat ≡ after_inner_begin party.seat inner → next.spare ≡ party.spare
+      → value_of heap words (set parties number next) collector room
+      ≡ record (value_of heap words parties collector room) { state = state_after heap (state_of words parties collector) (BeginsInner number inner) }
+  inner_value inner is same =
+      let seats = seats_set parties number next (after_inner_begin (seat_at (state_of words parties collector) number) inner) (is ∙ ap (λ (s : Seat). after_inner_begin s inner) (sym the_seat)) in
       let spares = spares_same parties number next party (same ∙ ap (λ (s : SeatWithRoom). s.spare) here) in
       rw (seats, spares) refl
 

@@ -13,17 +13,18 @@ use Rattle.core_machine.specs.declared.place.Polling.{Polling}
 use Rattle.core_machine.specs.declared.place.Polling.TheVariants.{Asking, Shading, Answering}
 use Rattle.core_machine.specs.declared.step.Step.TheVariants.{PollLoad}
 use Rattle.core_machine.specs.machine.Machine.{found_by}
-use Rattle.core_machine.specs.seat.HandshakeMoves.{poll_move, poll_adds, root_move, answer_move}
+use Rattle.core_machine.specs.seat.HandshakeMoves.{phase_told, poll_move, poll_adds, root_move, answer_move}
 use Rattle.core_machine.specs.seat.Awaiting.{entries_awaited}
-use Rattle.core_machine.specs.seat.Fits.{FitsPlace, FitsWay, FitsAnswer, IsAtRest, Fits}
+use Rattle.core_machine.specs.seat.Fits.{FitsPlace, FitsWay, FitsAnswer, IsAtRest, AnswersThePhase, Fits}
 use Rattle.core_machine.specs.seat.FitsAccess.{HasNoWay}
-use Rattle.core_machine.specs.seat.Handshake.{after_phase_load, after_root_shade, after_answer, roots, answer_next}
+use Rattle.core_machine.proofs.seat_lemmas.PollingOver.{over_cases}
+use Rattle.core_machine.specs.seat.Handshake.{polling_over, after_phase_load, after_root_shade, after_answer, roots, answer_next}
 use Rattle.core_machine.specs.seat.Seat.{Seat, after_call, with_entries, seat_after_reply}
 use Rattle.core_machine.proofs.call_lemmas.Awaits.{plain, after_words}
 use Rattle.core_machine.proofs.call_lemmas.Owes.{Nears}
 use Rattle.core_machine.proofs.call_lemmas.Saying.{Says, on, ends}
 use Rattle.core_machine.proofs.moves.Standing.{IsAt, PlaceStands, present_at, CommandStands, aside_ready, going_ready, rest_ready, resting_begins}
-use Rattle.core_machine.proofs.seat_lemmas.Aside.{gone_aside, fits_over}
+use Rattle.core_machine.proofs.seat_lemmas.Aside.{gone_aside, fits_over, fits_ended}
 use Rattle.core_machine.proofs.table_lemmas.StepStands.{load_stands, shade_stands}
 use Rattle.core_machine.proofs.table_lemmas.WithinHeap.{roots_within, few_roots}
 
@@ -33,7 +34,7 @@ pub record Polls (heap : Heap) (seat : Seat) : Type 0 where
   rest : IsAtRest seat
   nowhere : HasNoWay seat.reached seat.links seat.part seat.loaded
   present : seat.left ≡ false
-  polls : seat.command ≡ commands.Poll
+  polls : AnswersThePhase seat.command
 
 -- the seat with other answers, at a place that they fit
 abbrev answering : Seat → ℕ → ℕ → ℕ → Place → Seat
@@ -71,10 +72,13 @@ fits_polling heap seat asked shaded polls small anew few =
     ]
 
 -- no call is in flight, with this answer
-fits_answered : (heap : Heap) (seat : Seat) (answered : ℕ) → Polls heap seat → Fits heap (after_call (record seat { answered = answered }))
+fits_answered : (heap : Heap) (seat : Seat) (answered : ℕ) → Polls heap seat → Fits heap (polling_over seat.command (record seat { answered = answered }))
 fits_answered heap seat answered polls =
     let fits = polls.fits in
-    fits_over heap (record seat { answered = answered }) fits.own.registers_whole fits.own.registers_fit fits.own.cursor_within fits.own.small_reserve fits.own.reserve_of_cursor (gone_aside polls.present)
+    let next = record seat { answered = answered } in
+    let over : Fits heap (after_call next) =
+    fits_over heap next fits.own.registers_whole fits.own.registers_fit fits.own.cursor_within fits.own.small_reserve fits.own.reserve_of_cursor (gone_aside polls.present) in
+    over_cases (λ s more. Fits heap s) 0 seat.command next 0 (λ collects. fits_ended heap next over) (λ tells. over)
 
 -- the phase was found
 fits_phase : (heap : Heap) (seat : Seat) (found : ℕ) → Polls heap seat → found < 2 ^ 64 → seat.shaded ≡ 0 → Fits heap (after_phase_load seat found)
@@ -92,7 +96,7 @@ fits_shaded heap seat polls anew more = fits_polling heap seat seat.asked (seat.
 fits_stored_answer : (heap : Heap) (seat : Seat) → Polls heap seat → Fits heap (after_answer seat)
 fits_stored_answer heap seat polls = fits_answered heap seat seat.asked polls
 
-polls_at : (heap : Heap) (number : ℕ) (seat : Seat) (place : Polling) → IsAt heap number seat (places.Polling place) → seat.command ≡ commands.Poll → Polls heap seat
+polls_at : (heap : Heap) (number : ℕ) (seat : Seat) (place : Polling) → IsAt heap number seat (places.Polling place) → AnswersThePhase seat.command → Polls heap seat
 polls_at heap number seat place here polls =
     record { fits = here.fits; rest = here.hand; nowhere = here.way; present = present_at heap number seat (places.Polling place) here (λ e. cc); polls = polls }
 
@@ -109,7 +113,8 @@ nears_phase : (heap : Heap) (number : ℕ) (seat : Seat) (found : ℕ)
 nears_phase heap number seat found =
     let few = few_roots (record seat { asked = found }) in
     elim (eqb_tells found seat.answered) as (λ _. Nears heap (seat_after (poll_move number seat) found) 2 (length seat.registers + 2) (length ((poll_move number seat).adds found))) [
-      | inl same ↦ rw same.0 (record { fewer = omega arith; paid = omega arith })
+      | inl same ↦ rw same.0 (over_cases (λ s more. Nears heap (with_entries s more) 2 (length seat.registers + 2) (length more)) number seat.command seat found
+          (λ collects. record { fewer = omega arith; paid = omega arith }) (λ tells. record { fewer = omega arith; paid = omega arith }))
       | inr new ↦ rw new.0 (nears_shades_on heap (record seat { asked = found }) (length seat.registers + 2) (omega arith))
     ]
 
@@ -117,7 +122,7 @@ module _ (heap : Heap) (number : ℕ) (seat : Seat) where
   phase_adds : (words : List ℕ) (found : ℕ) (more : List Entry) → ((after_phase_load seat found).mine ≡ seat.mine) × (entries_awaited heap words number (with_entries (after_phase_load seat found) more) ≡ [])
   phase_adds words found more =
       elim (eqb_tells found seat.answered) as (λ _. ((after_phase_load seat found).mine ≡ seat.mine) × (entries_awaited heap words number (with_entries (after_phase_load seat found) more) ≡ [])) [
-        | inl same ↦ rw same.0 (refl, refl)
+        | inl same ↦ rw same.0 (over_cases (λ s told. (s.mine ≡ seat.mine) × (entries_awaited heap words number (with_entries s more) ≡ [])) number seat.command seat found (λ collects. (refl, refl)) (λ tells. (refl, refl)))
         | inr new ↦ rw new.0 (refl, refl)
       ]
 
@@ -134,7 +139,8 @@ poll_stands heap number seat here =
           plain heap now number seat move by.0 (rw here.placed refl) by.1 refl;
       says = λ old command words told is found.
           elim (eqb_tells found seat.answered) as (λ _. Says old number command (with_entries (after_phase_load seat found) (poll_adds number seat found)) (told ++ poll_adds number seat found) (after_phase_load seat found).place) [
-            | inl known ↦ rw known.0 (ends old number command seat (seat_after_reply number seat (replies.Phase found)) told [] (replies.Phase found) is (omega arith) (omega arith) refl tt)
+            | inl known ↦ rw known.0 (over_cases (λ s more. Says old number command (with_entries s more) (told ++ more) s.place) number seat.command seat found (λ collects. absurd (cc (collects, is.0.same, is.1)))
+                (λ tells. ends old number command seat (seat_after_reply number seat (replies.Phase found)) told [] (replies.Phase found) (is.0, λ e. cc (e, is.1)) (omega arith) (omega arith) refl tt))
             | inr new ↦ rw new.0 (on old number command seat (with_entries (answer_next (record seat { asked = found })) []) told [] is.0 refl refl refl refl tt, is.1)
           ];
     }
@@ -154,14 +160,24 @@ pub answer_stands : PlaceStands (places.Polling Answering)
 answer_stands heap number seat here = record {
   step = record { in_table = here.few; wide = λ found small. here.fits.asked_small; leads = λ found led. tt };
   fits = λ found small led. fits_stored_answer heap seat (polls_at heap number seat Answering here here.answer.0.polls);
-  near = λ found. record { fewer = omega arith; paid = omega arith };
-  adds = λ now. plain heap now number seat (answer_move number seat) refl (rw here.placed refl) refl refl;
-  says = λ old command words told is found. ends old number command seat _ told (Answers number seat.asked ∷ []) _ is (omega arith) (omega arith) refl (refl, tt);
+  near = λ found. over_cases (λ s more. Nears heap (with_entries s (Answers number seat.asked ∷ more)) 2 1 (suc (length more))) number seat.command stored seat.asked
+      (λ collects. record { fewer = omega arith; paid = omega arith }) (λ tells. record { fewer = omega arith; paid = omega arith });
+  adds = λ now.
+      let words = after_words heap now number seat (answer_move number seat) in
+      let by = over_cases (λ s more. (s.mine ≡ seat.mine) × (entries_awaited heap words number (with_entries s (Answers number seat.asked ∷ more)) ≡ [])) number seat.command stored seat.asked (λ collects. (refl, refl)) (λ tells. (refl, refl)) in
+      plain heap now number seat (answer_move number seat) by.0 (rw here.placed refl) by.1 refl;
+  says = λ old command words told is found.
+      over_cases (λ s more. Says old number command (with_entries s (Answers number seat.asked ∷ more)) (told ++ Answers number seat.asked ∷ more) s.place) number seat.command stored seat.asked
+      (λ collects. absurd (cc (collects, is.0.same, is.1)))
+      (λ tells. ends old number command seat _ told (Answers number seat.asked ∷ []) _ (is.0, λ e. cc (e, is.1)) (omega arith) (omega arith) refl (refl, tt));
 }
+  where
+    stored : Seat
+    stored = record seat { answered = seat.asked }
 
 -- a poll begins
 pub poll_begins : CommandStands commands.Poll
 poll_begins heap number seat ready =
     let aside = aside_ready heap number seat commands.Poll ready in
-    resting_begins heap number seat commands.Poll ready (places.Polling Asking) (rest_ready heap number seat commands.Poll ready) aside.nowhere (aside.silent, refl) (λ words. refl)
-    (going_ready heap number seat commands.Poll ready _ refl refl refl refl, λ e. cc) (omega arith)
+    resting_begins heap number seat commands.Poll ready (places.Polling Asking) (rest_ready heap number seat commands.Poll ready) aside.nowhere (aside.silent, tt) (λ words. refl)
+    (going_ready heap number seat commands.Poll ready _ refl refl refl refl, refl) (omega arith)

@@ -1,5 +1,5 @@
 -- What making an object leaves alone.
-use Rattle.std.proofs.Common.{◌≡◌, ℕ, ◌*◌, ◌/◌, ◌^◌, ◌<◌, ◌≤◌, Bool, true, false, List, [], length, refl, subst, sym, ◌∙◌, arith}
+use Rattle.std.proofs.Common.{◌≡◌, ℕ, ◌*◌, ◌/◌, ◌^◌, ◌<◌, ◌≤◌, Bool, true, false, List, [], length, refl, subst, sym, ap, ◌∙◌, arith}
 use Rattle.std.specs.List.{All}
 use Rattle.std.proofs.lemmas.List.Elements.{All-nil}
 use Rattle.heap_model.specs.declared.heap.Heap.{Heap}
@@ -7,7 +7,8 @@ use Rattle.core_machine.specs.declared.place.Place.{Place}
 use Rattle.core_machine.specs.declared.place.Place.TheVariants as places
 use Rattle.core_machine.specs.declared.seat.register.Register.{Register}
 use Rattle.core_machine.specs.table.Decode.{head_of, IsWithinHeap}
-use Rattle.core_machine.specs.seat.Seat.{Seat, after_call}
+use Rattle.core_machine.specs.seat.Seat.{Seat, call_over, after_call}
+use Rattle.core_machine.specs.seat.Looks.{forgotten}
 use Rattle.core_machine.specs.seat.FitsAccess.{HasNoWay, IsNowhere}
 use Rattle.core_machine.specs.seat.Fits.{FitsRegister, FitsWay, FitsAnswer, HasNoAnswer, IsAtRest, IsSilent, Fits, FitsPlace, AreFragments}
 
@@ -97,21 +98,38 @@ fits_over heap seat whole fit cursor small of_cursor gone = record {
   gone = λ left. record { idle = refl; no_reserve = gone left };
 }
 
+-- so it is where the call ends without a reply
+pub fits_ended : (heap : Heap) (seat : Seat) → Fits heap (after_call seat) → Fits heap (call_over seat)
+fits_ended heap seat fits = record {
+  own = fits.own;
+  hand = fits.hand;
+  way = fits.way;
+  asked_small = fits.asked_small;
+  at_place = fits.at_place;
+  way_at_place = fits.way_at_place;
+  answer_at_place = fits.answer_at_place;
+  gone = λ left. record { idle = refl; no_reserve = (fits.gone left).no_reserve };
+}
+
 rest_over : (seat : Seat) → seat.place ≡ places.Idle → IsAtRest seat → IsNowhere seat → IsSilent seat
-    → after_call seat ≡ record seat { hand = seat.hand; body = seat.body; stored = seat.stored; tried = seat.tried; given = seat.given; place = seat.place; reached = seat.reached; links = seat.links; part = seat.part; loaded = seat.loaded; asked = seat.asked; shaded = seat.shaded }
+    → call_over seat ≡ record seat { hand = seat.hand; body = seat.body; stored = seat.stored; tried = seat.tried; given = seat.given; place = seat.place; reached = seat.reached; links = seat.links; part = seat.part; loaded = seat.loaded; asked = seat.asked; shaded = seat.shaded }
 rest_over seat here rest nowhere silent =
     rw (here, rest.empty_hand, rest.no_body, rest.none_stored, rest.none_tried, rest.none_given, nowhere.none_reached, nowhere.no_links, nowhere.no_part, nowhere.none_loaded, silent.none_asked, silent.none_shaded) refl
 
 -- a seat without a call in flight has nothing of one
-pub over_idle : (heap : Heap) (seat : Seat) → Fits heap seat → seat.place ≡ places.Idle → after_call seat ≡ seat
+pub over_idle : (heap : Heap) (seat : Seat) → Fits heap seat → seat.place ≡ places.Idle → call_over seat ≡ seat
 over_idle heap seat fits here =
     let rest : IsAtRest seat = subst (FitsPlace heap seat) here fits.at_place in
     let nowhere : IsNowhere seat = subst (FitsWay seat) here fits.way_at_place in
     let silent : IsSilent seat = subst (FitsAnswer seat) here fits.answer_at_place in
     rest_over seat here rest nowhere silent
 
+-- a reply alone makes it forget what it found
+pub over_forgets : (heap : Heap) (seat : Seat) → Fits heap seat → seat.place ≡ places.Idle → after_call seat ≡ record seat { looks = forgotten seat.looks }
+over_forgets heap seat fits here = ap (λ (s : Seat). record s { looks = forgotten seat.looks }) (over_idle heap seat fits here)
+
 -- a seat that makes nothing and answers no phase has its way alone of a call
-pub over_way : (seat : Seat) → IsAtRest seat → IsSilent seat → after_call seat ≡ record seat { reached = 0; links = 0; part = 0; loaded = 0; place = places.Idle }
+pub over_way : (seat : Seat) → IsAtRest seat → IsSilent seat → after_call seat ≡ record seat { reached = 0; links = 0; part = 0; loaded = 0; place = places.Idle; looks = forgotten seat.looks }
 over_way seat rest silent = by where
-  by : after_call seat ≡ record seat { hand = seat.hand; body = seat.body; stored = seat.stored; tried = seat.tried; given = seat.given; reached = 0; links = 0; part = 0; loaded = 0; place = places.Idle; asked = seat.asked; shaded = seat.shaded }
+  by : after_call seat ≡ record seat { hand = seat.hand; body = seat.body; stored = seat.stored; tried = seat.tried; given = seat.given; reached = 0; links = 0; part = 0; loaded = 0; place = places.Idle; asked = seat.asked; shaded = seat.shaded; looks = forgotten seat.looks }
   by = rw (rest.empty_hand, rest.no_body, rest.none_stored, rest.none_tried, rest.none_given, silent.none_asked, silent.none_shaded) refl

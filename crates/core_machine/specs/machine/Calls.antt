@@ -17,6 +17,7 @@ use Rattle.core_machine.specs.table.Layout.{at, SameTable}
 use Rattle.core_machine.specs.machine.Machine.{State, seat_at, Event, Begins, Steps, Run, state_after_all, history}
 use Rattle.core_machine.specs.seat.Making.{next_object_id}
 use Rattle.core_machine.specs.seat.Seat.{Seat}
+use Rattle.core_machine.specs.seat.Looks.{forgotten}
 use Rattle.core_machine.specs.machine.Sums.{sum_upto}
 
 -- a command is begun, and the seat makes this many steps
@@ -92,11 +93,15 @@ IsPlaceRefusal NoObject = Unit {0}
 IsPlaceRefusal NoField = Unit {0}
 IsPlaceRefusal _ = ⊥
 
--- nothing was changed, but that the seat has the call's entry
+-- nothing was changed, but that the seat has the call's entry, and with its reply has forgotten what it had looked at since the last one
 pub record LeavesAll (old new : State) (number : ℕ) : Type 0 where
   pub words_stay : new.words ≡ old.words
   pub seat_stays : seat_at new number
-      ≡ record (seat_at old number) { command = (seat_at new number).command; mine = (seat_at new number).mine }
+      ≡ record (seat_at old number) {
+        command = (seat_at new number).command;
+        looks = forgotten (seat_at old number).looks;
+        mine = (seat_at new number).mine;
+      }
 
 -- the reply that an entry tells
 abbrev pub reply_of : Entry → Option Reply

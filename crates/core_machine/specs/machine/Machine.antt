@@ -1,6 +1,7 @@
 -- States, events and runs of the machine.
 use Rattle.std.specs.Prelude.{◌≡◌, ℕ, ◌<◌, false, List, [], ◌∷◌, ◌++◌, length, slice_index_or, slice_set, Option, Some, None, IsSome}
 use Rattle.heap_model.specs.declared.heap.Heap.{Heap}
+use Rattle.heap_model.specs.declared.calls.collect.Inner.{Inner}
 use Rattle.heap_model.specs.declared.command.Command.{Command}
 use Rattle.heap_model.specs.declared.command.Command.TheVariants as commands
 use Rattle.heap_model.specs.declared.entry.Entry.{Entry}
@@ -16,6 +17,8 @@ use Rattle.core_machine.specs.seat.Making.{gather_next}
 use Rattle.core_machine.specs.seat.Access.{access_start}
 use Rattle.core_machine.specs.seat.Registers.{register_in}
 use Rattle.core_machine.specs.seat.Handshake.{leave_place}
+use Rattle.core_machine.specs.seat.Looks.{MayMake}
+use Rattle.core_machine.specs.seat.Collecting.{inner_place}
 use Rattle.core_machine.specs.Moves.{Move, next_move, seat_after}
 pub use Rattle.core_machine.specs.collector.Collector.{Collector, Turn, next_turn, collector_after}
 
@@ -67,6 +70,16 @@ pub record MayBegin (seat : Seat) (command : Command) : Type 0 where
   pub in_range : IsCommand command
   pub numbered : HasNumberLeft seat.made seat.sets command
 
+-- the seat with this inner call of a collect in flight
+abbrev pub after_inner_begin : Seat → Inner → Seat
+after_inner_begin seat inner = record seat { command = commands.Collect; place = inner_place inner }
+
+-- the inner call may be begun: no call is in flight, the seat hasn't left, and what it found allows the call
+pub record MayBeginInner (heap : Heap) (number : ℕ) (seat : Seat) (inner : Inner) : Type 0 where
+  pub idle : seat.place ≡ Idle
+  pub present : seat.left ≡ false
+  pub makes : MayMake heap number seat.looks inner
+
 -- the state after a turn of the collector: one word and the collector change
 abbrev pub state_after_turn : Heap → State → Turn → State
 state_after_turn heap state turn = record state {
@@ -74,15 +87,17 @@ state_after_turn heap state turn = record state {
   collector = collector_after turn (found_by heap state turn.step);
 }
 
--- what happens: a seat is given a command, or makes the step that is due, or the collector makes its turn
+-- what happens: a seat is given a command or begins an inner call of a collect, or makes the step that is due, or the collector makes its turn
 pub data Event : Type 0 where
   Begins : (number : ℕ) (command : Command) → Event
+  BeginsInner : (number : ℕ) (inner : Inner) → Event
   Steps : (number : ℕ) → Event
   Turns : Event
 
 -- the event may happen
 abbrev pub Can : Heap → State → Event → Type 0
 Can heap state (Begins number command) = (number < length state.seats) × MayBegin (seat_at state number) command
+Can heap state (BeginsInner number inner) = (number < length state.seats) × MayBeginInner heap number (seat_at state number) inner
 Can heap state (Steps number) = IsSome (next_move heap number (seat_at state number))
 Can heap state Turns = (next_turn heap state.collector).may
 
@@ -95,6 +110,8 @@ state_after_due heap state number (Some move) = state_after_move heap state numb
 abbrev pub state_after : Heap → State → Event → State
 state_after heap state (Begins number command) =
     record state { seats = slice_set state.seats number (after_begin heap (seat_at state number) command) }
+state_after heap state (BeginsInner number inner) =
+    record state { seats = slice_set state.seats number (after_inner_begin (seat_at state number) inner) }
 state_after heap state (Steps number) = state_after_due heap state number (next_move heap number (seat_at state number))
 state_after heap state Turns = state_after_turn heap state (next_turn heap state.collector)
 
@@ -106,6 +123,7 @@ entries_shown heap state (Some move) = move.shows state.words (found_by heap sta
 -- what the event adds to the history
 abbrev pub entries : Heap → State → Event → List Entry
 entries heap state (Begins number command) = []
+entries heap state (BeginsInner number inner) = []
 entries heap state (Steps number) = entries_shown heap state (next_move heap number (seat_at state number))
 entries heap state Turns = (next_turn heap state.collector).adds
 

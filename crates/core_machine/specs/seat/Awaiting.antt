@@ -28,6 +28,7 @@ entries_awaited_at heap words number seat places.Idle = []
 entries_awaited_at heap words number seat (places.Making place) = []
 entries_awaited_at heap words number seat places.Local = []
 entries_awaited_at heap words number seat (places.Polling place) = []
+entries_awaited_at heap words number seat (places.Collecting place) = []
 entries_awaited_at heap words number seat (places.Leaving place) = []
 
 -- what the seat's own list awaits where the seat stands

@@ -12,7 +12,8 @@ use Rattle.core_machine.specs.seat.FitsAccess.{FitsAccess, IsNowhere}
 use Rattle.core_machine.specs.table.Decode.{head_of, IsWithinHeap}
 use Rattle.core_machine.specs.seat.Seat.{Seat}
 pub use Rattle.core_machine.specs.seat.FitsMaking.{AreFragments, HasNoHand, IsAtRest, MakesRecord, SeatIsGathering, SeatIsRefusing, HasBody, FitsMaking}
-pub use Rattle.core_machine.specs.seat.FitsHandshake.{IsLocal, FitsLeaving, HasNoAnswer, IsSilent, SeatIsAnswering, FitsPolling}
+pub use Rattle.core_machine.specs.seat.FitsHandshake.{IsLocal, AnswersThePhase, FitsLeaving, HasNoAnswer, IsSilent, SeatIsAnswering, FitsPolling}
+pub use Rattle.core_machine.specs.seat.Collecting.{FitsCollecting}
 pub use Rattle.core_machine.specs.collector.FitsTurns.{FitsStage, CollectorFits}
 
 -- what is in the hand at a place
@@ -22,6 +23,7 @@ FitsPlace heap seat (places.Making place) = FitsMaking heap seat place
 FitsPlace heap seat places.Local = IsAtRest seat × IsCommand seat.command × IsLocal seat.registers seat.command
 FitsPlace heap seat (places.Access place) = IsAtRest seat
 FitsPlace heap seat (places.Polling place) = IsAtRest seat
+FitsPlace heap seat (places.Collecting place) = IsAtRest seat × (seat.command ≡ commands.Collect) × FitsCollecting heap seat place
 FitsPlace heap seat (places.Leaving place) = IsAtRest seat × (seat.command ≡ commands.Leave) × FitsLeaving seat place
 
 -- what was reached and loaded there
@@ -31,6 +33,7 @@ FitsWay seat places.Idle = IsNowhere seat
 FitsWay seat (places.Making place) = IsNowhere seat
 FitsWay seat places.Local = IsNowhere seat
 FitsWay seat (places.Polling place) = IsNowhere seat
+FitsWay seat (places.Collecting place) = IsNowhere seat
 FitsWay seat (places.Leaving place) = IsNowhere seat
 
 -- which phase is about to be answered there
@@ -40,6 +43,7 @@ FitsAnswer seat places.Idle = IsSilent seat
 FitsAnswer seat (places.Making place) = IsSilent seat
 FitsAnswer seat places.Local = IsSilent seat
 FitsAnswer seat (places.Access place) = IsSilent seat
+FitsAnswer seat (places.Collecting place) = IsSilent seat
 FitsAnswer seat (places.Leaving place) = IsSilent seat
 
 -- a register's number is within the limit, and its object's first fragment is one of the heap's

@@ -27,6 +27,12 @@ abbrev pub FitsLeaving : Seat → Leaving → Type 0
 FitsLeaving seat Emptying = 0 < length seat.reserve
 FitsLeaving seat Parting = seat.reserve ≡ []
 
+-- the command answers the phase: a poll, or a collect
+abbrev pub AnswersThePhase : Command → Type 0
+AnswersThePhase commands.Poll = Unit {0}
+AnswersThePhase commands.Collect = Unit {0}
+AnswersThePhase _ = ⊥
+
 -- no phase is about to be answered
 pub record HasNoAnswer (asked shaded : ℕ) : Type 0 where
   pub none_asked : asked ≡ 0
@@ -38,7 +44,7 @@ IsSilent seat = HasNoAnswer seat.asked seat.shaded
 
 -- a phase is about to be answered that the seat hasn't answered yet
 pub record IsNew (command : Command) (asked answered : ℕ) : Type 0 where
-  pub polls : command ≡ commands.Poll
+  pub polls : AnswersThePhase command
   pub anew : asked ≢ answered
 
 -- the seat is about to answer a phase that it hasn't answered
@@ -47,6 +53,6 @@ SeatIsAnswering seat = IsNew seat.command seat.asked seat.answered
 
 -- what is true of the seat's data at each place of a poll
 abbrev pub FitsPolling : Seat → Polling → Type 0
-FitsPolling seat Asking = IsSilent seat × (seat.command ≡ commands.Poll)
+FitsPolling seat Asking = IsSilent seat × AnswersThePhase seat.command
 FitsPolling seat Shading = SeatIsAnswering seat × (seat.shaded < length (roots seat))
 FitsPolling seat Answering = SeatIsAnswering seat × (seat.shaded ≡ length (roots seat))

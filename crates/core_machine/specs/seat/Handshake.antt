@@ -1,6 +1,8 @@
 -- How a seat goes on while it answers the phase, and while it leaves.
 use Rattle.std.specs.Prelude.{ℕ, ◌+◌, ◌%◌, ◌==◌, nat_lt, true, if◌then◌else◌, List, [], ◌∷◌, length, replicate}
 use Rattle.heap_model.specs.Limits.{register_count}
+use Rattle.heap_model.specs.declared.command.Command.{Command}
+use Rattle.heap_model.specs.declared.command.Command.TheVariants.{Collect}
 use Rattle.heap_model.specs.PhasePlan.{cycle_phases, marking}
 use Rattle.core_machine.specs.declared.place.Place.TheVariants as places
 use Rattle.core_machine.specs.declared.place.Polling.{Polling}
@@ -9,7 +11,7 @@ use Rattle.core_machine.specs.declared.place.Leaving.{Leaving}
 use Rattle.core_machine.specs.declared.place.Leaving.TheVariants.{Emptying, Parting}
 use Rattle.core_machine.specs.declared.seat.register.Register.TheVariants.{Nil}
 use Rattle.core_machine.specs.seat.Registers.{heads_of}
-use Rattle.core_machine.specs.seat.Seat.{Seat, after_call}
+use Rattle.core_machine.specs.seat.Seat.{Seat, call_over, after_call}
 
 -- what is shaded before the phase is answered: where marking begins the registers' objects
 abbrev pub roots : Seat → List ℕ
@@ -23,9 +25,14 @@ answer_place seat = if nat_lt seat.shaded (length (roots seat)) then Shading els
 abbrev pub answer_next : Seat → Seat
 answer_next seat = record seat { place = places.Polling (answer_place seat) }
 
+-- a call that answers the phase is over: a poll with its reply, and the answer of a collect without one
+abbrev pub polling_over : Command → Seat → Seat
+polling_over Collect seat = call_over seat
+polling_over command seat = after_call seat
+
 -- the phase was found: it is answered where it wasn't yet
 abbrev pub after_phase_load : Seat → ℕ → Seat
-after_phase_load seat found = if found == seat.answered then after_call seat else answer_next (record seat { asked = found })
+after_phase_load seat found = if found == seat.answered then polling_over seat.command seat else answer_next (record seat { asked = found })
 
 -- one more root was shaded
 abbrev pub after_root_shade : Seat → Seat
@@ -33,7 +40,7 @@ after_root_shade seat = answer_next (record seat { shaded = seat.shaded + 1 })
 
 -- the answer was stored
 abbrev pub after_answer : Seat → Seat
-after_answer seat = after_call (record seat { answered = seat.asked })
+after_answer seat = polling_over seat.command (record seat { answered = seat.asked })
 
 -- a reserve is given back before the seat leaves
 abbrev pub leave_place : List ℕ → Leaving

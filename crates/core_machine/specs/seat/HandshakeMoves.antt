@@ -1,5 +1,7 @@
 -- The moves of the calls that look at the phase alone, and of those that answer it or leave.
 use Rattle.std.specs.Prelude.{ℕ, ◌==◌, if◌then◌else◌, List, [], ◌∷◌, length, slice_index_or}
+use Rattle.heap_model.specs.declared.command.Command.{Command}
+use Rattle.heap_model.specs.declared.command.Command.TheVariants.{Collect}
 use Rattle.heap_model.specs.declared.entry.Entry.{Entry}
 use Rattle.heap_model.specs.declared.entry.Entry.TheVariants.{Said, GivesBack, Answers}
 use Rattle.heap_model.specs.declared.reply.Reply.TheVariants.{Phase, Done}
@@ -22,9 +24,14 @@ abbrev pub local_move : ℕ → Seat → Move
 local_move number seat =
     plain_move steps.PollLoad (λ found. after_local seat) (λ found. Said number seat.command (local_reply_of seat.registers seat.command) ∷ [])
 
--- the reply to a poll of the phase that the seat has answered
+-- a poll tells the phase, which the answer of a collect doesn't
+abbrev pub phase_told : ℕ → Command → ℕ → List Entry
+phase_told number Collect phase = []
+phase_told number command phase = Said number command (Phase phase) ∷ []
+
+-- what is told of the phase where the seat has answered it
 abbrev pub poll_adds : ℕ → Seat → ℕ → List Entry
-poll_adds number seat found = if found == seat.answered then Said number seat.command (Phase found) ∷ [] else []
+poll_adds number seat found = if found == seat.answered then phase_told number seat.command found else []
 
 -- a poll loads the phase
 abbrev pub poll_move : ℕ → Seat → Move
@@ -39,9 +46,9 @@ root_move seat =
 abbrev pub answer_move : ℕ → Seat → Move
 answer_move number seat =
     plain_move (steps.Handshake (AnswerStore number seat.asked)) (λ found. after_answer seat)
-    (λ found. Answers number seat.asked ∷ Said number seat.command (Phase seat.asked) ∷ [])
+    (λ found. Answers number seat.asked ∷ phase_told number seat.command seat.asked)
 
--- the move at each place of a poll
+-- the move at each place of a poll, and of the answer of a collect
 abbrev pub polling_move : ℕ → Seat → Polling → Move
 polling_move number seat Asking = poll_move number seat
 polling_move number seat Shading = root_move seat

@@ -10,6 +10,7 @@ use Rattle.heap_model.specs.account.Space.{need_of}
 use Rattle.core_machine.specs.declared.place.Place.{Place}
 use Rattle.core_machine.specs.declared.place.Place.TheVariants.{Idle}
 use Rattle.core_machine.specs.declared.seat.register.Register.{Register}
+use Rattle.core_machine.specs.seat.Looks.{Looks, no_looks, forgotten}
 
 -- a seat's own data
 pub record Seat : Type 0 where
@@ -51,6 +52,8 @@ pub record Seat : Type 0 where
   pub shaded : ℕ
   -- how many sets it did
   pub sets : ℕ
+  -- what it found out by the inner calls of its collects
+  pub looks : Looks
   -- whether it has left
   pub left : Bool
   -- its entries, in their order
@@ -78,6 +81,7 @@ absent_seat = record {
   asked = 0;
   shaded = 0;
   sets = 0;
+  looks = no_looks;
   left = true;
   mine = [];
 }
@@ -102,8 +106,8 @@ HasNumberLeft made sets commands.Collect = Unit {0}
 HasNumberLeft made sets commands.Leave = Unit {0}
 
 -- the call is over, and nothing of it is left
-abbrev pub after_call : Seat → Seat
-after_call seat = record seat {
+abbrev pub call_over : Seat → Seat
+call_over seat = record seat {
   hand = [];
   body = [];
   stored = 0;
@@ -117,6 +121,10 @@ after_call seat = record seat {
   asked = 0;
   shaded = 0;
 }
+
+-- so it is after a reply, which forgets what was found since the last one
+abbrev pub after_call : Seat → Seat
+after_call seat = record (call_over seat) { looks = forgotten seat.looks }
 
 -- the seat with more entries
 abbrev pub with_entries : Seat → List Entry → Seat

@@ -1,13 +1,14 @@
 ghost use Rattle.std.specs.Prelude.{◌≡◌, ◌+◌, ◌*◌, ◌<◌, ◌≤◌, Some};
 ghost use Rattle.heap_model.specs.declared.command.Command.TheVariants.{Leave};
 ghost use Rattle.heap_model.specs.account.Space.{need_of};
-ghost use Rattle.core_machine.specs.machine.Machine.{Begins, Can, seat_at};
+ghost use Rattle.core_machine.specs.machine.Machine.{Begins, BeginsInner, Can, seat_at};
+ghost use Rattle.core_machine.specs.machine.InnerCalls.{PlaysInner};
 ghost use Rattle.core_machine.specs.seat.Commands.{IsRecord};
 ghost use Rattle.core_machine.specs.machine.Calls.{PlaysCall, CountsCall, TellsLeave, AnswersNew, IsPlaceRefusal, LeavesAll, last_reply_of};
 ghost use Rattle.core_machine.specs.machine.Value.{spare_of, SpendsRoom};
 
 use crate::machine::Machine;
-use heap_model::{Command, Entry, Reply};
+use heap_model::{Command, Entry, Inner, Reply};
 
 impl Machine {
     /// Makes a whole call of the seat, with no step of others between, and answers its reply.
@@ -31,6 +32,22 @@ impl Machine {
         match last_reply(self.log(seat)) {
             Some(reply) => reply,
             None => unreachable!(),
+        }
+    }
+
+    /// Makes a whole inner call of the seat's collect, with no step of others between.
+    pub fn play_inner(&mut self, seat: u8, inner: Inner)
+        requires can { Can self.old.heap self.old.state (BeginsInner seat inner) }
+        requires room { 4 ≤ spare_of self.old seat }
+        ensures heap { self.new.heap ≡ self.old.heap }
+        ensures plays { PlaysInner self.old.heap self.old.state self.new.state seat inner }
+        ensures spent { SpendsRoom self.old self.new seat }
+    {
+        // What is true of every machine is known from here on.
+        let _ = &self.words;
+        self.begin_inner(seat, inner);
+        while let Some(step) = self.due_of_seat(seat) {
+            self.step_of_seat(seat, &step);
         }
     }
 }

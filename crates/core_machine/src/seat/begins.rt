@@ -3,13 +3,14 @@ ghost use Rattle.core_machine.specs.seat.Commands.{IsServed};
 ghost use Rattle.core_machine.specs.seat.Seat.{HasNumberLeft};
 ghost use Rattle.heap_model.specs.Heap.{IsHeap};
 ghost use Rattle.core_machine.specs.seat.Fits.{Fits};
-ghost use Rattle.core_machine.specs.machine.Machine.{MayBegin, after_begin};
+ghost use Rattle.core_machine.specs.machine.Machine.{MayBegin, MayBeginInner, after_begin, after_inner_begin};
 
 use crate::place::{Place, Polling};
 use crate::seat::SeatParty;
+use crate::seat::collecting::first_place;
 use crate::seat::commands::Parts;
 use heap_model::limits::STAMP_LIMIT;
-use heap_model::{Command, Heap};
+use heap_model::{Command, Heap, Inner};
 
 /// The most sets that a seat does.
 const MOST_SETS: u32 = STAMP_LIMIT - 1;
@@ -77,5 +78,23 @@ impl SeatParty {
             | Command::Same { .. } => self.place = Place::Local,
             Command::Array { .. } | Command::Collect => unreachable!(),
         }
+    }
+    /// Whether the inner call of a collect may be begun now.
+    pub fn may_begin_inner(&self, heap: &Heap, number: u8, inner: &Inner) -> bool
+        ensures { IsTrue result ↔ MayBeginInner heap.now number self.now.seat inner.now }
+    {
+        let Place::Idle = self.place else {
+            return false;
+        };
+        !self.left && self.looks.may_make(heap, number, inner)
+    }
+
+    /// Puts the inner call of a collect in flight.
+    pub fn begin_inner(&mut self, inner: Inner)
+        ensures seat { self.new.seat ≡ after_inner_begin self.old.seat inner }
+        ensures spare { self.new.spare ≡ self.old.spare }
+    {
+        self.command = Command::Collect;
+        self.place = first_place(inner);
     }
 }

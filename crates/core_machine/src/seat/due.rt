@@ -3,11 +3,11 @@ ghost use Rattle.heap_model.specs.Heap.{IsHeap};
 ghost use Rattle.core_machine.specs.declared.step.Step.TheVariants.{Access as Accesses};
 ghost use Rattle.core_machine.specs.seat.Fits.{Fits, FitsMaking, FitsPolling};
 ghost use Rattle.core_machine.specs.seat.FitsAccess.{FitsAccess};
-ghost use Rattle.core_machine.specs.Moves.{due_step, making_move, access_move, polling_move, leaving_move};
+ghost use Rattle.core_machine.specs.Moves.{due_step, making_move, access_move, polling_move, leaving_move, collecting_move};
 
-use crate::place::{Access, Leaving, Making, Place, Polling};
+use crate::place::{Access, Collecting, Leaving, Making, Place, Polling};
 use crate::seat::SeatParty;
-use crate::step::{AccessStep, HandshakeStep, MakingStep, Step};
+use crate::step::{AccessStep, HandshakeStep, MakingStep, Step, TurningStep};
 use heap_model::Heap;
 
 impl SeatParty {
@@ -83,6 +83,20 @@ impl SeatParty {
         }
     }
 
+    /// The step of an inner call of a collect that is due.
+    fn due_collecting(&self, number: u8, place: Collecting) -> Step
+        ensures { result ≡ (collecting_move number self.now.seat place).step }
+    {
+        match place {
+            Collecting::Looking | Collecting::Asking { .. } | Collecting::Noting(_) => {
+                Step::PollLoad
+            }
+            Collecting::Comparing { other, .. } => {
+                Step::Turning(TurningStep::LookLoad { seat: other })
+            }
+        }
+    }
+
     /// The step of leaving that is due.
     fn due_leaving(&self, number: u8, place: Leaving) -> Step
         ensures { result ≡ (leaving_move number self.now.seat place).step }
@@ -106,6 +120,7 @@ impl SeatParty {
             Place::Local => Some(Step::PollLoad),
             Place::Access(place) => Some(Step::Access(self.due_access(heap, number, place))),
             Place::Polling(place) => Some(self.due_polling(number, place)),
+            Place::Collecting(place) => Some(self.due_collecting(number, place)),
             Place::Leaving(place) => Some(self.due_leaving(number, place)),
         }
     }

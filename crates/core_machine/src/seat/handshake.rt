@@ -3,8 +3,9 @@ ghost use Rattle.heap_model.specs.Limits.{register_count, most_reserve};
 ghost use Rattle.core_machine.specs.declared.step.Step.TheVariants.{Making as Makes};
 ghost use Rattle.core_machine.specs.declared.place.Place.TheVariants.{Leaving as Leaves};
 ghost use Rattle.core_machine.specs.seat.Registers.{heads_of};
-ghost use Rattle.core_machine.specs.seat.Handshake.{roots, answer_next, after_root_shade, leave_place};
-ghost use Rattle.core_machine.specs.seat.HandshakeMoves.{poll_move, answer_move, empty_move, leave_move};
+ghost use Rattle.core_machine.specs.seat.Handshake.{roots, answer_next, after_root_shade, leave_place, polling_over};
+ghost use Rattle.core_machine.specs.seat.HandshakeMoves.{phase_told, poll_move, answer_move, empty_move, leave_move};
+ghost use Rattle.core_machine.specs.seat.Seat.{with_entries};
 ghost use Rattle.core_machine.specs.Moves.{seat_after};
 ghost use Rattle.core_machine.specs.machine.Value.{KeepsRoom};
 
@@ -15,7 +16,7 @@ use crate::step::MakingStep;
 use crate::table::fragments::{Reserve, mask};
 use heap_model::limits::REGISTER_COUNT;
 use heap_model::phase_plan::{CYCLE_PHASES, MARKING};
-use heap_model::{Entry, Reply};
+use heap_model::{Command, Entry, Reply};
 
 /// How many of the registers hold an object.
 fn head_count(registers: &[Register]) -> usize
@@ -84,6 +85,19 @@ impl SeatParty {
         });
     }
 
+    /// Ends the call that answers the phase: a poll tells it.
+    fn tell_phase(&mut self, number: u8, phase: u64)
+        requires { 0 < self.old.spare }
+        ensures seat { self.new.seat ≡ with_entries (polling_over self.old.seat.command self.old.seat) (phase_told number self.old.seat.command phase) }
+        ensures spare { KeepsRoom self.old self.new }
+    {
+        if let Command::Collect = self.command {
+            self.finish();
+            return;
+        }
+        self.reply(number, Reply::Phase(phase));
+    }
+
     /// Learns the phase.
     pub(crate) fn learn_phase(&mut self, number: u8, found: u64)
         requires { 0 < self.old.spare }
@@ -95,7 +109,7 @@ impl SeatParty {
             self.shade_on();
             return;
         }
-        self.reply(number, Reply::Phase(found));
+        self.tell_phase(number, found);
     }
 
     /// Shaded an object of the registers.
@@ -122,7 +136,7 @@ impl SeatParty {
             seat: number,
             phase,
         });
-        self.reply(number, Reply::Phase(phase));
+        self.tell_phase(number, phase);
     }
 
     /// Begins to leave.

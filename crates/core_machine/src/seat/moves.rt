@@ -99,6 +99,7 @@ impl SeatParty {
             Place::Local => self.learn_local(number),
             Place::Access(place) => self.learn_access(heap, number, place, found),
             Place::Polling(place) => self.learn_polling(number, place, found),
+            Place::Collecting(place) => self.learn_collecting(number, place, found),
             Place::Leaving(place) => self.learn_leaving(number, place),
         }
     }

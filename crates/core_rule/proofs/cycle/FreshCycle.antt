@@ -28,6 +28,7 @@ fresh_access P opens (places.Making making) fresh = tt
 fresh_access P opens places.Local fresh = tt
 fresh_access P opens (places.Access LoadingMeta) fresh = opens
 fresh_access P opens (places.Polling polling) fresh = tt
+fresh_access P opens (places.Collecting collecting) fresh = tt
 fresh_access P opens (places.Leaving leaving) fresh = tt
 fresh_access P opens _ fresh = absurd fresh
 

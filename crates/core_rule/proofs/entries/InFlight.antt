@@ -36,6 +36,7 @@ tried_within heap seat _ fits = omega (arith, fits.0.none_tried)
 pub stored_within : (heap : Heap) (seat : Seat) (place : Place) → FitsPlace heap seat place → seat.stored ≤ 4 * length seat.body
 stored_within heap seat places.Local fits = omega (arith, fits.0.none_stored)
 stored_within heap seat (places.Leaving place) fits = omega (arith, fits.0.none_stored)
+stored_within heap seat (places.Collecting place) fits = omega (arith, fits.0.none_stored)
 stored_within heap seat (places.Making Returning) fits = omega (arith, fits.0.none_stored)
 stored_within heap seat (places.Making Refusing) fits = omega (arith, fits.0.none_stored)
 stored_within heap seat (places.Making Storing) fits = omega (arith, fits.2)

@@ -29,6 +29,7 @@ use Rattle.core_rule.specs.Footprint.{StageStandsInside, is_inside, inside_bit}
 use Rattle.core_rule.specs.Holding.{fragments_in_hand}
 use Rattle.core_rule.specs.Owners.{Kept}
 use Rattle.core_rule.specs.Rule.{Rule}
+use Rattle.core_rule.specs.Looks.{AllLooksStand}
 use Rattle.core_rule.specs.Stands.{Stands}
 use Rattle.core_rule.proofs.cycle.Barriers.{barrier_window}
 use Rattle.core_rule.proofs.entries.AtRest.{seat_fits, in_flight}
@@ -120,7 +121,7 @@ module _ (heap : Heap) (state new : State) (book : Book) (begun_at : ℕ → ℕ
         subst (λ h. sum_upto (16 * heap.groups) (λ f. inside_bit (is_inside (graph_of heap h) begun) now.made (now.owner f)) ≤ bound heap begun now.history) (sym window)
         (omega (arith, size, brought, most, bring, reached))
 
-  module _ (looking : new.collector.stage ≡ stages.Looking) (seats : (r : ℕ) → seat_at new r ≡ seat_at state r) where
+  module _ (looking : new.collector.stage ≡ stages.Looking) (seats : (r : ℕ) → seat_at new r ≡ seat_at state r) (looks : AllLooksStand heap new now.history) where
     -- the begin of a cycle keeps what stands
     pub cycle_begins : Stands heap new now
     cycle_begins = record {
@@ -134,5 +135,6 @@ module _ (heap : Heap) (state new : State) (book : Book) (begun_at : ℕ → ℕ
         stage = subst (StageStandsInside heap now.made begun (is_inside (graph_of heap (up_to_cycle now.history)) begun) now.owner (bound heap begun now.history)) (sym looking) tt;
         size = size_begun begun reach;
       };
+      looks = looks;
       no_arrays = none_told;
     }

@@ -1,6 +1,9 @@
 -- A seat comes to the shade of an old value by the load of it alone.
 use Rattle.std.proofs.Common.{◌≡◌, ℕ, ◌+◌, ◌==◌, ◌++◌, Bool, true, false, if◌then◌else◌, Option, Some, None, refl, subst}
 use Rattle.heap_model.specs.declared.command.Command.{Command}
+use Rattle.heap_model.specs.declared.calls.collect.Inner.{Inner}
+use Rattle.heap_model.specs.declared.calls.collect.Inner.TheVariants as inners
+use Rattle.core_machine.specs.seat.Collecting.{inner_place}
 use Rattle.heap_model.specs.declared.command.Command.TheVariants as commands
 use Rattle.heap_model.specs.declared.heap.Heap.{Heap}
 use Rattle.heap_model.specs.declared.reply.Reply.{Reply}
@@ -9,18 +12,20 @@ use Rattle.core_machine.specs.declared.place.Leaving.TheVariants.{Emptying, Part
 use Rattle.core_machine.specs.declared.place.Making.TheVariants.{Gathering, Returning, Refusing, Storing, Bearing}
 use Rattle.core_machine.specs.declared.place.Place.{Place}
 use Rattle.core_machine.specs.declared.place.Place.TheVariants as places
-use Rattle.core_machine.specs.declared.place.Polling.TheVariants.{Asking, Shading, Answering}
+use Rattle.core_machine.specs.declared.place.Collecting.TheVariants.{Looking, Asking, Comparing, Noting}
+use Rattle.core_machine.specs.declared.place.Polling.TheVariants as polling
 use Rattle.core_machine.specs.declared.seat.register.Register.{Register}
 use Rattle.core_machine.specs.declared.seat.register.Register.TheVariants as registers
 use Rattle.core_machine.specs.machine.Machine.{after_begin}
 use Rattle.core_machine.specs.Moves.{move_at, is_last_birth, last_birth_move, birth_move, seat_after_due, seat_after}
 use Rattle.core_machine.specs.seat.Access.{has_barrier_of, field_place_of, way_place_of, after_link, after_walk, at_access, with_field_place, after_meta, after_get, new_place_of, access_start}
-use Rattle.core_machine.specs.seat.Handshake.{answer_next, after_phase_load}
+use Rattle.core_machine.specs.seat.Handshake.{answer_next, after_phase_load, polling_over}
 use Rattle.core_machine.specs.seat.Making.{gather_next, next_group_of, after_claim}
 use Rattle.core_machine.specs.table.Fragments.{clear_in}
 use Rattle.core_machine.specs.seat.Registers.{register_in}
-use Rattle.core_machine.specs.seat.Seat.{Seat, after_call}
+use Rattle.core_machine.specs.seat.Seat.{Seat}
 use Rattle.core_machine.proofs.seat_lemmas.Fitting.{goes_on_cases}
+use Rattle.core_rule.proofs.entries.PhasesTold.{over_cases}
 
 -- it is the place of that shade
 abbrev pub IsOld : Place → Type 0
@@ -77,11 +82,14 @@ new_old : (head : Option ℕ) → ¬ IsOld (places.Access (new_place_of head))
 new_old None old = old
 new_old (Some head) old = old
 
+over_old : (command : Command) (seat : Seat) → ¬ IsOld (polling_over command seat).place
+over_old command seat = over_cases (λ (s : Seat). ¬ IsOld s.place) command seat (λ old. old) (λ old. old)
+
 phase_old : (seat : Seat) (found : ℕ) → ¬ IsOld (after_phase_load seat found).place
 phase_old seat found = by (found == seat.answered)
   where
-    by : (b : Bool) → ¬ IsOld (if b then after_call seat else answer_next (record seat { asked = found })).place
-    by true old = old
+    by : (b : Bool) → ¬ IsOld (if b then polling_over seat.command seat else answer_next (record seat { asked = found })).place
+    by true old = over_old seat.command seat old
     by false old = old
 
 -- so it is by each move
@@ -106,9 +114,13 @@ only_loads heap number seat found (places.Access LoadingOld) placed old = refl
 only_loads heap number seat found (places.Access ShadingOld) placed old = absurd (new_old _ old)
 only_loads heap number seat found (places.Access ShadingNew) placed old = absurd old
 only_loads heap number seat found (places.Access Swapping) placed old = absurd old
-only_loads heap number seat found (places.Polling Asking) placed old = absurd (phase_old seat found old)
-only_loads heap number seat found (places.Polling Shading) placed old = absurd old
-only_loads heap number seat found (places.Polling Answering) placed old = absurd old
+only_loads heap number seat found (places.Polling polling.Asking) placed old = absurd (phase_old seat found old)
+only_loads heap number seat found (places.Polling polling.Shading) placed old = absurd old
+only_loads heap number seat found (places.Polling polling.Answering) placed old = absurd (over_old seat.command (record seat { answered = seat.asked }) old)
+only_loads heap number seat found (places.Collecting Looking) placed old = absurd old
+only_loads heap number seat found (places.Collecting (Asking other)) placed old = absurd old
+only_loads heap number seat found (places.Collecting (Comparing other p)) placed old = absurd old
+only_loads heap number seat found (places.Collecting (Noting reply)) placed old = absurd old
 only_loads heap number seat found (places.Leaving Emptying) placed old = absurd old
 only_loads heap number seat found (places.Leaving Parting) placed old = absurd old
 
@@ -131,3 +143,9 @@ begin_old heap seat (commands.Len r) idle old = start_old (record seat { command
 begin_old heap seat commands.Poll idle old = old
 begin_old heap seat commands.Collect idle old = subst IsOld idle old
 begin_old heap seat commands.Leave idle old = old
+
+pub inner_old : (inner : Inner) → ¬ IsOld (inner_place inner)
+inner_old inners.Look old = old
+inner_old inners.Answer old = old
+inner_old (inners.Behind other) old = old
+inner_old (inners.Note reply) old = old

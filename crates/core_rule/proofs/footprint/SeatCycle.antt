@@ -18,7 +18,7 @@ use Rattle.core_machine.specs.declared.place.Making.TheVariants.{Bearing}
 use Rattle.core_machine.specs.declared.place.Place.TheVariants as places
 use Rattle.core_machine.specs.declared.table.address.Address.TheVariants.{Word}
 use Rattle.core_machine.specs.collector.Collector.{Collector}
-use Rattle.core_machine.specs.machine.Machine.{State, seat_at, Begins, Steps, Can, state_after, state_after_due, entries, found_by, after_begin}
+use Rattle.core_machine.specs.machine.Machine.{State, seat_at, Begins, BeginsInner, Steps, Can, state_after, state_after_due, entries, found_by, after_begin, after_inner_begin}
 use Rattle.core_machine.specs.Moves.{Move, next_move, move_at, seat_after_due}
 use Rattle.core_machine.specs.seat.Access.{has_barrier_of, after_old_load}
 use Rattle.core_machine.specs.seat.Commands.{IsRecord, object_of, target_of}
@@ -41,7 +41,10 @@ use Rattle.core_rule.proofs.footprint.CarryCycle.{carry_cycle}
 use Rattle.core_rule.proofs.footprint.Closed.{registers_inside}
 use Rattle.core_rule.proofs.footprint.FootprintGoes.{footprint_goes, stage_goes, old_goes}
 use Rattle.core_rule.proofs.footprint.Named.{cell_inside}
-use Rattle.core_rule.proofs.footprint.OldLoads.{IsOld, only_loads, begin_old}
+use Rattle.core_rule.proofs.footprint.OldLoads.{IsOld, only_loads, begin_old, inner_old}
+use Rattle.core_rule.proofs.looks.Stays.{step_looks, begin_looks, inner_looks}
+use Rattle.core_machine.specs.seat.Collecting.{inner_place}
+use Rattle.heap_model.specs.declared.calls.collect.Inner.{Inner}
 use Rattle.core_rule.proofs.footprint.Shown.{AreMute, mute_begins, mute_phase, mute_words, shown_mute}
 use Rattle.core_rule.proofs.footprint.StaysInside.{inside_from}
 use Rattle.core_rule.proofs.footprint.WeightGrowth.{total-added}
@@ -165,6 +168,7 @@ module _ (heap : Heap) (state : State) (book : Book) (stands : Stands heap state
   step_cycle keeps = record {
     rule = keeps.rule;
     cycle = quiet_cycle heap state after book book.begun (entries heap state (Steps number)) stands keeps step_mute (due_collector heap state number (next_move heap number seat)) step_olds;
+    looks = step_looks heap state book keeps.now.history number stands.rule here stands.looks keeps.grown;
     no_arrays = none_told heap state after book book.begun (entries heap state (Steps number)) stands keeps step_mute;
   }
 
@@ -174,6 +178,7 @@ module _ (heap : Heap) (state : State) (book : Book) (stands : Stands heap state
   begin_cycle command begun_at can keeps = record {
     rule = keeps.rule;
     cycle = quiet_cycle heap state (state_after heap state (Begins number command)) book begun_at [] stands keeps tt refl olds;
+    looks = begin_looks heap state book.history keeps.now.history number command seated here can.1 stands.looks keeps.grown;
     no_arrays = none_told heap state (state_after heap state (Begins number command)) book begun_at [] stands keeps tt;
   }
     where
@@ -187,4 +192,26 @@ module _ (heap : Heap) (state : State) (book : Book) (stands : Stands heap state
             let is_now : (after_begin heap seat command).place ≡ places.Access ShadingOld
             = sym (ap (λ (s : Seat). s.place) there) ∙ subst (λ n. (seat_at (state_after heap state (Begins number command)) n).place ≡ places.Access ShadingOld) same.1 placed in
             absurd (begin_old heap seat command can.1.idle (subst IsOld (sym is_now) tt))
+      ]
+
+  -- and by that of an inner call
+  pub inner_cycle : (inner : Inner) (begun_at : ℕ → ℕ) → Can heap state (BeginsInner number inner)
+      → (keeps : Keeps heap state (state_after heap state (BeginsInner number inner)) book begun_at []) → Stands heap (state_after heap state (BeginsInner number inner)) keeps.now
+  inner_cycle inner begun_at can keeps = record {
+    rule = keeps.rule;
+    cycle = quiet_cycle heap state (state_after heap state (BeginsInner number inner)) book begun_at [] stands keeps tt refl olds;
+    looks = inner_looks heap state book.history keeps.now.history number inner seated here can.1 stands.looks keeps.grown;
+    no_arrays = none_told heap state (state_after heap state (BeginsInner number inner)) book begun_at [] stands keeps tt;
+  }
+    where
+      olds : (begun : List Id) → IsReach (graph_of heap (up_to_cycle book.history)) begun → (r f i k : ℕ) → r < heap.seats → (seat_at (state_after heap state (BeginsInner number inner)) r).place ≡ places.Access ShadingOld
+          → head_of (seat_at (state_after heap state (BeginsInner number inner)) r).loaded ≡ Some f → (seat_at (state_after heap state (BeginsInner number inner)) r ≡ seat_at state r)
+          ⊎ (book.owner f ≡ Kept i k → is_inside (graph_of heap (up_to_cycle book.history)) begun (id_at book.made i) ≡ true)
+      olds begun reach r f i k below placed loads = elim (eqb_tells r number) [
+        | inr apart ↦ inl (get_or-set_other state.seats number r _ absent_seat apart.1)
+        | inl same ↦
+            let there : seat_at (state_after heap state (BeginsInner number inner)) number ≡ after_inner_begin seat inner = get_or-set_same state.seats number _ absent_seat seated in
+            let is_now : inner_place inner ≡ places.Access ShadingOld
+            = sym (ap (λ (s : Seat). s.place) there) ∙ subst (λ n. (seat_at (state_after heap state (BeginsInner number inner)) n).place ≡ places.Access ShadingOld) same.1 placed in
+            absurd (inner_old inner (subst IsOld (sym is_now) tt))
       ]

@@ -15,6 +15,10 @@ use Rattle.heap_model.specs.account.PhaseCounts.{phase}
 use Rattle.heap_model.specs.account.Space.{words_granted}
 use Rattle.heap_model.specs.account.Windows.{begins_cycle}
 use Rattle.core_machine.specs.declared.place.Access.TheVariants.{LoadingMeta, Getting, Swapping}
+use Rattle.core_machine.specs.declared.place.Collecting.TheVariants.{Looking, Comparing, Noting}
+use Rattle.core_machine.specs.declared.place.Collecting.TheVariants as collecting
+use Rattle.heap_model.specs.declared.calls.collect.CollectReply.{CollectReply}
+use Rattle.heap_model.specs.declared.calls.collect.CollectReply.TheVariants as notes
 use Rattle.core_machine.specs.declared.place.Leaving.TheVariants.{Emptying, Parting}
 use Rattle.core_machine.specs.declared.place.Making.TheVariants.{Gathering, Returning, Refusing, Bearing}
 use Rattle.core_machine.specs.declared.place.Place.{Place}
@@ -27,10 +31,12 @@ use Rattle.core_machine.specs.Moves.{move_at, is_last_birth, last_birth_move, bi
 use Rattle.core_machine.specs.seat.Access.{meta_reply_of}
 use Rattle.core_machine.specs.seat.AccessMoves.{got_shows, reply_entries_if}
 use Rattle.core_machine.specs.seat.Commands.{IsRecord}
-use Rattle.core_machine.specs.seat.HandshakeMoves.{poll_adds}
+use Rattle.core_machine.specs.seat.HandshakeMoves.{poll_adds, phase_told}
+use Rattle.core_machine.specs.seat.Looks.{noted_reply}
 use Rattle.core_machine.specs.seat.Local.{local_reply_of}
 use Rattle.core_machine.specs.seat.Seat.{Seat}
 use Rattle.core_machine.specs.table.Layout.{at}
+use Rattle.core_rule.proofs.entries.PhasesTold.{told_cases, told_if}
 
 -- the entry begins no phase, and makes no array
 pub record IsMute (entry : Entry) : Type 0 where
@@ -103,11 +109,14 @@ claim_mute number count = by (count == 0)
     by false = one_mute (Takes number count) refl refl refl
 
 poll_mute : (number : ℕ) (seat : Seat) (found : ℕ) → AreMute (poll_adds number seat found)
-poll_mute number seat found = by (found == seat.answered)
-  where
-    by : (b : Bool) → AreMute (if b then Said number seat.command (replies.Phase found) ∷ [] else [])
-    by true = one_mute (Said number seat.command (replies.Phase found)) refl refl refl
-    by false = tt
+poll_mute number seat found = told_if AreMute number seat.command found (found == seat.answered) tt (one_mute (Said number seat.command (replies.Phase found)) refl refl refl)
+
+answer_mute : (number : ℕ) (command : Command) (p : ℕ) → AreMute (phase_told number command p)
+answer_mute number command p = told_cases AreMute number command p tt (one_mute (Said number command (replies.Phase p)) refl refl refl)
+
+note_mute : (number : ℕ) (command : Command) (reply : CollectReply) → AreMute (Said number command (noted_reply reply) ∷ [])
+note_mute number command (notes.Cycle j) = one_mute _ refl refl refl
+note_mute number command (notes.Waits other answered p) = one_mute _ refl refl refl
 
 meta_mute : (number : ℕ) (seat : Seat) (found : ℕ) (reply : Option Reply) → meta_reply_of seat.command found ≡ reply → AreMute (reply_entries_if number seat reply)
 meta_mute number seat found None is = tt
@@ -133,7 +142,11 @@ module _ (heap : Heap) (state : State) (number : ℕ) (makes : (seat_at state nu
   shown_mute (places.Access Getting) placed = get_mute heap number (seat_at state number) state.words (at heap state.words (Word (seat_at state number).reached (seat_at state number).part)) _
   shown_mute (places.Access Swapping) placed = one_mute _ refl refl refl
   shown_mute (places.Polling Asking) placed = poll_mute number (seat_at state number) _
-  shown_mute (places.Polling Answering) placed = (record { no_begin = refl; no_phase = refl; no_words = refl }, one_mute _ refl refl refl)
+  shown_mute (places.Polling Answering) placed = (record { no_begin = refl; no_phase = refl; no_words = refl }, answer_mute number (seat_at state number).command _)
+  shown_mute (places.Collecting Looking) placed = tt
+  shown_mute (places.Collecting (collecting.Asking other)) placed = tt
+  shown_mute (places.Collecting (Comparing other p)) placed = tt
+  shown_mute (places.Collecting (Noting reply)) placed = note_mute number (seat_at state number).command reply
   shown_mute (places.Leaving Emptying) placed = one_mute _ refl refl refl
   shown_mute (places.Leaving Parting) placed = one_mute _ refl refl refl
   shown_mute _ placed = tt

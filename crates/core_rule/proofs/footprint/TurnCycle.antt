@@ -28,6 +28,7 @@ use Rattle.core_rule.proofs.footprint.Shown.{AreMute, one_mute, mute_begins, mut
 use Rattle.core_rule.proofs.footprint.SeatCycle.{none_told}
 use Rattle.core_rule.proofs.footprint.StagesInside.{turn_inside}
 use Rattle.core_rule.proofs.footprint.WeightGrowth.{total-added}
+use Rattle.core_rule.proofs.looks.Stays.{turn_looks}
 use Rattle.core_rule.proofs.steps.Assemble.{Keeps}
 
 module _ (heap : Heap) (state : State) (book : Book) (stands : Stands heap state book) where
@@ -63,6 +64,7 @@ module _ (heap : Heap) (state : State) (book : Book) (stands : Stands heap state
         rule = keeps.rule;
         cycle = on_cycle stage is keeps (mute_begins (turn_at heap state.collector stage).adds mute) (λ running rests. running (ap (λ p. p % 7) same ∙ rests))
             (λ begun inside most foot ends f i k owned. foot.kept f i k owned (inr (ap (λ p. p % 7) (sym same) ∙ ends)));
+        looks = turn_looks heap state book.history keeps.now.history stage stands.looks keeps.grown;
         no_arrays = none_told heap state (after stage) book book.begun (turn_at heap state.collector stage).adds stands keeps mute;
       }
 
@@ -88,12 +90,13 @@ module _ (heap : Heap) (state : State) (book : Book) (stands : Stands heap state
 
   advance_stands : state.collector.stage ≡ stages.Advancing → (keeps : TurnKept stages.Advancing) → Stands heap (after stages.Advancing) keeps.now
   advance_stands is keeps = elim (eqb_tells (next % 7) 1) as (λ _. Stands heap (after stages.Advancing) keeps.now) [
-    | inl begins ↦ cycle_begins heap state (after stages.Advancing) book book.begun next stands keeps begins.0 is refl refl (λ r. refl)
+    | inl begins ↦ cycle_begins heap state (after stages.Advancing) book book.begun next stands keeps begins.0 is refl refl (λ r. refl) (turn_looks heap state book.history keeps.now.history stages.Advancing stands.looks keeps.grown)
     | inr other ↦ record {
       rule = keeps.rule;
       cycle = on_cycle stages.Advancing is keeps (no_begin other.0)
           (λ running rests. other.1 (let told = rule.collector_stands.phase_told in omega (arith, rests, told)))
           (swept_inside is keeps);
+      looks = turn_looks heap state book.history keeps.now.history stages.Advancing stands.looks keeps.grown;
       no_arrays = no_words keeps;
     }
   ]
@@ -111,6 +114,7 @@ module _ (heap : Heap) (state : State) (book : Book) (stands : Stands heap state
       record {
         rule = keeps.rule;
         cycle = λ running. absurd (running (omega (arith, grown, told, fits.for_clearing)));
+        looks = turn_looks heap state book.history keeps.now.history (stages.Ending kept) stands.looks keeps.grown;
         no_arrays = omega (arith, ap words_granted keeps.grown, total-more (λ e. e.words) book.history entry, stands.no_arrays);
       }
 

@@ -58,6 +58,7 @@ module _ (heap : Heap) (state : State) (book : Book) (rule : Rule heap state boo
   bearing places.Local fits = absurd (some_body fits.0.no_body)
   bearing (places.Access place) fits = absurd (some_body fits.no_body)
   bearing (places.Polling place) fits = absurd (some_body fits.no_body)
+  bearing (places.Collecting place) fits = absurd (some_body fits.0.no_body)
   bearing (places.Leaving place) fits = absurd (some_body fits.0.no_body)
 
   -- a word of the fragment leads to one of the seat's

@@ -70,6 +70,7 @@ module _ (heap : Heap) (state : State) (book : Book) (rule : Rule heap state boo
   loaded_by_place (places.Making place) is fits call shaded = nothing_loaded fits.none_loaded
   loaded_by_place places.Local is fits call shaded = nothing_loaded fits.none_loaded
   loaded_by_place (places.Polling place) is fits call shaded = nothing_loaded fits.none_loaded
+  loaded_by_place (places.Collecting place) is fits call shaded = nothing_loaded fits.none_loaded
   loaded_by_place (places.Leaving place) is fits call shaded = nothing_loaded fits.none_loaded
 
   pub loaded_marked : IfSome (head_of seat.loaded) Marked

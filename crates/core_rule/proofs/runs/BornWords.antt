@@ -8,6 +8,8 @@ use Rattle.heap_model.specs.account.PhaseCounts.{last_answer}
 use Rattle.heap_model.specs.PhasePlan.{black_births, sweep}
 use Rattle.core_machine.specs.declared.collector.stage.Stage.{Stage}
 use Rattle.core_machine.specs.declared.collector.stage.Stage.TheVariants as stages
+use Rattle.core_machine.specs.declared.place.Collecting.TheVariants.{Looking, Comparing, Noting}
+use Rattle.core_machine.specs.declared.place.Collecting.TheVariants as collecting
 use Rattle.core_machine.specs.declared.place.Leaving.TheVariants.{Emptying, Parting}
 use Rattle.core_machine.specs.declared.place.Making.TheVariants.{Gathering, Returning, Storing, Bearing}
 use Rattle.core_machine.specs.declared.place.Place.{Place}
@@ -17,7 +19,7 @@ use Rattle.core_machine.specs.declared.place.Access.TheVariants.{ShadingOld, Sha
 use Rattle.core_machine.specs.declared.table.address.Address.{Address}
 use Rattle.core_machine.specs.declared.table.address.Address.TheVariants.{Phase, Answer, Control}
 use Rattle.core_machine.specs.collector.Collector.{turn_at}
-use Rattle.core_machine.specs.machine.Machine.{State, seat_at, state_after_due, state_after_turn, Begins, Steps, Turns}
+use Rattle.core_machine.specs.machine.Machine.{State, seat_at, state_after_due, state_after_turn, Begins, BeginsInner, Steps, Turns}
 use Rattle.core_machine.specs.Moves.{move_at, bears_black_of, is_last_birth, last_birth_move, birth_move, last_part}
 use Rattle.core_machine.specs.seat.Making.{last_group_of}
 use Rattle.core_machine.specs.seat.Seat.{Seat}
@@ -163,6 +165,10 @@ module _ (heap : Heap) (state : State) (book : Book) (rule : Rule heap state boo
     step_colours (places.Polling Answering) born = absurd (answer_bears_none _ born)
     step_colours (places.Leaving Emptying) born = absurd (bit_bears_none _ _ (untaken_born _ (f % 16) (omega arith) _ (mask-lt _)) born)
     step_colours (places.Leaving Parting) born = absurd (answer_bears_none _ born)
+    step_colours (places.Collecting Looking) born = absurd (load_bears_none _ born)
+    step_colours (places.Collecting (collecting.Asking other)) born = absurd (load_bears_none _ born)
+    step_colours (places.Collecting (Comparing other p)) born = absurd (load_bears_none _ born)
+    step_colours (places.Collecting (Noting reply)) born = absurd (load_bears_none _ born)
     step_colours _ born = absurd (load_bears_none _ born)
 
   -- a turn bears nothing
@@ -177,6 +183,7 @@ module _ (heap : Heap) (state : State) (book : Book) (rule : Rule heap state boo
 
 pub each_birth_has_its_colour : EachBirthHasItsColour
 each_birth_has_its_colour heap state book (Begins number command) f rule can within unborn born = absurd (unborn born)
+each_birth_has_its_colour heap state book (BeginsInner number inner) f rule can within unborn born = absurd (unborn born)
 each_birth_has_its_colour heap state book (Steps number) f rule can within unborn born =
     (number, refl, step_colours heap state book rule f within unborn number (seat_of_step heap state book number rule can) (seat_at state number).place born)
 each_birth_has_its_colour heap state book Turns f rule can within unborn born = absurd (turn_bears_none heap state book rule f within unborn state.collector.stage born)

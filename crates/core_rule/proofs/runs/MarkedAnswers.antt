@@ -9,6 +9,8 @@ use Rattle.heap_model.specs.declared.reply.Reply.TheVariants.{Phase}
 use Rattle.heap_model.specs.PhasePlan.{cycle_phases, marking}
 use Rattle.core_machine.specs.declared.collector.stage.Stage.{Stage}
 use Rattle.core_machine.specs.declared.collector.stage.Stage.TheVariants as stages
+use Rattle.core_machine.specs.declared.place.Collecting.TheVariants.{Looking, Comparing, Noting}
+use Rattle.core_machine.specs.declared.place.Collecting.TheVariants as collecting
 use Rattle.core_machine.specs.declared.place.Leaving.TheVariants.{Emptying, Parting}
 use Rattle.core_machine.specs.declared.place.Making.TheVariants.{Gathering, Returning, Refusing, Bearing}
 use Rattle.core_machine.specs.declared.place.Place.{Place}
@@ -16,9 +18,9 @@ use Rattle.core_machine.specs.declared.place.Place.TheVariants as places
 use Rattle.core_machine.specs.declared.place.Polling.TheVariants.{Asking, Answering}
 use Rattle.core_machine.specs.declared.place.Access.TheVariants.{LoadingMeta, Getting, Swapping}
 use Rattle.core_machine.specs.collector.Collector.{turn_at}
-use Rattle.core_machine.specs.machine.Machine.{State, seat_at, entries_shown, Begins, Steps, Turns, entries}
+use Rattle.core_machine.specs.machine.Machine.{State, seat_at, entries_shown, Begins, BeginsInner, Steps, Turns, entries}
 use Rattle.core_machine.specs.Moves.{move_at, is_last_birth, last_birth_move, birth_move, takes_some}
-use Rattle.core_machine.specs.seat.HandshakeMoves.{poll_adds}
+use Rattle.core_machine.specs.seat.HandshakeMoves.{poll_adds, phase_told}
 use Rattle.core_machine.specs.seat.AccessMoves.{got_shows, reply_entries_if}
 use Rattle.core_machine.specs.table.Layout.{at}
 use Rattle.core_machine.specs.declared.table.address.Address.TheVariants.{Word}
@@ -26,6 +28,7 @@ use Rattle.core_machine.specs.seat.Seat.{Seat}
 use Rattle.core_rule.specs.Book.{Colour}
 use Rattle.core_rule.specs.Flight.{IsRootMarked, RootsStand, WhilePolling}
 use Rattle.core_rule.specs.Laws.{HasMarkedRoots, EachAnswerIsMarked}
+use Rattle.core_rule.proofs.entries.PhasesTold.{told_cases, told_if}
 use Rattle.core_rule.proofs.runs.Runs.{seat_of_step}
 
 module _ (heap : Heap) (state : State) (colour : ℕ → Colour) where
@@ -51,11 +54,7 @@ module _ (heap : Heap) (state : State) (colour : ℕ → Colour) where
       by false = one_marked (Takes number count) tt
 
   poll_marked : (number : ℕ) (seat : Seat) (found : ℕ) → AreMarked (poll_adds number seat found)
-  poll_marked number seat found = by (found == seat.answered)
-    where
-      by : (b : Bool) → AreMarked (if b then Said number seat.command (Phase found) ∷ [] else [])
-      by true = one_marked (Said number seat.command (Phase found)) tt
-      by false = none_marked
+  poll_marked number seat found = told_if AreMarked number seat.command found (found == seat.answered) none_marked (one_marked (Said number seat.command (Phase found)) tt)
 
   meta_marked : (number : ℕ) (seat : Seat) (reply : Option Reply) → AreMarked (reply_entries_if number seat reply)
   meta_marked number seat None = none_marked
@@ -82,7 +81,12 @@ module _ (heap : Heap) (state : State) (colour : ℕ → Colour) where
     shown_marked (places.Access Swapping) placed = one_marked _ tt
     shown_marked (places.Polling Asking) placed = poll_marked number (seat_at state number) _
     shown_marked (places.Polling Answering) placed =
-        All-cons (HasMarkedRoots state colour) (Answers number (seat_at state number).asked) (reply number (seat_at state number) ∷ []) (answers placed) (one_marked (reply number (seat_at state number)) tt)
+        All-cons (HasMarkedRoots state colour) (Answers number (seat_at state number).asked) (phase_told number (seat_at state number).command (seat_at state number).asked) (answers placed)
+        (told_cases AreMarked number (seat_at state number).command (seat_at state number).asked none_marked (one_marked (reply number (seat_at state number)) tt))
+    shown_marked (places.Collecting Looking) placed = none_marked
+    shown_marked (places.Collecting (collecting.Asking other)) placed = none_marked
+    shown_marked (places.Collecting (Comparing other p)) placed = none_marked
+    shown_marked (places.Collecting (Noting reply)) placed = one_marked _ tt
     shown_marked (places.Leaving Emptying) placed = one_marked _ tt
     shown_marked (places.Leaving Parting) placed = one_marked _ tt
     shown_marked _ placed = none_marked
@@ -96,6 +100,7 @@ module _ (heap : Heap) (state : State) (colour : ℕ → Colour) where
 
 pub each_answer_is_marked : EachAnswerIsMarked
 each_answer_is_marked heap state book (Begins number command) rule can = none_marked heap state book.colour
+each_answer_is_marked heap state book (BeginsInner number inner) rule can = none_marked heap state book.colour
 each_answer_is_marked heap state book (Steps number) rule can =
     let stands = rule.seats_stand number (seat_of_step heap state book number rule can) in
     shown_marked heap state book.colour number

@@ -28,6 +28,7 @@ use Rattle.core_rule.specs.Owners.{Dead, holds_bit, bears_bit}
 use Rattle.core_rule.specs.Phases.{CollectorAgrees}
 use Rattle.core_rule.specs.Registers.{Registers}
 use Rattle.core_rule.specs.Registers as regs
+use Rattle.core_rule.specs.Looks.{LooksStand}
 use Rattle.core_rule.specs.Rule.{Rule, SeatStands}
 use Rattle.core_rule.proofs.hand.EmptyHand.{nothing_together}
 use Rattle.core_rule.proofs.gather.GatherMoves.{nothing_tried}
@@ -90,7 +91,7 @@ opening_seat_stands heap words number below none_answered = record {
   };
 }
 
-opening_seat_at : (heap : Heap) (state : State) (number : ℕ) → IsOpening heap state → number < heap.seats → seat_at state number ≡ opening_seat heap number
+pub opening_seat_at : (heap : Heap) (state : State) (number : ℕ) → IsOpening heap state → number < heap.seats → seat_at state number ≡ opening_seat heap number
 opening_seat_at heap state number opens below = ap (λ seats. get_or seats number absent_seat) opens.seats_open ∙ get_or-map-range_with_len (opening_seat heap) 0 heap.seats number number absent_seat below (omega arith)
 
 -- the opening book stands for an opening state
@@ -146,6 +147,7 @@ opening_stands heap state fits opens = record {
   stands = record {
     rule = opening_rule heap state fits (opening_machine heap state fits opens) opens;
     cycle = λ running. absurd (running refl);
+    looks = λ number below. subst (λ (s : Seat). LooksStand heap [] number s.place s.looks) (sym (opening_seat_at heap state number opens below)) record { seen = omega arith; found = λ unnamed. record { first = tt; behind = tt }; asks = tt };
     no_arrays = refl;
   };
 }

@@ -1,7 +1,7 @@
 -- What a step adds to the history may stand in a play, where no other seat made a step since the call began.
 use Rattle.std.specs.List.{list_all}
 use Rattle.std.specs.Prelude.{if◌then◌else◌, Option, None, Some, IfSome}
-use Rattle.std.proofs.Common.{◌≡◌, ◌==◌, ℕ, ◌+◌, ◌<◌, Bool, true, false, inl, inr, List, [], ◌∷◌, ◌++◌, length, drop, refl, subst, arith}
+use Rattle.std.proofs.Common.{◌≡◌, ◌≢◌, ◌==◌, ℕ, ◌+◌, ◌<◌, Bool, true, false, inl, inr, List, [], ◌∷◌, ◌++◌, length, drop, refl, sym, ◌∙◌, subst, arith}
 use Rattle.std.proofs.lemmas.Bool.{eq-eqb}
 use Rattle.std.proofs.lemmas.Bool.Decides.{eqb_tells}
 use Rattle.heap_model.specs.declared.command.Command.{Command}
@@ -16,6 +16,12 @@ use Rattle.heap_model.specs.account.Effects.{is_of}
 use Rattle.heap_model.specs.account.Refusals.{FindsSpace}
 use Rattle.heap_model.specs.account.Space.{taken_of, spent_of}
 use Rattle.core_machine.specs.declared.table.address.Address.TheVariants.{Word, Phase}
+use Rattle.heap_model.specs.account.PhaseCounts.{phase}
+use Rattle.heap_model.specs.account.Phases.{IsBehind, SawBehind, ShowsPhases}
+use Rattle.heap_model.specs.declared.calls.collect.CollectReply.TheVariants as notes
+use Rattle.core_machine.specs.declared.place.Collecting.TheVariants.{Looking, Comparing, Noting}
+use Rattle.core_machine.specs.declared.place.Collecting.TheVariants as collecting
+use Rattle.core_machine.specs.seat.HandshakeMoves.{phase_told}
 use Rattle.core_machine.specs.declared.place.Leaving.TheVariants.{Emptying, Parting}
 use Rattle.core_machine.specs.declared.place.Making.TheVariants.{Gathering, Returning, Refusing, Storing, Bearing}
 use Rattle.core_machine.specs.declared.place.Place.{Place}
@@ -37,11 +43,19 @@ use Rattle.core_machine.specs.seat.Seat.{Seat, need}
 use Rattle.core_machine.specs.seat.Local.{answer_of, local_reply_of}
 use Rattle.core_rule.specs.Book.{Book}
 use Rattle.core_rule.specs.Gathers.{GathersRight}
+use Rattle.core_rule.specs.Laws.{IsBehindNow}
 use Rattle.core_rule.specs.Rule.{Rule}
 use Rattle.core_rule.proofs.entries.AtRest.{seat_fits}
 use Rattle.core_rule.proofs.hand.Bodies.{bare_hand}
-use Rattle.core_rule.proofs.runs.Plays.{IsPlainReply, MayPlay, taking, giving, answering, saying, plain_keeps, finds_in_play}
+use Rattle.core_rule.proofs.entries.PhasesTold.{told_cases, told_if}
+use Rattle.core_rule.proofs.looks.Words.{word_below}
+use Rattle.core_rule.proofs.runs.Plays.{behind_keeps, IsPlainReply, MayPlay, taking, giving, answering, saying, plain_keeps, finds_in_play}
 use Rattle.core_rule.proofs.entries.RecordCommands.{full_keeps}
+
+-- a seat that is about to be noted stands behind by its word
+abbrev pub NotedNow : Heap → List ℕ → Place → Type 0
+NotedNow heap words (places.Collecting (Noting (notes.Waits other answer p))) = IsBehindNow heap words other answer p
+NotedNow heap words _ = Unit {0}
 
 -- the entries are the seat's, and may stand in a play where they may in a run
 pub record AddsPlay (heap : Heap) (before : List Entry) (number : ℕ) (added : List Entry) : Type 0 where
@@ -67,18 +81,19 @@ module _ (heap : Heap) (before : List Entry) (number : ℕ) where
   says : (command : Command) (reply : Reply) → IsPlainReply reply → AddsPlay heap before number (entries.Said number command reply ∷ [])
   says command reply plain = one (entries.Said number command reply) (eq-eqb number number refl) (plain_keeps heap before (entries.Said number command reply) (saying number command reply plain))
 
-  answers : (command : Command) (p : ℕ) → AddsPlay heap before number (entries.Answers number p ∷ entries.Said number command (replies.Phase p) ∷ [])
-  answers command p = record {
-    own = rw (eq-eqb number number refl) refl;
-    may = (
-      plain_keeps heap before (entries.Answers number p) (answering number p),
-      (plain_keeps heap (before ++ entries.Answers number p ∷ []) (entries.Said number command (replies.Phase p)) (saying number command (replies.Phase p) tt), tt),
-    );
-  }
+  answers : (command : Command) (p : ℕ) → AddsPlay heap before number (entries.Answers number p ∷ phase_told number command p)
+  answers command p = told_cases (λ told. AddsPlay heap before number (entries.Answers number p ∷ told)) number command p
+      (one (entries.Answers number p) (eq-eqb number number refl) (plain_keeps heap before (entries.Answers number p) (answering number p)))
+      record {
+        own = rw (eq-eqb number number refl) refl;
+        may = (
+          plain_keeps heap before (entries.Answers number p) (answering number p),
+          (plain_keeps heap (before ++ entries.Answers number p ∷ []) (entries.Said number command (replies.Phase p)) (saying number command (replies.Phase p) tt), tt),
+        );
+      }
 
-  polls : (command : Command) (b : Bool) (p : ℕ) → AddsPlay heap before number (if b then entries.Said number command (replies.Phase p) ∷ [] else [])
-  polls command true p = says command (replies.Phase p) tt
-  polls command false p = nothing
+  polls : (command : Command) (b : Bool) (p : ℕ) → AddsPlay heap before number (if b then phase_told number command p else [])
+  polls command b p = told_if (AddsPlay heap before number) number command p b nothing (says command (replies.Phase p) tt)
 
   says_some : (seat : Seat) (reply : Option Reply) → IfSome reply IsPlainReply → AddsPlay heap before number (reply_entries_if number seat reply)
   says_some seat None plain = nothing
@@ -125,15 +140,26 @@ refusal heap state book number rule here placed alone =
     (λ run. full_keeps seat.command refuses.0.makes.a_record heap true book.history number (length seat.reserve + seat.given)
     (omega (arith, own)) (omega (arith, own, fits.own.small_reserve)) less finds)
 
+-- where a seat that is noted stands behind by its word, it does so by the history
+noted_behind : (heap : Heap) (state : State) (book : Book) (number : ℕ) → Rule heap state book → (other answer p : ℕ) → IsBehindNow heap state.words other answer p → (command : Command)
+    → ShowsPhases heap false book.history number command (replies.Waits other answer p) → command ≡ commands.Collect → IsBehind other answer p book.history
+noted_behind heap state book number rule other answer p now command shows collects =
+    let shown : (other < heap.seats) × (other ≢ number) × (answer < p) × SawBehind false book.history number other answer p
+    = subst (λ c. ShowsPhases heap false book.history number c (replies.Waits other answer p)) collects shows in
+    let is_phase : phase book.history ≡ p = sym rule.heap_stands.cycle.word ∙ now.here in
+    let told = (rule.seats_stand other shown.0).cycle.answers_told in
+    let found = word_below heap state book rule other shown.0 answer now.word (omega (arith, is_phase, shown.2)) in
+    record { present = found.0; answered = found.1; here = is_phase }
+
 -- what the step due of a seat adds, where all entries since its call began are its own
 pub adds_play : (heap : Heap) (state : State) (book : Book) (number : ℕ) (place : Place) → Rule heap state book → number < heap.seats → (seat_at state number).place ≡ place
-    → list_all (is_of number) (drop (book.begun number) book.history) ≡ true
+    → list_all (is_of number) (drop (book.begun number) book.history) ≡ true → NotedNow heap state.words place
     → AddsPlay heap book.history number (entries_shown heap state (move_at heap number (seat_at state number) place))
-adds_play heap state book number places.Idle rule here placed alone = nothing heap book.history number
-adds_play heap state book number (places.Making Gathering) rule here placed alone = took heap book.history number _
-adds_play heap state book number (places.Making Returning) rule here placed alone = gave heap book.history number _
-adds_play heap state book number (places.Making Storing) rule here placed alone = nothing heap book.history number
-adds_play heap state book number (places.Making Bearing) rule here placed alone =
+adds_play heap state book number places.Idle rule here placed alone now = nothing heap book.history number
+adds_play heap state book number (places.Making Gathering) rule here placed alone now = took heap book.history number _
+adds_play heap state book number (places.Making Returning) rule here placed alone now = gave heap book.history number _
+adds_play heap state book number (places.Making Storing) rule here placed alone now = nothing heap book.history number
+adds_play heap state book number (places.Making Bearing) rule here placed alone now =
     bearing (list_all (in_group (last_group_of seat.hand)) seat.hand)
   where
     seat : Seat
@@ -143,19 +169,26 @@ adds_play heap state book number (places.Making Bearing) rule here placed alone 
         → AddsPlay heap book.history number ((if last then last_birth_move number seat else birth_move seat).shows state.words (found_by heap state (if last then last_birth_move number seat else birth_move seat).step))
     bearing true = says heap book.history number seat.command (replies.Made (next_object_id number seat)) tt
     bearing false = nothing heap book.history number
-adds_play heap state book number (places.Making Refusing) rule here placed alone = refusal heap state book number rule here placed alone
-adds_play heap state book number places.Local rule here placed alone =
+adds_play heap state book number (places.Making Refusing) rule here placed alone now = refusal heap state book number rule here placed alone
+adds_play heap state book number places.Local rule here placed alone now =
     says heap book.history number (seat_at state number).command (local_reply_of (seat_at state number).registers (seat_at state number).command) (local_plain (seat_at state number).registers (seat_at state number).command)
-adds_play heap state book number (places.Access LoadingMeta) rule here placed alone = says_some heap book.history number (seat_at state number)
+adds_play heap state book number (places.Access LoadingMeta) rule here placed alone now = says_some heap book.history number (seat_at state number)
     (meta_reply_of (seat_at state number).command (at heap state.words (Word (seat_at state number).reached 0)))
     (meta_plain (seat_at state number).command (at heap state.words (Word (seat_at state number).reached 0)))
-adds_play heap state book number (places.Access Walking) rule here placed alone = nothing heap book.history number
-adds_play heap state book number (places.Access Getting) rule here placed alone = gets heap book.history number (seat_at state number) state.words
+adds_play heap state book number (places.Access Walking) rule here placed alone now = nothing heap book.history number
+adds_play heap state book number (places.Access Getting) rule here placed alone now = gets heap book.history number (seat_at state number) state.words
     (at heap state.words (Word (seat_at state number).reached (seat_at state number).part))
     (head_of (at heap state.words (Word (seat_at state number).reached (seat_at state number).part)))
-adds_play heap state book number (places.Access Swapping) rule here placed alone = says heap book.history number (seat_at state number).command _ tt
-adds_play heap state book number (places.Polling Asking) rule here placed alone = polls heap book.history number (seat_at state number).command (at heap state.words Phase == (seat_at state number).answered) (at heap state.words Phase)
-adds_play heap state book number (places.Polling Answering) rule here placed alone = answers heap book.history number (seat_at state number).command (seat_at state number).asked
-adds_play heap state book number (places.Leaving Emptying) rule here placed alone = gave heap book.history number _
-adds_play heap state book number (places.Leaving Parting) rule here placed alone = says heap book.history number (seat_at state number).command replies.Done tt
-adds_play heap state book number _ rule here placed alone = nothing heap book.history number
+adds_play heap state book number (places.Access Swapping) rule here placed alone now = says heap book.history number (seat_at state number).command _ tt
+adds_play heap state book number (places.Polling Asking) rule here placed alone now = polls heap book.history number (seat_at state number).command (at heap state.words Phase == (seat_at state number).answered) (at heap state.words Phase)
+adds_play heap state book number (places.Polling Answering) rule here placed alone now = answers heap book.history number (seat_at state number).command (seat_at state number).asked
+adds_play heap state book number (places.Leaving Emptying) rule here placed alone now = gave heap book.history number _
+adds_play heap state book number (places.Leaving Parting) rule here placed alone now = says heap book.history number (seat_at state number).command replies.Done tt
+adds_play heap state book number (places.Collecting Looking) rule here placed alone now = nothing heap book.history number
+adds_play heap state book number (places.Collecting (collecting.Asking other)) rule here placed alone now = nothing heap book.history number
+adds_play heap state book number (places.Collecting (Comparing other p)) rule here placed alone now = nothing heap book.history number
+adds_play heap state book number (places.Collecting (Noting (notes.Cycle j))) rule here placed alone now = says heap book.history number (seat_at state number).command (replies.Cycle j) tt
+adds_play heap state book number (places.Collecting (Noting (notes.Waits other answer p))) rule here placed alone now =
+    one heap book.history number (entries.Said number (seat_at state number).command (replies.Waits other answer p)) (eq-eqb number number refl)
+    (behind_keeps heap book.history number (seat_at state number).command other answer p (noted_behind heap state book number rule other answer p now (seat_at state number).command))
+adds_play heap state book number _ rule here placed alone now = nothing heap book.history number

@@ -4,7 +4,7 @@ use Rattle.std.specs.Prelude.{Option, None, Some, IsSome}
 use Rattle.std.proofs.Common.{◌≡◌, ◌≢◌, ℕ, zero, suc, ◌+◌, ◌/◌, ◌<◌, ◌≤◌, true, false, inl, inr, List, [], ◌∷◌, ◌++◌, length, drop, refl, sym, ap, ◌∙◌, subst, append_assoc}
 use Rattle.std.proofs.lemmas.Bool.{false≢true, eq-eqb}
 use Rattle.std.proofs.lemmas.Bool.Decides.{eqb_tells}
-use Rattle.std.proofs.lemmas.List.{append-nil, get_or-set_other, drop-append-le}
+use Rattle.std.proofs.lemmas.List.{append-nil, get_or-set_same, get_or-set_other, drop-append-le}
 use Rattle.std.proofs.lemmas.List.Folds.{list_all-append}
 use Rattle.std.specs.Prelude.{count_ones}
 use Rattle.heap_model.specs.declared.command.Command.{Command}
@@ -14,29 +14,40 @@ use Rattle.heap_model.specs.declared.heap.Heap.{Heap}
 use Rattle.heap_model.specs.account.Account.{IsLegal}
 use Rattle.heap_model.specs.account.Effects.{is_of}
 use Rattle.heap_model.specs.graph.Graph.{opening}
+use Rattle.core_machine.specs.declared.place.Collecting.TheVariants.{Looking, Asking, Comparing, Noting}
+use Rattle.core_machine.specs.declared.place.Place.{Place}
 use Rattle.core_machine.specs.declared.place.Place.TheVariants as places
+use Rattle.heap_model.specs.declared.calls.collect.Inner.{Inner}
+use Rattle.heap_model.specs.declared.calls.collect.Inner.TheVariants as inners
+use Rattle.heap_model.specs.declared.calls.collect.CollectReply.TheVariants as notes
+use Rattle.core_machine.specs.machine.Opening.{IsOpening}
+use Rattle.core_machine.specs.seat.Collecting.{inner_place}
+use Rattle.core_rule.specs.Rule.{Rule}
 use Rattle.core_machine.specs.declared.collector.stage.Stage.{Stage}
 use Rattle.core_machine.specs.declared.collector.stage.Stage.TheVariants as stages
 use Rattle.core_machine.specs.collector.Collector.{Collector, turn_at}
-use Rattle.core_machine.specs.machine.Machine.{State, seat_at, state_after_due, Event, Begins, Steps, Turns, Can, state_after, entries, Run, history}
+use Rattle.core_machine.specs.machine.Machine.{State, seat_at, state_after_due, Event, Begins, BeginsInner, Steps, Turns, Can, state_after, entries, Run, history, after_begin, after_inner_begin}
 use Rattle.core_machine.specs.Moves.{Move, move_at, next_move}
 use Rattle.core_machine.specs.seat.Seat.{Seat, absent_seat}
 use Rattle.core_rule.specs.Book.{Book}
-use Rattle.core_rule.specs.Laws.{IsAlone, AllIdle, OneCallAtATime, WholeCallsPlay, HappensAlone}
+use Rattle.core_rule.specs.Laws.{IsAlone, AllIdle, OneCallAtATime, WholeCallsPlay, HappensAlone, NotesNow}
 use Rattle.core_rule.specs.Stands.{Stands}
 use Rattle.core_rule.proofs.entries.Begins.{begins}
 use Rattle.core_rule.proofs.footprint.EndsRightly.{ends_rightly}
-use Rattle.core_rule.proofs.footprint.SeatCycle.{step_cycle, begin_cycle}
+use Rattle.core_rule.proofs.footprint.SeatCycle.{step_cycle, begin_cycle, inner_cycle}
 use Rattle.core_rule.proofs.footprint.TurnCycle.{turn_cycle}
 use Rattle.core_rule.proofs.steps.Assemble.{Keeps}
-use Rattle.core_rule.proofs.runs.PlayEntries.{AddsPlay, adds_play}
+use Rattle.core_rule.proofs.runs.PlayEntries.{AddsPlay, NotedNow, adds_play}
+use Rattle.core_rule.proofs.looks.Moves.{IsNote, GoesBy, elsewhere_unnoted, goes_at, begin_stays}
+use Rattle.core_rule.proofs.runs.OpeningStands.{opening_seat_at}
 use Rattle.core_rule.proofs.runs.Plays.{MayPlay, play_more, advancing, freeing, ending, plain_keeps}
-use Rattle.core_rule.proofs.runs.Runs.{MachineStays, OpeningStands, EachStepKeeps, EachBeginKeeps, EachTurnKeeps, seat_of_step}
+use Rattle.core_rule.proofs.runs.Runs.{MachineStays, OpeningStands, EachStepKeeps, EachBeginKeeps, EachInnerKeeps, EachTurnKeeps, seat_of_step}
 
--- the history is a play's, and since the call of a seat began all entries are its own
+-- the history is a play's, a seat that is about to be noted stands behind, and since the call of a seat began all entries are its own
 pub record PlaysOn (heap : Heap) (state : State) (book : Book) : Type 0 where
   pub stands : Stands heap state book
   pub legal : IsLegal heap true book.history
+  pub noted : (number : ℕ) → number < heap.seats → NotedNow heap state.words (seat_at state number).place
   pub own : (number : ℕ) → number < heap.seats → (seat_at state number).place ≢ places.Idle → list_all (is_of number) (drop (book.begun number) book.history) ≡ true
 
 own_more : (number begun : ℕ) (before added : List Entry) → begun ≤ length before → list_all (is_of number) (drop begun before) ≡ true → list_all (is_of number) added ≡ true
@@ -66,29 +77,80 @@ own_alone heap state new now number alone all stay own r below active =
       | inr apart ↦ absurd (active (ap (λ s. s.place) (stay r apart.1) ∙ alone r (rw all below) apart.1))
     ]
 
+-- a seat without a call in flight is about to note nothing
+idle_noted : (heap : Heap) (words : List ℕ) (place : Place) → place ≡ places.Idle → NotedNow heap words place
+idle_noted heap words place idle = subst (NotedNow heap words) (sym idle) tt
+
+noted_alone : (heap : Heap) (state new : State) (number : ℕ) → IsAlone state number → length state.seats ≡ heap.seats → ((r : ℕ) → r ≢ number → seat_at new r ≡ seat_at state r)
+    → NotedNow heap new.words (seat_at new number).place → (r : ℕ) → r < heap.seats → NotedNow heap new.words (seat_at new r).place
+noted_alone heap state new number alone all stay own r below =
+    elim (eqb_tells r number) as (λ _. NotedNow heap new.words (seat_at new r).place) [
+      | inl same ↦ subst (λ n. NotedNow heap new.words (seat_at new n).place) (sym same.1) own
+      | inr apart ↦ idle_noted heap new.words (seat_at new r).place (ap (λ s. s.place) (stay r apart.1) ∙ alone r (rw all below) apart.1)
+    ]
+
+-- nor is one that stands at no note
+elsewhere_noted : (heap : Heap) (words : List ℕ) (place : Place) → ¬ IsNote place → NotedNow heap words place
+elsewhere_noted heap words (places.Collecting (Noting reply)) none = absurd (none tt)
+elsewhere_noted heap words (places.Collecting Looking) none = tt
+elsewhere_noted heap words (places.Collecting (Asking other)) none = tt
+elsewhere_noted heap words (places.Collecting (Comparing other p)) none = tt
+elsewhere_noted heap words _ none = tt
+
+-- and no step or begin of a call comes to one
+step_noted : (heap : Heap) (state : State) (book : Book) (number : ℕ) → Rule heap state book → number < length state.seats → NotedNow heap state.words (seat_at state number).place
+    → NotedNow heap (state_after heap state (Steps number)).words (seat_at (state_after heap state (Steps number)) number).place
+step_noted heap state book number rule here was = moves (next_move heap number (seat_at state number)) (goes_at heap state book rule number (seat_at state number).place refl)
+  where
+    moves : (move : Option Move) → GoesBy heap state book rule number move → NotedNow heap (state_after_due heap state number move).words (seat_at (state_after_due heap state number move) number).place
+    moves None goes = was
+    moves (Some move) goes = subst (λ (s : Seat). NotedNow heap (state_after_due heap state number (Some move)).words s.place) (sym (get_or-set_same state.seats number _ absent_seat here))
+        (elsewhere_noted heap _ _ goes.unnoted)
+
+begin_noted : (heap : Heap) (state : State) (number : ℕ) (command : Command) → Can heap state (Begins number command)
+    → NotedNow heap state.words (seat_at (state_after heap state (Begins number command)) number).place
+begin_noted heap state number command can =
+    subst (λ (s : Seat). NotedNow heap state.words s.place) (sym (get_or-set_same state.seats number (after_begin heap (seat_at state number) command) absent_seat can.0))
+    (elsewhere_noted heap state.words (after_begin heap (seat_at state number) command).place
+    (elsewhere_unnoted (after_begin heap (seat_at state number) command).place (begin_stays heap (seat_at state number) command can.1.idle).elsewhere))
+
+-- an inner call does where what it notes is so now
+inner_noted : (heap : Heap) (state : State) (inner : Inner) → NotesNow heap state inner → NotedNow heap state.words (inner_place inner)
+inner_noted heap state inners.Look now = tt
+inner_noted heap state inners.Answer now = tt
+inner_noted heap state (inners.Behind other) now = tt
+inner_noted heap state (inners.Note (notes.Cycle j)) now = tt
+inner_noted heap state (inners.Note (notes.Waits other answer p)) now = now
+
+opening_noted : (heap : Heap) (state : State) → IsOpening heap state → (number : ℕ) → number < heap.seats → NotedNow heap state.words (seat_at state number).place
+opening_noted heap state opens number below = idle_noted heap state.words (seat_at state number).place (ap (λ (s : Seat). s.place) (opening_seat_at heap state number opens below))
+
 -- so it is after the rule is kept, where what is added may stand in a play
 plays_next : {heap : Heap} {before new : State} {book : Book} {begun : ℕ → ℕ} {added : List Entry} (keeps : Keeps heap before new book begun added) → Stands heap new keeps.now → MayPlay heap book.history added → IsLegal heap true book.history
+    → ((r : ℕ) → r < heap.seats → NotedNow heap new.words (seat_at new r).place)
     → ((r : ℕ) → r < heap.seats → (seat_at new r).place ≢ places.Idle → list_all (is_of r) (drop (keeps.now.begun r) keeps.now.history) ≡ true) → PlaysNext heap new book.history added
-plays_next {heap} {before} {new} {book} {begun} {added} keeps stands may legal own =
+plays_next {heap} {before} {new} {book} {begun} {added} keeps stands may legal noted own =
     let run : IsLegal heap false (book.history ++ added) = subst (IsLegal heap false) keeps.grown keeps.rule.heap_stands.legal in
     record {
       now = keeps.now;
       grown = keeps.grown;
-      plays = record { stands = stands; legal = subst (IsLegal heap true) (sym keeps.grown) (play_more heap book.history added may legal run); own = own };
+      plays = record { stands = stands; legal = subst (IsLegal heap true) (sym keeps.grown) (play_more heap book.history added may legal run); noted = noted; own = own };
     }
 
 step_plays : MachineStays → EachStepKeeps → (heap : Heap) (state : State) (book : Book) (number : ℕ) → PlaysOn heap state book → IsAlone state number → Can heap state (Steps number)
     → PlaysNext heap (state_after heap state (Steps number)) book.history (entries heap state (Steps number))
 step_plays stays steps heap state book number plays alone can =
     let here : number < heap.seats = seat_of_step heap state book number plays.stands.rule can in
+    let here_seated : number < length state.seats = rw plays.stands.rule.machine.seated here in
     let active : (seat_at state number).place ≢ places.Idle = busy heap number (seat_at state number) can in
-    let keeps = steps heap state book number plays.stands.rule here (stays heap state (Steps number) plays.stands.rule.machine can) in
+    let keeps = steps heap state book number plays.stands.rule here (plays.stands.looks number here) (stays heap state (Steps number) plays.stands.rule.machine can) in
     let adds : AddsPlay heap book.history number (entries heap state (Steps number))
-    = adds_play heap state book number (seat_at state number).place plays.stands.rule here refl (plays.own number here active) in
+    = adds_play heap state book number (seat_at state number).place plays.stands.rule here refl (plays.own number here active) (plays.noted number here) in
     let earlier : book.begun number ≤ length book.history = (plays.stands.rule.seats_stand number here).told.began.earlier in
     let own_now : list_all (is_of number) (drop (keeps.now.begun number) keeps.now.history) ≡ true
     = rw (keeps.calls, keeps.grown) (own_more number (book.begun number) book.history (entries heap state (Steps number)) earlier (plays.own number here active) adds.own) in
-    plays_next keeps (step_cycle heap state book plays.stands number here keeps) adds.may plays.legal (own_alone heap state (state_after heap state (Steps number)) keeps.now number alone plays.stands.rule.machine.seated
+    plays_next keeps (step_cycle heap state book plays.stands number here keeps) adds.may plays.legal (noted_alone heap state (state_after heap state (Steps number)) number alone plays.stands.rule.machine.seated
+    (λ r apart. moved_other heap state number r (next_move heap number (seat_at state number)) apart) (step_noted heap state book number plays.stands.rule here_seated (plays.noted number here))) (own_alone heap state (state_after heap state (Steps number)) keeps.now number alone plays.stands.rule.machine.seated
     (λ r apart. moved_other heap state number r (next_move heap number (seat_at state number)) apart) own_now)
 
 nothing_since : (number : ℕ) (history : List Entry) → list_all (is_of number) (drop (length history) history) ≡ true
@@ -103,7 +165,22 @@ begin_plays stays begin heap state book number command plays alone can =
     let first : begins number (length book.history) book.begun number ≡ length book.history = rw (eq-eqb number number refl) refl in
     let own_now : list_all (is_of number) (drop (keeps.now.begun number) keeps.now.history) ≡ true
     = rw (keeps.calls, same, first) (nothing_since number book.history) in
-    plays_next keeps (begin_cycle heap state book plays.stands number (rw (← plays.stands.rule.machine.seated) can.0) command (begins number (length book.history) book.begun) can keeps) tt plays.legal (own_alone heap state (state_after heap state (Begins number command)) keeps.now number alone plays.stands.rule.machine.seated
+    plays_next keeps (begin_cycle heap state book plays.stands number (rw (← plays.stands.rule.machine.seated) can.0) command (begins number (length book.history) book.begun) can keeps) tt plays.legal (noted_alone heap state (state_after heap state (Begins number command)) number alone plays.stands.rule.machine.seated
+    (λ r apart. get_or-set_other state.seats number r _ absent_seat apart) (begin_noted heap state number command can)) (own_alone heap state (state_after heap state (Begins number command)) keeps.now number alone plays.stands.rule.machine.seated
+    (λ r apart. get_or-set_other state.seats number r _ absent_seat apart) own_now)
+
+inner_plays : MachineStays → EachInnerKeeps → (heap : Heap) (state : State) (book : Book) (number : ℕ) (inner : Inner) → PlaysOn heap state book → IsAlone state number → NotesNow heap state inner
+    → Can heap state (BeginsInner number inner) → PlaysNext heap (state_after heap state (BeginsInner number inner)) book.history []
+inner_plays stays inners heap state book number inner plays alone now can =
+    let keeps = inners heap state book number inner plays.stands.rule can (stays heap state (BeginsInner number inner) plays.stands.rule.machine can) in
+    let same : keeps.now.history ≡ book.history = keeps.grown ∙ append-nil book.history in
+    let first : begins number (length book.history) book.begun number ≡ length book.history = rw (eq-eqb number number refl) refl in
+    let own_now : list_all (is_of number) (drop (keeps.now.begun number) keeps.now.history) ≡ true
+    = rw (keeps.calls, same, first) (nothing_since number book.history) in
+    plays_next keeps (inner_cycle heap state book plays.stands number (rw (← plays.stands.rule.machine.seated) can.0) inner (begins number (length book.history) book.begun) can keeps) tt plays.legal
+    (noted_alone heap state (state_after heap state (BeginsInner number inner)) number alone plays.stands.rule.machine.seated (λ r apart. get_or-set_other state.seats number r _ absent_seat apart)
+    (subst (λ (s : Seat). NotedNow heap state.words s.place) (sym (get_or-set_same state.seats number (after_inner_begin (seat_at state number) inner) absent_seat can.0)) (inner_noted heap state inner now)))
+    (own_alone heap state (state_after heap state (BeginsInner number inner)) keeps.now number alone plays.stands.rule.machine.seated
     (λ r apart. get_or-set_other state.seats number r _ absent_seat apart) own_now)
 
 -- what a turn of the collector adds may stand in a play
@@ -117,12 +194,13 @@ turn_plays : MachineStays → EachTurnKeeps → (heap : Heap) (state : State) (b
     → PlaysNext heap (state_after heap state Turns) book.history (entries heap state Turns)
 turn_plays stays turn heap state book plays idle can =
     let keeps = turn heap state book plays.stands.rule (ends_rightly heap state book plays.stands) can (stays heap state Turns plays.stands.rule.machine can) in
-    plays_next keeps (turn_cycle heap state book plays.stands state.collector.stage refl keeps) (turn_may heap book.history state.collector state.collector.stage) plays.legal (λ r below active. absurd (active (idle r (rw plays.stands.rule.machine.seated below))))
+    plays_next keeps (turn_cycle heap state book plays.stands state.collector.stage refl keeps) (turn_may heap book.history state.collector state.collector.stage) plays.legal (λ r below. idle_noted heap (state_after heap state Turns).words (seat_at state r).place (idle r (rw plays.stands.rule.machine.seated below))) (λ r below active. absurd (active (idle r (rw plays.stands.rule.machine.seated below))))
 
-module _ (stays : MachineStays) (steps : EachStepKeeps) (begin : EachBeginKeeps) (turn : EachTurnKeeps) where
-  event_plays : (heap : Heap) (state : State) (book : Book) (event : Event) → PlaysOn heap state book → HappensAlone state event → Can heap state event
+module _ (stays : MachineStays) (steps : EachStepKeeps) (begin : EachBeginKeeps) (inners_keep : EachInnerKeeps) (turn : EachTurnKeeps) where
+  event_plays : (heap : Heap) (state : State) (book : Book) (event : Event) → PlaysOn heap state book → HappensAlone heap state event → Can heap state event
       → PlaysNext heap (state_after heap state event) book.history (entries heap state event)
   event_plays heap state book (Begins number command) plays alone can = begin_plays stays begin heap state book number command plays alone can
+  event_plays heap state book (BeginsInner number inner) plays alone can = inner_plays stays inners_keep heap state book number inner plays alone.0 alone.1 can
   event_plays heap state book (Steps number) plays alone can = step_plays stays steps heap state book number plays alone can
   event_plays heap state book Turns plays alone can = turn_plays stays turn heap state book plays alone can
 
@@ -144,6 +222,7 @@ module _ (stays : MachineStays) (steps : EachStepKeeps) (begin : EachBeginKeeps)
       record {
         stands = first.stands;
         legal = subst (IsLegal heap true) (sym first.grown) record { objects = tt; space = tt };
+        noted = λ number below. opening_noted heap state opening number below;
         own = λ number below active. rw first.grown (own_of_none number (first.book.begun number));
       } run alone)
     where

@@ -13,7 +13,7 @@ use Rattle.heap_model.specs.declared.reply.Reply.{Reply}
 use Rattle.heap_model.specs.declared.reply.Reply.TheVariants as replies
 use Rattle.heap_model.specs.account.Account.{KeepsSpace, KeepsSpaceAfter, IsLegal}
 use Rattle.heap_model.specs.account.Effects.{effect_of, is_of}
-use Rattle.heap_model.specs.account.Phases.{ShowsPhases}
+use Rattle.heap_model.specs.account.Phases.{IsBehind, ShowsPhases}
 use Rattle.heap_model.specs.account.Refusals.{FindsSpace, ShowsSpace, ShowsSpine}
 use Rattle.heap_model.specs.account.Space.{taken_of, spent_of, total, total_but}
 use Rattle.heap_model.proofs.Histories.{KeepsSpaceAfter-more}
@@ -71,6 +71,27 @@ plain_keeps heap before _ (saying number command reply plain) keeps = record {
   sweeps = tt;
   ends = tt;
   shows = shows_same heap before number command reply plain keeps.shows;
+}
+
+-- a seat that is noted is behind at that very place
+shows_behind : (heap : Heap) (before : List Entry) (number : ℕ) (command : Command) (other answer p : ℕ) → (command ≡ commands.Collect → IsBehind other answer p before)
+    → ShowsPhases heap false before number command (replies.Waits other answer p) → ShowsPhases heap true before number command (replies.Waits other answer p)
+shows_behind heap before number commands.Collect other answer p behind shows = (shows.0, shows.1, shows.2, behind refl)
+shows_behind heap before number _ other answer p behind shows = shows
+
+pub behind_keeps : (heap : Heap) (before : List Entry) (number : ℕ) (command : Command) (other answer p : ℕ)
+    → (ShowsPhases heap false before number command (replies.Waits other answer p) → command ≡ commands.Collect → IsBehind other answer p before)
+    → KeepsSpace heap false before (entries.Said number command (replies.Waits other answer p)) → KeepsSpace heap true before (entries.Said number command (replies.Waits other answer p))
+behind_keeps heap before number command other answer p behind keeps = record {
+  takes = tt;
+  makes = keeps.makes;
+  refuses = tt;
+  refuses_spine = tt;
+  answers = tt;
+  begins = tt;
+  sweeps = tt;
+  ends = tt;
+  shows = shows_behind heap before number command other answer p (behind keeps.shows) keeps.shows;
 }
 
 -- each entry of a legal history keeps the rules after those before it

@@ -5,34 +5,42 @@ use Rattle.std.proofs.lemmas.Bool.Decides.{leb_tells}
 use Rattle.std.proofs.lemmas.List.{append-nil}
 use Rattle.std.proofs.Math.ListN.{get_or-eq_default}
 use Rattle.std.proofs.lemmas.Bool.{false≢true}
+use Rattle.heap_model.specs.declared.calls.collect.Inner.{Inner}
 use Rattle.heap_model.specs.declared.command.Command.{Command}
 use Rattle.heap_model.specs.declared.heap.Heap.{Heap}
 use Rattle.heap_model.specs.Heap.{IsHeap}
-use Rattle.core_machine.specs.machine.Machine.{State, seat_at, Event, Begins, Steps, Turns, Can, state_after, entries, Run, state_after_all, history}
+use Rattle.core_machine.specs.machine.Machine.{State, seat_at, Event, Begins, BeginsInner, Steps, Turns, Can, state_after, entries, Run, state_after_all, history}
 use Rattle.core_machine.specs.Moves.{next_move}
 use Rattle.core_machine.specs.machine.Opening.{IsOpening}
 use Rattle.core_machine.specs.seat.Seat.{Seat, absent_seat}
 use Rattle.core_machine.specs.machine.Value.{IsMachine}
 use Rattle.core_rule.specs.Book.{Book}
+use Rattle.core_rule.specs.Looks.{LooksStand}
 use Rattle.core_rule.specs.Laws.{StandsFor, EachEventKeeps, EveryRunKeeps}
 use Rattle.core_rule.specs.Rule.{Rule}
 use Rattle.core_rule.specs.Stands.{Stands}
 use Rattle.core_rule.proofs.footprint.EndsRightly.{ends_rightly}
-use Rattle.core_rule.proofs.footprint.SeatCycle.{step_cycle, begin_cycle}
+use Rattle.core_rule.proofs.footprint.SeatCycle.{step_cycle, begin_cycle, inner_cycle}
 use Rattle.core_rule.proofs.footprint.TurnCycle.{turn_cycle}
 use Rattle.core_rule.proofs.steps.Assemble.{Keeps}
 use Rattle.core_rule.proofs.entries.Begins.{begins}
 use Rattle.core_rule.proofs.steps.TurnSteps.{MayEnd}
 
--- each step of a seat keeps the rule
+-- each step of a seat keeps the rule, where what it has found for a collect is so
 abbrev pub EachStepKeeps : Type 0
 EachStepKeeps = (heap : Heap) (state : State) (book : Book) (number : ℕ) → Rule heap state book → number < heap.seats
+    → LooksStand heap book.history number (seat_at state number).place (seat_at state number).looks
     → IsMachine heap (state_after heap state (Steps number)) → Keeps heap state (state_after heap state (Steps number)) book book.begun (entries heap state (Steps number))
 
 -- so does each begin
 abbrev pub EachBeginKeeps : Type 0
 EachBeginKeeps = (heap : Heap) (state : State) (book : Book) (number : ℕ) (command : Command) → Rule heap state book → Can heap state (Begins number command)
     → IsMachine heap (state_after heap state (Begins number command)) → Keeps heap state (state_after heap state (Begins number command)) book (begins number (length book.history) book.begun) []
+
+-- and that of an inner call of a collect
+abbrev pub EachInnerKeeps : Type 0
+EachInnerKeeps = (heap : Heap) (state : State) (book : Book) (number : ℕ) (inner : Inner) → Rule heap state book → Can heap state (BeginsInner number inner)
+    → IsMachine heap (state_after heap state (BeginsInner number inner)) → Keeps heap state (state_after heap state (BeginsInner number inner)) book (begins number (length book.history) book.begun) []
 
 -- and each turn of the collector, where a cycle that it is about to end may end
 abbrev pub EachTurnKeeps : Type 0
@@ -58,16 +66,20 @@ abbrev pub OpeningStands : Type 0
 OpeningStands = (heap : Heap) (state : State) → IsHeap heap → IsOpening heap state → StandsFor heap state [] []
 
 -- so each event does
-pub each_event_keeps : MachineStays → EachStepKeeps → EachBeginKeeps → EachTurnKeeps → EachEventKeeps
-each_event_keeps stays steps begin turn heap state book (Begins number command) stands can =
+pub each_event_keeps : MachineStays → EachStepKeeps → EachBeginKeeps → EachInnerKeeps → EachTurnKeeps → EachEventKeeps
+each_event_keeps stays steps begin inners turn heap state book (Begins number command) stands can =
     let here : number < heap.seats = rw (← stands.rule.machine.seated) can.0 in
     let keeps = begin heap state book number command stands.rule can (stays heap state (Begins number command) stands.rule.machine can) in
     record { book = keeps.now; grown = keeps.grown; stands = begin_cycle heap state book stands number here command (begins number (length book.history) book.begun) can keeps }
-each_event_keeps stays steps begin turn heap state book (Steps number) stands can =
+each_event_keeps stays steps begin inners turn heap state book (BeginsInner number inner) stands can =
+    let here : number < heap.seats = rw (← stands.rule.machine.seated) can.0 in
+    let keeps = inners heap state book number inner stands.rule can (stays heap state (BeginsInner number inner) stands.rule.machine can) in
+    record { book = keeps.now; grown = keeps.grown; stands = inner_cycle heap state book stands number here inner (begins number (length book.history) book.begun) can keeps }
+each_event_keeps stays steps begin inners turn heap state book (Steps number) stands can =
     let here : number < heap.seats = seat_of_step heap state book number stands.rule can in
-    let keeps = steps heap state book number stands.rule here (stays heap state (Steps number) stands.rule.machine can) in
+    let keeps = steps heap state book number stands.rule here (stands.looks number here) (stays heap state (Steps number) stands.rule.machine can) in
     record { book = keeps.now; grown = keeps.grown; stands = step_cycle heap state book stands number here keeps }
-each_event_keeps stays steps begin turn heap state book Turns stands can =
+each_event_keeps stays steps begin inners turn heap state book Turns stands can =
     let keeps = turn heap state book stands.rule (ends_rightly heap state book stands) can (stays heap state Turns stands.rule.machine can) in
     record { book = keeps.now; grown = keeps.grown; stands = turn_cycle heap state book stands state.collector.stage refl keeps }
 

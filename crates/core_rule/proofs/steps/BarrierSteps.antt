@@ -78,16 +78,16 @@ module _ (heap : Heap) (state : State) (book : Book) (number : ℕ) (rule : Rule
 
   -- a load that leads on
   pub loads_on : (loaded : ℕ) (next : Access) → Unnamed next
-      → AccessStands (cells_at g book.made) book.made book.owner book.fragments (went seat seat.registers seat.reached seat.links seat.part loaded (places.Access next) []) next
-      → (IsBetween 2 5 p → FieldStands heap state.words book.colour (went seat seat.registers seat.reached seat.links seat.part loaded (places.Access next) []) next)
-      → ShadedStands book.colour (went seat seat.registers seat.reached seat.links seat.part loaded (places.Access next) []) next
-      → CallGoesOn (went seat seat.registers seat.reached seat.links seat.part loaded (places.Access next) []) next
-      → IsMachine heap (loaded_state heap state number (Word seat.reached seat.part) (went seat seat.registers seat.reached seat.links seat.part loaded (places.Access next) []))
-      → Keeps heap state (loaded_state heap state number (Word seat.reached seat.part) (went seat seat.registers seat.reached seat.links seat.part loaded (places.Access next) [])) book book.begun []
+      → AccessStands (cells_at g book.made) book.made book.owner book.fragments (went seat seat.registers seat.reached seat.links seat.part loaded (places.Access next) seat.looks []) next
+      → (IsBetween 2 5 p → FieldStands heap state.words book.colour (went seat seat.registers seat.reached seat.links seat.part loaded (places.Access next) seat.looks []) next)
+      → ShadedStands book.colour (went seat seat.registers seat.reached seat.links seat.part loaded (places.Access next) seat.looks []) next
+      → CallGoesOn (went seat seat.registers seat.reached seat.links seat.part loaded (places.Access next) seat.looks []) next
+      → IsMachine heap (loaded_state heap state number (Word seat.reached seat.part) (went seat seat.registers seat.reached seat.links seat.part loaded (places.Access next) seat.looks []))
+      → Keeps heap state (loaded_state heap state number (Word seat.reached seat.part) (went seat seat.registers seat.reached seat.links seat.part loaded (places.Access next) seat.looks [])) book book.begun []
   loads_on loaded next names way field shaded comes machine =
       let stands = rule.seats_stand number here in
-      let new : Seat = went seat seat.registers seat.reached seat.links seat.part loaded (places.Access next) [] in
-      load_goes heap state book number rule here (Word seat.reached seat.part) seat.registers seat.reached seat.links seat.part loaded (places.Access next) [] machine
+      let new : Seat = went seat seat.registers seat.reached seat.links seat.part loaded (places.Access next) seat.looks [] in
+      load_goes heap state book number rule here (Word seat.reached seat.part) seat.registers seat.reached seat.links seat.part loaded (places.Access next) seat.looks [] machine
       (λ r unawaited. holds_all r)
       (list_more g book.made book.owner book.fragments number seat book.history busy stands.told.list g book.history new [] [] [] refl refl (sym (append-nil (filter (is_of number) book.history))) (names new))
       way

@@ -23,10 +23,10 @@ use Rattle.core_machine.specs.seat.Fits.{IsAtRest, IsSilent}
 use Rattle.core_machine.specs.table.Layout.{at, put}
 use Rattle.core_machine.specs.machine.Machine.{State, seat_at}
 use Rattle.core_machine.specs.seat.Access.{has_barrier_of}
-use Rattle.core_machine.specs.seat.Seat.{Seat, with_entries, after_call}
+use Rattle.core_machine.specs.seat.Seat.{Seat, with_entries, call_over, after_call}
+use Rattle.core_machine.specs.seat.Looks.{Looks, forgotten}
 use Rattle.core_machine.specs.machine.Value.{IsMachine}
 use Rattle.core_machine.proofs.table_lemmas.Addresses.{put-at}
-use Rattle.core_machine.proofs.seat_lemmas.Aside.{over_way}
 use Rattle.core_rule.specs.Book.{Book}
 use Rattle.core_rule.specs.Counts.{OwnList}
 use Rattle.core_rule.specs.Cycle.{SeatInCycle}
@@ -49,33 +49,47 @@ use Rattle.core_rule.proofs.entries.Legality.{legal_more}
 use Rattle.core_rule.proofs.cycle.CycleFrames.{leaves_same}
 use Rattle.core_rule.proofs.cycle.Unwatched.{IsUnwatchedAt, cycle_unwatched}
 
--- the seat with other registers, elsewhere on its way, and with more entries
-abbrev pub went : Seat → List Register → ℕ → ℕ → ℕ → ℕ → Place → List Entry → Seat
-went seat registers reached links part loaded place added =
-    record seat { registers = registers; reached = reached; links = links; part = part; loaded = loaded; place = place; mine = seat.mine ++ added }
+-- the seat with other registers, elsewhere on its way, with what it has found for its collects, and with more entries
+abbrev pub went : Seat → List Register → ℕ → ℕ → ℕ → ℕ → Place → Looks → List Entry → Seat
+went seat registers reached links part loaded place looks added =
+    record seat { registers = registers; reached = reached; links = links; part = part; loaded = loaded; place = place; looks = looks; mine = seat.mine ++ added }
 
 -- the state after a load, which writes back what it found
 abbrev pub loaded_state : Heap → State → ℕ → Address → Seat → State
 loaded_state heap state number a seat = record state { words = put heap state.words a (at heap state.words a); seats = slice_set state.seats number seat }
 
 -- a call that has its way alone is over where its way is
-pub over_went : (heap : Heap) (state : State) (book : Book) (number : ℕ) (a : Address) (registers : List Register) (added shown : List Entry)
+way_over : (seat : Seat) → IsAtRest seat → IsSilent seat → call_over seat ≡ record seat { reached = 0; links = 0; part = 0; loaded = 0; place = places.Idle }
+way_over seat rest silent = by where
+  by : call_over seat ≡ record seat { hand = seat.hand; body = seat.body; stored = seat.stored; tried = seat.tried; given = seat.given; reached = 0; links = 0; part = 0; loaded = 0; place = places.Idle; asked = seat.asked; shaded = seat.shaded }
+  by = rw (rest.empty_hand, rest.no_body, rest.none_stored, rest.none_tried, rest.none_given, silent.none_asked, silent.none_shaded) refl
+
+pub ends_went : (heap : Heap) (state : State) (book : Book) (number : ℕ) (a : Address) (registers : List Register) (looks : Looks) (added shown : List Entry)
     → IsAtRest (seat_at state number) → IsSilent (seat_at state number)
-    → (IsMachine heap (loaded_state heap state number a (went (seat_at state number) registers 0 0 0 0 places.Idle added))
-    → Keeps heap state (loaded_state heap state number a (went (seat_at state number) registers 0 0 0 0 places.Idle added)) book book.begun shown)
-    → IsMachine heap (loaded_state heap state number a (with_entries (after_call (record (seat_at state number) { registers = registers })) added))
-    → Keeps heap state (loaded_state heap state number a (with_entries (after_call (record (seat_at state number) { registers = registers })) added)) book book.begun shown
-over_went heap state book number a registers added shown rest silent keeps =
+    → (IsMachine heap (loaded_state heap state number a (went (seat_at state number) registers 0 0 0 0 places.Idle looks added))
+    → Keeps heap state (loaded_state heap state number a (went (seat_at state number) registers 0 0 0 0 places.Idle looks added)) book book.begun shown)
+    → IsMachine heap (loaded_state heap state number a (with_entries (record (call_over (record (seat_at state number) { registers = registers })) { looks = looks }) added))
+    → Keeps heap state (loaded_state heap state number a (with_entries (record (call_over (record (seat_at state number) { registers = registers })) { looks = looks }) added)) book book.begun shown
+ends_went heap state book number a registers looks added shown rest silent keeps =
     let seat : Seat = seat_at state number in
-    let same : with_entries (after_call (record seat { registers = registers })) added ≡ went seat registers 0 0 0 0 places.Idle added
-    = ap (λ (s : Seat). record s { registers = registers; mine = seat.mine ++ added }) (over_way seat rest silent) in
+    let same : with_entries (record (call_over (record seat { registers = registers })) { looks = looks }) added ≡ went seat registers 0 0 0 0 places.Idle looks added
+    = ap (λ (s : Seat). record s { registers = registers; looks = looks; mine = seat.mine ++ added }) (way_over seat rest silent) in
     subst (λ (s : Seat). IsMachine heap (loaded_state heap state number a s) → Keeps heap state (loaded_state heap state number a s) book book.begun shown) (sym same) keeps
 
+-- and has forgotten what was found before where it ends with its reply
+pub over_went : (heap : Heap) (state : State) (book : Book) (number : ℕ) (a : Address) (registers : List Register) (added shown : List Entry)
+    → IsAtRest (seat_at state number) → IsSilent (seat_at state number)
+    → (IsMachine heap (loaded_state heap state number a (went (seat_at state number) registers 0 0 0 0 places.Idle (forgotten (seat_at state number).looks) added))
+    → Keeps heap state (loaded_state heap state number a (went (seat_at state number) registers 0 0 0 0 places.Idle (forgotten (seat_at state number).looks) added)) book book.begun shown)
+    → IsMachine heap (loaded_state heap state number a (with_entries (after_call (record (seat_at state number) { registers = registers })) added))
+    → Keeps heap state (loaded_state heap state number a (with_entries (after_call (record (seat_at state number) { registers = registers })) added)) book book.begun shown
+over_went heap state book number a registers added shown rest silent keeps = ends_went heap state book number a registers (forgotten (seat_at state number).looks) added shown rest silent keeps
+
 module _ (heap : Heap) (state : State) (book : Book) (number : ℕ) (rule : Rule heap state book) (here : number < heap.seats) (a : Address)
-    (registers : List Register) (reached links part loaded : ℕ) (place : Place) (added : List Entry)
-    (machine : IsMachine heap (loaded_state heap state number a (went (seat_at state number) registers reached links part loaded place added))) where
+    (registers : List Register) (reached links part loaded : ℕ) (place : Place) (looks : Looks) (added : List Entry)
+    (machine : IsMachine heap (loaded_state heap state number a (went (seat_at state number) registers reached links part loaded place looks added))) where
   abbrev new : Seat
-  new = went (seat_at state number) registers reached links part loaded place added
+  new = went (seat_at state number) registers reached links part loaded place looks added
 
   -- the words are written back
   same_machine : IsMachine heap (record state { words = state.words; seats = slice_set state.seats number new })

@@ -9,18 +9,18 @@ use Rattle.core_rule.proofs.runs.OpeningStands.{opening_stands}
 use Rattle.core_rule.proofs.runs.PlayRuns.{whole_calls_play}
 use Rattle.core_rule.proofs.runs.ComingTurns.{each_turn_comes_to}
 use Rattle.core_rule.proofs.runs.Runs.{each_event_keeps, every_run_keeps}
-use Rattle.core_rule.proofs.steps.Steps.{each_step_keeps, each_begin_keeps, each_turn_keeps}
+use Rattle.core_rule.proofs.steps.Steps.{each_step_keeps, each_begin_keeps, each_inner_keeps, each_turn_keeps}
 use Rattle.core_rule.proofs.turns.{each_turn_leaves_fewer}
 use Rattle.core_rule.proofs.law.law_every_run.Goals as goal
 
 pub returns-clause-step : goal.returns-clause-step
-returns-clause-step c = each_event_keeps machine_after each_step_keeps each_begin_keeps each_turn_keeps
+returns-clause-step c = each_event_keeps machine_after each_step_keeps each_begin_keeps each_inner_keeps each_turn_keeps
 
 pub returns-clause-run : goal.returns-clause-run
-returns-clause-run c = every_run_keeps (each_event_keeps machine_after each_step_keeps each_begin_keeps each_turn_keeps) opening_stands
+returns-clause-run c = every_run_keeps (each_event_keeps machine_after each_step_keeps each_begin_keeps each_inner_keeps each_turn_keeps) opening_stands
 
 pub returns-clause-play : goal.returns-clause-play
-returns-clause-play c = whole_calls_play machine_after each_step_keeps each_begin_keeps each_turn_keeps opening_stands
+returns-clause-play c = whole_calls_play machine_after each_step_keeps each_begin_keeps each_inner_keeps each_turn_keeps opening_stands
 
 pub returns-clause-free : goal.returns-clause-free
 returns-clause-free c = free_is_unused
@@ -35,7 +35,7 @@ pub returns-clause-waits : goal.returns-clause-waits
 returns-clause-waits c = each_wait_is_behind
 
 pub returns-clause-turns : goal.returns-clause-turns
-returns-clause-turns c = each_turn_comes_to (each_event_keeps machine_after each_step_keeps each_begin_keeps each_turn_keeps)
+returns-clause-turns c = each_turn_comes_to (each_event_keeps machine_after each_step_keeps each_begin_keeps each_inner_keeps each_turn_keeps)
 
 pub returns-clause-held : goal.returns-clause-held
 returns-clause-held c = each_held_is_taken

@@ -17,6 +17,7 @@ use Rattle.heap_model.specs.account.Cycles.{graph_of}
 use Rattle.heap_model.specs.graph.Legal.{Accepts}
 use Rattle.heap_model.specs.graph.Objects.{register_value, graph_seat}
 use Rattle.heap_model.specs.graph.Graph.{Graph, unset}
+use Rattle.core_machine.specs.seat.Looks.{forgotten}
 use Rattle.core_machine.specs.declared.table.address.Address.TheVariants.{Word}
 use Rattle.core_machine.specs.declared.place.Place.TheVariants as places
 use Rattle.core_machine.specs.declared.place.Access.TheVariants.{Getting, Naming}
@@ -75,9 +76,9 @@ module _ (heap : Heap) (state : State) (book : Book) (number : ℕ) (rule : Rule
   filled_keeps : (new : Register) (stamp : ℕ) → register_head new ≡ None → HoldsValue book.made book.owner book.fragments new (value_of new)
       → Accepts (graph_of heap book.history) (Said number (seat_at state number).command (Got (value_of new) stamp))
       → IsMachine heap (loaded_state heap state number (Word (seat_at state number).reached (seat_at state number).part)
-      (went (seat_at state number) (slice_set (seat_at state number).registers (target_of (seat_at state number).command) new) 0 0 0 0 places.Idle (reply_entries number (seat_at state number) (Got (value_of new) stamp))))
+      (went (seat_at state number) (slice_set (seat_at state number).registers (target_of (seat_at state number).command) new) 0 0 0 0 places.Idle (forgotten (seat_at state number).looks) (reply_entries number (seat_at state number) (Got (value_of new) stamp))))
       → Keeps heap state (loaded_state heap state number (Word (seat_at state number).reached (seat_at state number).part)
-      (went (seat_at state number) (slice_set (seat_at state number).registers (target_of (seat_at state number).command) new) 0 0 0 0 places.Idle (reply_entries number (seat_at state number) (Got (value_of new) stamp))))
+      (went (seat_at state number) (slice_set (seat_at state number).registers (target_of (seat_at state number).command) new) 0 0 0 0 places.Idle (forgotten (seat_at state number).looks) (reply_entries number (seat_at state number) (Got (value_of new) stamp))))
       book book.begun (reply_entries number (seat_at state number) (Got (value_of new) stamp))
   filled_keeps new stamp none holds accepts machine =
       let seat : Seat = seat_at state number in
@@ -85,7 +86,7 @@ module _ (heap : Heap) (state : State) (book : Book) (number : ℕ) (rule : Rule
       let stands = rule.seats_stand number here in
       let reply : Reply = Got (value_of new) stamp in
       let entry : Entry = Said number seat.command reply in
-      load_tells heap state book number rule here (Word seat.reached seat.part) (slice_set seat.registers (target_of seat.command) new) 0 0 0 0 places.Idle (entry ∷ []) machine
+      load_tells heap state book number rule here (Word seat.reached seat.part) (slice_set seat.registers (target_of seat.command) new) 0 0 0 0 places.Idle (forgotten (seat_at state number).looks) (entry ∷ []) machine
       seat.command reply refl (with_register g number (target_of seat.command) (value_of new)) (graph_got g number (value_of new) stamp seat.command a_get)
       (put_only g number (target_of seat.command) (value_of new) present) accepts
       (keeps_got heap false book.history number (spent_own heap state book number rule here (at_rest heap state book number rule here Getting place)) (few_own heap state book number rule here (at_rest heap state book number rule here Getting place)) (value_of new) stamp seat.command a_get)
@@ -93,8 +94,8 @@ module _ (heap : Heap) (state : State) (book : Book) (number : ℕ) (rule : Rule
       (list_more g book.made book.owner book.fragments number seat book.history (subst IsAnswered place) stands.told.list (with_register g number (target_of seat.command) (value_of new)) _ _ (entry ∷ []) [] (entry ∷ []) refl refl
       (own_entries number book.history entry (eq-eqb number number refl)) refl)
       tt tt (no_leave_told number number seat.command reply (λ leaves. subst IsGet leaves a_get))
-      (went_cycle heap state book number rule here (Word seat.reached seat.part) (slice_set seat.registers (target_of seat.command) new) 0 0 0 0 places.Idle (entry ∷ []) machine tt)
-      (λ marks roots. roots_over (IsReachedNow heap state book) (went seat (slice_set seat.registers (target_of seat.command) new) 0 0 0 0 places.Idle (entry ∷ [])) tt
+      (went_cycle heap state book number rule here (Word seat.reached seat.part) (slice_set seat.registers (target_of seat.command) new) 0 0 0 0 places.Idle (forgotten (seat_at state number).looks) (entry ∷ []) machine tt)
+      (λ marks roots. roots_over (IsReachedNow heap state book) (went seat (slice_set seat.registers (target_of seat.command) new) 0 0 0 0 places.Idle (forgotten (seat_at state number).looks) (entry ∷ [])) tt
       (heads_put (IsReachedNow heap state book) seat.registers (target_of seat.command) new in_seat (none_holds (IsReachedNow heap state book) (register_head new) none) roots.registers))
 
   -- a reference awaits its object's name, and the history has the reply
@@ -102,9 +103,9 @@ module _ (heap : Heap) (state : State) (book : Book) (number : ℕ) (rule : Rule
       → (IsInMarking state.collector → IsReachedNow heap state book (seat_at state number).reached → IsReachedNow heap state book (object_head book.made book.fragments id))
       → Accepts (graph_of heap book.history) (Said number (seat_at state number).command (Got (values.Object id) (stamp_of found)))
       → IsMachine heap (loaded_state heap state number (Word (seat_at state number).reached (seat_at state number).part)
-      (went (seat_at state number) (seat_at state number).registers (seat_at state number).reached (seat_at state number).links (seat_at state number).part found (places.Access Naming) []))
+      (went (seat_at state number) (seat_at state number).registers (seat_at state number).reached (seat_at state number).links (seat_at state number).part found (places.Access Naming) (seat_at state number).looks []))
       → Keeps heap state (loaded_state heap state number (Word (seat_at state number).reached (seat_at state number).part)
-      (went (seat_at state number) (seat_at state number).registers (seat_at state number).reached (seat_at state number).links (seat_at state number).part found (places.Access Naming) []))
+      (went (seat_at state number) (seat_at state number).registers (seat_at state number).reached (seat_at state number).links (seat_at state number).part found (places.Access Naming) (seat_at state number).looks []))
       book book.begun (reply_entries number (seat_at state number) (Got (values.Object id) (stamp_of found)))
   pending_keeps found id kept loads comes accepts machine =
       let seat : Seat = seat_at state number in
@@ -114,7 +115,7 @@ module _ (heap : Heap) (state : State) (book : Book) (number : ℕ) (rule : Rule
       let stands = rule.seats_stand number here in
       let reply : Reply = Got value (stamp_of found) in
       let entry : Entry = Said number seat.command reply in
-      load_tells heap state book number rule here (Word seat.reached seat.part) seat.registers seat.reached seat.links seat.part found (places.Access Naming) [] machine
+      load_tells heap state book number rule here (Word seat.reached seat.part) seat.registers seat.reached seat.links seat.part found (places.Access Naming) (seat_at state number).looks [] machine
       seat.command reply refl (with_register g number d value) (graph_got g number value (stamp_of found) seat.command a_get) (put_only g number d value present) accepts
       (keeps_got heap false book.history number (spent_own heap state book number rule here (at_rest heap state book number rule here Getting place)) (few_own heap state book number rule here (at_rest heap state book number rule here Getting place)) value (stamp_of found) seat.command a_get)
       (λ r unawaited. subst (λ x. HoldsValue book.made book.owner book.fragments (slice_index_or seat.registers r registers.Nil) x) (sym (put_rest g number d value present r unawaited)) (held r))
@@ -122,8 +123,8 @@ module _ (heap : Heap) (state : State) (book : Book) (number : ℕ) (rule : Rule
       (own_entries number book.history entry (eq-eqb number number refl))
       (record { id = id; kept = kept; loads = loads; held = put_target g number d value present in_graph; told = refl }))
       tt tt (no_leave_told number number seat.command reply (λ leaves. subst IsGet leaves a_get))
-      (went_cycle heap state book number rule here (Word seat.reached seat.part) seat.registers seat.reached seat.links seat.part found (places.Access Naming) [] machine tt)
-      (λ marks roots. roots_on_way (IsReachedNow heap state book) seat (went seat seat.registers seat.reached seat.links seat.part found (places.Access Naming) []) Naming refl refl
+      (went_cycle heap state book number rule here (Word seat.reached seat.part) seat.registers seat.reached seat.links seat.part found (places.Access Naming) (seat_at state number).looks [] machine tt)
+      (λ marks roots. roots_on_way (IsReachedNow heap state book) seat (went seat seat.registers seat.reached seat.links seat.part found (places.Access Naming) (seat_at state number).looks []) Naming refl refl
       (some_holds (IsReachedNow heap state book) (head_of found) (object_head book.made book.fragments id) loads (comes marks (at_call (IsReachedNow heap state book) seat Getting place roots))) roots)
 
 -- loading a field keeps the rule

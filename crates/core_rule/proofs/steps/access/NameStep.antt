@@ -9,6 +9,7 @@ use Rattle.heap_model.specs.declared.reply.Reply.TheVariants.{Got}
 use Rattle.heap_model.specs.account.Cycles.{graph_of}
 use Rattle.heap_model.specs.graph.Objects.{register_value}
 use Rattle.heap_model.specs.graph.Graph.{Graph}
+use Rattle.core_machine.specs.seat.Looks.{forgotten}
 use Rattle.core_machine.specs.declared.table.address.Address.TheVariants.{Word}
 use Rattle.core_machine.specs.declared.place.Place.TheVariants as places
 use Rattle.core_machine.specs.declared.place.Access.TheVariants.{Naming}
@@ -59,7 +60,7 @@ name_keeps heap state book number rule here place machine =
     let added : List Entry = reply_entries number seat (Got (values.Object (id_of found)) (stamp_of seat.loaded)) in
     let told : stands.told.list.awaited ≡ added = awaits.told ∙ ap (λ x. reply_entries number seat (Got (values.Object x) (stamp_of seat.loaded))) (sym name) in
     over_went heap state book number (Word at_name 1) (slice_set seat.registers d (registers.Object at_name (id_of found))) added [] (rw place at (seat_fits rule number here).at_place) (rw place at (seat_fits rule number here).answer_at_place) (λ machine.
-    load_goes heap state book number rule here (Word at_name 1) (slice_set seat.registers d (registers.Object at_name (id_of found))) 0 0 0 0 places.Idle added machine
+    load_goes heap state book number rule here (Word at_name 1) (slice_set seat.registers d (registers.Object at_name (id_of found))) 0 0 0 0 places.Idle (forgotten seat.looks) added machine
     (λ r unawaited. registers_with book.made book.owner book.fragments g number d seat.registers (registers.Object at_name (id_of found)) within holds before r)
     (record {
       awaited = [];
@@ -68,8 +69,8 @@ name_keeps heap state book number rule here place machine =
     })
     tt
     (record { earlier = stands.told.began.earlier; unanswered = λ busy. absurd (busy tt) })
-    (went_cycle heap state book number rule here (Word at_name 1) (slice_set seat.registers d (registers.Object at_name (id_of found))) 0 0 0 0 places.Idle added machine tt)
-    (λ marks roots. roots_over (IsReachedNow heap state book) (went seat (slice_set seat.registers d (registers.Object at_name (id_of found))) 0 0 0 0 places.Idle added) tt
+    (went_cycle heap state book number rule here (Word at_name 1) (slice_set seat.registers d (registers.Object at_name (id_of found))) 0 0 0 0 places.Idle (forgotten seat.looks) added machine tt)
+    (λ marks roots. roots_over (IsReachedNow heap state book) (went seat (slice_set seat.registers d (registers.Object at_name (id_of found))) 0 0 0 0 places.Idle (forgotten seat.looks) added) tt
     (heads_put (IsReachedNow heap state book) seat.registers d (registers.Object at_name (id_of found)) within
     (subst (IsReachedNow heap state book) (sym head) (of_some (IsReachedNow heap state book) (head_of seat.loaded) (object_head book.made book.fragments id) awaits.loads (at_call (IsReachedNow heap state book) seat Naming place roots)))
     roots.registers))) machine

@@ -41,13 +41,13 @@ old_keeps heap state book number rule here place machine =
     let on = loads_on heap state book number rule here LoadingOld place (λ answered. answered) (λ d r awaited. awaited) found in
     let at_next = λ (next : Access). finds_at (cells_at g book.made) book.made book.owner book.fragments seat found next (seat.mine ++ []) finds in
     let leads : (x : ℕ) → WordPointsTo heap state.words seat.reached seat.part x → head_of found ≡ Some x = λ x leads. sym (later_lead seat.part found fits.0.2.field_part.some) ∙ leads.to in
-    let unloaded = λ (next : Access). none_old book.made book.owner book.fragments (went seat seat.registers seat.reached seat.links seat.part found (places.Access next) []) in
+    let unloaded = λ (next : Access). none_old book.made book.owner book.fragments (went seat seat.registers seat.reached seat.links seat.part found (places.Access next) seat.looks []) in
     let reached = λ (marks : IsInMarking state.collector) (roots : OfRoots (IsReachedNow heap state book) seat). at_call (IsReachedNow heap state book) seat LoadingOld place roots in
     let goal = λ (o : Option ℕ). IsMachine heap (loaded_state heap state number (Word seat.reached seat.part) (with_entries (after_old_load (record seat { loaded = found }) o) []))
     → Keeps heap state (loaded_state heap state number (Word seat.reached seat.part) (with_entries (after_old_load (record seat { loaded = found }) o) [])) book book.begun [] in
     let by_head : (o : Option ℕ) → head_of found ≡ o → goal o = λ o. elim o as (λ x. head_of found ≡ x → goal x) [
-      | None ↦ λ none. new_cases (λ next. IsMachine heap (loaded_state heap state number (Word seat.reached seat.part) (went seat seat.registers seat.reached seat.links seat.part found (places.Access next) []))
-          → Keeps heap state (loaded_state heap state number (Word seat.reached seat.part) (went seat seat.registers seat.reached seat.links seat.part found (places.Access next) [])) book book.begun []) new_head
+      | None ↦ λ none. new_cases (λ next. IsMachine heap (loaded_state heap state number (Word seat.reached seat.part) (went seat seat.registers seat.reached seat.links seat.part found (places.Access next) seat.looks []))
+          → Keeps heap state (loaded_state heap state number (Word seat.reached seat.part) (went seat seat.registers seat.reached seat.links seat.part found (places.Access next) seat.looks [])) book book.begun []) new_head
           (λ no_new. on Swapping (λ s. refl) (at_next Swapping, unloaded Swapping none) (λ making x lead. absurd (cc (none, leads x lead)))
           (λ is_on. (none_holds (IsMarked book.colour) (head_of found) none, none_holds (IsMarked book.colour) new_head no_new)) reached)
           (λ f some. on ShadingNew (λ s. refl) (at_next ShadingNew, unloaded ShadingNew none) (λ making x lead. absurd (cc (none, leads x lead))) (none_holds (IsMarked book.colour) (head_of found) none) reached)

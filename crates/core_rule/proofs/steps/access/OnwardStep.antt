@@ -43,24 +43,24 @@ module _ (heap : Heap) (state : State) (book : Book) (number : ℕ) (rule : Rule
   -- a seat that goes on to this place
   goes_to : (reached links part : ℕ) (next : Seat) → has_barrier_of next ≡ has_barrier_of (seat_at state number)
       → Finds (cells_at (graph_of heap book.history) book.made) book.made book.owner book.fragments
-      (went (seat_at state number) (seat_at state number).registers reached links part (seat_at state number).loaded (places.Access (way_place_of next)) [])
+      (went (seat_at state number) (seat_at state number).registers reached links part (seat_at state number).loaded (places.Access (way_place_of next)) (seat_at state number).looks [])
       → (IsInMarking state.collector → IsReachedNow heap state book (seat_at state number).reached → IsReachedNow heap state book reached)
       → IsMachine heap (loaded_state heap state number (Word (seat_at state number).reached 0)
-      (went (seat_at state number) (seat_at state number).registers reached links part (seat_at state number).loaded (places.Access (way_place_of next)) []))
+      (went (seat_at state number) (seat_at state number).registers reached links part (seat_at state number).loaded (places.Access (way_place_of next)) (seat_at state number).looks []))
       → Keeps heap state (loaded_state heap state number (Word (seat_at state number).reached 0)
-      (went (seat_at state number) (seat_at state number).registers reached links part (seat_at state number).loaded (places.Access (way_place_of next)) [])) book book.begun []
+      (went (seat_at state number) (seat_at state number).registers reached links part (seat_at state number).loaded (places.Access (way_place_of next)) (seat_at state number).looks [])) book book.begun []
   goes_to reached links part next same finds comes machine =
       let seat : Seat = seat_at state number in
       let g : Graph = graph_of heap book.history in
       let stands = rule.seats_stand number here in
-      let new : Seat = went seat seat.registers reached links part seat.loaded (places.Access (way_place_of next)) [] in
-      load_goes heap state book number rule here (Word seat.reached 0) seat.registers reached links part seat.loaded (places.Access (way_place_of next)) [] machine
+      let new : Seat = went seat seat.registers reached links part seat.loaded (places.Access (way_place_of next)) (seat_at state number).looks [] in
+      load_goes heap state book number rule here (Word seat.reached 0) seat.registers reached links part seat.loaded (places.Access (way_place_of next)) (seat_at state number).looks [] machine
       (λ r unawaited. stands.names.registers r (free (target_of seat.command) r))
       (list_more g book.made book.owner book.fragments number seat book.history busy stands.told.list g book.history new [] [] [] refl refl (sym (append-nil (filter (is_of number) book.history)))
       (way_cases (λ place. Awaits g book.made book.owner book.fragments number new (places.Access place) []) next refl refl (λ on. refl) (λ off. refl)))
       (way_stands (cells_at g book.made) book.made book.owner book.fragments new next unloaded finds)
       (began_on book.history number (book.begun number) seat.place (places.Access (way_place_of next)) busy stands.told.began)
-      (went_cycle heap state book number rule here (Word seat.reached 0) seat.registers reached links part seat.loaded (places.Access (way_place_of next)) [] machine
+      (went_cycle heap state book number rule here (Word seat.reached 0) seat.registers reached links part seat.loaded (places.Access (way_place_of next)) (seat_at state number).looks [] machine
       (subst (λ b. IsUnwatched b (way_place_of next)) same (way_unwatched next)))
       (λ marks roots.
       let there = comes marks (reaches roots) in

@@ -16,6 +16,7 @@ use Rattle.heap_model.specs.graph.Growth.{after_reply}
 use Rattle.heap_model.specs.graph.Legal.{Accepts}
 use Rattle.heap_model.specs.account.PhaseCounts.{is_leave_of}
 use Rattle.heap_model.specs.graph.Graph.{Graph}
+use Rattle.core_machine.specs.seat.Looks.{forgotten}
 use Rattle.core_machine.specs.declared.table.address.Address.TheVariants.{Word}
 use Rattle.core_machine.specs.declared.place.Place.TheVariants as places
 use Rattle.core_machine.specs.declared.place.Access.TheVariants.{LoadingMeta}
@@ -68,22 +69,22 @@ module _ (heap : Heap) (state : State) (book : Book) (number : ℕ) (rule : Rule
       → KeepsSpace heap false book.history (Said number (seat_at state number).command reply)
       → is_leave_of number (Said number (seat_at state number).command reply) ≡ false
       → IsMachine heap (loaded_state heap state number (Word (seat_at state number).reached 0)
-      (went (seat_at state number) (seat_at state number).registers 0 0 0 0 places.Idle (reply_entries number (seat_at state number) reply)))
+      (went (seat_at state number) (seat_at state number).registers 0 0 0 0 places.Idle (forgotten (seat_at state number).looks) (reply_entries number (seat_at state number) reply)))
       → Keeps heap state (loaded_state heap state number (Word (seat_at state number).reached 0)
-      (went (seat_at state number) (seat_at state number).registers 0 0 0 0 places.Idle (reply_entries number (seat_at state number) reply))) book book.begun (reply_entries number (seat_at state number) reply)
+      (went (seat_at state number) (seat_at state number).registers 0 0 0 0 places.Idle (forgotten (seat_at state number).looks) (reply_entries number (seat_at state number) reply))) book book.begun (reply_entries number (seat_at state number) reply)
   met_keeps reply nothing stays accepts keeps stays_here machine =
       let seat : Seat = seat_at state number in
       let g : Graph = graph_of heap book.history in
       let stands = rule.seats_stand number here in
       let entry : Entry = Said number seat.command reply in
-      load_tells heap state book number rule here (Word seat.reached 0) seat.registers 0 0 0 0 places.Idle (entry ∷ []) machine seat.command reply nothing g stays (only_none g number)
+      load_tells heap state book number rule here (Word seat.reached 0) seat.registers 0 0 0 0 places.Idle (forgotten (seat_at state number).looks) (entry ∷ []) machine seat.command reply nothing g stays (only_none g number)
       accepts keeps
       (λ r unawaited. stands.names.registers r (subst (λ p. IsAwaited p (target_of seat.command) r) place))
       (list_more g book.made book.owner book.fragments number seat book.history (subst IsAnswered place) stands.told.list g _ _ (entry ∷ []) [] (entry ∷ []) refl refl
       (own_entries number book.history entry (eq-eqb number number refl)) refl)
       tt tt stays_here
-      (went_cycle heap state book number rule here (Word seat.reached 0) seat.registers 0 0 0 0 places.Idle (entry ∷ []) machine tt)
-      (λ marks. roots_off_way (IsReachedNow heap state book) seat (went seat seat.registers 0 0 0 0 places.Idle (entry ∷ [])) refl tt)
+      (went_cycle heap state book number rule here (Word seat.reached 0) seat.registers 0 0 0 0 places.Idle (forgotten (seat_at state number).looks) (entry ∷ []) machine tt)
+      (λ marks. roots_off_way (IsReachedNow heap state book) seat (went seat seat.registers 0 0 0 0 places.Idle (forgotten (seat_at state number).looks) (entry ∷ [])) refl tt)
 
 -- loading the length keeps the rule
 pub open_keeps : StepKeeps (places.Access LoadingMeta) (λ heap. open_move)

@@ -15,12 +15,12 @@ use Rattle.heap_model.specs.graph.Graph.{Graph}
 use Rattle.core_machine.specs.declared.table.address.Address.TheVariants.{Phase}
 use Rattle.core_machine.specs.declared.place.Place.TheVariants as places
 use Rattle.core_machine.specs.declared.place.Polling.TheVariants.{Asking, Shading, Answering}
-use Rattle.core_machine.specs.seat.HandshakeMoves.{poll_move}
+use Rattle.core_machine.specs.seat.HandshakeMoves.{poll_move, phase_told}
 use Rattle.core_machine.specs.seat.Commands.{target_of}
-use Rattle.core_machine.specs.seat.Fits.{IsAtRest, IsSilent}
+use Rattle.core_machine.specs.seat.Fits.{IsAtRest, IsSilent, AnswersThePhase}
 use Rattle.core_machine.specs.table.Layout.{at, put}
 use Rattle.core_machine.specs.machine.Machine.{State, seat_at}
-use Rattle.core_machine.specs.seat.Handshake.{roots, answer_next}
+use Rattle.core_machine.specs.seat.Handshake.{roots, answer_next, polling_over}
 use Rattle.core_machine.specs.seat.Seat.{Seat, with_entries, after_call}
 use Rattle.core_machine.specs.machine.Value.{IsMachine}
 use Rattle.core_machine.proofs.table_lemmas.Addresses.{put-at}
@@ -41,17 +41,26 @@ use Rattle.core_rule.proofs.entries.OwnEntries.{counts_same}
 use Rattle.core_rule.proofs.entries.PhaseEntries.{no_leave_told}
 use Rattle.core_rule.proofs.graph.PutRegister.{only_none}
 use Rattle.core_rule.proofs.entries.SeatLists.{all_told}
+use Rattle.core_rule.proofs.entries.PhasesTold.{answers_by}
+use Rattle.core_rule.proofs.steps.QuietLoads.{quiet_ends}
+use Rattle.core_rule.specs.Registers.{IsAwaited}
+use Rattle.heap_model.specs.declared.command.Command.{Command}
 
 -- the seat after the load, by whether it has answered the phase found
-abbrev polled : ℕ → Seat → ℕ → Bool → Seat
-polled number seat found same = with_entries (if same then after_call seat else answer_next (record seat { asked = found }))
-    (if same then entries.Said number seat.command (replies.Phase found) ∷ [] else [])
+abbrev polled : ℕ → Command → Seat → ℕ → Bool → Seat
+polled number command seat found same = with_entries (if same then polling_over command seat else answer_next (record seat { asked = found }))
+    (if same then phase_told number command found else [])
 
-abbrev polls : Heap → State → ℕ → Bool → State
-polls heap state number same = record state {
+abbrev polls : Heap → State → ℕ → Command → Bool → State
+polls heap state number command same = record state {
   words = put heap state.words Phase (at heap state.words Phase);
-  seats = slice_set state.seats number (polled number (seat_at state number) (at heap state.words Phase) same);
+  seats = slice_set state.seats number (polled number command (seat_at state number) (at heap state.words Phase) same);
 }
+
+-- a load of this kind keeps the rule
+abbrev PollKeeps : Heap → State → Book → ℕ → Command → Bool → Type 0
+PollKeeps heap state book number command same = IsMachine heap (polls heap state number command same)
+    → Keeps heap state (polls heap state number command same) book book.begun (if same then phase_told number command (at heap state.words Phase) else [])
 
 -- what is about to be answered, whether a root is shaded first or not
 asks_at : (phase answer asked : ℕ) (b : Bool) → Asks phase answer asked → PollingStands phase answer asked (if b then Shading else Answering)
@@ -74,7 +83,7 @@ module _ (heap : Heap) (state : State) (book : Book) (number : ℕ) (rule : Rule
   rest : IsAtRest seat
   rest = rw place at (seat_fits rule number here).at_place
 
-  asks : IsSilent seat × (seat.command ≡ commands.Poll)
+  asks : IsSilent seat × AnswersThePhase seat.command
   asks = rw place at (seat_fits rule number here).answer_at_place
 
   stays : seat.left ≡ false
@@ -89,9 +98,9 @@ module _ (heap : Heap) (state : State) (book : Book) (number : ℕ) (rule : Rule
   holds : HoldAll heap book.history g number book.made book.owner book.fragments g seat.registers
   holds i = stands.names.registers i (none_awaited seat.place (places.Polling Asking) (target_of seat.command) i place (λ none. none))
 
-  -- the seat has answered the phase
-  poll_tells : found ≡ seat.answered → IsMachine heap (polls heap state number true) → Keeps heap state (polls heap state number true) book book.begun (entries.Said number seat.command (replies.Phase found) ∷ [])
-  poll_tells same machine =
+  -- the seat has answered the phase: a poll tells it
+  poll_tells : found ≡ seat.answered → seat.command ≡ commands.Poll → PollKeeps heap state book number commands.Poll true
+  poll_tells same polls =
       let local : IsLocalReply heap book.history g number book.made book.owner book.fragments commands.Poll (replies.Phase found) seat.registers
       = record {
         plain = record { none = refl; space = tt; spine = tt; phases = (is_phase, same ∙ sym stands.cycle.answers_told.told); most = refl };
@@ -99,16 +108,23 @@ module _ (heap : Heap) (state : State) (book : Book) (number : ℕ) (rule : Rule
         only = only_none g number;
         registers = holds;
       } in
-      local_reply_keeps heap state book number Phase (polled number seat found true) (replies.Phase found) rule here machine rest mine_told (stands.told.counts.leaves ∙ stays)
-      (subst IsCommand (sym asks.1) tt)
-      (subst (λ c. IsLocalReply heap book.history g number book.made book.owner book.fragments c (replies.Phase found) seat.registers) (sym asks.1) local)
-      (no_leave_told number number seat.command (replies.Phase found) (λ leaves. absurd (cc (leaves, asks.1))))
+      let next = λ (c : Command). with_entries (after_call seat) (entries.Said number c (replies.Phase found) ∷ []) in
+      subst (λ c. IsMachine heap (record state { words = put heap state.words Phase found; seats = slice_set state.seats number (next c) })
+      → Keeps heap state (record state { words = put heap state.words Phase found; seats = slice_set state.seats number (next c) }) book book.begun (entries.Said number c (replies.Phase found) ∷ [])) polls
+      (λ machine. local_reply_keeps heap state book number Phase (next seat.command) (replies.Phase found) rule here machine rest mine_told (stands.told.counts.leaves ∙ stays)
+      (subst IsCommand (sym polls) tt)
+      (subst (λ c. IsLocalReply heap book.history g number book.made book.owner book.fragments c (replies.Phase found) seat.registers) (sym polls) local)
+      (no_leave_told number number seat.command (replies.Phase found) (λ leaves. absurd (cc (leaves, polls))))
       record { idle = refl; reserve = refl; mine = refl; answered = refl; asked = sym asks.0.none_asked; made = refl; sets = refl; left = refl }
-      (λ marks. roots_off_way (IsReached heap state.words book.owner book.colour) seat (polled number seat found true) refl tt)
+      (λ marks. roots_off_way (IsReached heap state.words book.owner book.colour) seat (next seat.command) refl tt))
+
+  -- and a collect doesn't
+  collect_ends : PollKeeps heap state book number commands.Collect true
+  collect_ends = quiet_ends heap state book number rule here Phase seat.looks rest asks.0 (rw place (λ same. same)) (λ r awaited. subst (λ x. IsAwaited x (target_of seat.command) r) place awaited) mine_told
 
   -- it hasn't, so that it is one phase behind
   own_cycle : found ≢ seat.answered
-      → SeatInCycle heap state.words (phase book.history) (last_answer number book.history) (has_left number book.history) book.owner book.colour number (polled number seat found false)
+      → SeatInCycle heap state.words (phase book.history) (last_answer number book.history) (has_left number book.history) book.owner book.colour number (polled number seat.command seat found false)
   own_cycle apart =
       let told = stands.cycle.answers_told in
       let next : found ≡ seat.answered + 1 = elim (told.near stays) [
@@ -126,9 +142,9 @@ module _ (heap : Heap) (state : State) (book : Book) (number : ℕ) (rule : Rule
         births = stands.cycle.births;
       }
 
-  poll_goes : found ≢ seat.answered → IsMachine heap (polls heap state number false) → Keeps heap state (polls heap state number false) book book.begun []
+  poll_goes : found ≢ seat.answered → PollKeeps heap state book number seat.command false
   poll_goes apart machine =
-      let next : Seat = polled number seat found false in
+      let next : Seat = polled number seat.command seat found false in
       subst (λ words. IsMachine heap (record state { words = words; seats = slice_set state.seats number next })
       → Keeps heap state (record state { words = words; seats = slice_set state.seats number next }) book book.begun []) (sym (put-at heap state.words Phase))
       (λ same. seat_steps heap state book number state.words next book [] rule here same (sym (append-nil book.history)) refl rule.heap_stands
@@ -147,20 +163,18 @@ module _ (heap : Heap) (state : State) (book : Book) (number : ℕ) (rule : Rule
       (marks_off_way heap state book rule number here state.words book next (leaves_words heap state book rule state.words (λ f part x leads. leads) (λ f part x leads. leads)) refl refl tt)
       (book_stays heap state book book.history book.begun)) machine
 
+  poll_kept : PollKeeps heap state book number seat.command (found == seat.answered)
+  poll_kept = elim (eqb_tells found seat.answered) as (λ _. PollKeeps heap state book number seat.command (found == seat.answered)) [
+    | inl same ↦ subst (PollKeeps heap state book number seat.command) (sym same.0) (tells same.1)
+    | inr apart ↦ subst (PollKeeps heap state book number seat.command) (sym apart.0) (poll_goes apart.1)
+  ]
+    where
+      tells : found ≡ seat.answered → PollKeeps heap state book number seat.command true
+      tells same = elim (answers_by seat.command asks.1) as (λ _. PollKeeps heap state book number seat.command true) [
+        | inl polls ↦ subst (λ c. PollKeeps heap state book number c true) (sym polls) (poll_tells same polls)
+        | inr collects ↦ subst (λ c. PollKeeps heap state book number c true) (sym collects) collect_ends
+      ]
+
 -- a poll's load keeps the rule
 pub poll_keeps : StepKeeps (places.Polling Asking) (λ heap. poll_move)
-poll_keeps heap state book number rule here place machine =
-    let found : ℕ = at heap state.words Phase in
-    elim (eqb_tells found (seat_at state number).answered) [
-      | inl same ↦ by true same.0 (poll_tells heap state book number rule here place same.1)
-      | inr apart ↦ by false apart.0 (poll_goes heap state book number rule here place apart.1)
-    ]
-  where
-    by : (b : Bool) → (at heap state.words Phase == (seat_at state number).answered) ≡ b
-        → (IsMachine heap (polls heap state number b)
-        → Keeps heap state (polls heap state number b) book book.begun (if b then entries.Said number (seat_at state number).command (replies.Phase (at heap state.words Phase)) ∷ [] else []))
-        → Keeps heap state (polls heap state number (at heap state.words Phase == (seat_at state number).answered)) book book.begun
-        (if at heap state.words Phase == (seat_at state number).answered then entries.Said number (seat_at state number).command (replies.Phase (at heap state.words Phase)) ∷ [] else [])
-    by b is kept =
-        subst (λ (b : Bool). IsMachine heap (polls heap state number b)
-        → Keeps heap state (polls heap state number b) book book.begun (if b then entries.Said number (seat_at state number).command (replies.Phase (at heap state.words Phase)) ∷ [] else [])) (sym is) kept machine
+poll_keeps heap state book number rule here place = poll_kept heap state book number rule here place

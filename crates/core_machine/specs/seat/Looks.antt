@@ -1,0 +1,69 @@
+-- What a seat finds out by the inner calls of its collects.
+use Rattle.std.specs.Prelude.{◌≡◌, ◌≢◌, ℕ, ◌+◌, ◌*◌, ◌^◌, ◌<◌, ◌≤◌, nat_lt, if◌then◌else◌, Option, Some, None}
+use Rattle.heap_model.specs.PhasePlan.{cycle_phases}
+use Rattle.heap_model.specs.declared.calls.collect.CollectReply.{CollectReply}
+use Rattle.heap_model.specs.declared.calls.collect.CollectReply.TheVariants.{Cycle, Waits}
+use Rattle.heap_model.specs.declared.calls.collect.Inner.{Inner}
+use Rattle.heap_model.specs.declared.calls.collect.Inner.TheVariants.{Look, Answer, Behind, Note}
+use Rattle.heap_model.specs.declared.heap.Heap.{Heap}
+use Rattle.heap_model.specs.declared.reply.Reply.{Reply}
+use Rattle.heap_model.specs.declared.reply.Reply.TheVariants as replies
+pub use Rattle.core_machine.specs.declared.seat.looks.Looks.{Looks}
+pub use Rattle.core_machine.specs.declared.seat.looks.FoundBehind.{FoundBehind}
+
+-- at the opening nothing was found
+abbrev pub no_looks : Looks
+no_looks = record { first = None; seen = 0; behind = None; waits = 0 }
+
+-- a reply forgets what was found since the one before it
+abbrev pub forgotten : Looks → Looks
+forgotten looks = record looks { first = None; behind = None }
+
+-- the first phase that was found, with this one after it
+abbrev pub first_of : Option ℕ → ℕ → Option ℕ
+first_of None found = Some found
+first_of (Some p) found = Some p
+
+-- a look found this phase
+abbrev pub looked : ℕ → Looks → Looks
+looked found looks = record looks { first = first_of looks.first found; seen = found }
+
+-- this phase was found, with which the answer of a seat is to be compared
+abbrev pub seen_phase : ℕ → Looks → Looks
+seen_phase found looks = record looks { seen = found }
+
+-- one more, where that has 64 bits
+abbrev pub one_more : ℕ → ℕ
+one_more n = if nat_lt (n + 1) (2 ^ 64) then n + 1 else n
+
+-- a seat was found to be behind
+abbrev pub found_behind : FoundBehind → Looks → Looks
+found_behind found looks = record looks { behind = Some found; waits = one_more looks.waits }
+
+-- the word of another seat was compared with the phase: the seat is behind where the word is below it
+abbrev pub compared : ℕ → ℕ → ℕ → Looks → Looks
+compared other phase word looks =
+    if nat_lt word phase then found_behind (record { seat = other; answered = word; phase = phase }) looks
+    else record looks { behind = None }
+
+-- the first look since the last reply found this phase or an earlier one
+abbrev pub FirstUpTo : Option ℕ → ℕ → Type 0
+FirstUpTo None p = ⊥
+FirstUpTo (Some first) p = first ≤ p
+
+-- what was found allows this reply: a cycle that began after a look and whose end was seen, or the seat that was found to be behind
+abbrev pub MayNote : Looks → CollectReply → Type 0
+MayNote looks (Cycle j) = FirstUpTo looks.first (cycle_phases * j) × (cycle_phases * (j + 1) ≤ looks.seen)
+MayNote looks (Waits other answered phase) = looks.behind ≡ Some (record { seat = other; answered = answered; phase = phase })
+
+-- the seat of this number may make the inner call after what it found: it asks another seat of the heap, and notes what it has found
+abbrev pub MayMake : Heap → ℕ → Looks → Inner → Type 0
+MayMake heap number looks Look = Unit {0}
+MayMake heap number looks Answer = Unit {0}
+MayMake heap number looks (Behind other) = (other < heap.seats) × (other ≢ number)
+MayMake heap number looks (Note reply) = MayNote looks reply
+
+-- the reply that is noted
+abbrev pub noted_reply : CollectReply → Reply
+noted_reply (Cycle j) = replies.Cycle j
+noted_reply (Waits other answered phase) = replies.Waits other answered phase

@@ -1,0 +1,85 @@
+ghost use Rattle.std.specs.Prelude.{◌≡◌, ◌<◌};
+ghost use Rattle.core_machine.specs.seat.Collecting.{look_move, asking_move, comparing_move, note_move, collecting_move, inner_place};
+ghost use Rattle.core_machine.specs.seat.Looks.{noted_reply};
+ghost use Rattle.core_machine.specs.Moves.{seat_after};
+ghost use Rattle.core_machine.specs.machine.Value.{KeepsRoom};
+
+use crate::place::{Collecting, Place, Polling};
+use crate::seat::SeatParty;
+use heap_model::{CollectReply, Inner, Reply};
+
+/// Where an inner call begins.
+pub fn first_place(inner: Inner) -> Place
+    ensures { result ≡ inner_place inner }
+{
+    match inner {
+        Inner::Look => Place::Collecting(Collecting::Looking),
+        Inner::Answer => Place::Polling(Polling::Asking),
+        Inner::Behind { seat } => Place::Collecting(Collecting::Asking { other: seat }),
+        Inner::Note(reply) => Place::Collecting(Collecting::Noting(reply)),
+    }
+}
+
+/// The reply that is noted.
+fn noted(reply: CollectReply) -> Reply
+    ensures { result ≡ noted_reply reply }
+{
+    match reply {
+        CollectReply::Cycle(cycle) => Reply::Cycle(cycle),
+        CollectReply::Waits {
+            seat,
+            answered,
+            phase,
+        } => Reply::Waits {
+            seat,
+            answered,
+            phase,
+        },
+    }
+}
+
+impl SeatParty {
+    /// Looked at the phase.
+    fn learn_look(&mut self, found: u64)
+        ensures seat { self.new.seat ≡ seat_after (look_move self.old.seat) found }
+        ensures spare { self.new.spare ≡ self.old.spare }
+    {
+        self.looks.look(found);
+        self.finish();
+    }
+
+    /// Learns the phase with which the answer of another seat is to be compared.
+    fn learn_asking(&mut self, other: u8, found: u64)
+        ensures seat { self.new.seat ≡ seat_after (asking_move self.old.seat other) found }
+        ensures spare { self.new.spare ≡ self.old.spare }
+    {
+        self.looks.see(found);
+        self.place = Place::Collecting(Collecting::Comparing {
+            other,
+            phase: found,
+        });
+    }
+
+    /// Learns the other seat's word.
+    fn learn_comparing(&mut self, other: u8, phase: u64, found: u64)
+        ensures seat { self.new.seat ≡ seat_after (comparing_move self.old.seat other phase) found }
+        ensures spare { self.new.spare ≡ self.old.spare }
+    {
+        self.looks.compare(other, phase, found);
+        self.finish();
+    }
+
+    /// Learns what a step of an inner call of a collect found.
+    pub(crate) fn learn_collecting(&mut self, number: u8, place: Collecting, found: u64)
+        requires { 0 < self.old.spare }
+        ensures seat { self.new.seat ≡ seat_after (collecting_move number self.old.seat place) found }
+        ensures spare { KeepsRoom self.old self.new }
+    {
+        match place {
+            Collecting::Looking => self.learn_look(found),
+            Collecting::Asking { other } => self.learn_asking(other, found),
+            Collecting::Comparing { other, phase } => self.learn_comparing(other, phase, found),
+            Collecting::Noting(reply) => self.reply(number, noted(reply)),
+        }
+    }
+}

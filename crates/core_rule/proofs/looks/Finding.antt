@@ -1,0 +1,103 @@
+-- What a seat finds by a look, and where it compares another seat's word with the phase.
+use Rattle.std.specs.Prelude.{if◌then◌else◌, nat_lt}
+use Rattle.std.proofs.Common.{◌≡◌, ◌≢◌, ℕ, suc, ◌+◌, ◌<◌, ◌≤◌, inl, inr, false, true, List, [], ◌∷◌, ◌++◌, Option, Some, None, IfSome, refl, sym, ap, ◌∙◌, subst, arith}
+use Rattle.std.proofs.lemmas.Bool.Decides.{leb_tells}
+use Rattle.std.proofs.lemmas.List.{append-nil}
+use Rattle.heap_model.specs.declared.entry.Entry.{Entry}
+use Rattle.heap_model.specs.declared.heap.Heap.{Heap}
+use Rattle.heap_model.specs.account.PhaseCounts.{phase, last_answer, has_left}
+use Rattle.heap_model.specs.account.Phases.{IsBehind, WasBehind}
+use Rattle.heap_model.specs.account.Windows.{up_to_reply, since_reply, is_reply_to}
+use Rattle.heap_model.proofs.account_lemmas.Windows.{parts, all_since}
+use Rattle.core_machine.specs.declared.place.Access.TheVariants.{Naming}
+use Rattle.core_machine.specs.declared.place.Collecting.TheVariants.{Asking, Comparing}
+use Rattle.core_machine.specs.declared.place.Place.{Place}
+use Rattle.core_machine.specs.declared.place.Place.TheVariants as places
+use Rattle.core_machine.specs.declared.table.address.Address.TheVariants.{Answer, Phase}
+use Rattle.core_machine.specs.machine.Machine.{State, seat_at}
+use Rattle.core_machine.specs.seat.Looks.{Looks, first_of, looked, seen_phase, compared, found_behind}
+use Rattle.core_machine.specs.table.Layout.{at}
+use Rattle.core_rule.specs.Book.{Book}
+use Rattle.core_rule.specs.Looks.{WasSeen, WasFound, IsOther, Compares, LooksStand}
+use Rattle.core_rule.specs.Rule.{Rule}
+use Rattle.core_rule.proofs.looks.Words.{word_below}
+
+module _ (heap : Heap) (state : State) (book : Book) (rule : Rule heap state book) (number : ℕ) where
+  abbrev history : List Entry
+  history = book.history
+
+  abbrev found : ℕ
+  found = at heap state.words Phase
+
+  is_phase : found ≡ phase history
+  is_phase = rule.heap_stands.cycle.word
+
+  seen_now : WasSeen history number found
+  seen_now = record { since = omega (arith, is_phase, all_since number (λ e. e.phases) history); begun = omega (arith, is_phase) }
+
+  first_now : (first : Option ℕ) → IfSome first (WasSeen history number) → IfSome (first_of first found) (WasSeen history number)
+  first_now None seen = seen_now
+  first_now (Some p) seen = seen
+
+  -- a look
+  pub looks_looked : (place : Place) (looks : Looks) → place ≢ places.Access Naming → LooksStand heap history number place looks → LooksStand heap history number places.Idle (looked found looks)
+  looks_looked place looks unnamed stands =
+      let was = stands.found unnamed in
+      record { seen = omega (arith, is_phase); found = λ still. record { first = first_now looks.first was.first; behind = was.behind }; asks = tt }
+
+  -- the phase with which another seat's word is to be compared
+  pub looks_asked : (other : ℕ) (looks : Looks) → LooksStand heap history number (places.Collecting (Asking other)) looks
+      → LooksStand heap history number (places.Collecting (Comparing other found)) (seen_phase found looks)
+  looks_asked other looks stands =
+      let was = stands.found (λ named. cc named) in
+      let asked : IsOther heap number other = stands.asks in
+      record {
+        seen = omega (arith, is_phase);
+        found = λ still. record { first = was.first; behind = was.behind };
+        asks = record { asked = asked; begun = omega (arith, is_phase); behind = behind asked };
+      }
+    where
+      behind : IsOther heap number other → has_left other history ≡ false → last_answer other history < found
+          → (found ≡ last_answer other history + 1) × WasBehind number other (last_answer other history) found history
+      behind asked present less =
+          let told = (rule.seats_stand other asked.below).cycle.answers_told in
+          let next : found ≡ last_answer other history + 1 = elim (told.near (sym told.leaves ∙ present)) [
+            | inl same ↦ absurd (omega (arith, same, less, told.told, is_phase))
+            | inr before ↦ omega (arith, before, told.told, is_phase)
+          ] in (
+            next,
+            (
+              since_reply number history,
+              [],
+              sym (append-nil (since_reply number history)),
+              subst (λ es. IsBehind other (last_answer other history) found es) (sym (parts (is_reply_to number) history)) record { present = present; answered = refl; here = sym is_phase },
+            ),
+          )
+
+  -- another seat's word
+  pub looks_compared : (other p : ℕ) (looks : Looks) → LooksStand heap history number (places.Collecting (Comparing other p)) looks
+      → LooksStand heap history number places.Idle (compared other p (at heap state.words (Answer other)) looks)
+  looks_compared other p looks stands =
+      elim (leb_tells (suc word) p) as (λ _. LooksStand heap history number places.Idle (compared other p word looks)) [
+        | inl less ↦ subst (λ b. LooksStand heap history number places.Idle (if b then found_behind (record { seat = other; answered = word; phase = p }) looks else record looks { behind = None }))
+            (sym less.0) record { seen = stands.seen; found = λ still. record { first = (stands.found (λ named. cc named)).first; behind = behind less.1 }; asks = tt }
+        | inr more ↦ subst (λ b. LooksStand heap history number places.Idle (if b then found_behind (record { seat = other; answered = word; phase = p }) looks else record looks { behind = None }))
+            (sym more.0) record { seen = stands.seen; found = λ still. record { first = (stands.found (λ named. cc named)).first; behind = tt }; asks = tt }
+      ]
+    where
+      word : ℕ
+      word = at heap state.words (Answer other)
+
+      asks : Compares heap history number other p
+      asks = stands.asks
+
+      behind : word < p → WasFound heap history number (record { seat = other; answered = word; phase = p })
+      behind less =
+          let told = word_below heap state book rule other asks.asked.below word refl (omega (arith, less, asks.begun)) in
+          let its = asks.behind told.0 (omega (arith, less, told.1)) in
+          record {
+            below = asks.asked.below;
+            other = asks.asked.apart;
+            next = omega (arith, its.0, told.1);
+            behind = subst (λ a. WasBehind number other a p history) told.1 its.1;
+          }

@@ -1,0 +1,127 @@
+-- What a seat has found stands as the history grows.
+use Rattle.std.specs.List.{list_any}
+use Rattle.std.proofs.Common.{◌≡◌, ◌≢◌, ◌||◌, ℕ, ◌+◌, ◌<◌, ◌≤◌, Bool, true, false, List, [], ◌∷◌, ◌++◌, Option, Some, None, IfSome, refl, sym, ap, ◌∙◌, subst, arith, append_assoc}
+use Rattle.std.proofs.lemmas.List.{append-nil}
+use Rattle.heap_model.specs.declared.entry.Entry.{Entry}
+use Rattle.heap_model.specs.declared.heap.Heap.{Heap}
+use Rattle.heap_model.specs.account.PhaseCounts.{phase, last_answer, has_left}
+use Rattle.heap_model.specs.account.Phases.{IsBehind, WasBehind}
+use Rattle.heap_model.specs.account.Windows.{up_to_last, after_last, up_to_reply, since_reply, is_reply_to}
+use Rattle.heap_model.proofs.account_lemmas.Windows.{up_to_last-no, after_last-no}
+use Rattle.core_machine.specs.declared.place.Access.TheVariants.{Naming}
+use Rattle.core_machine.specs.declared.place.Collecting.{Collecting}
+use Rattle.core_machine.specs.declared.place.Collecting.TheVariants.{Looking, Asking, Comparing, Noting}
+use Rattle.core_machine.specs.declared.place.Place.{Place}
+use Rattle.core_machine.specs.declared.place.Place.TheVariants as places
+use Rattle.core_machine.specs.seat.Looks.{Looks, FoundBehind, forgotten}
+use Rattle.core_rule.specs.Looks.{WasSeen, WasFound, FoundSince, Compares, CollectingStands, WhileCollecting, LooksStand}
+use Rattle.core_rule.proofs.entries.PhaseEntries.{answers_grow, was_present}
+use Rattle.core_rule.proofs.footprint.WeightGrowth.{total-added}
+use Rattle.core_rule.proofs.lists.Options.{if_some}
+
+-- none of the entries passes the test
+abbrev pub NoneOf : (Entry → Bool) → List Entry → Type 0
+NoneOf test added = list_any test added ≡ false
+
+any_parts : (a b : Bool) → (a || b) ≡ false → (a ≡ false) × (b ≡ false)
+any_parts true b none = cc
+any_parts false b none = (refl, none)
+
+pub up_to_last-none : (test : Entry → Bool) (before added : List Entry) → NoneOf test added → up_to_last test (before ++ added) ≡ up_to_last test before
+up_to_last-none test before [] none = ap (up_to_last test) (append-nil before)
+up_to_last-none test before (entry ∷ more) none =
+    let parts = any_parts (test entry) (list_any test more) none in
+    ap (up_to_last test) (sym (append_assoc before (entry ∷ []) more)) ∙ up_to_last-none test (before ++ entry ∷ []) more parts.1 ∙ up_to_last-no test before entry parts.0
+
+pub after_last-none : (test : Entry → Bool) (before added : List Entry) → NoneOf test added → after_last test (before ++ added) ≡ after_last test before ++ added
+after_last-none test before [] none = ap (after_last test) (append-nil before) ∙ sym (append-nil (after_last test before))
+after_last-none test before (entry ∷ more) none =
+    let parts = any_parts (test entry) (list_any test more) none in
+    ap (after_last test) (sym (append_assoc before (entry ∷ []) more)) ∙ after_last-none test (before ++ entry ∷ []) more parts.1
+    ∙ ap (λ es. es ++ more) (after_last-no test before entry parts.0) ∙ append_assoc (after_last test before) (entry ∷ []) more
+
+phase_grows : (before added : List Entry) → phase before ≤ phase (before ++ added)
+phase_grows before added = omega (arith, total-added (λ e. e.phases) before added)
+
+module _ (heap : Heap) (number : ℕ) (before added : List Entry) (none : NoneOf (is_reply_to number) added) where
+  abbrev now : List Entry
+  now = before ++ added
+
+  up_to : up_to_reply number now ≡ up_to_reply number before
+  up_to = up_to_last-none (is_reply_to number) before added none
+
+  since : since_reply number now ≡ since_reply number before ++ added
+  since = after_last-none (is_reply_to number) before added none
+
+  behind_on : (other answer p : ℕ) → WasBehind number other answer p before → WasBehind number other answer p now
+  behind_on other answer p was = (
+    was.0,
+    was.1 ++ added,
+    since ∙ ap (λ es. es ++ added) was.2 ∙ append_assoc was.0 was.1 added,
+    subst (λ es. IsBehind other answer p (es ++ was.0)) (sym up_to) was.3,
+  )
+
+  seen_on : (p : ℕ) → WasSeen before number p → WasSeen now number p
+  seen_on p seen = record { since = rw up_to seen.since; begun = omega (arith, seen.begun, phase_grows before added) }
+
+  found_on : (found : FoundBehind) → WasFound heap before number found → WasFound heap now number found
+  found_on found was = record { below = was.below; other = was.other; next = was.next; behind = behind_on found.seat found.answered found.phase was.behind }
+
+  compares_on : (other p : ℕ) → Compares heap before number other p → Compares heap now number other p
+  compares_on other p was = record {
+    asked = was.asked;
+    begun = omega (arith, was.begun, phase_grows before added);
+    behind = λ present less.
+        let grows = answers_grow other before added in
+        let old = was.behind (was_present other before added present) (omega (arith, less, grows)) in
+        let same : last_answer other now ≡ last_answer other before = omega (arith, old.0, less, grows) in
+        (old.0 ∙ ap (λ n. n + 1) (sym same), behind_on other (last_answer other now) p (subst (λ a. WasBehind number other a p before) (sym same) old.1));
+  }
+
+  collecting_on : (place : Collecting) → CollectingStands heap before number place → CollectingStands heap now number place
+  collecting_on Looking stands = tt
+  collecting_on (Asking other) stands = stands
+  collecting_on (Comparing other p) stands = compares_on other p stands
+  collecting_on (Noting reply) stands = tt
+
+  asks_on : (place : Place) → WhileCollecting (CollectingStands heap before number) place → WhileCollecting (CollectingStands heap now number) place
+  asks_on (places.Collecting place) stands = collecting_on place stands
+  asks_on _ stands = tt
+
+  -- where none of the entries is a reply to the seat
+  pub looks_on : (place : Place) (looks : Looks) → LooksStand heap before number place looks → LooksStand heap now number place looks
+  looks_on place looks stands = record {
+    seen = omega (arith, stands.seen, phase_grows before added);
+    found = λ unnamed. let was = stands.found unnamed in record {
+      first = if_some (WasSeen before number) (WasSeen now number) seen_on looks.first was.first;
+      behind = if_some (WasFound heap before number) (WasFound heap now number) found_on looks.behind was.behind;
+    };
+    asks = asks_on place stands.asks;
+  }
+
+-- the place is none of an inner call of its own
+abbrev pub IsElsewhere : Place → Type 0
+IsElsewhere (places.Collecting place) = ⊥
+IsElsewhere _ = Unit {0}
+
+nothing_asked : (P : Collecting → Type 0) (place : Place) → IsElsewhere place → WhileCollecting P place
+nothing_asked P (places.Collecting place) elsewhere = absurd elsewhere
+nothing_asked P _ elsewhere = tt
+
+-- where the seat goes elsewhere
+pub looks_elsewhere : (heap : Heap) (history : List Entry) (number : ℕ) (place next : Place) (looks : Looks) → place ≢ places.Access Naming → IsElsewhere next
+    → LooksStand heap history number place looks → LooksStand heap history number next looks
+looks_elsewhere heap history number place next looks unnamed elsewhere stands =
+    record { seen = stands.seen; found = λ still. stands.found unnamed; asks = nothing_asked (CollectingStands heap history number) next elsewhere }
+
+-- after a reply all is forgotten
+pub looks_forgotten : (heap : Heap) (before added : List Entry) (number : ℕ) (place : Place) (looks : Looks) → LooksStand heap before number place looks
+    → LooksStand heap (before ++ added) number places.Idle (forgotten looks)
+looks_forgotten heap before added number place looks stands =
+    record { seen = omega (arith, stands.seen, phase_grows before added); found = λ unnamed. record { first = tt; behind = tt }; asks = tt }
+
+-- and where a name is awaited it is about to be
+pub looks_awaiting : (heap : Heap) (before added : List Entry) (number : ℕ) (place : Place) (looks : Looks) → LooksStand heap before number place looks
+    → LooksStand heap (before ++ added) number (places.Access Naming) looks
+looks_awaiting heap before added number place looks stands =
+    record { seen = omega (arith, stands.seen, phase_grows before added); found = λ unnamed. absurd (unnamed refl); asks = tt }

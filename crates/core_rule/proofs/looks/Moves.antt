@@ -1,0 +1,232 @@
+-- What a seat has found stands after each of its moves.
+use Rattle.std.specs.List.{list_any}
+use Rattle.std.specs.Prelude.{if◌then◌else◌}
+use Rattle.std.proofs.Common.{◌≡◌, ◌≢◌, ◌||◌, ◌==◌, ◌++◌, ℕ, ◌+◌, ◌<◌, Bool, true, false, List, [], ◌∷◌, Option, Some, None, length, refl, sym, ap, ◌∙◌, subst}
+use Rattle.std.proofs.lemmas.List.{append-nil}
+use Rattle.heap_model.specs.declared.command.Command.{Command}
+use Rattle.heap_model.specs.declared.command.Command.TheVariants as commands
+use Rattle.heap_model.specs.declared.entry.Entry.{Entry}
+use Rattle.heap_model.specs.declared.entry.Entry.TheVariants as entries
+use Rattle.heap_model.specs.declared.heap.Heap.{Heap}
+use Rattle.heap_model.specs.declared.reply.Reply.{Reply}
+use Rattle.heap_model.specs.declared.reply.Reply.TheVariants as replies
+use Rattle.heap_model.specs.account.Windows.{is_reply_to}
+use Rattle.core_machine.specs.declared.place.Access.TheVariants.{LoadingMeta, Walking, Getting, Naming, LoadingOld, ShadingOld, ShadingNew, Swapping}
+use Rattle.core_machine.specs.declared.place.Collecting.TheVariants.{Looking, Comparing, Noting}
+use Rattle.core_machine.specs.declared.place.Collecting.TheVariants as collecting
+use Rattle.core_machine.specs.declared.place.Leaving.TheVariants.{Emptying, Parting}
+use Rattle.core_machine.specs.declared.place.Making.TheVariants.{Gathering, Returning, Refusing, Storing, Bearing}
+use Rattle.core_machine.specs.declared.place.Place.{Place}
+use Rattle.core_machine.specs.declared.place.Place.TheVariants as places
+use Rattle.core_machine.specs.declared.place.Polling.TheVariants.{Asking, Shading, Answering}
+use Rattle.core_machine.specs.declared.seat.register.Register.{Register}
+use Rattle.core_machine.specs.declared.seat.register.Register.TheVariants as registers
+use Rattle.core_machine.specs.machine.Machine.{State, seat_at, found_by, entries_shown, after_begin}
+use Rattle.core_machine.specs.Moves.{Move, move_at, is_last_birth, last_birth_move, birth_move, seat_after, takes_some}
+use Rattle.core_machine.specs.seat.Access.{way_place_of, after_link, after_walk, at_access, with_field_place, after_meta, after_get, new_place_of, access_start}
+use Rattle.core_machine.specs.seat.AccessMoves.{got_shows, reply_entries_if}
+use Rattle.core_machine.specs.seat.Handshake.{answer_next, polling_over}
+use Rattle.core_machine.specs.seat.HandshakeMoves.{phase_told}
+use Rattle.core_machine.specs.seat.Looks.{Looks, forgotten}
+use Rattle.core_machine.specs.seat.Making.{gather_next, next_group_of, after_claim}
+use Rattle.core_machine.specs.seat.Registers.{register_in}
+use Rattle.core_machine.specs.seat.Seat.{Seat}
+use Rattle.core_machine.specs.table.Fragments.{clear_in}
+use Rattle.core_machine.proofs.seat_lemmas.Fitting.{goes_on_cases}
+use Rattle.core_rule.specs.Book.{Book}
+use Rattle.core_rule.specs.Looks.{LooksStand}
+use Rattle.core_rule.specs.Rule.{Rule}
+use Rattle.core_rule.proofs.entries.Others.{of_other}
+use Rattle.core_rule.proofs.looks.Finding.{looks_looked, looks_asked, looks_compared}
+use Rattle.core_rule.proofs.looks.Growth.{NoneOf, IsElsewhere, looks_on, looks_elsewhere, looks_forgotten, looks_awaiting}
+
+-- the seat keeps what it has found, and stands at no inner call's own place
+pub record StaysFound (seat now : Seat) : Type 0 where
+  pub looks : now.looks ≡ seat.looks
+  pub elsewhere : IsElsewhere now.place
+
+-- the place is that of a note
+abbrev pub IsNote : Place → Type 0
+IsNote (places.Collecting (Noting reply)) = Unit {0}
+IsNote _ = ⊥
+
+pub elsewhere_unnoted : (place : Place) → IsElsewhere place → ¬ IsNote place
+elsewhere_unnoted (places.Collecting place) elsewhere note = elsewhere
+elsewhere_unnoted _ elsewhere note = note
+
+-- none of the entries is a reply to another seat
+abbrev pub NoneToOthers : ℕ → List Entry → Type 0
+NoneToOthers number added = (r : ℕ) → r ≢ number → NoneOf (is_reply_to r) added
+
+-- none is a reply at all
+abbrev NoReplies : List Entry → Type 0
+NoReplies added = (r : ℕ) → NoneOf (is_reply_to r) added
+
+no_entries : NoReplies []
+no_entries r = refl
+
+one_own : (number : ℕ) (command : Command) (reply : Reply) → NoneToOthers number (entries.Said number command reply ∷ [])
+one_own number command reply r apart = rw (of_other number r apart) refl
+
+-- how a seat goes by a move
+module _ (heap : Heap) (number : ℕ) (before : List Entry) (seat : Seat) where
+  pub record LooksGo (now : Seat) (shown : List Entry) : Type 0 where
+    pub others : NoneToOthers number shown
+    pub unnoted : ¬ IsNote now.place
+    pub stands : LooksStand heap before number seat.place seat.looks → LooksStand heap (before ++ shown) number now.place now.looks
+
+  -- nothing is told, and it stays with what it has found
+  quiet : (now : Seat) (shown : List Entry) → seat.place ≢ places.Access Naming → NoReplies shown → StaysFound seat now → LooksGo now shown
+  quiet now shown unnamed none stays = record {
+    others = λ r apart. none r;
+    unnoted = elsewhere_unnoted now.place stays.elsewhere;
+    stands = λ stands. subst (LooksStand heap (before ++ shown) number now.place) (sym stays.looks)
+        (looks_on heap number before shown (none number) now.place seat.looks (looks_elsewhere heap before number seat.place now.place seat.looks unnamed stays.elsewhere stands));
+  }
+
+  -- a reply is told
+  ends : (now : Seat) (shown : List Entry) → now.looks ≡ forgotten seat.looks → now.place ≡ places.Idle → NoneToOthers number shown → LooksGo now shown
+  ends now shown looks idle others = record {
+    others = others;
+    unnoted = λ note. subst IsNote idle note;
+    stands = λ stands. rw (looks, idle) (looks_forgotten heap before shown number seat.place seat.looks stands);
+  }
+
+  -- a reply is told, and a name is awaited
+  awaits : (now : Seat) (shown : List Entry) → now.looks ≡ seat.looks → now.place ≡ places.Access Naming → NoneToOthers number shown → LooksGo now shown
+  awaits now shown looks naming others = record {
+    others = others;
+    unnoted = λ note. subst IsNote naming note;
+    stands = λ stands. rw (looks, naming) (looks_awaiting heap before shown number seat.place seat.looks stands);
+  }
+
+-- what stays on the ways of a seat
+stays_gather : (heap : Heap) (seat : Seat) → StaysFound seat (gather_next heap seat)
+stays_gather heap seat = goes_on_cases (λ s. StaysFound seat s) heap seat (λ enough. record { looks = refl; elsewhere = tt }) (λ few more. record { looks = refl; elsewhere = tt }) (λ few all. record { looks = refl; elsewhere = tt })
+
+stays_claim : (heap : Heap) (seat : Seat) (found : ℕ) → StaysFound seat (after_claim heap seat found)
+stays_claim heap seat found =
+    let stays = stays_gather heap (record seat { hand = seat.hand ++ clear_in (next_group_of heap seat) found; tried = seat.tried + 1 }) in
+    record { looks = stays.looks; elsewhere = stays.elsewhere }
+
+stays_walk : (seat : Seat) (found : ℕ) → StaysFound seat (after_walk seat found)
+stays_walk seat found = by (seat.links == 0)
+  where
+    by : (b : Bool) → StaysFound seat (if b then at_access seat (way_place_of seat) else at_access (after_link seat found) (way_place_of (after_link seat found)))
+    by true = record { looks = refl; elsewhere = tt }
+    by false = record { looks = refl; elsewhere = tt }
+
+stays_start : (seat : Seat) (held : Register) → StaysFound seat (access_start seat held)
+stays_start seat (registers.Object head id) = record { looks = refl; elsewhere = tt }
+stays_start seat registers.Nil = record { looks = refl; elsewhere = tt }
+stays_start seat (registers.Number n) = record { looks = refl; elsewhere = tt }
+
+-- what a claim tells is no reply
+none_claimed : (number count : ℕ) → NoReplies (takes_some number count)
+none_claimed number count r = by (count == 0)
+  where
+    by : (b : Bool) → NoneOf (is_reply_to r) (if b then [] else entries.Takes number count ∷ [])
+    by true = refl
+    by false = refl
+
+module _ (heap : Heap) (state : State) (book : Book) (rule : Rule heap state book) (number : ℕ) where
+  abbrev seat : Seat
+  seat = seat_at state number
+
+  abbrev Goes : Seat → List Entry → Type 0
+  Goes now shown = LooksGo heap number book.history seat now shown
+
+  -- a way goes on without an entry
+  on_way : (now : Seat) → seat.place ≢ places.Access Naming → StaysFound seat now → Goes now []
+  on_way now unnamed stays = quiet heap number book.history seat now [] unnamed no_entries stays
+
+  tells : (now : Seat) (reply : Reply) → now.looks ≡ forgotten seat.looks → now.place ≡ places.Idle → Goes now (entries.Said number seat.command reply ∷ [])
+  tells now reply looks idle = ends heap number book.history seat now (entries.Said number seat.command reply ∷ []) looks idle (one_own number seat.command reply)
+
+  -- the seat after the move, and what it shows
+  abbrev pub GoesBy : Option Move → Type 0
+  GoesBy None = Unit {0}
+  GoesBy (Some move) = Goes (seat_after move (found_by heap state move.step)) (move.shows state.words (found_by heap state move.step))
+
+  abbrev GoesAt : Place → Type 0
+  GoesAt place = seat.place ≡ place → GoesBy (move_at heap number seat place)
+
+  bears : (last : Bool) → seat.place ≡ places.Making Bearing → GoesBy (Some (if last then last_birth_move number seat else birth_move seat))
+  bears true placed = tells _ _ refl refl
+  bears false placed = on_way _ (λ named. cc (placed, named)) record { looks = refl; elsewhere = subst IsElsewhere (sym placed) tt }
+
+  metas : (found : ℕ) (reply : Option Reply) → seat.place ≡ places.Access LoadingMeta → (adds : List Entry) → Goes (record (after_meta seat found reply) { mine = adds }) (reply_entries_if number seat reply)
+  metas found None placed adds =
+      let stays = stays_walk (with_field_place seat) found in
+      on_way _ (λ named. cc (placed, named)) record { looks = stays.looks; elsewhere = stays.elsewhere }
+  metas found (Some reply) placed adds = tells _ reply refl refl
+
+  gets : (found : ℕ) (head : Option ℕ) (adds : List Entry) → Goes (record (after_get seat found head) { mine = adds }) (got_shows heap number seat state.words found head)
+  gets found None adds = tells _ _ refl refl
+  gets found (Some head) adds = awaits heap number book.history seat _ _ refl refl (one_own number seat.command _)
+
+  -- a poll tells its reply, and the answer of a collect ends without one
+  over : (command : Command) (answered p : ℕ) (adds : List Entry) → seat.place ≢ places.Access Naming
+      → Goes (record (polling_over command (record seat { answered = answered })) { mine = adds }) (phase_told number command p)
+  over commands.Collect answered p adds unnamed = on_way _ unnamed record { looks = refl; elsewhere = tt }
+  over _ answered p adds unnamed = ends heap number book.history seat _ _ refl refl (one_own number _ _)
+
+  answers : (command : Command) (answered p : ℕ) (adds : List Entry) → seat.place ≢ places.Access Naming
+      → Goes (record (polling_over command (record seat { answered = answered })) { mine = adds }) (entries.Answers number p ∷ phase_told number command p)
+  answers commands.Collect answered p adds unnamed = quiet heap number book.history seat _ _ unnamed (λ r. refl) record { looks = refl; elsewhere = tt }
+  answers _ answered p adds unnamed = ends heap number book.history seat _ _ refl refl (λ r apart. one_own number _ _ r apart)
+
+  polls : (b : Bool) (p : ℕ) (adds : List Entry) → seat.place ≢ places.Access Naming
+      → Goes (record (if b then polling_over seat.command seat else answer_next (record seat { asked = p })) { mine = adds }) (if b then phase_told number seat.command p else [])
+  polls true p adds unnamed = over seat.command seat.answered p adds unnamed
+  polls false p adds unnamed = on_way _ unnamed record { looks = refl; elsewhere = tt }
+
+  finds : (now : Seat) → ¬ IsNote now.place → (LooksStand heap book.history number seat.place seat.looks → LooksStand heap book.history number now.place now.looks) → Goes now []
+  finds now unnoted stands = record { others = λ r apart. refl; unnoted = unnoted; stands = λ was. subst (λ es. LooksStand heap es number now.place now.looks) (sym (append-nil book.history)) (stands was) }
+
+  -- by the place
+  pub goes_at : (place : Place) → GoesAt place
+  goes_at places.Idle placed = tt
+  goes_at (places.Making Gathering) placed =
+      let stays = stays_claim heap seat _ in
+      quiet heap number book.history seat _ _ (λ named. cc (placed, named)) (none_claimed number _) record { looks = stays.looks; elsewhere = stays.elsewhere }
+  goes_at (places.Making Returning) placed = quiet heap number book.history seat _ _ (λ named. cc (placed, named)) (λ r. refl) record { looks = refl; elsewhere = tt }
+  goes_at (places.Making Refusing) placed = tells _ _ refl refl
+  goes_at (places.Making Storing) placed = on_way _ (λ named. cc (placed, named)) record { looks = refl; elsewhere = tt }
+  goes_at (places.Making Bearing) placed = bears (is_last_birth seat) placed
+  goes_at places.Local placed = tells _ _ refl refl
+  goes_at (places.Access LoadingMeta) placed = metas _ _ placed _
+  goes_at (places.Access Walking) placed =
+      let stays = stays_walk seat _ in
+      on_way _ (λ named. cc (placed, named)) record { looks = stays.looks; elsewhere = stays.elsewhere }
+  goes_at (places.Access Getting) placed = gets _ _ _
+  goes_at (places.Access Naming) placed = ends heap number book.history seat _ [] refl refl (λ r apart. refl)
+  goes_at (places.Access LoadingOld) placed = on_way _ (λ named. cc (placed, named)) record { looks = refl; elsewhere = tt }
+  goes_at (places.Access ShadingOld) placed = on_way _ (λ named. cc (placed, named)) record { looks = refl; elsewhere = tt }
+  goes_at (places.Access ShadingNew) placed = on_way _ (λ named. cc (placed, named)) record { looks = refl; elsewhere = tt }
+  goes_at (places.Access Swapping) placed = tells _ _ refl refl
+  goes_at (places.Polling Asking) placed = polls _ _ _ (λ named. cc (placed, named))
+  goes_at (places.Polling Shading) placed = on_way _ (λ named. cc (placed, named)) record { looks = refl; elsewhere = tt }
+  goes_at (places.Polling Answering) placed = answers seat.command _ _ _ (λ named. cc (placed, named))
+  goes_at (places.Collecting Looking) placed = finds _ (λ note. note) (looks_looked heap state book rule number seat.place seat.looks (λ named. cc (placed, named)))
+  goes_at (places.Collecting (collecting.Asking other)) placed =
+      finds _ (λ note. note) (λ was. looks_asked heap state book rule number other seat.looks (subst (λ p. LooksStand heap book.history number p seat.looks) placed was))
+  goes_at (places.Collecting (Comparing other p)) placed =
+      finds _ (λ note. note) (λ was. looks_compared heap state book rule number other p seat.looks (subst (λ q. LooksStand heap book.history number q seat.looks) placed was))
+  goes_at (places.Collecting (Noting reply)) placed = tells _ _ refl refl
+  goes_at (places.Leaving Emptying) placed = quiet heap number book.history seat _ _ (λ named. cc (placed, named)) (λ r. refl) record { looks = refl; elsewhere = tt }
+  goes_at (places.Leaving Parting) placed = tells _ _ refl refl
+
+-- a call that begins leaves what was found, and stands at no inner call's own place
+pub begin_stays : (heap : Heap) (seat : Seat) (command : Command) → seat.place ≡ places.Idle → StaysFound seat (after_begin heap seat command)
+begin_stays heap seat (commands.New d fields) idle =
+    let stays = stays_gather heap (record seat { command = commands.New d fields }) in record { looks = stays.looks; elsewhere = stays.elsewhere }
+begin_stays heap seat (commands.Array d cells) idle = record { looks = refl; elsewhere = subst IsElsewhere (sym idle) tt }
+begin_stays heap seat commands.Collect idle = record { looks = refl; elsewhere = subst IsElsewhere (sym idle) tt }
+begin_stays heap seat (commands.Get d r i) idle =
+    let stays = stays_start (record seat { command = commands.Get d r i }) (register_in seat.registers r) in record { looks = stays.looks; elsewhere = stays.elsewhere }
+begin_stays heap seat (commands.Set r i v) idle =
+    let stays = stays_start (record seat { command = commands.Set r i v }) (register_in seat.registers r) in record { looks = stays.looks; elsewhere = stays.elsewhere }
+begin_stays heap seat (commands.Len r) idle =
+    let stays = stays_start (record seat { command = commands.Len r }) (register_in seat.registers r) in record { looks = stays.looks; elsewhere = stays.elsewhere }
+begin_stays heap seat _ idle = record { looks = refl; elsewhere = tt }

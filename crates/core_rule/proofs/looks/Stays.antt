@@ -1,0 +1,101 @@
+-- What the seats have found stands after each event.
+use Rattle.std.proofs.Common.{◌≡◌, ◌≢◌, ℕ, ◌<◌, List, [], ◌∷◌, ◌++◌, Option, Some, None, length, slice_set, slice_index_or, inl, inr, refl, sym, ap, ◌∙◌, subst}
+use Rattle.std.proofs.lemmas.Bool.Decides.{eqb_tells}
+use Rattle.std.proofs.lemmas.List.{append-nil, get_or-set_same, get_or-set_other}
+use Rattle.heap_model.specs.declared.calls.collect.Inner.{Inner}
+use Rattle.heap_model.specs.declared.calls.collect.Inner.TheVariants as inners
+use Rattle.heap_model.specs.declared.command.Command.{Command}
+use Rattle.heap_model.specs.declared.entry.Entry.{Entry}
+use Rattle.heap_model.specs.declared.heap.Heap.{Heap}
+use Rattle.heap_model.specs.account.Windows.{is_reply_to}
+use Rattle.core_machine.specs.collector.Collector.{Collector, turn_at}
+use Rattle.core_machine.specs.declared.collector.stage.Stage.{Stage}
+use Rattle.core_machine.specs.declared.collector.stage.Stage.TheVariants as stages
+use Rattle.core_machine.specs.declared.place.Access.TheVariants.{Naming}
+use Rattle.core_machine.specs.declared.place.Collecting.{Collecting}
+use Rattle.core_machine.specs.declared.place.Place.{Place}
+use Rattle.core_machine.specs.declared.place.Place.TheVariants as places
+use Rattle.core_machine.specs.machine.Machine.{State, seat_at, Begins, BeginsInner, Steps, state_after, state_after_due, state_after_turn, entries, entries_shown, after_begin, after_inner_begin, MayBegin, MayBeginInner}
+use Rattle.core_machine.specs.Moves.{Move, move_at, next_move}
+use Rattle.core_machine.specs.seat.Collecting.{inner_place}
+use Rattle.core_machine.specs.seat.Looks.{Looks, MayMake}
+use Rattle.core_machine.specs.seat.Seat.{Seat, absent_seat}
+use Rattle.core_rule.specs.Book.{Book}
+use Rattle.core_rule.specs.Looks.{LooksStand, AllLooksStand, CollectingStands, WhileCollecting}
+use Rattle.core_rule.specs.Rule.{Rule}
+use Rattle.core_rule.proofs.looks.Growth.{NoneOf, looks_on, looks_elsewhere}
+use Rattle.core_rule.proofs.looks.Moves.{GoesBy, NoneToOthers, goes_at, begin_stays}
+
+-- a turn of the collector tells no seat a reply
+none_turned : (heap : Heap) (collector : Collector) (stage : Stage) (r : ℕ) → NoneOf (is_reply_to r) (turn_at heap collector stage).adds
+none_turned heap collector stages.Advancing r = refl
+none_turned heap collector (stages.Freeing group dead) r = refl
+none_turned heap collector (stages.Ending kept) r = refl
+none_turned heap collector _ r = refl
+
+pub turn_looks : (heap : Heap) (state : State) (before now : List Entry) (stage : Stage) → AllLooksStand heap state before → now ≡ before ++ (turn_at heap state.collector stage).adds
+    → AllLooksStand heap (state_after_turn heap state (turn_at heap state.collector stage)) now
+turn_looks heap state before now stage looks grown r below =
+    subst (λ es. LooksStand heap es r (seat_at state r).place (seat_at state r).looks) (sym grown)
+    (looks_on heap r before (turn_at heap state.collector stage).adds (none_turned heap state.collector stage r) (seat_at state r).place (seat_at state r).looks (looks r below))
+
+module _ (heap : Heap) (state : State) (number : ℕ) (here : number < length state.seats) where
+  abbrev IsRight : List Entry → Seat → ℕ → Type 0
+  IsRight history seat n = LooksStand heap history n seat.place seat.looks
+
+  -- where one seat is another, and the others were told no reply
+  one_seat : (before added : List Entry) (now : Seat) → AllLooksStand heap state before → NoneToOthers number added
+      → IsRight (before ++ added) now number → AllLooksStand heap (record state { seats = slice_set state.seats number now }) (before ++ added)
+  one_seat before added now looks others own r below = elim (eqb_tells r number) as (λ _. IsRight (before ++ added) (slice_index_or (slice_set state.seats number now) r absent_seat) r) [
+    | inl same ↦ subst (λ n. IsRight (before ++ added) (slice_index_or (slice_set state.seats number now) n absent_seat) n) (sym same.1)
+        (subst (λ (s : Seat). IsRight (before ++ added) s number) (sym (get_or-set_same state.seats number now absent_seat here)) own)
+    | inr apart ↦ subst (λ (s : Seat). IsRight (before ++ added) s r) (sym (get_or-set_other state.seats number r now absent_seat apart.1))
+        (looks_on heap r before added (others r apart.1) (seat_at state r).place (seat_at state r).looks (looks r below))
+  ]
+
+-- by a step
+pub step_looks : (heap : Heap) (state : State) (book : Book) (now : List Entry) (number : ℕ) → Rule heap state book → number < heap.seats → AllLooksStand heap state book.history
+    → now ≡ book.history ++ entries heap state (Steps number) → AllLooksStand heap (state_after heap state (Steps number)) now
+step_looks heap state book now number rule here looks grown =
+    subst (AllLooksStand heap (state_after heap state (Steps number))) (sym grown) (by (seat_at state number).place refl)
+  where
+    by : (place : Place) → (seat_at state number).place ≡ place
+        → AllLooksStand heap (state_after_due heap state number (move_at heap number (seat_at state number) place)) (book.history ++ entries_shown heap state (move_at heap number (seat_at state number) place))
+    by place placed = moves (move_at heap number (seat_at state number) place) (goes_at heap state book rule number place placed)
+      where
+        moves : (move : Option Move) → GoesBy heap state book rule number move → AllLooksStand heap (state_after_due heap state number move) (book.history ++ entries_shown heap state move)
+        moves None goes = subst (AllLooksStand heap state) (sym (append-nil book.history)) looks
+        moves (Some move) goes = one_seat heap state number (rw rule.machine.seated here) book.history _ _ looks goes.others (goes.stands (looks number here))
+
+-- by a begin
+pub begin_looks : (heap : Heap) (state : State) (before now : List Entry) (number : ℕ) (command : Command) → number < length state.seats → number < heap.seats → MayBegin (seat_at state number) command
+    → AllLooksStand heap state before → now ≡ before ++ [] → AllLooksStand heap (state_after heap state (Begins number command)) now
+begin_looks heap state before now number command there here may looks grown =
+    let seat : Seat = seat_at state number in
+    let next : Seat = after_begin heap seat command in
+    let stays = begin_stays heap seat command may.idle in
+    subst (AllLooksStand heap (state_after heap state (Begins number command))) (sym grown)
+    (one_seat heap state number there before [] next looks (λ r apart. refl)
+    (subst (λ es. LooksStand heap es number next.place next.looks) (sym (append-nil before))
+    (subst (LooksStand heap before number next.place) (sym stays.looks)
+    (looks_elsewhere heap before number seat.place next.place seat.looks (λ named. cc (may.idle, named)) stays.elsewhere (looks number here)))))
+
+-- what an inner call asks for
+inner_asks : (heap : Heap) (before : List Entry) (number : ℕ) (looks : Looks) (inner : Inner) → MayMake heap number looks inner → WhileCollecting (CollectingStands heap before number) (inner_place inner)
+inner_asks heap before number looks inners.Look may = tt
+inner_asks heap before number looks inners.Answer may = tt
+inner_asks heap before number looks (inners.Behind other) may = record { below = may.0; apart = may.1 }
+inner_asks heap before number looks (inners.Note reply) may = tt
+
+pub inner_looks : (heap : Heap) (state : State) (before now : List Entry) (number : ℕ) (inner : Inner) → number < length state.seats → number < heap.seats → MayBeginInner heap number (seat_at state number) inner
+    → AllLooksStand heap state before → now ≡ before ++ [] → AllLooksStand heap (state_after heap state (BeginsInner number inner)) now
+inner_looks heap state before now number inner there here may looks grown =
+    let seat : Seat = seat_at state number in
+    let stands = looks number here in
+    subst (AllLooksStand heap (state_after heap state (BeginsInner number inner))) (sym grown)
+    (one_seat heap state number there before [] (after_inner_begin seat inner) looks (λ r apart. refl)
+    (subst (λ es. LooksStand heap es number (inner_place inner) seat.looks) (sym (append-nil before)) record {
+      seen = stands.seen;
+      found = λ unnamed. stands.found (λ named. cc (may.idle, named));
+      asks = inner_asks heap before number seat.looks inner may.makes;
+    }))

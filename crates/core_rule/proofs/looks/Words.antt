@@ -1,0 +1,28 @@
+-- What another seat's word tells where it is below the phase.
+use Rattle.std.specs.Prelude.{if◌then◌else◌}
+use Rattle.std.proofs.Common.{◌≡◌, ℕ, ◌<◌, ◌≤◌, Bool, true, false, sym, ap, ◌∙◌, subst, refl, arith}
+use Rattle.heap_words.specs.declared.phase.TheConstants.{LEFT}
+use Rattle.heap_model.specs.declared.heap.Heap.{Heap}
+use Rattle.heap_model.specs.account.PhaseCounts.{phase, last_answer, has_left}
+use Rattle.core_machine.specs.declared.table.address.Address.TheVariants.{Answer}
+use Rattle.core_machine.specs.machine.Machine.{State, seat_at}
+use Rattle.core_machine.specs.table.Layout.{at}
+use Rattle.core_rule.specs.Book.{Book}
+use Rattle.core_rule.specs.Phases.{answer_word}
+use Rattle.core_rule.specs.Rule.{Rule}
+
+-- the seat hasn't left, and this is its last answer
+pub word_below : (heap : Heap) (state : State) (book : Book) → Rule heap state book → (other : ℕ) → other < heap.seats → (word : ℕ) → at heap state.words (Answer other) ≡ word
+    → word < phase book.history → (has_left other book.history ≡ false) × (last_answer other book.history ≡ word)
+word_below heap state book rule other below word is less =
+    by (seat_at state other).left refl
+  where
+    by : (left : Bool) → (seat_at state other).left ≡ left → (has_left other book.history ≡ false) × (last_answer other book.history ≡ word)
+    by true gone =
+        let told = (rule.seats_stand other below).cycle.answers_told in
+        let early : phase book.history < LEFT = omega (arith, rule.collector_stands.phase_told, rule.machine.collector_fit.phase_within) in
+        let left_word : word ≡ LEFT = sym is ∙ told.word ∙ ap (λ l. answer_word l (seat_at state other).answered) gone in
+        absurd (omega (arith, early, left_word, less))
+    by false there =
+        let told = (rule.seats_stand other below).cycle.answers_told in
+        (told.leaves ∙ there, told.told ∙ sym (ap (λ l. answer_word l (seat_at state other).answered) there) ∙ sym told.word ∙ is)

@@ -1,0 +1,91 @@
+-- The begin of an inner call of a collect keeps the rule.
+use Rattle.std.proofs.Common.{◌≡◌, ℕ, ◌<◌, [], length, drop, refl, ◌∙◌, append-nil}
+use Rattle.heap_model.specs.declared.calls.collect.Inner.{Inner}
+use Rattle.heap_model.specs.declared.calls.collect.Inner.TheVariants.{Look, Answer, Behind, Note}
+use Rattle.heap_model.specs.declared.heap.Heap.{Heap}
+use Rattle.heap_model.specs.account.Cycles.{graph_of}
+use Rattle.heap_model.specs.account.PhaseCounts.{phase, last_answer, has_left}
+use Rattle.heap_model.specs.graph.Graph.{Graph}
+use Rattle.heap_model.specs.graph.Objects.{register_value}
+use Rattle.core_machine.specs.declared.place.Place.TheVariants as places
+use Rattle.core_machine.specs.machine.Machine.{State, seat_at, after_inner_begin, MayBeginInner, BeginsInner, state_after}
+use Rattle.core_machine.specs.machine.Value.{IsMachine}
+use Rattle.core_machine.specs.seat.Collecting.{inner_place}
+use Rattle.core_machine.specs.seat.Commands.{target_of}
+use Rattle.core_machine.specs.seat.Fits.{IsAtRest}
+use Rattle.core_machine.specs.seat.Registers.{register_in}
+use Rattle.core_machine.specs.seat.Seat.{Seat}
+use Rattle.core_rule.specs.Book.{Book}
+use Rattle.core_rule.specs.Counts.{Awaits}
+use Rattle.core_rule.specs.Objects.{cells_at}
+use Rattle.core_rule.specs.Registers.{HoldsValue}
+use Rattle.core_rule.specs.Rule.{Rule}
+use Rattle.core_rule.specs.Ways.{WayStands}
+use Rattle.core_rule.proofs.cycle.FreshCycle.{cycle_fresh}
+use Rattle.core_rule.proofs.entries.AtRest.{seat_fits, none_awaited}
+use Rattle.core_rule.proofs.entries.Begins.{begins, began_now}
+use Rattle.core_rule.proofs.entries.OwnEntries.{counts_same}
+use Rattle.core_rule.proofs.entries.SeatLists.{all_told}
+use Rattle.core_rule.proofs.entries.Starting.{IsFresh}
+use Rattle.core_rule.proofs.hand.EmptyHand.{nothing_together, none_stored, gathers_none}
+use Rattle.core_rule.proofs.marking.CallRoots.{IsReachedNow}
+use Rattle.core_rule.proofs.marking.Marks.{IsOffWay, roots_off_way}
+use Rattle.core_rule.proofs.steps.Assemble.{Keeps, seat_begins}
+
+-- an inner call begins on no way, and no later than the first place of an answer
+off_way : (inner : Inner) → IsOffWay (inner_place inner)
+off_way Look = tt
+off_way Answer = tt
+off_way (Behind other) = tt
+off_way (Note reply) = tt
+
+fresh : (inner : Inner) → IsFresh (inner_place inner)
+fresh Look = tt
+fresh Answer = tt
+fresh (Behind other) = tt
+fresh (Note reply) = tt
+
+pub begin_inner_keeps : (heap : Heap) (state : State) (book : Book) (number : ℕ) (inner : Inner) → Rule heap state book → number < heap.seats
+    → MayBeginInner heap number (seat_at state number) inner → IsMachine heap (state_after heap state (BeginsInner number inner))
+    → Keeps heap state (state_after heap state (BeginsInner number inner)) book (begins number (length book.history) book.begun) []
+begin_inner_keeps heap state book number inner rule here may machine =
+    let old : Seat = seat_at state number in
+    let next : Seat = after_inner_begin old inner in
+    let g : Graph = graph_of heap book.history in
+    let stands = rule.seats_stand number here in
+    let rest : IsAtRest old = rw may.idle at (seat_fits rule number here).at_place in
+    let holds : (r : ℕ) → HoldsValue book.made book.owner book.fragments (register_in old.registers r) (register_value g number r)
+    = λ r. stands.names.registers r (none_awaited old.place places.Idle (target_of old.command) r may.idle (λ none. none)) in
+    seat_begins heap state book number next rule here machine record {
+      own = record {
+        holding = stands.own.holding;
+        stored = none_stored heap state.words number next rest.none_stored;
+        together = nothing_together heap next.cursor next.tried next.hand next.body rest.empty_hand rest.no_body;
+      };
+      names = record { registers = λ r awake. holds r; way = way_stands inner };
+      told = record {
+        list = record {
+          awaited = [];
+          own = append-nil next.mine ∙ all_told stands.told.list (rw may.idle at stands.told.list.awaits);
+          awaits = none_awaits inner;
+        };
+        counts = counts_same g book.history number old next refl refl refl refl stands.told.counts;
+        began = began_now heap state.words book number next.place;
+        gathers = gathers_none heap book.owner number (drop (begins number (length book.history) book.begun number) book.history) next.cursor next.tried next.given rest.none_tried rest.none_given;
+      };
+      cycle = cycle_fresh heap state.words book.owner book.colour (phase book.history) (last_answer number book.history) (has_left number book.history) number old next
+          record { answered = refl; left = refl; asked = refl } (fresh inner) stands.cycle;
+    }
+    refl (λ marks. roots_off_way (IsReachedNow heap state book) old next refl (off_way inner))
+  where
+    way_stands : (its : Inner) → WayStands (cells_at (graph_of heap book.history) book.made) book.made book.owner book.fragments (after_inner_begin (seat_at state number) inner) (inner_place its)
+    way_stands Look = tt
+    way_stands Answer = tt
+    way_stands (Behind other) = tt
+    way_stands (Note reply) = tt
+
+    none_awaits : (its : Inner) → Awaits (graph_of heap book.history) book.made book.owner book.fragments number (after_inner_begin (seat_at state number) inner) (inner_place its) []
+    none_awaits Look = refl
+    none_awaits Answer = refl
+    none_awaits (Behind other) = refl
+    none_awaits (Note reply) = refl

@@ -1,0 +1,105 @@
+-- The reply of a collect keeps the rule: what it tells was found since the seat's last reply.
+use Rattle.std.proofs.Common.{◌≡◌, ℕ, ◌+◌, ◌*◌, ◌<◌, ◌≤◌, Option, Some, None, IfSome, false, refl, sym, ◌∙◌, subst, arith}
+use Rattle.heap_model.specs.declared.calls.collect.CollectReply.{CollectReply}
+use Rattle.heap_model.specs.declared.calls.collect.CollectReply.TheVariants.{Cycle, Waits}
+use Rattle.heap_model.specs.declared.command.Command.{Command}
+use Rattle.heap_model.specs.declared.command.Command.TheVariants as commands
+use Rattle.heap_model.specs.declared.heap.Heap.{Heap}
+use Rattle.heap_model.specs.Command.{IsCommand}
+use Rattle.heap_model.specs.account.Cycles.{graph_of}
+use Rattle.heap_model.specs.account.Effects.{is_of}
+use Rattle.heap_model.specs.account.PhaseCounts.{phase}
+use Rattle.heap_model.specs.account.Windows.{up_to_reply}
+use Rattle.heap_model.specs.graph.Graph.{Graph}
+use Rattle.heap_model.specs.graph.Objects.{graph_seat}
+use Rattle.core_machine.specs.declared.place.Collecting.TheVariants.{Noting}
+use Rattle.core_machine.specs.declared.place.Place.TheVariants as places
+use Rattle.core_machine.specs.declared.table.address.Address.TheVariants.{Phase}
+use Rattle.core_machine.specs.machine.Machine.{State, seat_at}
+use Rattle.core_machine.specs.Moves.{seat_after}
+use Rattle.core_machine.specs.seat.Collecting.{note_move}
+use Rattle.core_machine.specs.seat.Commands.{target_of}
+use Rattle.core_machine.specs.seat.Fits.{IsAtRest, IsSilent}
+use Rattle.core_machine.specs.seat.Looks.{Looks, FoundBehind, FirstUpTo, MayNote, noted_reply}
+use Rattle.core_machine.specs.seat.Seat.{Seat}
+use Rattle.core_machine.specs.table.Layout.{at}
+use Rattle.core_rule.specs.Book.{Book}
+use Rattle.core_rule.specs.Looks.{WasSeen, WasFound, LooksStand}
+use Rattle.core_rule.specs.Registers.{IsAwaited}
+use Rattle.core_rule.specs.Rule.{Rule}
+use Rattle.core_rule.proofs.entries.AtRest.{seat_fits, in_flight}
+use Rattle.core_rule.proofs.entries.Noted.{has_ended, began_since}
+use Rattle.core_rule.proofs.entries.PhaseEntries.{no_leave_told}
+use Rattle.core_rule.proofs.entries.SeatLists.{all_told}
+use Rattle.core_rule.proofs.graph.LocalReplies.{IsLocalReply, HoldAll}
+use Rattle.core_rule.proofs.graph.PutRegister.{only_none}
+use Rattle.core_rule.proofs.lists.Options.{of_some}
+use Rattle.core_rule.proofs.marking.CallRoots.{IsReachedNow}
+use Rattle.core_rule.proofs.marking.Marks.{roots_off_way}
+use Rattle.core_rule.proofs.steps.Assemble.{MoveKeeps}
+use Rattle.core_rule.proofs.steps.LocalStep.{local_reply_keeps}
+
+-- the first look found no earlier phase than the last reply's
+first_after : (heap : Heap) (book : Book) (number q : ℕ) (first : Option ℕ) → IfSome first (WasSeen book.history number) → FirstUpTo first q → phase (up_to_reply number book.history) ≤ q
+first_after heap book number q None seen up = absurd up
+first_after heap book number q (Some p) seen up = omega (arith, seen.since, up)
+
+module _ (heap : Heap) (state : State) (book : Book) (number : ℕ) (rule : Rule heap state book) (here : number < heap.seats)
+    (looks : LooksStand heap book.history number (seat_at state number).place (seat_at state number).looks) (reply : CollectReply)
+    (place : (seat_at state number).place ≡ places.Collecting (Noting reply)) where
+  abbrev seat : Seat
+  seat = seat_at state number
+
+  abbrev g : Graph
+  g = graph_of heap book.history
+
+  fits : IsAtRest seat × (seat.command ≡ commands.Collect) × MayNote seat.looks reply
+  fits = rw place at (seat_fits rule number here).at_place
+
+  holds : HoldAll heap book.history g number book.made book.owner book.fragments g seat.registers
+  holds i = (rule.seats_stand number here).names.registers i (λ awaited. subst (λ x. IsAwaited x (target_of seat.command) i) place awaited)
+
+  -- the reply is right by what was found
+  local : (its : CollectReply) → MayNote seat.looks its → IsLocalReply heap book.history g number book.made book.owner book.fragments commands.Collect (noted_reply its) seat.registers
+  local (Cycle j) may =
+      let was = looks.found (λ named. cc (place, named)) in
+      let over : 7 * (j + 1) ≤ phase book.history = omega (arith, may.1, looks.seen) in
+      record {
+        plain = record {
+          none = refl;
+          space = tt;
+          spine = tt;
+          phases = (
+            has_ended heap book.history rule.heap_stands.legal j over,
+            began_since heap book.history rule.heap_stands.legal j number (first_after heap book number (7 * j) seat.looks.first was.first may.0) over,
+          );
+          most = refl;
+        };
+        says = tt;
+        only = only_none g number;
+        registers = holds;
+      }
+  local (Waits other answered p) may =
+      let was = looks.found (λ named. cc (place, named)) in
+      let found : WasFound heap book.history number (record { seat = other; answered = answered; phase = p })
+      = of_some (WasFound heap book.history number) seat.looks.behind (record { seat = other; answered = answered; phase = p }) may was.behind in
+      record {
+        plain = record { none = refl; space = tt; spine = tt; phases = (found.below, found.other, omega (arith, found.next), found.next, found.behind); most = refl };
+        says = tt;
+        only = only_none g number;
+        registers = holds;
+      }
+
+  -- so noting it keeps the rule
+  pub note_keeps : MoveKeeps heap state book number (note_move number seat reply)
+  note_keeps machine =
+      let now : Seat = seat_after (note_move number seat reply) (at heap state.words Phase) in
+      let stands = rule.seats_stand number here in
+      let silent : IsSilent seat = rw place at (seat_fits rule number here).answer_at_place in
+      let present : (graph_seat g number).left ≡ false = stands.told.counts.leaves ∙ in_flight rule number here (λ idle. absurd (cc (place, idle))) in
+      local_reply_keeps heap state book number Phase now (noted_reply reply) rule here machine fits.0 (all_told stands.told.list (rw place at stands.told.list.awaits)) present
+      (subst IsCommand (sym fits.1) tt)
+      (subst (λ c. IsLocalReply heap book.history g number book.made book.owner book.fragments c (noted_reply reply) seat.registers) (sym fits.1) (local reply fits.2))
+      (no_leave_told number number seat.command (noted_reply reply) (λ leaves. absurd (cc (leaves, fits.1))))
+      record { idle = refl; reserve = refl; mine = refl; answered = refl; asked = sym silent.none_asked; made = refl; sets = refl; left = refl }
+      (λ marks. roots_off_way (IsReachedNow heap state book) seat now refl tt)

@@ -1,0 +1,66 @@
+-- What the history says of what a seat has found out by the inner calls of its collects.
+use Rattle.std.specs.Prelude.{◌≡◌, ◌≢◌, ℕ, ◌+◌, ◌<◌, ◌≤◌, false, List, IfSome}
+use Rattle.heap_model.specs.declared.entry.Entry.{Entry}
+use Rattle.heap_model.specs.declared.heap.Heap.{Heap}
+use Rattle.heap_model.specs.account.PhaseCounts.{phase, last_answer, has_left}
+use Rattle.heap_model.specs.account.Phases.{WasBehind}
+use Rattle.heap_model.specs.account.Windows.{up_to_reply}
+use Rattle.core_machine.specs.declared.place.Access.TheVariants.{Naming}
+use Rattle.core_machine.specs.declared.place.Collecting.{Collecting}
+use Rattle.core_machine.specs.declared.place.Collecting.TheVariants.{Looking, Asking, Comparing, Noting}
+use Rattle.core_machine.specs.declared.place.Place.{Place}
+use Rattle.core_machine.specs.declared.place.Place.TheVariants as places
+use Rattle.core_machine.specs.machine.Machine.{State, seat_at}
+use Rattle.core_machine.specs.seat.Looks.{Looks, FoundBehind}
+
+-- the phase was this one at some time since the seat's last reply
+pub record WasSeen (history : List Entry) (number p : ℕ) : Type 0 where
+  pub since : phase (up_to_reply number history) ≤ p
+  pub begun : p ≤ phase history
+
+-- the seat that was found to be behind is another one of the heap, and was so since the last reply, by one phase
+pub record WasFound (heap : Heap) (history : List Entry) (number : ℕ) (found : FoundBehind) : Type 0 where
+  pub below : found.seat < heap.seats
+  pub other : found.seat ≢ number
+  pub next : found.phase ≡ found.answered + 1
+  pub behind : WasBehind number found.seat found.answered found.phase history
+
+-- what was found since the seat's last reply
+pub record FoundSince (heap : Heap) (history : List Entry) (number : ℕ) (looks : Looks) : Type 0 where
+  pub first : IfSome looks.first (WasSeen history number)
+  pub behind : IfSome looks.behind (WasFound heap history number)
+
+-- another seat is asked for
+pub record IsOther (heap : Heap) (number other : ℕ) : Type 0 where
+  pub below : other < heap.seats
+  pub apart : other ≢ number
+
+-- the other seat has answered this phase since, or has left, or is behind by one phase as it was then
+pub record Compares (heap : Heap) (history : List Entry) (number other p : ℕ) : Type 0 where
+  pub asked : IsOther heap number other
+  pub begun : p ≤ phase history
+  pub behind : has_left other history ≡ false → last_answer other history < p
+      → (p ≡ last_answer other history + 1) × WasBehind number other (last_answer other history) p history
+
+-- what is known of the other seat at each place of an inner call
+abbrev pub CollectingStands : Heap → List Entry → ℕ → Collecting → Type 0
+CollectingStands heap history number Looking = Unit {0}
+CollectingStands heap history number (Asking other) = IsOther heap number other
+CollectingStands heap history number (Comparing other p) = Compares heap history number other p
+CollectingStands heap history number (Noting reply) = Unit {0}
+
+-- what holds at the places of an inner call
+abbrev pub WhileCollecting : (Collecting → Type 0) → Place → Type 0
+WhileCollecting P (places.Collecting place) = P place
+WhileCollecting P _ = Unit {0}
+
+-- the seat saw a phase that has begun, found what was so since its last reply, and knows what it is to know of the seat that it asks; while a get's name is awaited,
+-- its reply stands in the history already, and it has yet to forget what it found before
+pub record LooksStand (heap : Heap) (history : List Entry) (number : ℕ) (place : Place) (looks : Looks) : Type 0 where
+  pub seen : looks.seen ≤ phase history
+  pub found : place ≢ places.Access Naming → FoundSince heap history number looks
+  pub asks : WhileCollecting (CollectingStands heap history number) place
+
+-- so it is with each seat
+abbrev pub AllLooksStand : Heap → State → List Entry → Type 0
+AllLooksStand heap state history = (number : ℕ) → number < heap.seats → LooksStand heap history number (seat_at state number).place (seat_at state number).looks
