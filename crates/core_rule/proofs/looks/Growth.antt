@@ -13,7 +13,9 @@ use Rattle.core_machine.specs.declared.place.Collecting.{Collecting}
 use Rattle.core_machine.specs.declared.place.Collecting.TheVariants.{Looking, Asking, Comparing, Noting}
 use Rattle.core_machine.specs.declared.place.Place.{Place}
 use Rattle.core_machine.specs.declared.place.Place.TheVariants as places
-use Rattle.core_machine.specs.seat.Looks.{Looks, FoundBehind, forgotten}
+use Rattle.core_machine.specs.declared.seat.looks.Looks.{Looks}
+use Rattle.core_machine.specs.declared.seat.looks.FoundBehind.{FoundBehind}
+use Rattle.core_machine.specs.seat.Looks.{forgotten}
 use Rattle.core_rule.specs.Looks.{WasSeen, WasFound, FoundSince, Compares, CollectingStands, WhileCollecting, LooksStand}
 use Rattle.core_rule.proofs.entries.PhaseEntries.{answers_grow, was_present}
 use Rattle.core_rule.proofs.footprint.WeightGrowth.{total-added}

@@ -23,11 +23,15 @@ use Rattle.core_machine.specs.declared.seat.register.Register.{Register}
 use Rattle.core_machine.specs.declared.seat.register.Register.TheVariants as registers
 use Rattle.core_machine.specs.machine.Machine.{State, seat_at, found_by, entries_shown, after_begin}
 use Rattle.core_machine.specs.Moves.{Move, move_at, is_last_birth, last_birth_move, birth_move, seat_after, takes_some}
-use Rattle.core_machine.specs.seat.Access.{way_place_of, after_link, after_walk, at_access, with_field_place, after_meta, after_get, new_place_of, access_start}
+use Rattle.core_machine.specs.declared.table.address.Address.TheVariants.{Word}
+use Rattle.core_machine.specs.table.Decode.{head_of}
+use Rattle.core_machine.specs.table.Layout.{at}
+use Rattle.core_machine.specs.seat.Access.{meta_reply_of, way_place_of, after_link, after_walk, at_access, with_field_place, after_meta, after_get, after_old_load, access_start}
 use Rattle.core_machine.specs.seat.AccessMoves.{got_shows, reply_entries_if}
 use Rattle.core_machine.specs.seat.Handshake.{answer_next, polling_over}
 use Rattle.core_machine.specs.seat.HandshakeMoves.{phase_told}
-use Rattle.core_machine.specs.seat.Looks.{Looks, forgotten}
+use Rattle.core_machine.specs.declared.seat.looks.Looks.{Looks}
+use Rattle.core_machine.specs.seat.Looks.{forgotten}
 use Rattle.core_machine.specs.seat.Making.{gather_next, next_group_of, after_claim}
 use Rattle.core_machine.specs.seat.Registers.{register_in}
 use Rattle.core_machine.specs.seat.Seat.{Seat}
@@ -65,8 +69,8 @@ NoReplies added = (r : ℕ) → NoneOf (is_reply_to r) added
 no_entries : NoReplies []
 no_entries r = refl
 
-one_own : (number : ℕ) (command : Command) (reply : Reply) → NoneToOthers number (entries.Said number command reply ∷ [])
-one_own number command reply r apart = rw (of_other number r apart) refl
+one_own : (number r : ℕ) → r ≢ number → ((number == r) || false) ≡ false
+one_own number r apart = rw (of_other number r apart) refl
 
 -- how a seat goes by a move
 module _ (heap : Heap) (number : ℕ) (before : List Entry) (seat : Seat) where
@@ -141,7 +145,7 @@ module _ (heap : Heap) (state : State) (book : Book) (rule : Rule heap state boo
   on_way now unnamed stays = quiet heap number book.history seat now [] unnamed no_entries stays
 
   tells : (now : Seat) (reply : Reply) → now.looks ≡ forgotten seat.looks → now.place ≡ places.Idle → Goes now (entries.Said number seat.command reply ∷ [])
-  tells now reply looks idle = ends heap number book.history seat now (entries.Said number seat.command reply ∷ []) looks idle (one_own number seat.command reply)
+  tells now reply looks idle = ends heap number book.history seat now (entries.Said number seat.command reply ∷ []) looks idle (one_own number)
 
   -- the seat after the move, and what it shows
   abbrev pub GoesBy : Option Move → Type 0
@@ -163,18 +167,22 @@ module _ (heap : Heap) (state : State) (book : Book) (rule : Rule heap state boo
 
   gets : (found : ℕ) (head : Option ℕ) (adds : List Entry) → Goes (record (after_get seat found head) { mine = adds }) (got_shows heap number seat state.words found head)
   gets found None adds = tells _ _ refl refl
-  gets found (Some head) adds = awaits heap number book.history seat _ _ refl refl (one_own number seat.command _)
+  gets found (Some head) adds = awaits heap number book.history seat _ _ refl refl (one_own number)
+
+  olds : (found : ℕ) (head : Option ℕ) (adds : List Entry) → seat.place ≢ places.Access Naming → Goes (record (after_old_load (record seat { loaded = found }) head) { mine = adds }) []
+  olds found None adds unnamed = on_way _ unnamed record { looks = refl; elsewhere = tt }
+  olds found (Some head) adds unnamed = on_way _ unnamed record { looks = refl; elsewhere = tt }
 
   -- a poll tells its reply, and the answer of a collect ends without one
   over : (command : Command) (answered p : ℕ) (adds : List Entry) → seat.place ≢ places.Access Naming
       → Goes (record (polling_over command (record seat { answered = answered })) { mine = adds }) (phase_told number command p)
   over commands.Collect answered p adds unnamed = on_way _ unnamed record { looks = refl; elsewhere = tt }
-  over _ answered p adds unnamed = ends heap number book.history seat _ _ refl refl (one_own number _ _)
+  over _ answered p adds unnamed = ends heap number book.history seat _ _ refl refl (one_own number)
 
   answers : (command : Command) (answered p : ℕ) (adds : List Entry) → seat.place ≢ places.Access Naming
       → Goes (record (polling_over command (record seat { answered = answered })) { mine = adds }) (entries.Answers number p ∷ phase_told number command p)
   answers commands.Collect answered p adds unnamed = quiet heap number book.history seat _ _ unnamed (λ r. refl) record { looks = refl; elsewhere = tt }
-  answers _ answered p adds unnamed = ends heap number book.history seat _ _ refl refl (λ r apart. one_own number _ _ r apart)
+  answers _ answered p adds unnamed = ends heap number book.history seat _ _ refl refl (one_own number)
 
   polls : (b : Bool) (p : ℕ) (adds : List Entry) → seat.place ≢ places.Access Naming
       → Goes (record (if b then polling_over seat.command seat else answer_next (record seat { asked = p })) { mine = adds }) (if b then phase_told number seat.command p else [])
@@ -195,13 +203,13 @@ module _ (heap : Heap) (state : State) (book : Book) (rule : Rule heap state boo
   goes_at (places.Making Storing) placed = on_way _ (λ named. cc (placed, named)) record { looks = refl; elsewhere = tt }
   goes_at (places.Making Bearing) placed = bears (is_last_birth seat) placed
   goes_at places.Local placed = tells _ _ refl refl
-  goes_at (places.Access LoadingMeta) placed = metas _ _ placed _
+  goes_at (places.Access LoadingMeta) placed = metas (at heap state.words (Word seat.reached 0)) (meta_reply_of seat.command (at heap state.words (Word seat.reached 0))) placed _
   goes_at (places.Access Walking) placed =
-      let stays = stays_walk seat _ in
+      let stays = stays_walk seat (at heap state.words (Word seat.reached 0)) in
       on_way _ (λ named. cc (placed, named)) record { looks = stays.looks; elsewhere = stays.elsewhere }
-  goes_at (places.Access Getting) placed = gets _ _ _
+  goes_at (places.Access Getting) placed = gets (at heap state.words (Word seat.reached seat.part)) (head_of (at heap state.words (Word seat.reached seat.part))) _
   goes_at (places.Access Naming) placed = ends heap number book.history seat _ [] refl refl (λ r apart. refl)
-  goes_at (places.Access LoadingOld) placed = on_way _ (λ named. cc (placed, named)) record { looks = refl; elsewhere = tt }
+  goes_at (places.Access LoadingOld) placed = olds _ _ _ (λ named. cc (placed, named))
   goes_at (places.Access ShadingOld) placed = on_way _ (λ named. cc (placed, named)) record { looks = refl; elsewhere = tt }
   goes_at (places.Access ShadingNew) placed = on_way _ (λ named. cc (placed, named)) record { looks = refl; elsewhere = tt }
   goes_at (places.Access Swapping) placed = tells _ _ refl refl

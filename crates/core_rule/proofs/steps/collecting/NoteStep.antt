@@ -20,7 +20,9 @@ use Rattle.core_machine.specs.Moves.{seat_after}
 use Rattle.core_machine.specs.seat.Collecting.{note_move}
 use Rattle.core_machine.specs.seat.Commands.{target_of}
 use Rattle.core_machine.specs.seat.Fits.{IsAtRest, IsSilent}
-use Rattle.core_machine.specs.seat.Looks.{Looks, FoundBehind, FirstUpTo, MayNote, noted_reply}
+use Rattle.core_machine.specs.declared.seat.looks.Looks.{Looks}
+use Rattle.core_machine.specs.declared.seat.looks.FoundBehind.{FoundBehind}
+use Rattle.core_machine.specs.seat.Looks.{FirstUpTo, MayNote, noted_reply}
 use Rattle.core_machine.specs.seat.Seat.{Seat}
 use Rattle.core_machine.specs.table.Layout.{at}
 use Rattle.core_rule.specs.Book.{Book}
@@ -84,7 +86,7 @@ module _ (heap : Heap) (state : State) (book : Book) (number : ℕ) (rule : Rule
       let found : WasFound heap book.history number (record { seat = other; answered = answered; phase = p })
       = of_some (WasFound heap book.history number) seat.looks.behind (record { seat = other; answered = answered; phase = p }) may was.behind in
       record {
-        plain = record { none = refl; space = tt; spine = tt; phases = (found.below, found.other, omega (arith, found.next), found.next, found.behind); most = refl };
+        plain = record { none = refl; space = tt; spine = tt; phases = (found.below, found.other, omega (arith, found.next), (found.next, found.behind)); most = refl };
         says = tt;
         only = only_none g number;
         registers = holds;

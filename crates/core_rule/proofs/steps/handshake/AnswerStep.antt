@@ -19,7 +19,8 @@ use Rattle.core_machine.specs.seat.Commands.{target_of}
 use Rattle.core_machine.specs.seat.Fits.{IsAtRest, SeatIsAnswering as IsAnswering}
 use Rattle.core_machine.specs.seat.HandshakeMoves.{phase_told}
 use Rattle.core_machine.specs.seat.Handshake.{polling_over}
-use Rattle.core_machine.specs.seat.Looks.{Looks, forgotten}
+use Rattle.core_machine.specs.declared.seat.looks.Looks.{Looks}
+use Rattle.core_machine.specs.seat.Looks.{forgotten}
 use Rattle.core_machine.specs.Move.{plain_move}
 use Rattle.core_machine.specs.declared.step.Step.TheVariants as steps
 use Rattle.core_machine.specs.declared.step.HandshakeStep.TheVariants.{AnswerStore}
@@ -209,7 +210,7 @@ module _ (heap : Heap) (state : State) (book : Book) (number : ℕ) (rule : Rule
           list = record { awaited = []; own = append-nil now.mine ∙ mine_middle; awaits = refl };
           counts = counts_own g (graph_of heap middle.history) book.history number seat now stands.told.counts first own
               (rw graph stands.told.counts.numbered) (rw graph stands.told.counts.stamped) (rw graph stands.told.counts.leaves)
-              (omega (arith, ap (λ (fs : List ℕ). length fs) rest.empty_hand, ap (λ (fs : List ℕ). length fs) rest.no_body));
+              (omega (arith, bare_hand seat.reserve seat.hand seat.body (spent_of number book.history) (taken_of number book.history) rest.empty_hand rest.no_body stands.told.counts.unborn, stands.told.counts.unborn));
           began = began_idle book.history first number (book.begun number) seat.place stands.told.began;
           gathers = gathers_none heap book.owner number (drop (book.begun number) middle.history) now.cursor 0 0 refl refl;
         };
