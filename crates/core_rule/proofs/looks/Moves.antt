@@ -1,7 +1,6 @@
 -- What a seat has found stands after each of its moves.
-use Rattle.std.specs.List.{list_any}
 use Rattle.std.specs.Prelude.{if◌then◌else◌}
-use Rattle.std.proofs.Common.{◌≡◌, ◌≢◌, ◌||◌, ◌==◌, ◌++◌, ℕ, ◌+◌, ◌<◌, Bool, true, false, List, [], ◌∷◌, Option, Some, None, length, refl, sym, ap, ◌∙◌, subst}
+use Rattle.std.proofs.Common.{◌≡◌, ◌≢◌, ◌||◌, ◌==◌, ◌++◌, ℕ, ◌+◌, Bool, true, false, List, [], ◌∷◌, Option, Some, None, refl, sym, subst}
 use Rattle.std.proofs.lemmas.List.{append-nil}
 use Rattle.heap_model.specs.declared.command.Command.{Command}
 use Rattle.heap_model.specs.declared.command.Command.TheVariants as commands
@@ -9,7 +8,6 @@ use Rattle.heap_model.specs.declared.entry.Entry.{Entry}
 use Rattle.heap_model.specs.declared.entry.Entry.TheVariants as entries
 use Rattle.heap_model.specs.declared.heap.Heap.{Heap}
 use Rattle.heap_model.specs.declared.reply.Reply.{Reply}
-use Rattle.heap_model.specs.declared.reply.Reply.TheVariants as replies
 use Rattle.heap_model.specs.account.Windows.{is_reply_to}
 use Rattle.core_machine.specs.declared.place.Access.TheVariants.{LoadingMeta, Walking, Getting, Naming, LoadingOld, ShadingOld, ShadingNew, Swapping}
 use Rattle.core_machine.specs.declared.place.Collecting.TheVariants.{Looking, Comparing, Noting}
@@ -19,44 +17,24 @@ use Rattle.core_machine.specs.declared.place.Making.TheVariants.{Gathering, Retu
 use Rattle.core_machine.specs.declared.place.Place.{Place}
 use Rattle.core_machine.specs.declared.place.Place.TheVariants as places
 use Rattle.core_machine.specs.declared.place.Polling.TheVariants.{Asking, Shading, Answering}
-use Rattle.core_machine.specs.declared.seat.register.Register.{Register}
-use Rattle.core_machine.specs.declared.seat.register.Register.TheVariants as registers
-use Rattle.core_machine.specs.machine.Machine.{State, seat_at, found_by, entries_shown, after_begin}
+use Rattle.core_machine.specs.machine.Machine.{State, seat_at, found_by}
 use Rattle.core_machine.specs.Moves.{Move, move_at, is_last_birth, last_birth_move, birth_move, seat_after, takes_some}
 use Rattle.core_machine.specs.declared.table.address.Address.TheVariants.{Word}
 use Rattle.core_machine.specs.table.Decode.{head_of}
 use Rattle.core_machine.specs.table.Layout.{at}
-use Rattle.core_machine.specs.seat.Access.{meta_reply_of, way_place_of, after_link, after_walk, at_access, with_field_place, after_meta, after_get, after_old_load, access_start}
+use Rattle.core_machine.specs.seat.Access.{meta_reply_of, with_field_place, after_meta, after_get, after_old_load}
 use Rattle.core_machine.specs.seat.AccessMoves.{got_shows, reply_entries_if}
 use Rattle.core_machine.specs.seat.Handshake.{answer_next, polling_over}
 use Rattle.core_machine.specs.seat.HandshakeMoves.{phase_told}
-use Rattle.core_machine.specs.declared.seat.looks.Looks.{Looks}
 use Rattle.core_machine.specs.seat.Looks.{forgotten}
-use Rattle.core_machine.specs.seat.Making.{gather_next, next_group_of, after_claim}
-use Rattle.core_machine.specs.seat.Registers.{register_in}
 use Rattle.core_machine.specs.seat.Seat.{Seat}
-use Rattle.core_machine.specs.table.Fragments.{clear_in}
-use Rattle.core_machine.proofs.seat_lemmas.Fitting.{goes_on_cases}
 use Rattle.core_rule.specs.Book.{Book}
 use Rattle.core_rule.specs.Looks.{LooksStand}
 use Rattle.core_rule.specs.Rule.{Rule}
 use Rattle.core_rule.proofs.entries.Others.{of_other}
 use Rattle.core_rule.proofs.looks.Finding.{looks_looked, looks_asked, looks_compared}
+use Rattle.core_rule.proofs.looks.Ways.{StaysFound, IsNote, elsewhere_unnoted, stays_claim, stays_walk}
 use Rattle.core_rule.proofs.looks.Growth.{NoneOf, IsElsewhere, looks_on, looks_elsewhere, looks_forgotten, looks_awaiting}
-
--- the seat keeps what it has found, and stands at no inner call's own place
-pub record StaysFound (seat now : Seat) : Type 0 where
-  pub looks : now.looks ≡ seat.looks
-  pub elsewhere : IsElsewhere now.place
-
--- the place is that of a note
-abbrev pub IsNote : Place → Type 0
-IsNote (places.Collecting (Noting reply)) = Unit {0}
-IsNote _ = ⊥
-
-pub elsewhere_unnoted : (place : Place) → IsElsewhere place → ¬ IsNote place
-elsewhere_unnoted (places.Collecting place) elsewhere note = elsewhere
-elsewhere_unnoted _ elsewhere note = note
 
 -- none of the entries is a reply to another seat
 abbrev pub NoneToOthers : ℕ → List Entry → Type 0
@@ -103,27 +81,6 @@ module _ (heap : Heap) (number : ℕ) (before : List Entry) (seat : Seat) where
     unnoted = λ note. subst IsNote naming note;
     stands = λ stands. rw (looks, naming) (looks_awaiting heap before shown number seat.place seat.looks stands);
   }
-
--- what stays on the ways of a seat
-stays_gather : (heap : Heap) (seat : Seat) → StaysFound seat (gather_next heap seat)
-stays_gather heap seat = goes_on_cases (λ s. StaysFound seat s) heap seat (λ enough. record { looks = refl; elsewhere = tt }) (λ few more. record { looks = refl; elsewhere = tt }) (λ few all. record { looks = refl; elsewhere = tt })
-
-stays_claim : (heap : Heap) (seat : Seat) (found : ℕ) → StaysFound seat (after_claim heap seat found)
-stays_claim heap seat found =
-    let stays = stays_gather heap (record seat { hand = seat.hand ++ clear_in (next_group_of heap seat) found; tried = seat.tried + 1 }) in
-    record { looks = stays.looks; elsewhere = stays.elsewhere }
-
-stays_walk : (seat : Seat) (found : ℕ) → StaysFound seat (after_walk seat found)
-stays_walk seat found = by (seat.links == 0)
-  where
-    by : (b : Bool) → StaysFound seat (if b then at_access seat (way_place_of seat) else at_access (after_link seat found) (way_place_of (after_link seat found)))
-    by true = record { looks = refl; elsewhere = tt }
-    by false = record { looks = refl; elsewhere = tt }
-
-stays_start : (seat : Seat) (held : Register) → StaysFound seat (access_start seat held)
-stays_start seat (registers.Object head id) = record { looks = refl; elsewhere = tt }
-stays_start seat registers.Nil = record { looks = refl; elsewhere = tt }
-stays_start seat (registers.Number n) = record { looks = refl; elsewhere = tt }
 
 -- what a claim tells is no reply
 none_claimed : (number count : ℕ) → NoReplies (takes_some number count)
@@ -224,17 +181,3 @@ module _ (heap : Heap) (state : State) (book : Book) (rule : Rule heap state boo
   goes_at (places.Collecting (Noting reply)) placed = tells _ _ refl refl
   goes_at (places.Leaving Emptying) placed = quiet heap number book.history seat _ _ (λ named. cc (placed, named)) (λ r. refl) record { looks = refl; elsewhere = tt }
   goes_at (places.Leaving Parting) placed = tells _ _ refl refl
-
--- a call that begins leaves what was found, and stands at no inner call's own place
-pub begin_stays : (heap : Heap) (seat : Seat) (command : Command) → seat.place ≡ places.Idle → StaysFound seat (after_begin heap seat command)
-begin_stays heap seat (commands.New d fields) idle =
-    let stays = stays_gather heap (record seat { command = commands.New d fields }) in record { looks = stays.looks; elsewhere = stays.elsewhere }
-begin_stays heap seat (commands.Array d cells) idle = record { looks = refl; elsewhere = subst IsElsewhere (sym idle) tt }
-begin_stays heap seat commands.Collect idle = record { looks = refl; elsewhere = subst IsElsewhere (sym idle) tt }
-begin_stays heap seat (commands.Get d r i) idle =
-    let stays = stays_start (record seat { command = commands.Get d r i }) (register_in seat.registers r) in record { looks = stays.looks; elsewhere = stays.elsewhere }
-begin_stays heap seat (commands.Set r i v) idle =
-    let stays = stays_start (record seat { command = commands.Set r i v }) (register_in seat.registers r) in record { looks = stays.looks; elsewhere = stays.elsewhere }
-begin_stays heap seat (commands.Len r) idle =
-    let stays = stays_start (record seat { command = commands.Len r }) (register_in seat.registers r) in record { looks = stays.looks; elsewhere = stays.elsewhere }
-begin_stays heap seat _ idle = record { looks = refl; elsewhere = tt }

@@ -1,5 +1,5 @@
 -- A look, and the comparison with another seat's word, keep the rule.
-use Rattle.std.proofs.Common.{◌≡◌, ℕ, ◌<◌, [], filter, refl, subst}
+use Rattle.std.proofs.Common.{◌≡◌, ℕ, ◌<◌, [], filter, subst}
 use Rattle.heap_model.specs.declared.heap.Heap.{Heap}
 use Rattle.heap_model.specs.account.Effects.{is_of}
 use Rattle.core_machine.specs.declared.place.Collecting.{Collecting}

@@ -26,11 +26,10 @@ use Rattle.core_machine.specs.declared.step.Step.TheVariants as steps
 use Rattle.core_machine.specs.declared.step.HandshakeStep.TheVariants.{AnswerStore}
 use Rattle.heap_model.specs.declared.command.Command.{Command}
 use Rattle.core_machine.specs.table.Layout.{at, put}
-use Rattle.core_machine.specs.machine.Machine.{State, seat_at, state_after_move}
-use Rattle.core_machine.specs.Moves.{Move, seat_after}
+use Rattle.core_machine.specs.machine.Machine.{State, seat_at}
+use Rattle.core_machine.specs.Moves.{Move}
 use Rattle.core_machine.specs.seat.Handshake.{roots}
 use Rattle.core_machine.specs.seat.Seat.{Seat, call_over, with_entries}
-use Rattle.core_machine.specs.machine.Value.{IsMachine}
 use Rattle.core_machine.proofs.table_lemmas.Addresses.{at-put_same}
 use Rattle.core_rule.specs.Book.{Book}
 use Rattle.core_rule.specs.Counts.{CountsAgree}
@@ -49,7 +48,7 @@ use Rattle.core_rule.proofs.marking.Marks.{MarksGoOn, Leaves, leaves_words, heap
 use Rattle.core_rule.proofs.entries.AnswerEntries.{graph_answer, graph_reply, phase_answer, accepts_reply, has_answered, keeps_answer, keeps_reply}
 use Rattle.core_rule.proofs.cycle.AnswerWords.{fragments_answer, heap_cycle_answer, leaves_answer}
 use Rattle.core_rule.proofs.footprint.BookGoing.{book_stays}
-use Rattle.core_rule.proofs.steps.Assemble.{Keeps, seat_steps, MoveKeeps, StepKeeps}
+use Rattle.core_rule.proofs.steps.Assemble.{seat_steps, MoveKeeps, StepKeeps}
 use Rattle.core_rule.proofs.entries.PhasesTold.{answers_by}
 use Rattle.core_rule.proofs.entries.AtRest.{seat_fits, in_flight, none_awaited, spent_own, few_own}
 use Rattle.core_rule.proofs.cycle.CycleFrames.{cycle_stays}
@@ -64,7 +63,7 @@ use Rattle.core_rule.proofs.entries.InFlight.{began_idle, began_past}
 use Rattle.core_rule.proofs.entries.Legality.{legal_more}
 use Rattle.core_rule.proofs.entries.Others.{of_other}
 use Rattle.core_rule.proofs.entries.OwnEntries.{own_grows, counts_own}
-use Rattle.core_rule.proofs.entries.PhaseEntries.{phase_stays, answered_stays, left_stays, no_leave_told}
+use Rattle.core_rule.proofs.entries.PhaseEntries.{left_stays, no_leave_told}
 use Rattle.core_rule.proofs.frames.Replying.{heap_told, other_told}
 use Rattle.core_rule.proofs.graph.SameNodes.{SameNodes, nodes_same}
 use Rattle.core_rule.proofs.frames.SeatFrames.{with_entry}
