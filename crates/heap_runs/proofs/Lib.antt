@@ -2,9 +2,11 @@ pub mod Answering
 pub mod Beside
 pub mod Bounds
 pub mod Calling
+pub mod Collecting
 pub mod Collectors
 pub mod Following
 pub mod Growing
+pub mod InnerCalls
 pub mod LastCycle
 pub mod Leaves
 pub mod MachineCalls
@@ -17,4 +19,5 @@ pub mod Runs
 pub mod Standing
 pub mod TurnFacts
 pub mod TurnedMachine
+pub mod Waiting
 pub mod Whole
