@@ -2,5 +2,6 @@
 pub mod Words
 pub mod Growth
 pub mod Finding
+pub mod Ways
 pub mod Moves
 pub mod Stays

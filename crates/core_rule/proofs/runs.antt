@@ -5,6 +5,7 @@ pub mod OpeningStands
 pub mod Runs
 pub mod Plays
 pub mod PlayEntries
+pub mod PlayNotes
 pub mod PlayRuns
 pub mod BornWords
 pub mod MarkedAnswers

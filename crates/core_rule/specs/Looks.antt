@@ -11,7 +11,8 @@ use Rattle.core_machine.specs.declared.place.Collecting.TheVariants.{Looking, As
 use Rattle.core_machine.specs.declared.place.Place.{Place}
 use Rattle.core_machine.specs.declared.place.Place.TheVariants as places
 use Rattle.core_machine.specs.machine.Machine.{State, seat_at}
-use Rattle.core_machine.specs.seat.Looks.{Looks, FoundBehind}
+use Rattle.core_machine.specs.declared.seat.looks.Looks.{Looks}
+use Rattle.core_machine.specs.declared.seat.looks.FoundBehind.{FoundBehind}
 
 -- the phase was this one at some time since the seat's last reply
 pub record WasSeen (history : List Entry) (number p : ℕ) : Type 0 where

@@ -1,5 +1,5 @@
 -- An inner call of a collect that is made by itself, step by step.
-use Rattle.std.proofs.Common.{◌≡◌, ◌≢◌, ℕ, ◌+◌, ◌<◌, List, [], ◌∷◌, ◌++◌, length, cond, eqb, false, suc, Option, Some, None, inl, inr, refl, sym, ap, subst, ◌∙◌, append-nil}
+use Rattle.std.proofs.Common.{◌≡◌, ◌≢◌, ℕ, ◌+◌, List, [], ◌∷◌, ◌++◌, length, inl, inr, refl, sym, ap, subst, ◌∙◌, append-nil}
 use Rattle.std.specs.Prelude.{IfSome, nat_lt}
 use Rattle.std.proofs.lemmas.Bool.{ne_eqb}
 use Rattle.std.proofs.lemmas.Bool.Decides.{eqb_tells}
@@ -106,10 +106,10 @@ module _ (heap : Heap) (start : List ℕ) (number : ℕ) (first : Seat) where
 
   module _ (resting : call_over first ≡ first) where
     look_leads : InnerLeads inners.Look start [] (after_inner_begin first inners.Look) (look_move (after_inner_begin first inners.Look))
-    look_leads = record { seat_is = ap (λ (s : Seat). record s { command = commands.Collect; looks = seat_after.looks; mine = first.mine ++ [] }) resting; told_is = refl }
+    look_leads = record { seat_is = ap (λ (s : Seat). record s { command = commands.Collect; looks = last.looks; mine = first.mine ++ [] }) resting; told_is = refl }
       where
-        seat_after : Seat
-        seat_after = seat_after_inner heap start number first inners.Look
+        last : Seat
+        last = seat_after_inner heap start number first inners.Look
 
     asking_leads : (other : ℕ) → InnerLeads (inners.Behind other) start [] (after_inner_begin first (inners.Behind other)) (asking_move (after_inner_begin first (inners.Behind other)) other)
     asking_leads other = record {

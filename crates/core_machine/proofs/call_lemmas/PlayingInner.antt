@@ -8,9 +8,8 @@ use Rattle.heap_model.specs.declared.entry.Entry.{Entry}
 use Rattle.heap_model.specs.declared.heap.Heap.{Heap}
 use Rattle.core_machine.specs.machine.InnerCalls.{inner_events, PlaysInner}
 use Rattle.core_machine.specs.machine.Machine.{State, seat_at, found_by, state_after_move, state_after_due, entries_shown, after_inner_begin, Event, BeginsInner, Steps, Can, state_after, entries, Run, state_after_all, history}
-use Rattle.core_machine.specs.machine.Value.{MachineValue, IsMachine, log_of, spare_of, SpendsRoom}
+use Rattle.core_machine.specs.machine.Value.{MachineValue, IsMachine, spare_of, SpendsRoom}
 use Rattle.core_machine.specs.Moves.{Move, next_move, due_step, seat_after}
-use Rattle.core_machine.specs.seat.Collecting.{inner_place}
 use Rattle.core_machine.specs.seat.Seat.{Seat, call_over}
 use Rattle.core_machine.proofs.call_lemmas.CallEnd.{idle_from}
 use Rattle.core_machine.proofs.call_lemmas.CallRoom.{log_of_seat}

@@ -14,7 +14,7 @@ use Rattle.core_machine.specs.declared.step.Step.TheVariants.{PollLoad, Turning}
 use Rattle.core_machine.specs.declared.step.TurningStep.TheVariants.{LookLoad}
 use Rattle.core_machine.specs.machine.Machine.{MayBeginInner, after_inner_begin}
 use Rattle.core_machine.specs.seat.Awaiting.{entries_awaited, entries_awaited_at}
-use Rattle.core_machine.specs.seat.Collecting.{inner_place, after_asking, look_move, asking_move, comparing_move, note_move}
+use Rattle.core_machine.specs.seat.Collecting.{after_asking, look_move, asking_move, comparing_move, note_move}
 use Rattle.core_machine.specs.seat.Fits.{Fits, FitsPlace, FitsWay, FitsAnswer, IsAtRest}
 use Rattle.core_machine.specs.seat.Looks.{Looks, MayMake, looked, compared}
 use Rattle.core_machine.specs.seat.Seat.{Seat, call_over, after_call}

@@ -13,7 +13,7 @@ use Rattle.core_machine.specs.declared.place.Polling.{Polling}
 use Rattle.core_machine.specs.declared.place.Polling.TheVariants.{Asking, Shading, Answering}
 use Rattle.core_machine.specs.declared.step.Step.TheVariants.{PollLoad}
 use Rattle.core_machine.specs.machine.Machine.{found_by}
-use Rattle.core_machine.specs.seat.HandshakeMoves.{phase_told, poll_move, poll_adds, root_move, answer_move}
+use Rattle.core_machine.specs.seat.HandshakeMoves.{poll_move, poll_adds, root_move, answer_move}
 use Rattle.core_machine.specs.seat.Awaiting.{entries_awaited}
 use Rattle.core_machine.specs.seat.Fits.{FitsPlace, FitsWay, FitsAnswer, IsAtRest, AnswersThePhase, Fits}
 use Rattle.core_machine.specs.seat.FitsAccess.{HasNoWay}

@@ -79,6 +79,7 @@ impl SeatParty {
             Command::Array { .. } | Command::Collect => unreachable!(),
         }
     }
+
     /// Whether the inner call of a collect may be begun now.
     pub fn may_begin_inner(&self, heap: &Heap, number: u8, inner: &Inner) -> bool
         ensures { IsTrue result ↔ MayBeginInner heap.now number self.now.seat inner.now }

@@ -79,6 +79,7 @@ impl Looks {
         });
         self.waits = self.waits.saturating_add(1);
     }
+
     /// Whether a cycle is known to have begun after the first look since the last reply, and to have ended.
     fn saw_cycle(&self, cycle: u64) -> bool
         ensures { IsTrue result ↔ MayNote self.now (Cycle cycle) }

@@ -1,10 +1,10 @@
 -- What a seat has found stands as the history grows.
 use Rattle.std.specs.List.{list_any}
-use Rattle.std.proofs.Common.{◌≡◌, ◌≢◌, ◌||◌, ℕ, ◌+◌, ◌<◌, ◌≤◌, Bool, true, false, List, [], ◌∷◌, ◌++◌, Option, Some, None, IfSome, refl, sym, ap, ◌∙◌, subst, arith, append_assoc}
+use Rattle.std.proofs.Common.{◌≡◌, ◌≢◌, ◌||◌, ℕ, ◌+◌, ◌≤◌, Bool, true, false, List, [], ◌∷◌, ◌++◌, refl, sym, ap, ◌∙◌, subst, arith, append_assoc}
 use Rattle.std.proofs.lemmas.List.{append-nil}
 use Rattle.heap_model.specs.declared.entry.Entry.{Entry}
 use Rattle.heap_model.specs.declared.heap.Heap.{Heap}
-use Rattle.heap_model.specs.account.PhaseCounts.{phase, last_answer, has_left}
+use Rattle.heap_model.specs.account.PhaseCounts.{phase, last_answer}
 use Rattle.heap_model.specs.account.Phases.{IsBehind, WasBehind}
 use Rattle.heap_model.specs.account.Windows.{up_to_last, after_last, up_to_reply, since_reply, is_reply_to}
 use Rattle.heap_model.proofs.account_lemmas.Windows.{up_to_last-no, after_last-no}
@@ -13,8 +13,10 @@ use Rattle.core_machine.specs.declared.place.Collecting.{Collecting}
 use Rattle.core_machine.specs.declared.place.Collecting.TheVariants.{Looking, Asking, Comparing, Noting}
 use Rattle.core_machine.specs.declared.place.Place.{Place}
 use Rattle.core_machine.specs.declared.place.Place.TheVariants as places
-use Rattle.core_machine.specs.seat.Looks.{Looks, FoundBehind, forgotten}
-use Rattle.core_rule.specs.Looks.{WasSeen, WasFound, FoundSince, Compares, CollectingStands, WhileCollecting, LooksStand}
+use Rattle.core_machine.specs.declared.seat.looks.Looks.{Looks}
+use Rattle.core_machine.specs.declared.seat.looks.FoundBehind.{FoundBehind}
+use Rattle.core_machine.specs.seat.Looks.{forgotten}
+use Rattle.core_rule.specs.Looks.{WasSeen, WasFound, Compares, CollectingStands, WhileCollecting, LooksStand}
 use Rattle.core_rule.proofs.entries.PhaseEntries.{answers_grow, was_present}
 use Rattle.core_rule.proofs.footprint.WeightGrowth.{total-added}
 use Rattle.core_rule.proofs.lists.Options.{if_some}

@@ -1,7 +1,6 @@
 -- What a seat has found stands after each of its moves.
-use Rattle.std.specs.List.{list_any}
 use Rattle.std.specs.Prelude.{if◌then◌else◌}
-use Rattle.std.proofs.Common.{◌≡◌, ◌≢◌, ◌||◌, ◌==◌, ◌++◌, ℕ, ◌+◌, ◌<◌, Bool, true, false, List, [], ◌∷◌, Option, Some, None, length, refl, sym, ap, ◌∙◌, subst}
+use Rattle.std.proofs.Common.{◌≡◌, ◌≢◌, ◌||◌, ◌==◌, ◌++◌, ℕ, ◌+◌, Bool, true, false, List, [], ◌∷◌, Option, Some, None, refl, sym, subst}
 use Rattle.std.proofs.lemmas.List.{append-nil}
 use Rattle.heap_model.specs.declared.command.Command.{Command}
 use Rattle.heap_model.specs.declared.command.Command.TheVariants as commands
@@ -9,7 +8,6 @@ use Rattle.heap_model.specs.declared.entry.Entry.{Entry}
 use Rattle.heap_model.specs.declared.entry.Entry.TheVariants as entries
 use Rattle.heap_model.specs.declared.heap.Heap.{Heap}
 use Rattle.heap_model.specs.declared.reply.Reply.{Reply}
-use Rattle.heap_model.specs.declared.reply.Reply.TheVariants as replies
 use Rattle.heap_model.specs.account.Windows.{is_reply_to}
 use Rattle.core_machine.specs.declared.place.Access.TheVariants.{LoadingMeta, Walking, Getting, Naming, LoadingOld, ShadingOld, ShadingNew, Swapping}
 use Rattle.core_machine.specs.declared.place.Collecting.TheVariants.{Looking, Comparing, Noting}
@@ -19,40 +17,24 @@ use Rattle.core_machine.specs.declared.place.Making.TheVariants.{Gathering, Retu
 use Rattle.core_machine.specs.declared.place.Place.{Place}
 use Rattle.core_machine.specs.declared.place.Place.TheVariants as places
 use Rattle.core_machine.specs.declared.place.Polling.TheVariants.{Asking, Shading, Answering}
-use Rattle.core_machine.specs.declared.seat.register.Register.{Register}
-use Rattle.core_machine.specs.declared.seat.register.Register.TheVariants as registers
-use Rattle.core_machine.specs.machine.Machine.{State, seat_at, found_by, entries_shown, after_begin}
+use Rattle.core_machine.specs.machine.Machine.{State, seat_at, found_by}
 use Rattle.core_machine.specs.Moves.{Move, move_at, is_last_birth, last_birth_move, birth_move, seat_after, takes_some}
-use Rattle.core_machine.specs.seat.Access.{way_place_of, after_link, after_walk, at_access, with_field_place, after_meta, after_get, new_place_of, access_start}
+use Rattle.core_machine.specs.declared.table.address.Address.TheVariants.{Word}
+use Rattle.core_machine.specs.table.Decode.{head_of}
+use Rattle.core_machine.specs.table.Layout.{at}
+use Rattle.core_machine.specs.seat.Access.{meta_reply_of, with_field_place, after_meta, after_get, after_old_load}
 use Rattle.core_machine.specs.seat.AccessMoves.{got_shows, reply_entries_if}
 use Rattle.core_machine.specs.seat.Handshake.{answer_next, polling_over}
 use Rattle.core_machine.specs.seat.HandshakeMoves.{phase_told}
-use Rattle.core_machine.specs.seat.Looks.{Looks, forgotten}
-use Rattle.core_machine.specs.seat.Making.{gather_next, next_group_of, after_claim}
-use Rattle.core_machine.specs.seat.Registers.{register_in}
+use Rattle.core_machine.specs.seat.Looks.{forgotten}
 use Rattle.core_machine.specs.seat.Seat.{Seat}
-use Rattle.core_machine.specs.table.Fragments.{clear_in}
-use Rattle.core_machine.proofs.seat_lemmas.Fitting.{goes_on_cases}
 use Rattle.core_rule.specs.Book.{Book}
 use Rattle.core_rule.specs.Looks.{LooksStand}
 use Rattle.core_rule.specs.Rule.{Rule}
 use Rattle.core_rule.proofs.entries.Others.{of_other}
 use Rattle.core_rule.proofs.looks.Finding.{looks_looked, looks_asked, looks_compared}
+use Rattle.core_rule.proofs.looks.Ways.{StaysFound, IsNote, elsewhere_unnoted, stays_claim, stays_walk}
 use Rattle.core_rule.proofs.looks.Growth.{NoneOf, IsElsewhere, looks_on, looks_elsewhere, looks_forgotten, looks_awaiting}
-
--- the seat keeps what it has found, and stands at no inner call's own place
-pub record StaysFound (seat now : Seat) : Type 0 where
-  pub looks : now.looks ≡ seat.looks
-  pub elsewhere : IsElsewhere now.place
-
--- the place is that of a note
-abbrev pub IsNote : Place → Type 0
-IsNote (places.Collecting (Noting reply)) = Unit {0}
-IsNote _ = ⊥
-
-pub elsewhere_unnoted : (place : Place) → IsElsewhere place → ¬ IsNote place
-elsewhere_unnoted (places.Collecting place) elsewhere note = elsewhere
-elsewhere_unnoted _ elsewhere note = note
 
 -- none of the entries is a reply to another seat
 abbrev pub NoneToOthers : ℕ → List Entry → Type 0
@@ -65,8 +47,8 @@ NoReplies added = (r : ℕ) → NoneOf (is_reply_to r) added
 no_entries : NoReplies []
 no_entries r = refl
 
-one_own : (number : ℕ) (command : Command) (reply : Reply) → NoneToOthers number (entries.Said number command reply ∷ [])
-one_own number command reply r apart = rw (of_other number r apart) refl
+one_own : (number r : ℕ) → r ≢ number → ((number == r) || false) ≡ false
+one_own number r apart = rw (of_other number r apart) refl
 
 -- how a seat goes by a move
 module _ (heap : Heap) (number : ℕ) (before : List Entry) (seat : Seat) where
@@ -100,27 +82,6 @@ module _ (heap : Heap) (number : ℕ) (before : List Entry) (seat : Seat) where
     stands = λ stands. rw (looks, naming) (looks_awaiting heap before shown number seat.place seat.looks stands);
   }
 
--- what stays on the ways of a seat
-stays_gather : (heap : Heap) (seat : Seat) → StaysFound seat (gather_next heap seat)
-stays_gather heap seat = goes_on_cases (λ s. StaysFound seat s) heap seat (λ enough. record { looks = refl; elsewhere = tt }) (λ few more. record { looks = refl; elsewhere = tt }) (λ few all. record { looks = refl; elsewhere = tt })
-
-stays_claim : (heap : Heap) (seat : Seat) (found : ℕ) → StaysFound seat (after_claim heap seat found)
-stays_claim heap seat found =
-    let stays = stays_gather heap (record seat { hand = seat.hand ++ clear_in (next_group_of heap seat) found; tried = seat.tried + 1 }) in
-    record { looks = stays.looks; elsewhere = stays.elsewhere }
-
-stays_walk : (seat : Seat) (found : ℕ) → StaysFound seat (after_walk seat found)
-stays_walk seat found = by (seat.links == 0)
-  where
-    by : (b : Bool) → StaysFound seat (if b then at_access seat (way_place_of seat) else at_access (after_link seat found) (way_place_of (after_link seat found)))
-    by true = record { looks = refl; elsewhere = tt }
-    by false = record { looks = refl; elsewhere = tt }
-
-stays_start : (seat : Seat) (held : Register) → StaysFound seat (access_start seat held)
-stays_start seat (registers.Object head id) = record { looks = refl; elsewhere = tt }
-stays_start seat registers.Nil = record { looks = refl; elsewhere = tt }
-stays_start seat (registers.Number n) = record { looks = refl; elsewhere = tt }
-
 -- what a claim tells is no reply
 none_claimed : (number count : ℕ) → NoReplies (takes_some number count)
 none_claimed number count r = by (count == 0)
@@ -141,7 +102,7 @@ module _ (heap : Heap) (state : State) (book : Book) (rule : Rule heap state boo
   on_way now unnamed stays = quiet heap number book.history seat now [] unnamed no_entries stays
 
   tells : (now : Seat) (reply : Reply) → now.looks ≡ forgotten seat.looks → now.place ≡ places.Idle → Goes now (entries.Said number seat.command reply ∷ [])
-  tells now reply looks idle = ends heap number book.history seat now (entries.Said number seat.command reply ∷ []) looks idle (one_own number seat.command reply)
+  tells now reply looks idle = ends heap number book.history seat now (entries.Said number seat.command reply ∷ []) looks idle (one_own number)
 
   -- the seat after the move, and what it shows
   abbrev pub GoesBy : Option Move → Type 0
@@ -163,18 +124,22 @@ module _ (heap : Heap) (state : State) (book : Book) (rule : Rule heap state boo
 
   gets : (found : ℕ) (head : Option ℕ) (adds : List Entry) → Goes (record (after_get seat found head) { mine = adds }) (got_shows heap number seat state.words found head)
   gets found None adds = tells _ _ refl refl
-  gets found (Some head) adds = awaits heap number book.history seat _ _ refl refl (one_own number seat.command _)
+  gets found (Some head) adds = awaits heap number book.history seat _ _ refl refl (one_own number)
+
+  olds : (found : ℕ) (head : Option ℕ) (adds : List Entry) → seat.place ≢ places.Access Naming → Goes (record (after_old_load (record seat { loaded = found }) head) { mine = adds }) []
+  olds found None adds unnamed = on_way _ unnamed record { looks = refl; elsewhere = tt }
+  olds found (Some head) adds unnamed = on_way _ unnamed record { looks = refl; elsewhere = tt }
 
   -- a poll tells its reply, and the answer of a collect ends without one
   over : (command : Command) (answered p : ℕ) (adds : List Entry) → seat.place ≢ places.Access Naming
       → Goes (record (polling_over command (record seat { answered = answered })) { mine = adds }) (phase_told number command p)
   over commands.Collect answered p adds unnamed = on_way _ unnamed record { looks = refl; elsewhere = tt }
-  over _ answered p adds unnamed = ends heap number book.history seat _ _ refl refl (one_own number _ _)
+  over _ answered p adds unnamed = ends heap number book.history seat _ _ refl refl (one_own number)
 
   answers : (command : Command) (answered p : ℕ) (adds : List Entry) → seat.place ≢ places.Access Naming
       → Goes (record (polling_over command (record seat { answered = answered })) { mine = adds }) (entries.Answers number p ∷ phase_told number command p)
   answers commands.Collect answered p adds unnamed = quiet heap number book.history seat _ _ unnamed (λ r. refl) record { looks = refl; elsewhere = tt }
-  answers _ answered p adds unnamed = ends heap number book.history seat _ _ refl refl (λ r apart. one_own number _ _ r apart)
+  answers _ answered p adds unnamed = ends heap number book.history seat _ _ refl refl (one_own number)
 
   polls : (b : Bool) (p : ℕ) (adds : List Entry) → seat.place ≢ places.Access Naming
       → Goes (record (if b then polling_over seat.command seat else answer_next (record seat { asked = p })) { mine = adds }) (if b then phase_told number seat.command p else [])
@@ -195,13 +160,13 @@ module _ (heap : Heap) (state : State) (book : Book) (rule : Rule heap state boo
   goes_at (places.Making Storing) placed = on_way _ (λ named. cc (placed, named)) record { looks = refl; elsewhere = tt }
   goes_at (places.Making Bearing) placed = bears (is_last_birth seat) placed
   goes_at places.Local placed = tells _ _ refl refl
-  goes_at (places.Access LoadingMeta) placed = metas _ _ placed _
+  goes_at (places.Access LoadingMeta) placed = metas (at heap state.words (Word seat.reached 0)) (meta_reply_of seat.command (at heap state.words (Word seat.reached 0))) placed _
   goes_at (places.Access Walking) placed =
-      let stays = stays_walk seat _ in
+      let stays = stays_walk seat (at heap state.words (Word seat.reached 0)) in
       on_way _ (λ named. cc (placed, named)) record { looks = stays.looks; elsewhere = stays.elsewhere }
-  goes_at (places.Access Getting) placed = gets _ _ _
+  goes_at (places.Access Getting) placed = gets (at heap state.words (Word seat.reached seat.part)) (head_of (at heap state.words (Word seat.reached seat.part))) _
   goes_at (places.Access Naming) placed = ends heap number book.history seat _ [] refl refl (λ r apart. refl)
-  goes_at (places.Access LoadingOld) placed = on_way _ (λ named. cc (placed, named)) record { looks = refl; elsewhere = tt }
+  goes_at (places.Access LoadingOld) placed = olds _ _ _ (λ named. cc (placed, named))
   goes_at (places.Access ShadingOld) placed = on_way _ (λ named. cc (placed, named)) record { looks = refl; elsewhere = tt }
   goes_at (places.Access ShadingNew) placed = on_way _ (λ named. cc (placed, named)) record { looks = refl; elsewhere = tt }
   goes_at (places.Access Swapping) placed = tells _ _ refl refl
@@ -216,17 +181,3 @@ module _ (heap : Heap) (state : State) (book : Book) (rule : Rule heap state boo
   goes_at (places.Collecting (Noting reply)) placed = tells _ _ refl refl
   goes_at (places.Leaving Emptying) placed = quiet heap number book.history seat _ _ (λ named. cc (placed, named)) (λ r. refl) record { looks = refl; elsewhere = tt }
   goes_at (places.Leaving Parting) placed = tells _ _ refl refl
-
--- a call that begins leaves what was found, and stands at no inner call's own place
-pub begin_stays : (heap : Heap) (seat : Seat) (command : Command) → seat.place ≡ places.Idle → StaysFound seat (after_begin heap seat command)
-begin_stays heap seat (commands.New d fields) idle =
-    let stays = stays_gather heap (record seat { command = commands.New d fields }) in record { looks = stays.looks; elsewhere = stays.elsewhere }
-begin_stays heap seat (commands.Array d cells) idle = record { looks = refl; elsewhere = subst IsElsewhere (sym idle) tt }
-begin_stays heap seat commands.Collect idle = record { looks = refl; elsewhere = subst IsElsewhere (sym idle) tt }
-begin_stays heap seat (commands.Get d r i) idle =
-    let stays = stays_start (record seat { command = commands.Get d r i }) (register_in seat.registers r) in record { looks = stays.looks; elsewhere = stays.elsewhere }
-begin_stays heap seat (commands.Set r i v) idle =
-    let stays = stays_start (record seat { command = commands.Set r i v }) (register_in seat.registers r) in record { looks = stays.looks; elsewhere = stays.elsewhere }
-begin_stays heap seat (commands.Len r) idle =
-    let stays = stays_start (record seat { command = commands.Len r }) (register_in seat.registers r) in record { looks = stays.looks; elsewhere = stays.elsewhere }
-begin_stays heap seat _ idle = record { looks = refl; elsewhere = tt }

@@ -1,5 +1,5 @@
 -- What the seats have found stands after each event.
-use Rattle.std.proofs.Common.{◌≡◌, ◌≢◌, ℕ, ◌<◌, List, [], ◌∷◌, ◌++◌, Option, Some, None, length, slice_set, slice_index_or, inl, inr, refl, sym, ap, ◌∙◌, subst}
+use Rattle.std.proofs.Common.{◌≡◌, ℕ, ◌<◌, List, [], ◌++◌, Option, Some, None, length, slice_set, slice_index_or, inl, inr, refl, sym, subst}
 use Rattle.std.proofs.lemmas.Bool.Decides.{eqb_tells}
 use Rattle.std.proofs.lemmas.List.{append-nil, get_or-set_same, get_or-set_other}
 use Rattle.heap_model.specs.declared.calls.collect.Inner.{Inner}
@@ -11,20 +11,19 @@ use Rattle.heap_model.specs.account.Windows.{is_reply_to}
 use Rattle.core_machine.specs.collector.Collector.{Collector, turn_at}
 use Rattle.core_machine.specs.declared.collector.stage.Stage.{Stage}
 use Rattle.core_machine.specs.declared.collector.stage.Stage.TheVariants as stages
-use Rattle.core_machine.specs.declared.place.Access.TheVariants.{Naming}
-use Rattle.core_machine.specs.declared.place.Collecting.{Collecting}
 use Rattle.core_machine.specs.declared.place.Place.{Place}
-use Rattle.core_machine.specs.declared.place.Place.TheVariants as places
 use Rattle.core_machine.specs.machine.Machine.{State, seat_at, Begins, BeginsInner, Steps, state_after, state_after_due, state_after_turn, entries, entries_shown, after_begin, after_inner_begin, MayBegin, MayBeginInner}
-use Rattle.core_machine.specs.Moves.{Move, move_at, next_move}
+use Rattle.core_machine.specs.Moves.{Move, move_at}
 use Rattle.core_machine.specs.seat.Collecting.{inner_place}
-use Rattle.core_machine.specs.seat.Looks.{Looks, MayMake}
+use Rattle.core_machine.specs.declared.seat.looks.Looks.{Looks}
+use Rattle.core_machine.specs.seat.Looks.{MayMake}
 use Rattle.core_machine.specs.seat.Seat.{Seat, absent_seat}
 use Rattle.core_rule.specs.Book.{Book}
 use Rattle.core_rule.specs.Looks.{LooksStand, AllLooksStand, CollectingStands, WhileCollecting}
 use Rattle.core_rule.specs.Rule.{Rule}
 use Rattle.core_rule.proofs.looks.Growth.{NoneOf, looks_on, looks_elsewhere}
-use Rattle.core_rule.proofs.looks.Moves.{GoesBy, NoneToOthers, goes_at, begin_stays}
+use Rattle.core_rule.proofs.looks.Moves.{GoesBy, NoneToOthers, goes_at}
+use Rattle.core_rule.proofs.looks.Ways.{begin_stays}
 
 -- a turn of the collector tells no seat a reply
 none_turned : (heap : Heap) (collector : Collector) (stage : Stage) (r : ℕ) → NoneOf (is_reply_to r) (turn_at heap collector stage).adds

@@ -14,19 +14,12 @@ use Rattle.heap_model.specs.declared.heap.Heap.{Heap}
 use Rattle.heap_model.specs.account.Account.{IsLegal}
 use Rattle.heap_model.specs.account.Effects.{is_of}
 use Rattle.heap_model.specs.graph.Graph.{opening}
-use Rattle.core_machine.specs.declared.place.Collecting.TheVariants.{Looking, Asking, Comparing, Noting}
-use Rattle.core_machine.specs.declared.place.Place.{Place}
 use Rattle.core_machine.specs.declared.place.Place.TheVariants as places
 use Rattle.heap_model.specs.declared.calls.collect.Inner.{Inner}
-use Rattle.heap_model.specs.declared.calls.collect.Inner.TheVariants as inners
-use Rattle.heap_model.specs.declared.calls.collect.CollectReply.TheVariants as notes
-use Rattle.core_machine.specs.machine.Opening.{IsOpening}
-use Rattle.core_machine.specs.seat.Collecting.{inner_place}
-use Rattle.core_rule.specs.Rule.{Rule}
 use Rattle.core_machine.specs.declared.collector.stage.Stage.{Stage}
 use Rattle.core_machine.specs.declared.collector.stage.Stage.TheVariants as stages
 use Rattle.core_machine.specs.collector.Collector.{Collector, turn_at}
-use Rattle.core_machine.specs.machine.Machine.{State, seat_at, state_after_due, Event, Begins, BeginsInner, Steps, Turns, Can, state_after, entries, Run, history, after_begin, after_inner_begin}
+use Rattle.core_machine.specs.machine.Machine.{State, seat_at, state_after_due, Event, Begins, BeginsInner, Steps, Turns, Can, state_after, entries, Run, history, after_inner_begin}
 use Rattle.core_machine.specs.Moves.{Move, move_at, next_move}
 use Rattle.core_machine.specs.seat.Seat.{Seat, absent_seat}
 use Rattle.core_rule.specs.Book.{Book}
@@ -38,8 +31,7 @@ use Rattle.core_rule.proofs.footprint.SeatCycle.{step_cycle, begin_cycle, inner_
 use Rattle.core_rule.proofs.footprint.TurnCycle.{turn_cycle}
 use Rattle.core_rule.proofs.steps.Assemble.{Keeps}
 use Rattle.core_rule.proofs.runs.PlayEntries.{AddsPlay, NotedNow, adds_play}
-use Rattle.core_rule.proofs.looks.Moves.{IsNote, GoesBy, elsewhere_unnoted, goes_at, begin_stays}
-use Rattle.core_rule.proofs.runs.OpeningStands.{opening_seat_at}
+use Rattle.core_rule.proofs.runs.PlayNotes.{idle_noted, noted_alone, step_noted, begin_noted, inner_noted, opening_noted}
 use Rattle.core_rule.proofs.runs.Plays.{MayPlay, play_more, advancing, freeing, ending, plain_keeps}
 use Rattle.core_rule.proofs.runs.Runs.{MachineStays, OpeningStands, EachStepKeeps, EachBeginKeeps, EachInnerKeeps, EachTurnKeeps, seat_of_step}
 
@@ -76,54 +68,6 @@ own_alone heap state new now number alone all stay own r below active =
       | inl same ↦ subst (λ n. list_all (is_of n) (drop (now.begun n) now.history) ≡ true) (sym same.1) own
       | inr apart ↦ absurd (active (ap (λ s. s.place) (stay r apart.1) ∙ alone r (rw all below) apart.1))
     ]
-
--- a seat without a call in flight is about to note nothing
-idle_noted : (heap : Heap) (words : List ℕ) (place : Place) → place ≡ places.Idle → NotedNow heap words place
-idle_noted heap words place idle = subst (NotedNow heap words) (sym idle) tt
-
-noted_alone : (heap : Heap) (state new : State) (number : ℕ) → IsAlone state number → length state.seats ≡ heap.seats → ((r : ℕ) → r ≢ number → seat_at new r ≡ seat_at state r)
-    → NotedNow heap new.words (seat_at new number).place → (r : ℕ) → r < heap.seats → NotedNow heap new.words (seat_at new r).place
-noted_alone heap state new number alone all stay own r below =
-    elim (eqb_tells r number) as (λ _. NotedNow heap new.words (seat_at new r).place) [
-      | inl same ↦ subst (λ n. NotedNow heap new.words (seat_at new n).place) (sym same.1) own
-      | inr apart ↦ idle_noted heap new.words (seat_at new r).place (ap (λ s. s.place) (stay r apart.1) ∙ alone r (rw all below) apart.1)
-    ]
-
--- nor is one that stands at no note
-elsewhere_noted : (heap : Heap) (words : List ℕ) (place : Place) → ¬ IsNote place → NotedNow heap words place
-elsewhere_noted heap words (places.Collecting (Noting reply)) none = absurd (none tt)
-elsewhere_noted heap words (places.Collecting Looking) none = tt
-elsewhere_noted heap words (places.Collecting (Asking other)) none = tt
-elsewhere_noted heap words (places.Collecting (Comparing other p)) none = tt
-elsewhere_noted heap words _ none = tt
-
--- and no step or begin of a call comes to one
-step_noted : (heap : Heap) (state : State) (book : Book) (number : ℕ) → Rule heap state book → number < length state.seats → NotedNow heap state.words (seat_at state number).place
-    → NotedNow heap (state_after heap state (Steps number)).words (seat_at (state_after heap state (Steps number)) number).place
-step_noted heap state book number rule here was = moves (next_move heap number (seat_at state number)) (goes_at heap state book rule number (seat_at state number).place refl)
-  where
-    moves : (move : Option Move) → GoesBy heap state book rule number move → NotedNow heap (state_after_due heap state number move).words (seat_at (state_after_due heap state number move) number).place
-    moves None goes = was
-    moves (Some move) goes = subst (λ (s : Seat). NotedNow heap (state_after_due heap state number (Some move)).words s.place) (sym (get_or-set_same state.seats number _ absent_seat here))
-        (elsewhere_noted heap _ _ goes.unnoted)
-
-begin_noted : (heap : Heap) (state : State) (number : ℕ) (command : Command) → Can heap state (Begins number command)
-    → NotedNow heap state.words (seat_at (state_after heap state (Begins number command)) number).place
-begin_noted heap state number command can =
-    subst (λ (s : Seat). NotedNow heap state.words s.place) (sym (get_or-set_same state.seats number (after_begin heap (seat_at state number) command) absent_seat can.0))
-    (elsewhere_noted heap state.words (after_begin heap (seat_at state number) command).place
-    (elsewhere_unnoted (after_begin heap (seat_at state number) command).place (begin_stays heap (seat_at state number) command can.1.idle).elsewhere))
-
--- an inner call does where what it notes is so now
-inner_noted : (heap : Heap) (state : State) (inner : Inner) → NotesNow heap state inner → NotedNow heap state.words (inner_place inner)
-inner_noted heap state inners.Look now = tt
-inner_noted heap state inners.Answer now = tt
-inner_noted heap state (inners.Behind other) now = tt
-inner_noted heap state (inners.Note (notes.Cycle j)) now = tt
-inner_noted heap state (inners.Note (notes.Waits other answer p)) now = now
-
-opening_noted : (heap : Heap) (state : State) → IsOpening heap state → (number : ℕ) → number < heap.seats → NotedNow heap state.words (seat_at state number).place
-opening_noted heap state opens number below = idle_noted heap state.words (seat_at state number).place (ap (λ (s : Seat). s.place) (opening_seat_at heap state number opens below))
 
 -- so it is after the rule is kept, where what is added may stand in a play
 plays_next : {heap : Heap} {before new : State} {book : Book} {begun : ℕ → ℕ} {added : List Entry} (keeps : Keeps heap before new book begun added) → Stands heap new keeps.now → MayPlay heap book.history added → IsLegal heap true book.history

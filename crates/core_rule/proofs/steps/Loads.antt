@@ -24,9 +24,11 @@ use Rattle.core_machine.specs.table.Layout.{at, put}
 use Rattle.core_machine.specs.machine.Machine.{State, seat_at}
 use Rattle.core_machine.specs.seat.Access.{has_barrier_of}
 use Rattle.core_machine.specs.seat.Seat.{Seat, with_entries, call_over, after_call}
-use Rattle.core_machine.specs.seat.Looks.{Looks, forgotten}
+use Rattle.core_machine.specs.declared.seat.looks.Looks.{Looks}
+use Rattle.core_machine.specs.seat.Looks.{forgotten}
 use Rattle.core_machine.specs.machine.Value.{IsMachine}
 use Rattle.core_machine.proofs.table_lemmas.Addresses.{put-at}
+use Rattle.core_machine.proofs.seat_lemmas.Aside.{over_way}
 use Rattle.core_rule.specs.Book.{Book}
 use Rattle.core_rule.specs.Counts.{OwnList}
 use Rattle.core_rule.specs.Cycle.{SeatInCycle}
@@ -59,11 +61,6 @@ abbrev pub loaded_state : Heap → State → ℕ → Address → Seat → State
 loaded_state heap state number a seat = record state { words = put heap state.words a (at heap state.words a); seats = slice_set state.seats number seat }
 
 -- a call that has its way alone is over where its way is
-way_over : (seat : Seat) → IsAtRest seat → IsSilent seat → call_over seat ≡ record seat { reached = 0; links = 0; part = 0; loaded = 0; place = places.Idle }
-way_over seat rest silent = by where
-  by : call_over seat ≡ record seat { hand = seat.hand; body = seat.body; stored = seat.stored; tried = seat.tried; given = seat.given; reached = 0; links = 0; part = 0; loaded = 0; place = places.Idle; asked = seat.asked; shaded = seat.shaded }
-  by = rw (rest.empty_hand, rest.no_body, rest.none_stored, rest.none_tried, rest.none_given, silent.none_asked, silent.none_shaded) refl
-
 pub ends_went : (heap : Heap) (state : State) (book : Book) (number : ℕ) (a : Address) (registers : List Register) (looks : Looks) (added shown : List Entry)
     → IsAtRest (seat_at state number) → IsSilent (seat_at state number)
     → (IsMachine heap (loaded_state heap state number a (went (seat_at state number) registers 0 0 0 0 places.Idle looks added))
@@ -73,7 +70,7 @@ pub ends_went : (heap : Heap) (state : State) (book : Book) (number : ℕ) (a : 
 ends_went heap state book number a registers looks added shown rest silent keeps =
     let seat : Seat = seat_at state number in
     let same : with_entries (record (call_over (record seat { registers = registers })) { looks = looks }) added ≡ went seat registers 0 0 0 0 places.Idle looks added
-    = ap (λ (s : Seat). record s { registers = registers; looks = looks; mine = seat.mine ++ added }) (way_over seat rest silent) in
+    = ap (λ (s : Seat). record s { registers = registers; looks = looks; mine = seat.mine ++ added }) (over_way seat rest silent) in
     subst (λ (s : Seat). IsMachine heap (loaded_state heap state number a s) → Keeps heap state (loaded_state heap state number a s) book book.begun shown) (sym same) keeps
 
 -- and has forgotten what was found before where it ends with its reply

@@ -1,5 +1,5 @@
 -- The begin of an inner call of a collect keeps the rule.
-use Rattle.std.proofs.Common.{◌≡◌, ℕ, ◌<◌, [], length, drop, refl, ◌∙◌, append-nil}
+use Rattle.std.proofs.Common.{ℕ, ◌<◌, [], length, drop, refl, ◌∙◌, append-nil}
 use Rattle.heap_model.specs.declared.calls.collect.Inner.{Inner}
 use Rattle.heap_model.specs.declared.calls.collect.Inner.TheVariants.{Look, Answer, Behind, Note}
 use Rattle.heap_model.specs.declared.heap.Heap.{Heap}

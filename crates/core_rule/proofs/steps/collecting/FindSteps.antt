@@ -1,5 +1,5 @@
 -- A look, and the comparison with another seat's word, keep the rule.
-use Rattle.std.proofs.Common.{◌≡◌, ℕ, ◌<◌, [], filter, refl, subst}
+use Rattle.std.proofs.Common.{◌≡◌, ℕ, ◌<◌, [], filter, subst}
 use Rattle.heap_model.specs.declared.heap.Heap.{Heap}
 use Rattle.heap_model.specs.account.Effects.{is_of}
 use Rattle.core_machine.specs.declared.place.Collecting.{Collecting}
@@ -12,7 +12,8 @@ use Rattle.core_machine.specs.machine.Value.{IsMachine}
 use Rattle.core_machine.specs.seat.Collecting.{look_move, asking_move, comparing_move, FitsCollecting}
 use Rattle.core_machine.specs.seat.Commands.{target_of}
 use Rattle.core_machine.specs.seat.Fits.{IsAtRest, IsSilent}
-use Rattle.core_machine.specs.seat.Looks.{Looks, looked, seen_phase, compared}
+use Rattle.core_machine.specs.declared.seat.looks.Looks.{Looks}
+use Rattle.core_machine.specs.seat.Looks.{looked, seen_phase, compared}
 use Rattle.core_machine.specs.seat.Seat.{Seat, with_entries, call_over}
 use Rattle.core_machine.specs.table.Layout.{at}
 use Rattle.heap_model.specs.declared.command.Command.TheVariants as commands

@@ -2,12 +2,10 @@
 use Rattle.std.proofs.Common.{◌≡◌, ℕ, ◌+◌, ◌*◌, ◌<◌, ◌≤◌, Option, Some, None, IfSome, false, refl, sym, ◌∙◌, subst, arith}
 use Rattle.heap_model.specs.declared.calls.collect.CollectReply.{CollectReply}
 use Rattle.heap_model.specs.declared.calls.collect.CollectReply.TheVariants.{Cycle, Waits}
-use Rattle.heap_model.specs.declared.command.Command.{Command}
 use Rattle.heap_model.specs.declared.command.Command.TheVariants as commands
 use Rattle.heap_model.specs.declared.heap.Heap.{Heap}
 use Rattle.heap_model.specs.Command.{IsCommand}
 use Rattle.heap_model.specs.account.Cycles.{graph_of}
-use Rattle.heap_model.specs.account.Effects.{is_of}
 use Rattle.heap_model.specs.account.PhaseCounts.{phase}
 use Rattle.heap_model.specs.account.Windows.{up_to_reply}
 use Rattle.heap_model.specs.graph.Graph.{Graph}
@@ -20,7 +18,7 @@ use Rattle.core_machine.specs.Moves.{seat_after}
 use Rattle.core_machine.specs.seat.Collecting.{note_move}
 use Rattle.core_machine.specs.seat.Commands.{target_of}
 use Rattle.core_machine.specs.seat.Fits.{IsAtRest, IsSilent}
-use Rattle.core_machine.specs.seat.Looks.{Looks, FoundBehind, FirstUpTo, MayNote, noted_reply}
+use Rattle.core_machine.specs.seat.Looks.{FirstUpTo, MayNote, noted_reply}
 use Rattle.core_machine.specs.seat.Seat.{Seat}
 use Rattle.core_machine.specs.table.Layout.{at}
 use Rattle.core_rule.specs.Book.{Book}
@@ -84,7 +82,7 @@ module _ (heap : Heap) (state : State) (book : Book) (number : ℕ) (rule : Rule
       let found : WasFound heap book.history number (record { seat = other; answered = answered; phase = p })
       = of_some (WasFound heap book.history number) seat.looks.behind (record { seat = other; answered = answered; phase = p }) may was.behind in
       record {
-        plain = record { none = refl; space = tt; spine = tt; phases = (found.below, found.other, omega (arith, found.next), found.next, found.behind); most = refl };
+        plain = record { none = refl; space = tt; spine = tt; phases = (found.below, found.other, omega (arith, found.next), (found.next, found.behind)); most = refl };
         says = tt;
         only = only_none g number;
         registers = holds;

@@ -19,17 +19,17 @@ use Rattle.core_machine.specs.seat.Commands.{target_of}
 use Rattle.core_machine.specs.seat.Fits.{IsAtRest, SeatIsAnswering as IsAnswering}
 use Rattle.core_machine.specs.seat.HandshakeMoves.{phase_told}
 use Rattle.core_machine.specs.seat.Handshake.{polling_over}
-use Rattle.core_machine.specs.seat.Looks.{Looks, forgotten}
+use Rattle.core_machine.specs.declared.seat.looks.Looks.{Looks}
+use Rattle.core_machine.specs.seat.Looks.{forgotten}
 use Rattle.core_machine.specs.Move.{plain_move}
 use Rattle.core_machine.specs.declared.step.Step.TheVariants as steps
 use Rattle.core_machine.specs.declared.step.HandshakeStep.TheVariants.{AnswerStore}
 use Rattle.heap_model.specs.declared.command.Command.{Command}
 use Rattle.core_machine.specs.table.Layout.{at, put}
-use Rattle.core_machine.specs.machine.Machine.{State, seat_at, state_after_move}
-use Rattle.core_machine.specs.Moves.{Move, seat_after}
+use Rattle.core_machine.specs.machine.Machine.{State, seat_at}
+use Rattle.core_machine.specs.Moves.{Move}
 use Rattle.core_machine.specs.seat.Handshake.{roots}
 use Rattle.core_machine.specs.seat.Seat.{Seat, call_over, with_entries}
-use Rattle.core_machine.specs.machine.Value.{IsMachine}
 use Rattle.core_machine.proofs.table_lemmas.Addresses.{at-put_same}
 use Rattle.core_rule.specs.Book.{Book}
 use Rattle.core_rule.specs.Counts.{CountsAgree}
@@ -48,7 +48,7 @@ use Rattle.core_rule.proofs.marking.Marks.{MarksGoOn, Leaves, leaves_words, heap
 use Rattle.core_rule.proofs.entries.AnswerEntries.{graph_answer, graph_reply, phase_answer, accepts_reply, has_answered, keeps_answer, keeps_reply}
 use Rattle.core_rule.proofs.cycle.AnswerWords.{fragments_answer, heap_cycle_answer, leaves_answer}
 use Rattle.core_rule.proofs.footprint.BookGoing.{book_stays}
-use Rattle.core_rule.proofs.steps.Assemble.{Keeps, seat_steps, MoveKeeps, StepKeeps}
+use Rattle.core_rule.proofs.steps.Assemble.{seat_steps, MoveKeeps, StepKeeps}
 use Rattle.core_rule.proofs.entries.PhasesTold.{answers_by}
 use Rattle.core_rule.proofs.entries.AtRest.{seat_fits, in_flight, none_awaited, spent_own, few_own}
 use Rattle.core_rule.proofs.cycle.CycleFrames.{cycle_stays}
@@ -63,7 +63,7 @@ use Rattle.core_rule.proofs.entries.InFlight.{began_idle, began_past}
 use Rattle.core_rule.proofs.entries.Legality.{legal_more}
 use Rattle.core_rule.proofs.entries.Others.{of_other}
 use Rattle.core_rule.proofs.entries.OwnEntries.{own_grows, counts_own}
-use Rattle.core_rule.proofs.entries.PhaseEntries.{phase_stays, answered_stays, left_stays, no_leave_told}
+use Rattle.core_rule.proofs.entries.PhaseEntries.{left_stays, no_leave_told}
 use Rattle.core_rule.proofs.frames.Replying.{heap_told, other_told}
 use Rattle.core_rule.proofs.graph.SameNodes.{SameNodes, nodes_same}
 use Rattle.core_rule.proofs.frames.SeatFrames.{with_entry}
@@ -209,7 +209,7 @@ module _ (heap : Heap) (state : State) (book : Book) (number : ℕ) (rule : Rule
           list = record { awaited = []; own = append-nil now.mine ∙ mine_middle; awaits = refl };
           counts = counts_own g (graph_of heap middle.history) book.history number seat now stands.told.counts first own
               (rw graph stands.told.counts.numbered) (rw graph stands.told.counts.stamped) (rw graph stands.told.counts.leaves)
-              (omega (arith, ap (λ (fs : List ℕ). length fs) rest.empty_hand, ap (λ (fs : List ℕ). length fs) rest.no_body));
+              (omega (arith, bare_hand seat.reserve seat.hand seat.body (spent_of number book.history) (taken_of number book.history) rest.empty_hand rest.no_body stands.told.counts.unborn, stands.told.counts.unborn));
           began = began_idle book.history first number (book.begun number) seat.place stands.told.began;
           gathers = gathers_none heap book.owner number (drop (book.begun number) middle.history) now.cursor 0 0 refl refl;
         };
