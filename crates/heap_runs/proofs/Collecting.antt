@@ -7,11 +7,13 @@ use Rattle.std.proofs.lemmas.List.Sums.{sum_by-append}
 use Rattle.std.proofs.lemmas.List.Elements.{filter-append}
 use Rattle.heap_model.specs.declared.calls.collect.Inner.{Inner}
 use Rattle.heap_model.specs.declared.calls.collect.Inner.TheVariants as inners
+use Rattle.heap_model.specs.declared.calls.collect.CollectReply.TheVariants as replies
 use Rattle.heap_model.specs.declared.calls.collector_calls.Turn.{Turn}
 use Rattle.heap_model.specs.declared.calls.collector_calls.Turn.TheVariants as turns
 use Rattle.heap_model.specs.declared.entry.Entry.{Entry}
 use Rattle.heap_model.specs.declared.entry.Entry.TheVariants as entries
 use Rattle.heap_model.specs.declared.heap.Heap.{Heap}
+use Rattle.heap_model.specs.PhasePlan.{cycle_phases, clearing}
 use Rattle.heap_model.specs.account.Effects.{effect_of}
 use Rattle.heap_model.specs.account.Noting.{is_collectors}
 use Rattle.heap_model.specs.account.PhaseCounts.{phase}
@@ -22,12 +24,12 @@ use Rattle.core_machine.specs.machine.Machine.{State, seat_at, Turns, state_afte
 use Rattle.core_machine.specs.machine.Machine as machines
 use Rattle.core_machine.specs.seat.Seat.{Seat}
 use Rattle.core_machine.specs.table.Layout.{at}
-use Rattle.heap_runs.specs.Collecting.{MakesInner, IsPresent, GoesOn}
+use Rattle.heap_runs.specs.Collecting.{MakesInner, IsPresent, GoesOn, EndsFor}
 use Rattle.heap_runs.specs.MachineHeap.{MachineHeapValue, play_state_of, MovesOn, MovesAll, CollectsMachine, TurnsMachine}
 use Rattle.heap_runs.specs.PlayHeap.{TellsInCollect, TakesTurn, collector_state_of}
 use Rattle.heap_runs.proofs.Collectors.{all_collectors}
 use Rattle.heap_runs.proofs.OneSeat.{after_inner}
-use Rattle.heap_runs.proofs.TurnFacts.{added_is, none_is}
+use Rattle.heap_runs.proofs.TurnFacts.{added_is, none_is, wait_shows}
 
 -- moves after moves
 pub moves_then : (n m : ℕ) (heap : Heap) (number : ℕ) (old now new : State) (first next : List Entry) → MovesAll m heap number old now first → MovesAll n heap number now new next
@@ -39,13 +41,13 @@ moves_then (suc n) m heap number old now new first next made more =
     (suc earlier.0, (more.0, first ++ more.1, more.2, earlier.1, more.4, ap (λ (l : List Entry). first ++ l) more.5 ∙ sym (append_assoc first more.1 more.2)))
 
 -- one move
-one_move : (heap : Heap) (number : ℕ) (old new : State) (told : List Entry) → MovesOn heap number old new told → MovesAll 1 heap number old new told
+pub one_move : (heap : Heap) (number : ℕ) (old new : State) (told : List Entry) → MovesOn heap number old new told → MovesAll 1 heap number old new told
 one_move heap number old new told on = (old, [], told, (refl, refl), on, refl)
 
-pub machine_none : (whole : MachineHeapValue) (number : ℕ) → CollectsMachine whole whole number
+abbrev pub machine_none : (whole : MachineHeapValue) (number : ℕ) → CollectsMachine whole whole number
 machine_none whole number = record { same_heap = refl; moves = 0; told = []; makes = (refl, refl); noted = sym (append-nil whole.entries) }
 
-pub machine_then : (old now new : MachineHeapValue) (number : ℕ) → CollectsMachine old now number → CollectsMachine now new number → CollectsMachine old new number
+abbrev pub machine_then : (old now new : MachineHeapValue) (number : ℕ) → CollectsMachine old now number → CollectsMachine now new number → CollectsMachine old new number
 machine_then old now new number first next =
     let here : MovesAll next.moves old.machine.heap number now.machine.state new.machine.state next.told = subst (λ (h : Heap). MovesAll next.moves h number now.machine.state new.machine.state next.told) first.same_heap next.makes in
     let both = moves_then next.moves first.moves old.machine.heap number old.machine.state now.machine.state new.machine.state first.told next.told first.makes here in
@@ -57,12 +59,12 @@ machine_then old now new number first next =
       noted = next.noted ∙ ap (λ (l : List Entry). l ++ next.told) first.noted ∙ append_assoc old.entries first.told next.told;
     }
 
-pub machine_inner : (old new : MachineHeapValue) (number : ℕ) (inner : Inner) → MakesInner old new number inner → CollectsMachine old new number
+abbrev pub machine_inner : (old new : MachineHeapValue) (number : ℕ) (inner : Inner) → MakesInner old new number inner → CollectsMachine old new number
 machine_inner old new number inner makes =
     let told : List Entry = inner_entries old.machine.heap old.machine.state.words number (seat_at old.machine.state number).answered inner in
     record { same_heap = makes.same_heap; moves = 1; told = told; makes = one_move old.machine.heap number old.machine.state new.machine.state told (inl (inner, makes.plays, refl)); noted = makes.noted }
 
-pub machine_turn : (old new : MachineHeapValue) (number : ℕ) (turn : Turn) → TurnsMachine old new turn → CollectsMachine old new number
+abbrev pub machine_turn : (old new : MachineHeapValue) (number : ℕ) (turn : Turn) → TurnsMachine old new turn → CollectsMachine old new number
 machine_turn old new number turn turned =
     let told : List Entry = machines.entries old.machine.heap old.machine.state Turns in
     record { same_heap = turned.same_heap; moves = 1; told = told; makes = one_move old.machine.heap number old.machine.state new.machine.state told (inr (turned.can, turned.after, refl)); noted = turned.noted }
@@ -151,3 +153,28 @@ goes_answer old new number makes present =
       | inl same ↦ rw same.0 tt
       | inr apart ↦ rw apart.0 (refl, tt)
     ]
+
+-- a last turn that waits for another seat
+pub ends_waiting : (old now new : MachineHeapValue) (number other answer p : ℕ) → GoesOn old now number → TakesTurn (play_state_of now) (play_state_of new) (turns.Waits other answer p)
+    → TurnsMachine now new (turns.Waits other answer p) → other ≢ number → EndsFor old new number (replies.Waits other answer p)
+ends_waiting old now new number other answer p goes takes turned apart =
+    let shows = wait_shows (play_state_of now) (play_state_of new) other answer p takes in
+    record {
+      goes = goes_then old now new number goes (goes_turn now new number (turns.Waits other answer p) takes turned goes.present);
+      comes = (apart, takes.turned.last, shows.0, shows.2, shows.1);
+      earlier = λ cycle is. absurd (cc is);
+    }
+
+-- a last turn that ends a cycle
+pub ends_cycle : (old now new : MachineHeapValue) (number cycle kept : ℕ) → GoesOn old now number → TakesTurn (play_state_of now) (play_state_of new) (turns.Ended cycle kept)
+    → TurnsMachine now new (turns.Ended cycle kept) → EndsFor old new number (replies.Cycle cycle)
+ends_cycle old now new number cycle kept goes takes turned =
+    let comes = takes.turned.comes_to in
+    record {
+      goes = goes_then old now new number goes (goes_turn now new number (turns.Ended cycle kept) takes turned goes.present);
+      comes = (kept, takes.turned.last, comes.2);
+      earlier = λ other is. ended_earlier other is comes.1;
+    }
+  where
+    ended_earlier : (other : ℕ) → replies.Cycle cycle ≡ replies.Cycle other → phase now.entries ≡ cycle_phases * cycle + clearing → phase old.entries ≤ cycle_phases * other + clearing
+    ended_earlier other is at_end = (let same : cycle ≡ other = cc is in omega (arith, same, at_end, goes.onward))

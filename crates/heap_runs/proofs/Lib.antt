@@ -12,11 +12,13 @@ pub mod Leaves
 pub mod MachineCalls
 pub mod MachineTurns
 pub mod NextLine
+pub mod Noted
 pub mod Noting
 pub mod OneSeat
 pub mod Opened
 pub mod Runs
 pub mod Standing
+pub mod Told
 pub mod TurnFacts
 pub mod TurnedMachine
 pub mod Waiting

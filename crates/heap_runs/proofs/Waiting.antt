@@ -1,11 +1,9 @@
 -- How a collect comes to its end: each turn that is a step alone leaves fewer turns, and where one waits for the seat itself, that answers.
-use Rattle.std.proofs.Common.{◌≡◌, ℕ, ◌+◌, ◌-◌, ◌*◌, ◌==◌, ◌<◌, ◌≤◌, if◌then◌else◌, true, false, List, [], ◌∷◌, ◌++◌, length, inl, inr, refl, sym, ap, subst, ◌∙◌, arith}
+use Rattle.std.proofs.Common.{◌≡◌, ℕ, ◌+◌, ◌-◌, ◌*◌, ◌==◌, ◌<◌, ◌≤◌, if◌then◌else◌, Bool, true, false, List, [], ◌∷◌, ◌++◌, length, inl, inr, refl, sym, ap, subst, ◌∙◌, arith}
 use Rattle.std.proofs.lemmas.Bool.Decides.{eqb_tells}
 use Rattle.std.proofs.lemmas.List.{append-nil}
 use Rattle.std.proofs.lemmas.List.Sums.{sum_by-append}
-use Rattle.heap_words.specs.declared.phase.TheConstants.{LEFT}
 use Rattle.heap_model.specs.declared.calls.collect.Inner.TheVariants as inners
-use Rattle.heap_model.specs.declared.calls.collector_calls.Turn.{Turn as TurnAnswer}
 use Rattle.heap_model.specs.declared.calls.collector_calls.Turn.TheVariants as turns
 use Rattle.heap_model.specs.declared.entry.Entry.{Entry}
 use Rattle.heap_model.specs.declared.entry.Entry.TheVariants as entries
@@ -17,7 +15,7 @@ use Rattle.core_machine.specs.declared.collector.stage.Stage.{Stage}
 use Rattle.core_machine.specs.declared.collector.stage.Stage.TheVariants as stages
 use Rattle.core_machine.specs.declared.place.Place.TheVariants.{Idle}
 use Rattle.core_machine.specs.declared.table.address.Address.TheVariants.{Phase, Answer}
-use Rattle.core_machine.specs.collector.Collector.{Collector, has_answered_of, turn_at, next_turn, after_look, look_answer}
+use Rattle.core_machine.specs.collector.Collector.{Collector, has_answered_of, after_counted_look, turn_at, next_turn, after_look, look_answer}
 use Rattle.core_machine.specs.machine.Machine.{State, seat_at, found_by, Turns, state_after}
 use Rattle.core_machine.specs.seat.Seat.{Seat}
 use Rattle.core_machine.specs.table.Layout.{at}
@@ -43,16 +41,12 @@ pub record Waiting (collector after : Collector) : Type 0 where
   pub stays : after ≡ collector
 
 look_waits : (heap : Heap) (collector : Collector) (found other answer p : ℕ) → look_answer collector found ≡ turns.Waits other answer p → after_look heap collector found ≡ collector
-look_waits heap collector found other answer p waits = elim (eqb_tells found collector.phase) [
-  | inl same ↦ absurd (cc (ap (λ b. if (if b then true else (found == LEFT)) then turns.Stepped else turns.Waits collector.looked found collector.phase) (sym same.0) ∙ waits))
-  | inr apart ↦ elim (eqb_tells found LEFT) [
-      | inl gone ↦ absurd (answered_waits (rw (apart.0, gone.0) refl) waits)
-      | inr there ↦ rw (apart.0, there.0) refl
-    ]
-]
+look_waits heap collector found other answer p waits = by_answer (has_answered_of collector.phase found) waits
   where
-    answered_waits : has_answered_of collector.phase found ≡ true → look_answer collector found ≡ turns.Waits other answer p → ⊥
-    answered_waits yes waits = cc (ap (λ b. if b then turns.Stepped else turns.Waits collector.looked found collector.phase) (sym yes) ∙ waits)
+    by_answer : (b : Bool) → (if b then turns.Stepped else turns.Waits collector.looked found collector.phase) ≡ turns.Waits other answer p
+        → (if b then after_counted_look heap collector else collector) ≡ collector
+    by_answer true waits = absurd (cc waits)
+    by_answer false waits = refl
 
 waits_at : (heap : Heap) (collector : Collector) (stage : Stage) (found other answer p : ℕ) → collector.stage ≡ stage → (turn_at heap collector stage).answer found ≡ turns.Waits other answer p
     → Waiting collector ((turn_at heap collector stage).told found)

@@ -2,6 +2,7 @@
 use Rattle.std.specs.Prelude.{◌≡◌, ◌≢◌, ℕ, ◌+◌, ◌-◌, ◌*◌, ◌<◌, ◌≤◌, ◌^◌, min, ◌++◌, length, false, Some}
 use Rattle.std.specs.List.{AllByRecursion}
 use Rattle.heap_model.specs.declared.calls.collect.Inner.{Inner}
+use Rattle.heap_model.specs.declared.calls.collect.Inner.TheVariants.{Look, Behind}
 use Rattle.heap_model.specs.declared.calls.collect.CollectReply.{CollectReply}
 use Rattle.heap_model.specs.declared.calls.collect.CollectReply.TheVariants.{Cycle, Waits}
 use Rattle.heap_model.specs.declared.calls.collector_calls.Turn.TheVariants as turns
@@ -43,6 +44,11 @@ pub record GoesOn (old new : MachineHeapValue) (number : ℕ) : Type 0 where
   pub present : IsPresent new number
   pub first_stays : (seat_at new.machine.state number).looks.first ≡ (seat_at old.machine.state number).looks.first
   pub onward : phase old.entries ≤ phase new.entries
+
+-- the inner call by which the seat sees for itself what the turns came to: it looks at the phase, or whether the other seat is behind
+abbrev pub seen_by : CollectReply → Inner
+seen_by (Cycle cycle) = Look
+seen_by (Waits other answer p) = Behind other
 
 -- the last turn came to this: it ended that cycle, or it waits for that other seat
 abbrev pub ComesTo : MachineHeapValue → ℕ → CollectReply → Type 0

@@ -122,10 +122,11 @@ impl PlayHeap for MachineHeap {
     {
         law_every_run();
         self.known();
-        match *command {
-            Command::Collect => self.collect(seat),
-            _ => self.call_once(seat, command),
-        }
+        let reply = match *command {
+            Command::Collect => self.collect(seat)?,
+            _ => self.call_once(seat, command)?,
+        };
+        Ok(reply)
     }
 
     fn turn(&mut self) -> Result<Turn, Memory>

@@ -2,7 +2,7 @@ ghost use Rattle.std.specs.Prelude.{◌≡◌, IfOk};
 ghost use Rattle.core_machine.specs.seat.Looks.{noted_reply};
 ghost use Rattle.heap_runs.specs.PlayHeap.{AnswersCollect};
 ghost use Rattle.heap_runs.specs.MachineHeap.{play_state_of, IsBetweenCalls, CollectsMachine};
-ghost use Rattle.heap_runs.specs.Collecting.{MayGoOn, MakesInner, IsPresent, EndsFor, EndsWholeFor};
+ghost use Rattle.heap_runs.specs.Collecting.{MayGoOn, MakesInner, IsPresent, EndsFor, EndsWholeFor, seen_by};
 
 use crate::machine_heap::MachineHeap;
 use crate::note::note_all;
@@ -30,7 +30,9 @@ fn noted(came: CollectReply) -> Reply
 }
 
 /// The call by which a seat sees for itself what its turns came to.
-fn seen_by(came: CollectReply) -> Inner {
+fn seen_by(came: CollectReply) -> Inner
+    ensures { result ≡ seen_by came }
+{
     match came {
         CollectReply::Cycle(_) => Inner::Look,
         CollectReply::Waits { seat, .. } => Inner::Behind { seat },
@@ -68,7 +70,7 @@ impl MachineHeap {
     {
         law_every_run();
         self.known();
-        loop {
+        'turns: loop {
             match self.turn()? {
                 Turn::Stepped => self.known(),
                 Turn::Waits {
@@ -98,11 +100,23 @@ impl MachineHeap {
         ensures ends { IfOk result (EndsWholeFor self.old self.new seat) }
     {
         if self.phase() % CYCLE_PHASES == REST {
-            return self.end_for(seat);
+            let came = self.end_for(seat)?;
+            return Ok(came);
         }
         match self.end_for(seat)? {
-            CollectReply::Cycle(_) => self.end_for(seat),
-            waits => Ok(waits),
+            CollectReply::Cycle(_) => {
+                let came = self.end_for(seat)?;
+                Ok(came)
+            }
+            CollectReply::Waits {
+                seat: other,
+                answered,
+                phase,
+            } => Ok(CollectReply::Waits {
+                seat: other,
+                answered,
+                phase,
+            }),
         }
     }
 
