@@ -1,5 +1,5 @@
 -- The lines of a script with one line more.
-use Rattle.std.proofs.Common.{◌≡◌, ◌≢◌, ℕ, ◌+◌, ◌<◌, List, [], ◌∷◌, ◌++◌, length, inl, inr, refl, sym, ap, subst, ◌∙◌, append_assoc, length-append, arith}
+use Rattle.std.proofs.Common.{◌≡◌, ◌≢◌, ℕ, ◌+◌, ◌<◌, ◌⊎◌, List, [], ◌∷◌, ◌++◌, length, inl, inr, refl, sym, ap, subst, ◌∙◌, append_assoc, length-append, arith}
 use Rattle.std.specs.List.{AllByRecursion, flat_map}
 use Rattle.std.proofs.lemmas.Bool.Decides.{eqb_tells}
 use Rattle.std.proofs.lemmas.Grind.{flat_map-append}
@@ -7,7 +7,7 @@ use Rattle.std.proofs.lemmas.List.Sums.{fold-append}
 use Rattle.std.proofs.lemmas.List.{get_or-replicate}
 use Rattle.heap_model.specs.declared.heap.Heap.{Heap}
 use Rattle.heap_model.specs.declared.command.Command.{Command}
-use Rattle.heap_model.specs.declared.command.Command.TheVariants.{Leave}
+use Rattle.heap_model.specs.declared.command.Command.TheVariants.{Collect, Leave}
 use Rattle.heap_model.specs.declared.command.TurnCommand.{TurnCommand}
 use Rattle.heap_model.specs.declared.entry.Entry.{Entry}
 use Rattle.heap_model.specs.declared.entry.Entry.TheVariants as entries
@@ -23,47 +23,71 @@ use Rattle.core_machine.specs.seat.Commands.{IsServed}
 use Rattle.heap_runs.specs.Play.{lines_answered}
 use Rattle.heap_runs.specs.PlayHeap.{PlayState, seat_state_of}
 use Rattle.heap_runs.specs.Playing.{NotesCall, NotesTurns, IsThere, DoesFew, HasAnsweredLines}
-use Rattle.heap_runs.proofs.Beside.{comes_beside, beside_replies}
+use Rattle.heap_runs.proofs.Told.{tells_call, noted_is, collect_stays}
 use Rattle.heap_runs.proofs.Following.{follows_call, follows_turns, own_noted}
 use Rattle.heap_runs.proofs.TurnFacts.{IsOwnStep}
 
+-- a command is a collect, or it isn't
+is_collect : (command : Command) → (command ≡ Collect) ⊎ (command ≢ Collect)
+is_collect Collect = inl refl
+is_collect command = inr (λ e. cc e)
+
 -- after a call
 module _ (counts : EachCallCounts) (others : EachCallSparesOthers) (heap : Heap) (old new : PlayState) (before after : List Entry) (seat : ℕ) (command : Command) (notes : NotesCall old new before after seat command) where
+  -- a collect leaves every seat as it is
+  stays_by_collect : (number : ℕ) → command ≡ Collect → graph_seat (graph_after (opening new.heap) new.entries) number ≡ graph_seat (graph_after (opening old.heap) old.entries) number
+  stays_by_collect number is = ap (λ (g : Graph). graph_seat g number) (collect_stays old new seat notes.reply (notes.answers.collects is))
+
   -- a seat is there, if it was and this isn't its leave
-  pub still_there : (number : ℕ) → (number ≡ seat → command ≢ Leave) → IsThere old number → IsThere new number
-  still_there number stays there = elim (eqb_tells number seat) as (λ _. IsThere new number) [
+  there_once : command ≢ Collect → (number : ℕ) → (number ≡ seat → command ≢ Leave) → IsThere old number → IsThere new number
+  there_once once number stays there = elim (eqb_tells number seat) as (λ _. IsThere new number) [
     | inl same ↦ subst (λ (n : ℕ). IsThere new n) (sym same.1)
-        ((counts (seat_state_of old seat) (seat_state_of new seat) command notes.reply notes.answers.adds).present_stays (stays same.1) ∙ subst (λ (n : ℕ). IsThere old n) same.1 there)
-    | inr apart ↦ (others (seat_state_of old seat) (seat_state_of new seat) command notes.reply number notes.answers.adds apart.1).leaves_same ∙ there
+        ((counts (seat_state_of old seat) (seat_state_of new seat) command notes.reply (notes.answers.once once).adds).present_stays (stays same.1) ∙ subst (λ (n : ℕ). IsThere old n) same.1 there)
+    | inr apart ↦ (others (seat_state_of old seat) (seat_state_of new seat) command notes.reply number (notes.answers.once once).adds apart.1).leaves_same ∙ there
   ]
 
-  few_still : (number calls : ℕ) → DoesFew old number calls → DoesFew new number (calls + 1)
-  few_still number calls few = elim (eqb_tells number seat) as (λ _. DoesFew new number (calls + 1)) [
+  few_once : command ≢ Collect → (number calls : ℕ) → DoesFew old number calls → DoesFew new number (calls + 1)
+  few_once once number calls few = elim (eqb_tells number seat) as (λ _. DoesFew new number (calls + 1)) [
     | inl same ↦ subst (λ (n : ℕ). DoesFew new n (calls + 1)) (sym same.1) (more (subst (λ (n : ℕ). DoesFew old n calls) same.1 few))
-    | inr apart ↦ (let stays = others (seat_state_of old seat) (seat_state_of new seat) command notes.reply number notes.answers.adds apart.1 in
+    | inr apart ↦ (let stays = others (seat_state_of old seat) (seat_state_of new seat) command notes.reply number (notes.answers.once once).adds apart.1 in
         record { few_objects = omega (arith, stays.made_same, few.few_objects); few_sets = omega (arith, stays.sets_same, few.few_sets) })
   ]
     where
       more : DoesFew old seat calls → DoesFew new seat (calls + 1)
       more few =
-          let up = counts (seat_state_of old seat) (seat_state_of new seat) command notes.reply notes.answers.adds in
+          let up = counts (seat_state_of old seat) (seat_state_of new seat) command notes.reply (notes.answers.once once).adds in
           record { few_objects = omega (arith, up.made_more, few.few_objects); few_sets = omega (arith, up.sets_more, few.few_sets) }
 
+  pub still_there : (number : ℕ) → (number ≡ seat → command ≢ Leave) → IsThere old number → IsThere new number
+  still_there number stays there = elim (is_collect command) [
+    | inl is ↦ ap (λ (s : GraphSeat). s.left) (stays_by_collect number is) ∙ there
+    | inr once ↦ there_once once number stays there
+  ]
+
+  few_still : (number calls : ℕ) → DoesFew old number calls → DoesFew new number (calls + 1)
+  few_still number calls few = elim (is_collect command) [
+    | inl is ↦ (let same = stays_by_collect number is in record {
+        few_objects = omega (arith, ap (λ (s : GraphSeat). length s.objects) same, few.few_objects);
+        few_sets = omega (arith, ap (λ (s : GraphSeat). s.sets) same, few.few_sets);
+      })
+    | inr once ↦ few_once once number calls few
+  ]
+
   -- the lines with the call's line
-  pub answered_call : (read : List Line) → IsServed command → command ≢ Leave → HasAnsweredLines heap old before read → HasAnsweredLines heap new after (read ++ lines.Seat seat command ∷ [])
+  pub answered_call : (read : List Line) → (command ≢ Collect → IsServed command) → command ≢ Leave → HasAnsweredLines heap old before read → HasAnsweredLines heap new after (read ++ lines.Seat seat command ∷ [])
   answered_call read served stays has =
-      let adds = notes.answers.adds in
+      let tells = tells_call old new seat command notes.reply served notes.answers in
       let said : List Entry = entries.Said seat command notes.reply ∷ [] in
+      let noted : after ≡ before ++ (tells.before ++ said) = notes.noted ∙ ap (λ (l : List Entry). before ++ l) (noted_is old new before after seat command notes tells) in
       let long = length-append read (lines.Seat seat command ∷ []) in
       record {
         follows = follows_call heap old new before after seat command served notes has.follows;
         present = λ number below. still_there number (λ same. stays) (has.present number below);
         few = λ number below. subst (DoesFew new number) (sym long) (few_still number (length read) (has.few number below));
-        commands = ap (flat_map lines_answered) notes.noted ∙ flat_map-append lines_answered before (adds.before ++ said)
-            ∙ ap (λ (ls : List Line). flat_map lines_answered before ++ ls) (flat_map-append lines_answered adds.before said
-            ∙ ap (λ (ls : List Line). ls ++ lines.Seat seat command ∷ []) (beside_replies seat adds.before (comes_beside seat adds.unborn _ command notes.reply adds.before adds.comes)))
+        commands = ap (flat_map lines_answered) noted ∙ flat_map-append lines_answered before (tells.before ++ said)
+            ∙ ap (λ (ls : List Line). flat_map lines_answered before ++ ls) (flat_map-append lines_answered tells.before said ∙ ap (λ (ls : List Line). ls ++ lines.Seat seat command ∷ []) tells.replies)
             ∙ ap (λ (ls : List Line). ls ++ lines.Seat seat command ∷ []) has.commands;
-        last = inr (before ++ adds.before, entries.Said seat command notes.reply, lines.Seat seat command, refl, notes.noted ∙ sym (append_assoc before adds.before said));
+        last = inr (before ++ tells.before, entries.Said seat command notes.reply, lines.Seat seat command, refl, noted ∙ sym (append_assoc before tells.before said));
       }
 
 -- the collector's own entries change no graph, and answer no line

@@ -1,5 +1,5 @@
 -- A machine between calls after one call more.
-use Rattle.std.proofs.Common.{◌≡◌, ℕ, ◌+◌, ◌*◌, ◌<◌, ◌≤◌, false, List, [], ◌∷◌, ◌++◌, length, inl, inr, refl, sym, ap, subst, ◌∙◌, arith}
+use Rattle.std.proofs.Common.{◌≡◌, ◌≢◌, ℕ, ◌+◌, ◌*◌, ◌<◌, ◌≤◌, false, List, [], ◌∷◌, ◌++◌, length, inl, inr, refl, sym, ap, subst, ◌∙◌, arith}
 use Rattle.std.proofs.lemmas.Bool.Decides.{eqb_tells, leb_tells}
 use Rattle.std.proofs.lemmas.List.{append_cancel_left}
 use Rattle.heap_model.proofs.account_lemmas.Snoc.{same_last}
@@ -16,19 +16,19 @@ use Rattle.heap_model.specs.calls.SeatCalls.{ComesBefore, HasNumber, last_gives,
 use Rattle.heap_model.specs.calls.SeatReplies.{next_id}
 use Rattle.core_machine.specs.declared.place.Place.TheVariants.{Idle}
 use Rattle.core_machine.specs.machine.Calls.{call_events, PlaysCall, AnswersNew, TellsLeave, free_count, within_reach}
-use Rattle.core_machine.specs.machine.Machine.{State, seat_at, Begins, Can, Run, state_after_all, history}
+use Rattle.core_machine.specs.machine.Machine.{State, seat_at, Begins, Can, Event, Run, state_after_all, history}
 use Rattle.core_machine.specs.seat.Seat.{Seat}
 use Rattle.core_rule.specs.Laws.{IsAlone, OneCallAtATime, StandsFor, FreeIsUnused}
-use Rattle.heap_runs.specs.MachineHeap.{MachineHeapValue, play_state_of, WholeCalls, IsBetweenCalls, CallsMachine}
-use Rattle.heap_runs.specs.PlayHeap.{MayCall, AnswersCall, IsEnough, seat_state_of}
+use Rattle.heap_runs.specs.MachineHeap.{MachineHeapValue, play_state_of, WholeCalls, IsBetweenCalls, CallsOnce}
+use Rattle.heap_runs.specs.PlayHeap.{MayCall, AnswersOnce, IsEnough, seat_state_of}
 use Rattle.heap_runs.proofs.OneSeat.{after_call, call_alone}
 use Rattle.heap_runs.proofs.Runs.{Run-append, OneCall-append, after_all-append, history-append}
 use Rattle.heap_runs.proofs.Standing.{own_reserve, answered_last, gone_is, made_is, phase_near, number_left}
 
 -- a command that may be called may be begun
-pub may_begin : (whole : MachineHeapValue) (number : ℕ) (command : Command) → StandsFor whole.machine.heap whole.machine.state [] whole.entries
+pub may_begin : (whole : MachineHeapValue) (number : ℕ) (command : Command) → command ≢ commands.Collect → StandsFor whole.machine.heap whole.machine.state [] whole.entries
     → IsBetweenCalls whole.machine.heap whole.machine.state whole.entries → MayCall (play_state_of whole) number command → Can whole.machine.heap whole.machine.state (Begins number command)
-may_begin whole number command s between may =
+may_begin whole number command once s between may =
     let heap = whole.machine.heap in
     let state = whole.machine.state in
     let within : number < length state.seats = rw s.stands.rule.machine.seated may.within in
@@ -37,7 +37,7 @@ may_begin whole number command s between may =
       record {
         idle = idle;
         present = sym (gone_is heap state whole.entries s number may.within idle) ∙ may.present;
-        served = may.served;
+        served = may.served once;
         in_range = may.in_range;
         numbered = number_left heap state whole.entries s number may.within idle command (number_again command may.numbered);
       },
@@ -50,31 +50,31 @@ may_begin whole number command s between may =
     number_again (commands.Set r i v) has = has
     number_again _ has = tt
 
-module _ (heap : Heap) (old new : State) (told : List Entry) (number : ℕ) (command : Command) (reply : Reply) (call : PlaysCall heap old new number command reply) where
-  -- whole calls are so with one more
-  whole_more : WholeCalls heap old told → IsAlone old number → WholeCalls heap new (told ++ (call.before ++ Said number command reply ∷ []))
-  whole_more calls alone =
-      let more = call_events number command call.steps in
-      record {
-        limits = calls.limits;
-        opening = calls.opening;
-        opens = calls.opens;
-        events = calls.events ++ more;
-        run = Run-append heap calls.opening calls.events more calls.run (subst (λ (s : State). Run heap s more) calls.ends call.can);
-        whole = OneCall-append heap calls.opening calls.events more calls.whole
-            (subst (λ (s : State). OneCallAtATime heap s more) calls.ends (call_alone heap number call.steps command old alone));
-        ends = call.ends ∙ ap (λ (s : State). state_after_all heap s more) calls.ends ∙ sym (after_all-append heap calls.opening calls.events more);
-        shown = ap (λ (l : List Entry). l ++ (call.before ++ Said number command reply ∷ [])) calls.shown
-            ∙ ap (λ (l : List Entry). history heap calls.opening calls.events ++ l) (sym call.shown ∙ ap (λ (s : State). history heap s more) calls.ends)
-            ∙ sym (history-append heap calls.opening calls.events more);
-      }
+-- whole calls are so with more of them
+pub whole_with : (heap : Heap) (old new : State) (told added : List Entry) (more : List Event) → WholeCalls heap old told → Run heap old more → OneCallAtATime heap old more → new ≡ state_after_all heap old more
+    → history heap old more ≡ added → WholeCalls heap new (told ++ added)
+whole_with heap old new told added more calls can alone ends shown =
+    record {
+      limits = calls.limits;
+      opening = calls.opening;
+      opens = calls.opens;
+      events = calls.events ++ more;
+      run = Run-append heap calls.opening calls.events more calls.run (subst (λ (s : State). Run heap s more) calls.ends can);
+      whole = OneCall-append heap calls.opening calls.events more calls.whole (subst (λ (s : State). OneCallAtATime heap s more) calls.ends alone);
+      ends = ends ∙ ap (λ (s : State). state_after_all heap s more) calls.ends ∙ sym (after_all-append heap calls.opening calls.events more);
+      shown = ap (λ (l : List Entry). l ++ added) calls.shown
+          ∙ ap (λ (l : List Entry). history heap calls.opening calls.events ++ l) (sym shown ∙ ap (λ (s : State). history heap s more) calls.ends)
+          ∙ sym (history-append heap calls.opening calls.events more);
+    }
 
+module _ (heap : Heap) (old new : State) (told : List Entry) (number : ℕ) (command : Command) (reply : Reply) (call : PlaysCall heap old new number command reply) where
   -- so is a machine between calls
   pub between_more : IsBetweenCalls heap old told → IsBetweenCalls heap new (told ++ (call.before ++ Said number command reply ∷ []))
   between_more between =
       let others = after_call heap old new number command reply call in
       record {
-        calls = whole_more between.calls (λ other below apart. between.all_idle other below);
+        calls = whole_with heap old new told (call.before ++ Said number command reply ∷ []) (call_events number command call.steps) between.calls call.can
+            (call_alone heap number call.steps command old (λ other below apart. between.all_idle other below)) call.ends call.shown;
         all_idle = λ other below. elim (eqb_tells other number) as (λ _. (seat_at new other).place ≡ Idle) [
           | inl same ↦ subst (λ (n : ℕ). (seat_at new n).place ≡ Idle) (sym same.1) call.idle
           | inr apart ↦ ap (λ (t : Seat). t.place) (others.others other apart.1) ∙ between.all_idle other (omega (arith, below, others.seats))
@@ -83,9 +83,9 @@ module _ (heap : Heap) (old new : State) (told : List Entry) (number : ℕ) (com
 
 -- the machine's call is one of a heap that is played on
 pub answers_call : FreeIsUnused → (old new : MachineHeapValue) (number : ℕ) (command : Command) (reply : Reply) → StandsFor old.machine.heap old.machine.state [] old.entries
-    → IsBetweenCalls old.machine.heap old.machine.state old.entries → MayCall (play_state_of old) number command → CallsMachine old new number command reply
+    → IsBetweenCalls old.machine.heap old.machine.state old.entries → MayCall (play_state_of old) number command → CallsOnce old new number command reply
     → old.spare + length old.entries ≤ new.spare + length new.entries → new.turns ≡ old.turns → new.last_turn ≡ old.last_turn
-    → AnswersCall (play_state_of old) (play_state_of new) number command reply
+    → AnswersOnce (play_state_of old) (play_state_of new) number command reply
 answers_call unused old new number command reply s between may calls spare turns last =
     let heap = old.machine.heap in
     let state = old.machine.state in

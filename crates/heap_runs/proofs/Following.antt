@@ -1,11 +1,12 @@
 -- A play's history after a call or some turns more.
-use Rattle.std.proofs.Common.{◌≡◌, ℕ, Bool, true, false, ◌⊎◌, List, [], ◌∷◌, ◌++◌, inl, inr, refl, sym, ap, subst, ◌∙◌, append_assoc, append-nil, arith}
+use Rattle.std.proofs.Common.{◌≡◌, ◌≢◌, ℕ, Bool, true, false, ◌⊎◌, List, [], ◌∷◌, ◌++◌, inl, inr, refl, sym, ap, subst, ◌∙◌, append_assoc, append-nil, arith}
 use Rattle.std.specs.List.{AllByRecursion}
 use Rattle.std.proofs.lemmas.List.{append_cancel_left}
 use Rattle.std.proofs.lemmas.List.Elements.{filter-append}
 use Rattle.std.proofs.lemmas.List.Sums.{sum_by-append}
 use Rattle.heap_model.specs.declared.heap.Heap.{Heap}
 use Rattle.heap_model.specs.declared.command.Command.{Command}
+use Rattle.heap_model.specs.declared.command.Command.TheVariants as asked
 use Rattle.heap_model.specs.declared.command.TurnCommand.{TurnCommand}
 use Rattle.heap_model.specs.declared.command.TurnCommand.TheVariants as commands
 use Rattle.heap_model.specs.declared.entry.Entry.{Entry}
@@ -21,7 +22,7 @@ use Rattle.heap_runs.specs.Play.{tells_step, EndsCycle, IsLastCycle}
 use Rattle.heap_runs.specs.PlayHeap.{PlayState}
 use Rattle.heap_runs.specs.Playing.{NotesCall, NotesTurns, NotesLastCycle, Follows}
 use Rattle.heap_runs.specs.Turning.{GoesOnward, IsStep, ServesCommand}
-use Rattle.heap_runs.proofs.Beside.{comes_beside, beside_of_heap, granted_more}
+use Rattle.heap_runs.proofs.Told.{tells_call, noted_is}
 use Rattle.heap_runs.proofs.TurnFacts.{IsOwnStep, AddsSteps, turns_add, came_add, ends_added, own_more}
 
 abbrev AreOfHeap : List Entry → Type 0
@@ -51,18 +52,18 @@ rightly_more heap before (entry ∷ front) behind right more =
     (right.0, rightly_more heap (before ++ entry ∷ []) front behind right.1 (subst (λ es. AllAnswerRightly heap es behind) (sym (append_assoc before (entry ∷ []) front)) more))
 
 -- after a call
-pub follows_call : (heap : Heap) (old new : PlayState) (before after : List Entry) (number : ℕ) (command : Command) → IsServed command → NotesCall old new before after number command
+pub follows_call : (heap : Heap) (old new : PlayState) (before after : List Entry) (number : ℕ) (command : Command) → (command ≢ asked.Collect → IsServed command) → NotesCall old new before after number command
     → Follows heap old before → Follows heap new after
 follows_call heap old new before after number command served notes follows =
-    let adds = notes.answers.adds in
-    let more : List Entry = adds.before ++ entries.Said number command notes.reply ∷ [] in
-    let beside = comes_beside number adds.unborn _ command notes.reply adds.before adds.comes in
-    let plain : AreOfHeap more = of_heap_more adds.before (entries.Said number command notes.reply ∷ []) (beside_of_heap number adds.before beside) (refl, tt) in
+    let tells = tells_call old new number command notes.reply served notes.answers in
+    let more : List Entry = tells.before ++ entries.Said number command notes.reply ∷ [] in
+    let noted : after ≡ before ++ more = notes.noted ∙ ap (λ (l : List Entry). before ++ l) (noted_is old new before after number command notes tells) in
+    let plain : AreOfHeap more = of_heap_more tells.before (entries.Said number command notes.reply ∷ []) tells.of_heap (refl, tt) in
     record {
-      of_heap = adds.heap ∙ follows.of_heap;
-      same = ap without_turned notes.noted ∙ filter-append is_of_heap before more ∙ ap (λ es. without_turned before ++ es) (all_left more plain) ∙ ap (λ es. es ++ more) follows.same ∙ sym adds.entries;
-      right = subst (AllAnswerRightly heap []) (sym notes.noted) (rightly_more heap [] before more follows.right (all_rightly heap before more plain));
-      none_granted = ap words_granted adds.entries ∙ granted_more old.entries adds.before number command notes.reply served beside ∙ follows.none_granted;
+      of_heap = tells.heap ∙ follows.of_heap;
+      same = ap without_turned noted ∙ filter-append is_of_heap before more ∙ ap (λ es. without_turned before ++ es) (all_left more plain) ∙ ap (λ es. es ++ more) follows.same ∙ sym tells.told;
+      right = subst (AllAnswerRightly heap []) (sym noted) (rightly_more heap [] before more follows.right (all_rightly heap before more plain));
+      none_granted = tells.grants ∙ follows.none_granted;
     }
 
 -- what the turns of a command added

@@ -5,7 +5,7 @@ use Rattle.std.proofs.lemmas.Bool.{eq-eqb, ne_eqb, or_left, or_right}
 use Rattle.std.proofs.lemmas.Bool.Decides.{eqb_tells}
 use Rattle.std.proofs.lemmas.List.Folds.{list_any-append}
 use Rattle.std.proofs.lemmas.Grind.{flat_map-append}
-use Rattle.std.proofs.lemmas.List.{map-id}
+use Rattle.std.proofs.lemmas.List.{append_cancel_left, map-id}
 use Rattle.std.proofs.lemmas.List.FromFn.{map-range_with_len_more}
 use Rattle.heap_model.specs.declared.heap.Heap.{Heap}
 use Rattle.heap_model.specs.declared.command.Command.TheVariants.{Leave}
@@ -55,25 +55,27 @@ gone_then number n told before reply after is gone under = elim (eqb_tells numbe
 pub left_more : EachCallCounts → EachCallSparesOthers → (heap : Heap) (now new : PlayState) (before told after : List Entry) (n : ℕ) → HaveLeft heap now before told n → NotesCall now new told after n Leave
     → HaveLeft heap new before after (n + 1)
 left_more counts others heap now new before told after n left notes =
-    let adds = notes.answers.adds in
+    let once = notes.answers.once (λ e. cc e) in
+    let adds = once.adds in
     let more = λ (k : ℕ). if k == n then adds.unborn else left.left k in
     let each = λ (k : ℕ). leave_entries k (left.left k) in
     let leaves = λ (k : ℕ). leave_entries k (more k) in
     let here : leaves n ≡ leave_entries n adds.unborn = rw (eq-eqb n n refl) refl in
     let earlier : flat_map each (range_with_len 0 n) ≡ flat_map leaves (range_with_len 0 n) = same_below each leaves n (λ k below. rw (ne_eqb k n (λ e. omega (arith, e, below))) refl) in
     let said : adds.before ++ Said n Leave notes.reply ∷ [] ≡ leaves n
-    = ap (λ (l : List Entry). l ++ Said n Leave notes.reply ∷ []) adds.comes ∙ ap (λ (r : Reply). last_gives n adds.unborn ++ Said n Leave r ∷ []) (notes.answers.left refl) ∙ sym here in
+    = ap (λ (l : List Entry). l ++ Said n Leave notes.reply ∷ []) adds.comes ∙ ap (λ (r : Reply). last_gives n adds.unborn ++ Said n Leave r ∷ []) (once.left refl) ∙ sym here in
+    let added : notes.added ≡ adds.before ++ Said n Leave notes.reply ∷ [] = append_cancel_left now.entries notes.added _ (sym notes.told ∙ adds.entries) in
     record {
-      follows = follows_call heap now new told after n Leave tt notes left.follows;
+      follows = follows_call heap now new told after n Leave (λ collects. tt) notes left.follows;
       others = λ number past below. still_there counts others heap now new told after n Leave notes number (λ same. absurd (omega (arith, same, past))) (left.others number (omega (arith, past)) below);
       gone = λ number under. gone_more number under;
       left = more;
-      leaves = notes.noted ∙ ap (λ (l : List Entry). told ++ l) said ∙ ap (λ (l : List Entry). l ++ leaves n) left.leaves
+      leaves = notes.noted ∙ ap (λ (l : List Entry). told ++ l) (added ∙ said) ∙ ap (λ (l : List Entry). l ++ leaves n) left.leaves
           ∙ append_assoc before (flat_map each (range_with_len 0 n)) (leaves n) ∙ ap (λ (l : List Entry). before ++ (l ++ leaves n)) earlier ∙ ap (λ (l : List Entry). before ++ l) (sym (each_more leaves n));
     }
   where
     gone_more : (number : ℕ) → number < n + 1 → has_left number new.entries ≡ true
-    gone_more number under = gone_then number n now.entries notes.answers.adds.before notes.reply new.entries notes.answers.adds.entries (left.gone number) under
+    gone_more number under = gone_then number n now.entries (notes.answers.once (λ e. cc e)).adds.before notes.reply new.entries (notes.answers.once (λ e. cc e)).adds.entries (left.gone number) under
 
 -- no seat has left yet
 pub left_none : (heap : Heap) (state : PlayState) (history : List Entry) (lines : List Line) → HasAnsweredLines heap state history lines → HaveLeft heap state history history 0

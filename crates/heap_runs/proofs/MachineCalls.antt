@@ -13,7 +13,7 @@ use Rattle.core_machine.specs.machine.Machine.{State, seat_at}
 use Rattle.core_machine.specs.machine.Value.{MachineValue, log_of, spare_of, SpendsRoom}
 use Rattle.core_machine.specs.seat.Commands.{IsRecord}
 use Rattle.core_rule.specs.Laws.{EveryRunKeeps}
-use Rattle.heap_runs.specs.MachineHeap.{MachineHeapValue, play_state_of, IsBetweenCalls, CallsMachine}
+use Rattle.heap_runs.specs.MachineHeap.{MachineHeapValue, play_state_of, IsBetweenCalls, CallsOnce}
 use Rattle.heap_runs.specs.PlayHeap.{MayCall}
 use Rattle.heap_runs.proofs.OneSeat.{after_call}
 use Rattle.heap_runs.proofs.Standing.{stands, gone_is, phase_near}
@@ -79,7 +79,7 @@ told_since one two seat told before now back was is = back ∙ ap (λ (l : List 
 -- so the call is the machine's, and the entries leave the room that they don't take
 module _ (whole new : MachineHeapValue) (one : MachineValue) (seat : ℕ) (command : Command) (reply : Reply) (facts : CallFacts whole one new.machine seat command reply)
     (same_heap : new.machine.heap ≡ whole.machine.heap) (listed : new.entries ≡ whole.entries ++ since one new.machine seat) where
-  pub calls_machine : CallsMachine whole new seat command reply
+  pub calls_machine : CallsOnce whole new seat command reply
   calls_machine =
       record { same_heap = same_heap; call = facts.made.call; noted = listed ∙ facts.made.noted; answer = facts.made.answer; leave = facts.made.leave; refused = facts.made.refused }
 

@@ -1,5 +1,5 @@
 -- The next line of a script that is served.
-use Rattle.std.proofs.Common.{◌≡◌, ◌≢◌, ℕ, suc, ◌+◌, ◌<◌, ◌≤◌, true, List, [], ◌∷◌, ◌++◌, length, get_or, take, sym, ap, subst, ◌∙◌, arith}
+use Rattle.std.proofs.Common.{◌≡◌, ◌≢◌, ℕ, suc, ◌+◌, ◌<◌, ◌≤◌, true, List, [], ◌∷◌, ◌++◌, length, get_or, take, refl, sym, ap, subst, ◌∙◌, arith}
 use Rattle.std.proofs.Math.Seq.{take-suc}
 use Rattle.std.proofs.lemmas.List.{length-take-le}
 use Rattle.std.proofs.lemmas.List.Elements.{All-get_or, All-from_recursion}
@@ -19,12 +19,12 @@ use Rattle.core_machine.specs.seat.Commands.{IsServed}
 use Rattle.heap_runs.specs.PlayHeap.{PlayState, MayCall, seat_state_of}
 use Rattle.heap_runs.specs.Playing.{DoesFew, IsThere, HasAnsweredLines}
 
--- a command that is built is served, and no leave
-served_built : (command : Command) → is_built_command command ≡ true → IsServed command × (command ≢ commands.Leave)
+-- a command that is built is a collect or is served, and no leave
+served_built : (command : Command) → is_built_command command ≡ true → (command ≢ commands.Collect → IsServed command) × (command ≢ commands.Leave)
 served_built (commands.Array d cells) built = absurd cc
-served_built commands.Collect built = absurd cc
+served_built commands.Collect built = (λ once. absurd (once refl), λ e. cc e)
 served_built commands.Leave built = absurd cc
-served_built _ built = (tt, λ e. cc)
+served_built _ built = (λ once. tt, λ e. cc e)
 
 -- a command of a script has its numbers in their ranges
 in_range : (command : Command) → IsScripted command → IsCommand command
@@ -70,7 +70,7 @@ module _ (script : Script) (items : List Line) (i : ℕ) (d line : Line) (all : 
 -- what a line of a seat asks for
 pub record IsNext (script : Script) (state : PlayState) (number : ℕ) (command : Command) : Type 0 where
   pub may : MayCall state number command
-  pub served : IsServed command
+  pub served : command ≢ commands.Collect → IsServed command
   pub stays : command ≢ commands.Leave
 
 pub next_call : (script : Script) (items : List Line) (i : ℕ) (d : Line) (number : ℕ) (command : Command) (state : PlayState) (history : List Entry) → items ≡ script.lines → IsOfForm Play script → IsBuilt script
@@ -93,4 +93,4 @@ next_call script items i d number command state history all form built below is 
 
 -- the next seat may leave
 pub may_leave : (state : PlayState) (number : ℕ) → number < state.heap.seats → IsThere state number → MayCall state number commands.Leave
-may_leave state number below there = record { within = below; present = there; served = tt; in_range = tt; numbered = tt }
+may_leave state number below there = record { within = below; present = there; served = λ once. tt; in_range = tt; numbered = tt }

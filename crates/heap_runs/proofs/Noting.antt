@@ -15,7 +15,7 @@ use Rattle.core_machine.specs.seat.Commands.{IsRecord}
 use Rattle.heap_runs.proofs.OneSeat.{after_call}
 
 -- a seat's log is its own list
-log_of_seat : (machine : MachineValue) (seat : ℕ) → seat < length machine.state.seats → log_of machine seat ≡ (seat_at machine.state seat).mine
+pub log_of_seat : (machine : MachineValue) (seat : ℕ) → seat < length machine.state.seats → log_of machine seat ≡ (seat_at machine.state seat).mine
 log_of_seat machine seat within = rw (ne_eqb seat (length machine.state.seats) (λ e. omega (arith, within, e))) refl
 
 -- that of the party after the seats is the collector's

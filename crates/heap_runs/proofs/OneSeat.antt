@@ -5,31 +5,34 @@ use Rattle.heap_model.specs.declared.heap.Heap.{Heap}
 use Rattle.heap_model.specs.declared.command.Command.{Command}
 use Rattle.heap_model.specs.declared.reply.Reply.{Reply}
 use Rattle.core_machine.specs.machine.Calls.{call_events, PlaysCall}
-use Rattle.core_machine.specs.machine.Machine.{State, seat_at, Begins, Steps, state_after_due, state_after, state_after_all}
+use Rattle.heap_model.specs.declared.calls.collect.Inner.{Inner}
+use Rattle.core_machine.specs.machine.InnerCalls.{inner_events, PlaysInner}
+use Rattle.core_machine.specs.machine.Machine.{State, seat_at, Begins, BeginsInner, Steps, state_after_due, state_after, state_after_all}
 use Rattle.core_machine.specs.Moves.{Move, next_move}
 use Rattle.core_machine.specs.seat.Seat.{absent_seat}
-use Rattle.core_rule.specs.Laws.{IsAlone, OneCallAtATime}
+use Rattle.core_rule.specs.Laws.{IsAlone, NotesNow, OneCallAtATime}
 
--- a state with the same seats but for one
+-- a state with the same seats but for one, and the same collector
 pub record SameBut (number : ℕ) (old new : State) : Type 0 where
   pub seats : length new.seats ≡ length old.seats
   pub others : (other : ℕ) → other ≢ number → seat_at new other ≡ seat_at old other
+  pub collector : new.collector ≡ old.collector
 
 same_then : (number : ℕ) (one two three : State) → SameBut number one two → SameBut number two three → SameBut number one three
 same_then number one two three first then_ =
-    record { seats = then_.seats ∙ first.seats; others = λ other apart. then_.others other apart ∙ first.others other apart }
+    record { seats = then_.seats ∙ first.seats; others = λ other apart. then_.others other apart ∙ first.others other apart; collector = then_.collector ∙ first.collector }
 
 moved_same : (heap : Heap) (state : State) (number : ℕ) (move : Option Move) → SameBut number state (state_after_due heap state number move)
-moved_same heap state number None = record { seats = refl; others = λ other apart. refl }
+moved_same heap state number None = record { seats = refl; others = λ other apart. refl; collector = refl }
 moved_same heap state number (Some move) =
-    record { seats = length-set state.seats number _; others = λ other apart. get_or-set_other state.seats number other _ absent_seat apart }
+    record { seats = length-set state.seats number _; others = λ other apart. get_or-set_other state.seats number other _ absent_seat apart; collector = refl }
 
 begun_same : (heap : Heap) (state : State) (number : ℕ) (command : Command) → SameBut number state (state_after heap state (Begins number command))
 begun_same heap state number command =
-    record { seats = length-set state.seats number _; others = λ other apart. get_or-set_other state.seats number other _ absent_seat apart }
+    record { seats = length-set state.seats number _; others = λ other apart. get_or-set_other state.seats number other _ absent_seat apart; collector = refl }
 
 steps_same : (heap : Heap) (number steps : ℕ) (state : State) → SameBut number state (state_after_all heap state (replicate steps (Steps number)))
-steps_same heap number zero state = record { seats = refl; others = λ other apart. refl }
+steps_same heap number zero state = record { seats = refl; others = λ other apart. refl; collector = refl }
 steps_same heap number (suc steps) state =
     same_then number state (state_after heap state (Steps number)) _ (moved_same heap state number (next_move heap number (seat_at state number))) (steps_same heap number steps (state_after heap state (Steps number)))
 
@@ -55,3 +58,17 @@ call_alone heap number steps command state alone =
 -- so the other seats are as before
 pub after_call : (heap : Heap) (old new : State) (number : ℕ) (command : Command) (reply : Reply) → PlaysCall heap old new number command reply → SameBut number old new
 after_call heap old new number command reply call = subst (SameBut number old) (sym call.ends) (call_same heap number call.steps command old)
+
+-- so it is with an inner call of a collect
+inner_begun : (heap : Heap) (state : State) (number : ℕ) (inner : Inner) → SameBut number state (state_after heap state (BeginsInner number inner))
+inner_begun heap state number inner =
+    record { seats = length-set state.seats number _; others = λ other apart. get_or-set_other state.seats number other _ absent_seat apart; collector = refl }
+
+pub inner_alone : (heap : Heap) (number steps : ℕ) (inner : Inner) (state : State) → IsAlone state number → NotesNow heap state inner → OneCallAtATime heap state (inner_events number inner steps)
+inner_alone heap number steps inner state alone now =
+    ((alone, now), steps_alone heap number steps (state_after heap state (BeginsInner number inner)) (alone_still number state (state_after heap state (BeginsInner number inner)) (inner_begun heap state number inner) alone))
+
+pub after_inner : (heap : Heap) (old new : State) (number : ℕ) (inner : Inner) → PlaysInner heap old new number inner → SameBut number old new
+after_inner heap old new number inner plays =
+    subst (SameBut number old) (sym plays.ends)
+    (same_then number old (state_after heap old (BeginsInner number inner)) _ (inner_begun heap old number inner) (steps_same heap number plays.steps (state_after heap old (BeginsInner number inner))))

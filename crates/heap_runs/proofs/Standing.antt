@@ -6,12 +6,12 @@ use Rattle.heap_model.specs.declared.command.Command.TheVariants as commands
 use Rattle.heap_model.specs.declared.entry.Entry.{Entry}
 use Rattle.heap_model.specs.account.Account.{IsLegal}
 use Rattle.heap_model.specs.account.Cycles.{graph_of}
-use Rattle.heap_model.specs.account.PhaseCounts.{phase, last_answer}
+use Rattle.heap_model.specs.account.PhaseCounts.{phase, last_answer, has_left}
 use Rattle.heap_model.specs.account.Space.{fragments_gained, fragments_lost, taken_of, spent_of}
 use Rattle.heap_model.specs.calls.SeatCalls.{HasNumber}
 use Rattle.heap_model.specs.graph.Objects.{graph_seat}
 use Rattle.core_machine.specs.declared.place.Place.TheVariants.{Idle}
-use Rattle.core_machine.specs.declared.table.address.Address.TheVariants.{Phase}
+use Rattle.core_machine.specs.declared.table.address.Address.TheVariants.{Phase, Answer}
 use Rattle.core_machine.specs.machine.Calls.{IsPhaseNear}
 use Rattle.core_machine.specs.machine.Machine.{State, seat_at}
 use Rattle.core_machine.specs.seat.Fits.{IsAtRest, FitsPlace}
@@ -19,6 +19,7 @@ use Rattle.core_machine.specs.seat.Seat.{Seat, HasNumberLeft}
 use Rattle.core_machine.specs.table.Layout.{at}
 use Rattle.core_rule.specs.Laws.{StandsFor, EveryRunKeeps, WholeCallsPlay}
 use Rattle.core_rule.specs.Holding.{fragments_in_hand}
+use Rattle.core_rule.specs.Phases.{answer_word}
 use Rattle.heap_runs.specs.MachineHeap.{WholeCalls}
 use Rattle.heap_runs.specs.PlayHeap.{IsPlayed}
 
@@ -84,3 +85,12 @@ played runs plays heap state told calls = record {
   legal = subst (IsLegal heap true) (sym calls.shown) (plays heap calls.opening calls.events calls.limits calls.opens calls.run calls.whole);
   none_short = none_short heap state told (stands runs heap state told calls);
 }
+
+-- the word of a seat that hasn't left is its last answer
+pub answer_word_is : (heap : Heap) (state : State) (told : List Entry) → StandsFor heap state [] told → (number answer : ℕ) → number < heap.seats → has_left number told ≡ false → last_answer number told ≡ answer
+    → at heap state.words (Answer number) ≡ answer
+answer_word_is heap state told s number answer below there last =
+    let agree = (s.stands.rule.seats_stand number below).cycle.answers_told in
+    let stays : (seat_at state number).left ≡ false = sym agree.leaves ∙ ap (has_left number) s.grown ∙ there in
+    let gave : (seat_at state number).answered ≡ answer = sym agree.told ∙ ap (last_answer number) s.grown ∙ last in
+    agree.word ∙ ap (λ b. answer_word b (seat_at state number).answered) stays ∙ gave

@@ -4,3 +4,4 @@ pub mod Growing
 pub mod MachineHeap
 pub mod Play
 pub mod Playing
+pub mod Collecting

@@ -1,14 +1,15 @@
 -- What contracts see of a heap that is played on, and what a call and a turn do to it.
-use Rattle.std.specs.Prelude.{◌≡◌, ℕ, ◌+◌, ◌*◌, ◌<◌, ◌≤◌, ◌↔◌, true, false, List, ◌++◌, filter, Option}
+use Rattle.std.specs.Prelude.{◌≡◌, ◌≢◌, ℕ, ◌+◌, ◌-◌, ◌*◌, ◌<◌, ◌≤◌, ◌^◌, ◌↔◌, min, true, false, List, [], ◌∷◌, ◌++◌, length, filter, Option, Some}
 use Rattle.std.specs.List.{AllByRecursion}
 use Rattle.heap_model.specs.declared.heap.Heap.{Heap}
 use Rattle.heap_model.specs.declared.command.Command.{Command}
-use Rattle.heap_model.specs.declared.command.Command.TheVariants.{Leave}
+use Rattle.heap_model.specs.declared.command.Command.TheVariants.{Collect, Leave}
 use Rattle.heap_model.specs.declared.entry.Entry.{Entry}
+use Rattle.heap_model.specs.declared.entry.Entry.TheVariants.{Said, Answers, Ends}
 use Rattle.heap_model.specs.declared.reply.Reply.{Reply}
-use Rattle.heap_model.specs.declared.reply.Reply.TheVariants.{Made, Done}
+use Rattle.heap_model.specs.declared.reply.Reply.TheVariants as replies
 use Rattle.heap_model.specs.declared.calls.collector_calls.Turn.{Turn}
-use Rattle.heap_model.specs.declared.calls.collector_calls.Turn.TheVariants.{Stepped, Waits}
+use Rattle.heap_model.specs.declared.calls.collector_calls.Turn.TheVariants.{Stepped, Waits, Ended}
 use Rattle.heap_model.specs.Command.{IsCommand}
 use Rattle.heap_model.specs.Limits.{group_fragments}
 use Rattle.heap_model.specs.account.Account.{IsLegal}
@@ -21,6 +22,7 @@ use Rattle.heap_model.specs.calls.SeatCalls.{HasNumber, Adds}
 use Rattle.heap_model.specs.calls.SeatReplies.{next_id}
 use Rattle.heap_model.specs.calls.SeatState.{SeatState, own_graph_seat}
 use Rattle.core_machine.specs.seat.Commands.{IsRecord, IsServed}
+use Rattle.heap_runs.specs.Play.{tells_step}
 
 -- the heap, the entries of all its parties in their order, for how many more of the collector's there is room, the number of turns as far
 -- as it is counted, what the last of them answered, and a number which falls at each turn that is a step alone
@@ -51,11 +53,11 @@ collector_state_of state = record {
   last_turn = state.last_turn;
 }
 
--- the seat may be given the command: it is there, it hasn't left, and the command is served and has its numbers
+-- the seat may be given the command: it is there, it hasn't left, and the command is a collect or is served, and has its numbers
 pub record MayCall (state : PlayState) (number : ℕ) (command : Command) : Type 0 where
   pub within : number < state.heap.seats
   pub present : (own_graph_seat (seat_state_of state number)).left ≡ false
-  pub served : IsServed command
+  pub served : command ≢ Collect → IsServed command
   pub in_range : IsCommand command
   pub numbered : HasNumber (seat_state_of state number) command
 
@@ -66,12 +68,41 @@ IsEnough state number command =
 
 -- the call added the entries that a call of the seat adds, the reply last, and made no turn; a record was made exactly where there was
 -- enough, and a leave is done. Of how many turns are left nothing is said: a call may put them up
-pub record AnswersCall (old new : PlayState) (number : ℕ) (command : Command) (reply : Reply) : Type 0 where
+pub record AnswersOnce (old new : PlayState) (number : ℕ) (command : Command) (reply : Reply) : Type 0 where
   pub adds : Adds (seat_state_of old number) (seat_state_of new number) command reply
   pub turns_stay : new.turns ≡ old.turns
   pub last_stays : new.last_turn ≡ old.last_turn
-  pub left : command ≡ Leave → reply ≡ Done
-  pub made : IsRecord command → (reply ≡ Made (next_id (seat_state_of old number))) ↔ IsEnough old number command
+  pub left : command ≡ Leave → reply ≡ replies.Done
+  pub made : IsRecord command → (reply ≡ replies.Made (next_id (seat_state_of old number))) ↔ IsEnough old number command
+
+-- what is told while a seat collects: its answers to the phases that begin, and the collector's steps and ends of cycles
+abbrev pub TellsInCollect : ℕ → Entry → Type 0
+TellsInCollect number (Answers other p) = other ≡ number
+TellsInCollect number (Ends cycle kept) = Unit {0}
+TellsInCollect number entry = tells_step entry ≡ true
+
+-- the reply tells what the last turn came to: the end of a cycle, or another seat that is waited for
+abbrev pub TellsTurn : ℕ → Option Turn → Reply → Type 0
+TellsTurn number last (replies.Cycle cycle) = (kept : ℕ) × (last ≡ Some (Ended cycle kept))
+TellsTurn number last (replies.Waits other answer p) = (other ≢ number) × (last ≡ Some (Waits other answer p))
+TellsTurn number last _ = ⊥
+
+-- the collect made some turns, which are counted, and answers of the seat between them, and then told as its one reply what the last
+-- turn came to
+pub record AnswersCollect (old new : PlayState) (number : ℕ) (reply : Reply) : Type 0 where
+  pub heap : new.heap ≡ old.heap
+  pub before : List Entry
+  pub told : AllByRecursion (TellsInCollect number) before
+  pub entries : new.entries ≡ old.entries ++ (before ++ Said number Collect reply ∷ [])
+  pub turns : ℕ
+  pub counted : min new.turns (2 ^ 64 - 1) ≡ min (old.turns + turns) (2 ^ 64 - 1)
+  pub last : TellsTurn number new.last_turn reply
+  pub spare : old.spare + length old.entries ≤ new.spare + length new.entries
+
+-- a collect makes turns; every other command is one call of the seat
+pub record AnswersCall (old new : PlayState) (number : ℕ) (command : Command) (reply : Reply) : Type 0 where
+  pub once : command ≢ Collect → AnswersOnce old new number command reply
+  pub collects : command ≡ Collect → AnswersCollect old new number reply
 
 -- where the turn waits, the seat is there, and by the entries it hasn't left and has answered the phase before the one now last
 abbrev pub WaitsRightly : PlayState → Turn → Type 0

@@ -5,7 +5,7 @@ use Rattle.heap_model.specs.declared.heap.Heap.{Heap}
 use Rattle.heap_model.specs.declared.command.Command.{Command}
 use Rattle.heap_model.specs.declared.command.TurnCommand.{TurnCommand}
 use Rattle.heap_model.specs.declared.entry.Entry.{Entry}
-use Rattle.heap_model.specs.declared.entry.Entry.TheVariants.{Said, Turned}
+use Rattle.heap_model.specs.declared.entry.Entry.TheVariants.{Turned}
 use Rattle.heap_model.specs.declared.reply.Reply.{Reply}
 use Rattle.heap_model.specs.declared.reply.TurnReply.{TurnReply}
 use Rattle.heap_model.specs.PhasePlan.{cycle_phases, rest}
@@ -23,7 +23,9 @@ use Rattle.heap_runs.specs.Turning.{ServesCommand}
 pub record NotesCall (old new : PlayState) (before after : List Entry) (number : ℕ) (command : Command) : Type 0 where
   pub reply : Reply
   pub answers : AnswersCall old new number command reply
-  pub noted : after ≡ before ++ (answers.adds.before ++ Said number command reply ∷ [])
+  pub added : List Entry
+  pub told : new.entries ≡ old.entries ++ added
+  pub noted : after ≡ before ++ added
 
 -- the turns were made, and their entries are noted behind those from before, and what the command was answered behind them
 pub record NotesTurns (old new : PlayState) (before after : List Entry) (command : TurnCommand) : Type 0 where

@@ -1,8 +1,9 @@
-ghost use Rattle.std.specs.Prelude.{◌≡◌, ◌≤◌, ◌<◌, IfOk, OnOk, OnErr};
+ghost use Rattle.std.specs.Prelude.{◌≡◌, ◌≢◌, ◌≤◌, ◌<◌, IfOk, OnOk, OnErr};
+ghost use Rattle.heap_model.specs.declared.command.Command.TheVariants.{Collect};
 ghost use Rattle.heap_model.specs.Heap.{IsHeap};
 ghost use Rattle.heap_model.specs.account.PhaseCounts.{phase};
-ghost use Rattle.heap_runs.specs.PlayHeap.{PlayState, IsPlayed, MayCall, AnswersCall, TakesTurn};
-ghost use Rattle.heap_runs.specs.MachineHeap.{play_state_of, IsFresh, StandsStill, CallsMachine, TurnsMachine};
+ghost use Rattle.heap_runs.specs.PlayHeap.{PlayState, IsPlayed, MayCall, AnswersOnce, AnswersCall, TakesTurn};
+ghost use Rattle.heap_runs.specs.MachineHeap.{play_state_of, IsFresh, StandsStill, CallsOnce, CallsMachine, TurnsMachine};
 
 use crate::note::note_all;
 use crate::play_heap::PlayHeap;
@@ -11,6 +12,8 @@ use core_rule::law_every_run;
 use heap_model::{Command, Entry, Heap, Memory, Reply, Turn, seat_laws};
 use std::alloc::Global;
 use std::marker::Model;
+
+mod collecting;
 
 /// A heap over the machine of single steps: a call is all steps of the machine's call, and a turn is one step of its collector.
 #[derive(Drop)]
@@ -70,6 +73,26 @@ impl MachineHeap {
         Ok(())
     }
 
+    /// Makes a whole call of the seat, which is no collect.
+    fn call_once(&mut self, seat: u8, command: &Command) -> Result<Reply, Memory>
+        requires may { MayCall (play_state_of self.old) seat command.now }
+        requires once { command.now ≢ Collect }
+        ensures answers { IfOk result (AnswersOnce (play_state_of self.old) (play_state_of self.new) seat command.now) }
+        ensures machine { IfOk result (CallsOnce self.old self.new seat command.now) }
+    {
+        law_every_run();
+        seat_laws();
+        let room = 2 * command.need() as usize + 4;
+        self.machine.room(seat, room)?;
+        self.entries.reserve(room)?;
+        let before = self.machine.log(seat).len();
+        let reply = self.machine.play_call(seat, command);
+        let (_, told) = self.machine.log(seat).split_at(before);
+        self.spare = self.spare.saturating_sub(told.len());
+        note_all(&mut self.entries, told);
+        Ok(reply)
+    }
+
     /// Makes a turn, for which there is room.
     fn make_turn(&mut self) -> Turn
         requires room { 2 ≤ self.old.spare }
@@ -98,15 +121,11 @@ impl PlayHeap for MachineHeap {
         ensures machine { IfOk result (CallsMachine self.old self.new seat command.now) }
     {
         law_every_run();
-        seat_laws();
-        let room = 2 * command.need() as usize + 4;
-        self.machine.room(seat, room)?;
-        self.entries.reserve(room)?;
-        let before = self.machine.log(seat).len();
-        let reply = self.machine.play_call(seat, command);
-        let (_, told) = self.machine.log(seat).split_at(before);
-        self.spare = self.spare.saturating_sub(told.len());
-        note_all(&mut self.entries, told);
+        self.known();
+        let reply = match *command {
+            Command::Collect => self.collect(seat)?,
+            _ => self.call_once(seat, command)?,
+        };
         Ok(reply)
     }
 

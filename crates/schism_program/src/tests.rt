@@ -1,3 +1,4 @@
+mod collects;
 mod cycles;
 mod judged;
 mod machine;
@@ -133,12 +134,12 @@ fn refuses_scripts(rt: HostRuntime) -> Result<(), Fail> {
             Cause::Unbuilt,
         ),
         (
-            "schism 1\nheap 4 0 2\n1 new 1 3\n1 collect\n",
+            "schism 1\nheap 4 0 2\n1 new 1 3\n1 array 1 4\n",
             4,
             Cause::Unbuilt,
         ),
         (
-            "schism 1\nheap 4 0 2\nc cycle\n1 collect\n",
+            "schism 1\nheap 4 0 2\n1 collect\n1 array 1 4\n",
             4,
             Cause::Unbuilt,
         ),

@@ -1,16 +1,15 @@
 -- The scripts that the program serves so far.
 use Rattle.std.specs.Prelude.{◌≡◌, ℕ, ◌+◌, ◌==◌, Bool, true, false, not, if◌then◌else◌, All, Option, Some, option_map, position}
 use Rattle.heap_model.specs.declared.command.Command.{Command}
-use Rattle.heap_model.specs.declared.command.Command.TheVariants.{Array, Collect, Leave}
+use Rattle.heap_model.specs.declared.command.Command.TheVariants.{Array, Leave}
 use Rattle.heap_model.specs.declared.heap.Heap.{Heap}
 use Rattle.script_text.specs.declared.script.Line.{Line}
 use Rattle.script_text.specs.declared.script.Line.TheVariants.{Seat, Turns}
 use Rattle.script_text.specs.declared.script.Script.{Script}
 
--- what needs no spine words, and no cycle that the seat itself brings to its end
+-- what needs no spine words
 abbrev pub is_built_command : Command → Bool
 is_built_command (Array d cells) = false
-is_built_command Collect = false
 is_built_command Leave = false
 is_built_command _ = true
 

@@ -12,10 +12,7 @@ fn is_built(line: &Line) -> bool
     ensures { result ≡ is_built_line line.now }
 {
     match *line {
-        Line::Seat { command, .. } => !matches!(
-            command,
-            Command::Array { .. } | Command::Collect | Command::Leave
-        ),
+        Line::Seat { command, .. } => !matches!(command, Command::Array { .. } | Command::Leave),
         Line::Turns { .. } => true,
     }
 }

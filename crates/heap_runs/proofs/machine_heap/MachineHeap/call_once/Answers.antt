@@ -2,12 +2,12 @@ use Rattle.std.proofs.Common.{◌≡◌, ◌-◌, List, ◌++◌, length, refl, 
 use Rattle.heap_model.specs.declared.entry.Entry.{Entry}
 use Rattle.core_machine.specs.machine.Value.{MachineValue}
 use Rattle.heap_runs.specs.contracts.machine_heap.MachineHeap.{the_view}
-use Rattle.heap_runs.specs.MachineHeap.{MachineHeapValue, play_state_of, CallsMachine}
-use Rattle.heap_runs.specs.PlayHeap.{MayCall, AnswersCall}
+use Rattle.heap_runs.specs.MachineHeap.{MachineHeapValue, play_state_of, CallsOnce}
+use Rattle.heap_runs.specs.PlayHeap.{MayCall, AnswersOnce}
 use Rattle.heap_runs.proofs.Standing.{stands}
 use Rattle.heap_runs.proofs.Calling.{answers_call}
 use Rattle.heap_runs.proofs.MachineCalls.{since, noted_call, told_since, calls_machine, between_again, room_left}
-use Rattle.heap_runs.proofs.machine_heap.MachineHeapPlayHeap.call.Goals as goal
+use Rattle.heap_runs.proofs.machine_heap.MachineHeap.call_once.Goals as goal
 
 pub room-requires : goal.room-requires
 room-requires c =
@@ -59,7 +59,7 @@ returns-clause-answers c =
     let may = subst (λ (v : MachineHeapValue). MayCall (play_state_of v) c.args.seat c.args.command.now) (sym c.self.view_is) c.requires.may in
     let s = stands c.law_every_run.ensures.run whole.machine.heap whole.machine.state whole.entries c.self.invariant.0.calls in
     let left : c.saturating_sub-self-inside.result ≡ whole.spare - length (since c.room.new.self c.play_call-reply.new.self c.args.seat) = omega (arith, c.saturating_sub-self-inside.ensures, ap (length {A = Entry}) told) in
-    subst (λ (v : MachineHeapValue). AnswersCall (play_state_of v) (play_state_of new) c.args.seat c.args.command.now c.play_call-reply.result) c.self.view_is
+    subst (λ (v : MachineHeapValue). AnswersOnce (play_state_of v) (play_state_of new) c.args.seat c.args.command.now c.play_call-reply.result) c.self.view_is
     (answers_call c.law_every_run.ensures.free whole new c.args.seat c.args.command.now c.play_call-reply.result s c.self.invariant.0 may
     (calls_machine whole new c.room.new.self c.args.seat c.args.command.now c.play_call-reply.result facts same_heap listed)
     (room_left whole new c.room.new.self c.args.seat c.args.command.now c.play_call-reply.result facts same_heap listed left) refl refl)
@@ -74,5 +74,5 @@ returns-clause-machine c =
     let listed : c.note_all.new.list.items ≡ whole.entries ++ since c.room.new.self c.play_call-reply.new.self c.args.seat
     = c.note_all.ensures.items ∙ ap (λ (l : List Entry). l ++ c.split_at.result.1.now) c.reserve.ensures.items ∙ ap (λ (l : List Entry). whole.entries ++ l) told in
     let new : MachineHeapValue = record { machine = c.play_call-reply.new.self; entries = c.note_all.new.list.items; spare = c.saturating_sub-self-inside.result; turns = whole.turns; last_turn = whole.last_turn } in
-    subst (λ (v : MachineHeapValue). CallsMachine v new c.args.seat c.args.command.now c.play_call-reply.result) c.self.view_is
+    subst (λ (v : MachineHeapValue). CallsOnce v new c.args.seat c.args.command.now c.play_call-reply.result) c.self.view_is
     (calls_machine whole new c.room.new.self c.args.seat c.args.command.now c.play_call-reply.result facts same_heap listed)

@@ -1,0 +1,108 @@
+-- What a call tells, whichever it is.
+use Rattle.std.proofs.Common.{◌≡◌, ◌≢◌, ℕ, true, List, [], ◌∷◌, ◌++◌, refl, sym, ap, ◌∙◌, arith}
+use Rattle.std.specs.List.{AllByRecursion, flat_map}
+use Rattle.std.proofs.lemmas.List.{append_cancel_left}
+use Rattle.std.proofs.lemmas.List.Sums.{fold-append, sum_by-append, sum_by-cons}
+use Rattle.heap_model.specs.declared.command.Command.{Command}
+use Rattle.heap_model.specs.declared.command.Command.TheVariants as commands
+use Rattle.heap_model.specs.declared.entry.Entry.{Entry}
+use Rattle.heap_model.specs.declared.entry.Entry.TheVariants as entries
+use Rattle.heap_model.specs.declared.heap.Heap.{Heap}
+use Rattle.heap_model.specs.declared.reply.Reply.{Reply}
+use Rattle.heap_model.specs.account.Effects.{effect_of}
+use Rattle.heap_model.specs.account.Space.{words_granted}
+use Rattle.heap_model.specs.account.Turned.{is_of_heap}
+use Rattle.heap_model.specs.graph.Graph.{Graph, opening}
+use Rattle.heap_model.specs.graph.Growth.{after_entry, graph_after}
+use Rattle.core_machine.specs.seat.Commands.{IsServed}
+use Rattle.heap_runs.specs.Play.{lines_answered}
+use Rattle.heap_runs.specs.PlayHeap.{PlayState, TellsInCollect, AnswersOnce, AnswersCollect, AnswersCall}
+use Rattle.heap_runs.specs.Playing.{NotesCall}
+use Rattle.heap_runs.proofs.Beside.{comes_beside, beside_of_heap, beside_replies, granted_more}
+
+-- before the reply it answers no line and no command of the collector, and it grants no spine words
+pub record TellsCall (old new : PlayState) (number : ℕ) (command : Command) (reply : Reply) : Type 0 where
+  pub heap : new.heap ≡ old.heap
+  pub before : List Entry
+  pub told : new.entries ≡ old.entries ++ (before ++ entries.Said number command reply ∷ [])
+  pub of_heap : AllByRecursion (λ entry. is_of_heap entry ≡ true) before
+  pub replies : flat_map lines_answered before ≡ []
+  pub grants : words_granted new.entries ≡ words_granted old.entries
+
+tells_once : (old new : PlayState) (number : ℕ) (command : Command) (reply : Reply) → IsServed command → AnswersOnce old new number command reply → TellsCall old new number command reply
+tells_once old new number command reply served answers =
+    let adds = answers.adds in
+    let beside = comes_beside number adds.unborn _ command reply adds.before adds.comes in
+    record {
+      heap = adds.heap;
+      before = adds.before;
+      told = adds.entries;
+      of_heap = beside_of_heap number adds.before beside;
+      replies = beside_replies number adds.before beside;
+      grants = ap words_granted adds.entries ∙ granted_more old.entries adds.before number command reply served beside;
+    }
+
+collect_of_heap : (number : ℕ) (told : List Entry) → AllByRecursion (TellsInCollect number) told → AllByRecursion (λ entry. is_of_heap entry ≡ true) told
+collect_of_heap number [] tells = tt
+collect_of_heap number (entries.Turned command reply ∷ told) tells = absurd (cc tells.0)
+collect_of_heap number (entry ∷ told) tells = (refl, collect_of_heap number told tells.1)
+
+collect_replies : (number : ℕ) (told : List Entry) → AllByRecursion (TellsInCollect number) told → flat_map lines_answered told ≡ []
+collect_replies number [] tells = refl
+collect_replies number (entries.Said other command reply ∷ told) tells = absurd (cc tells.0)
+collect_replies number (entries.Turned command reply ∷ told) tells = absurd (cc tells.0)
+collect_replies number (entry ∷ told) tells = collect_replies number told tells.1
+
+collect_grants : (number : ℕ) (told : List Entry) → AllByRecursion (TellsInCollect number) told → words_granted told ≡ 0
+collect_grants number [] tells = refl
+collect_grants number (entries.Said other command reply ∷ told) tells = absurd (cc tells.0)
+collect_grants number (entry ∷ told) tells = collect_grants number told tells.1
+
+-- nor does it change the graph
+collect_graph : (number : ℕ) (g : Graph) (told : List Entry) → AllByRecursion (TellsInCollect number) told → graph_after g told ≡ g
+collect_graph number g [] tells = refl
+collect_graph number g (entries.Said other command reply ∷ told) tells = absurd (cc tells.0)
+collect_graph number g (entry ∷ told) tells = collect_graph number g told tells.1
+
+collect_words : (number : ℕ) (reply : Reply) → words_granted (entries.Said number commands.Collect reply ∷ []) ≡ 0
+collect_words number reply = search rules
+
+pub collect_stays : (old new : PlayState) (number : ℕ) (reply : Reply) → AnswersCollect old new number reply → graph_after (opening new.heap) new.entries ≡ graph_after (opening old.heap) old.entries
+collect_stays old new number reply answers =
+    let said : List Entry = entries.Said number commands.Collect reply ∷ [] in
+    let first = graph_after (opening old.heap) old.entries in
+    ap (λ h. graph_after (opening h) new.entries) answers.heap ∙ ap (graph_after (opening old.heap)) answers.entries ∙ fold-append after_entry (opening old.heap) old.entries (answers.before ++ said)
+    ∙ fold-append after_entry first answers.before said ∙ ap (λ (g : Graph). graph_after g said) (collect_graph number first answers.before answers.told) ∙ said_stays first
+  where
+    said_stays : (g : Graph) → graph_after g (entries.Said number commands.Collect reply ∷ []) ≡ g
+    said_stays g = refl
+
+tells_collect : (old new : PlayState) (number : ℕ) (reply : Reply) → AnswersCollect old new number reply → TellsCall old new number commands.Collect reply
+tells_collect old new number reply answers =
+    let said : List Entry = entries.Said number commands.Collect reply ∷ [] in
+    let words = λ (e : Entry). (effect_of e).words in
+    record {
+      heap = answers.heap;
+      before = answers.before;
+      told = answers.entries;
+      of_heap = collect_of_heap number answers.before answers.told;
+      replies = collect_replies number answers.before answers.told;
+      grants = omega (
+        arith,
+        ap words_granted answers.entries,
+        sum_by-append words old.entries (answers.before ++ said),
+        sum_by-append words answers.before said,
+        collect_grants number answers.before answers.told,
+        collect_words number reply,
+      );
+    }
+
+-- a call is a collect, or one call of the seat
+pub tells_call : (old new : PlayState) (number : ℕ) (command : Command) (reply : Reply) → (command ≢ commands.Collect → IsServed command) → AnswersCall old new number command reply → TellsCall old new number command reply
+tells_call old new number commands.Collect reply served answers = tells_collect old new number reply (answers.collects refl)
+tells_call old new number command reply served answers = tells_once old new number command reply (served (λ e. cc e)) (answers.once (λ e. cc e))
+
+-- what was noted of it is that
+pub noted_is : (old new : PlayState) (before after : List Entry) (number : ℕ) (command : Command) → (notes : NotesCall old new before after number command) → (tells : TellsCall old new number command notes.reply)
+    → notes.added ≡ tells.before ++ entries.Said number command notes.reply ∷ []
+noted_is old new before after number command notes tells = append_cancel_left old.entries notes.added _ (sym notes.told ∙ tells.told)

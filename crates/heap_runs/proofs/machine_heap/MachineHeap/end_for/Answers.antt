@@ -1,0 +1,64 @@
+use Rattle.std.proofs.Common.{◌≡◌, ap, subst, ◌∙◌, arith}
+use Rattle.heap_model.specs.declared.calls.collector_calls.Turn.{Turn}
+use Rattle.heap_model.specs.declared.calls.collector_calls.Turn.TheVariants as turns
+use Rattle.heap_runs.specs.Collecting.{EndsFor}
+use Rattle.heap_runs.specs.MachineHeap.{MachineHeapValue, play_state_of, TurnsMachine}
+use Rattle.heap_runs.specs.PlayHeap.{TakesTurn}
+use Rattle.heap_runs.proofs.Collecting.{goes_none, goes_then, goes_turn, goes_answer, ends_waiting, ends_cycle}
+use Rattle.heap_runs.proofs.Standing.{stands}
+use Rattle.heap_runs.proofs.Waiting.{stepped_fewer, answered_fewer}
+use Rattle.heap_runs.proofs.machine_heap.MachineHeap.end_for.Goals as goal
+
+pub turns-init : goal.turns-init
+turns-init c = (goes_none c.args.self.now c.args.seat c.requires.present, c.known.ensures)
+
+pub turns-preserved-in-Stepped : goal.turns-preserved-in-Stepped
+turns-preserved-in-Stepped c =
+    let goes = c.turns.invariant.0 in
+    (goes_then c.args.self.now c.turns.self c.turn.new.self c.args.seat goes (goes_turn c.turns.self c.turn.new.self c.args.seat c.in_ok-turn.field-0 c.in_ok-turn.ensures.turn c.in_ok-turn.ensures.machine goes.present), c.known-in-Stepped.ensures)
+
+pub turns-smaller-in-Stepped : goal.turns-smaller-in-Stepped
+turns-smaller-in-Stepped c =
+    let now : MachineHeapValue = c.turns.self in
+    let new : MachineHeapValue = c.turn.new.self in
+    let goes = goes_turn now new c.args.seat c.in_ok-turn.field-0 c.in_ok-turn.ensures.turn c.in_ok-turn.ensures.machine c.turns.invariant.0.present in
+    stepped_fewer now new c.args.seat (stands c.law_every_run.ensures.run new.machine.heap new.machine.state new.entries c.known-in-Stepped.ensures.calls) c.known-in-Stepped.ensures goes.present
+    (subst (λ (turn : Turn). TakesTurn (play_state_of now) (play_state_of new) turn) c.in-Stepped.is c.in_ok-turn.ensures.turn)
+
+pub returns-then-other-seat : goal.returns-then-other-seat
+returns-then-other-seat c =
+    let now : MachineHeapValue = c.turns.self in
+    let new : MachineHeapValue = c.turn.new.self in
+    let takes = subst (λ (turn : Turn). TakesTurn (play_state_of now) (play_state_of new) turn) c.in-Waits.is c.in_ok-turn.ensures.turn in
+    let turned = subst (λ (turn : Turn). TurnsMachine now new turn) c.in-Waits.is c.in_ok-turn.ensures.machine in
+    record { ends = ends_waiting c.args.self.now now new c.args.seat c.in-Waits.other c.in-Waits.answered c.in-Waits.phase c.turns.invariant.0 takes turned c.if-other-seat.true }
+
+pub turns-smaller : goal.turns-smaller
+turns-smaller c =
+    let old : MachineHeapValue = c.turns.self in
+    let now : MachineHeapValue = c.turn.new.self in
+    let new : MachineHeapValue = c.make_inner.new.self in
+    let runs = c.law_every_run.ensures.run in
+    let is = c.in-Waits.is in
+    let own : c.in-Waits.other ≡ c.args.seat = omega (arith, c.if-other-seat.false) in
+    let turn_is : c.in_ok-turn.field-0 ≡ turns.Waits c.args.seat c.in-Waits.answered c.in-Waits.phase = is ∙ ap (λ n. turns.Waits n c.in-Waits.answered c.in-Waits.phase) own in
+    let takes = subst (λ (turn : Turn). TakesTurn (play_state_of old) (play_state_of now) turn) turn_is c.in_ok-turn.ensures.turn in
+    let turned = subst (λ (turn : Turn). TurnsMachine old now turn) turn_is c.in_ok-turn.ensures.machine in
+    answered_fewer old now new c.args.seat c.in-Waits.answered c.in-Waits.phase (stands runs old.machine.heap old.machine.state old.entries c.turns.invariant.1.calls)
+    (stands runs now.machine.heap now.machine.state now.entries c.known-in-Waits.ensures.calls) (stands runs new.machine.heap new.machine.state new.entries c.known-in-Waits-2.ensures.calls) c.turns.invariant.1 c.turns.invariant.0.present
+    takes turned c.in_ok-make_inner-in-Waits.ensures.makes
+
+pub turns-preserved : goal.turns-preserved
+turns-preserved c =
+    let goes = c.turns.invariant.0 in
+    let turned = goes_turn c.turns.self c.turn.new.self c.args.seat c.in_ok-turn.field-0 c.in_ok-turn.ensures.turn c.in_ok-turn.ensures.machine goes.present in
+    let answered = goes_answer c.turn.new.self c.make_inner.new.self c.args.seat c.in_ok-make_inner-in-Waits.ensures.makes turned.present in
+    (goes_then c.args.self.now c.turns.self c.make_inner.new.self c.args.seat goes (goes_then c.turns.self c.turn.new.self c.make_inner.new.self c.args.seat turned answered), c.known-in-Waits-2.ensures)
+
+pub returns-in-Ended : goal.returns-in-Ended
+returns-in-Ended c =
+    let now : MachineHeapValue = c.turns.self in
+    let new : MachineHeapValue = c.turn.new.self in
+    let takes = subst (λ (turn : Turn). TakesTurn (play_state_of now) (play_state_of new) turn) c.in-Ended.is c.in_ok-turn.ensures.turn in
+    let turned = subst (λ (turn : Turn). TurnsMachine now new turn) c.in-Ended.is c.in_ok-turn.ensures.machine in
+    record { ends = ends_cycle c.args.self.now now new c.args.seat c.in-Ended.cycle c.in-Ended.kept c.turns.invariant.0 takes turned }
