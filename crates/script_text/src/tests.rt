@@ -228,7 +228,7 @@ fn most_lines(rt: HostRuntime) -> Result<(), Fail> {
 
 #[test]
 fn built(rt: HostRuntime) -> Result<(), Fail> {
-    let scripts: [(&[u8], Option<u32>); 12] = [
+    let scripts: [(&[u8], Option<u32>); 11] = [
         (b"schism 1\nheap 4096 0 16\n", None),
         (
             b"schism 1\nheap 16 0 1\n0 new 1 2\n0 num 2 9\n0 set 1 1 2\n0 get 3 1 0\n",

@@ -62,6 +62,11 @@ const TO_SWEEP: &str =
 // The last phase of that cycle: 2 entries.
 const LAST: &str = "c phase 6\n0 answers 6\n";
 
+// A record of one fragment was dropped, and freed by the cycle, whose last phase was answered; the seat has 4 fragments left over.
+// 17 entries, the next line is number 20.
+const HELD_BACK: &str =
+    "history 1 play\nheap 1 0 1\n0 takes 5\n0 new 1 2 = 0.0\n0 new 2 47 = full need 16 found 4\n0 nil 1 = ok\nc phase 1\n0 answers 1\nc phase 2\n0 answers 2\nc phase 3\n0 answers 3\nc phase 4\n0 answers 4\nc phase 5\n0 answers 5\nc frees 1\nc phase 6\n0 answers 6\n";
+
 // A piece of a case that stands for some lines: how histories begin, and stretches of a cycle.
 fn stretch(piece: &str) -> Option<&'static str> {
     match piece {
@@ -79,6 +84,7 @@ fn stretch(piece: &str) -> Option<&'static str> {
         "again" => Some(AGAIN),
         "to sweep" => Some(TO_SWEEP),
         "last" => Some(LAST),
+        "held back" => Some(HELD_BACK),
         _ => None,
     }
 }

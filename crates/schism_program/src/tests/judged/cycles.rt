@@ -1,5 +1,5 @@
 // What a cycle that ends may leave, and who may say that it ended.
-pub const CASES: [&str; 71] = [
+pub const CASES: [&str; 74] = [
     // A cycle ends once, under its number; the next one begins after phase 7 was answered.
     "wide; to sweep; last; c ends 0 kept 11; end used 11 => legal 13",
     "wide; to sweep; last; c ends 1 kept 11; end used 11 => not legal at line 16",
@@ -85,4 +85,8 @@ pub const CASES: [&str; 71] = [
     "gone; c frees 11; c phase 6; c ends 0 kept 0; end used 0 => legal 9",
     "gone; c frees 11; c phase 6; c ends 0 kept 1; end used 0 => not legal at line 12",
     "gone; c frees 10; c phase 6; c ends 0 kept 0; end used 1 => not legal at line 12",
+    // What a seat holds back is kept too, and nothing else beside the board.
+    "held back; c ends 0 kept 15; space used 15 of 16 spine 0 of 0; end used 15 => legal 18",
+    "held back; c ends 0 kept 10; space used 15 of 16 spine 0 of 0; end used 15 => not legal at line 20",
+    "held back; c ends 0 kept 16; space used 15 of 16 spine 0 of 0; end used 15 => not legal at line 20",
 ];
