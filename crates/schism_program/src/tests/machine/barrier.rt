@@ -79,3 +79,60 @@ const TAKEN_OUT: &[&str] = &[
 fn keeps_what_a_set_takes_out(rt: HostRuntime) -> Result<(), Fail> {
     tries(&rt, (1, 0, 2), TAKEN_OUT)
 }
+
+/// Two sets on both sides of a seat's answer to clearing: the barrier is on while the answer is 1 to 5.
+///
+/// The fragments of the group are the board's (0 to 10) and those of two records of two fields, 11, whose field 0 leads to
+/// 12, and 12; the seat holds both. The fragments 13 to 15 are its reserve. When marking has ended 0 to 12 are marked and
+/// scanned (1fff), and the sweep finds nothing to free.
+///
+/// While the seat's answer is 5, also when the phase is 6 already, a set loads the old value and shades it and the new one.
+/// They are marked, so no control word changes. Once it has answered 6 a set goes from the way to the swap.
+///
+/// Marking takes 90 steps: the look, the group's load, 75 for the board with each group's load after a scan, 5 for the
+/// fragment 11 and 4 for 12, with a group's load after each, the load of the next pass and the advance.
+const AROUND_THE_SWEEP: &[&str] = &[
+    "0 new 1 2 => 0 takes 5; 0 new 1 2 = 0.0",
+    "0 new 2 2 => 0 new 2 2 = 0.1",
+    "0 set 1 0 2 => 0 set 1 0 2 = was -",
+    "c steps 2 => advance 1 found 0; c phase 1",
+    "0 poll => 0 answers 1; 0 poll = 1",
+    "c steps 2 => advance 2 found 1; c phase 2",
+    "0 poll => 0 answers 2; 0 poll = 2",
+    "c steps 2 => advance 3 found 2; c phase 3",
+    "0 poll => 0 answers 3; 0 poll = 3",
+    "c steps 90 => advance 4 found 3; c phase 4",
+    "0 poll => 0 answers 4; 0 poll = 4",
+    "c steps 2 => advance 5 found 4; c phase 5",
+    "0 poll => 0 answers 5; 0 poll = 5",
+    "0 begin set 1 0 1 => true",
+    "0 step => walk 11 found c000000200000000",
+    "0 step => old 11.2 found 8000000c04000001",
+    "0 step => shade 12 found 1fff1fff1fffffff",
+    "0 step => shade 11 found 1fff1fff1fffffff",
+    "0 step => swap 11.2 8000000b04000002 found 8000000c04000001; 0 set 1 0 1 = was 0:1",
+    "c step => look 0 found 5",
+    "c step => group 0 found 1fff1fff1fffffff",
+    "c step => advance 6 found 5; c phase 6",
+    "answer 0 => 5 at 1",
+    "0 begin set 1 0 2 => true",
+    "0 step => walk 11 found c000000200000000",
+    "0 step => old 11.2 found 8000000b04000002",
+    "0 step => shade 11 found 1fff1fff1fffffff",
+    "0 step => shade 12 found 1fff1fff1fffffff",
+    "0 step => swap 11.2 8000000c04000003 found 8000000b04000002; 0 set 1 0 2 = was 0:2",
+    "0 poll => 0 answers 6; 0 poll = 6",
+    "answer 0 => 6 at 1",
+    "0 begin set 1 0 1 => true",
+    "0 step => walk 11 found c000000200000000",
+    "0 step => swap 11.2 8000000b04000004 found 8000000c04000003; 0 set 1 0 1 = was 0:3",
+    "control 0 => 1fff1fff1fffffff at 19",
+    "c step => look 0 found 6",
+    "c step => clear 0 found 1fff1fff1fffffff",
+    "c step => end 7 found 6; c ends 0 kept 16",
+];
+
+#[test]
+fn shades_up_to_the_answer_to_clearing(rt: HostRuntime) -> Result<(), Fail> {
+    tries(&rt, (1, 0, 1), AROUND_THE_SWEEP)
+}
