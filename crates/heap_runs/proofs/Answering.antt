@@ -67,9 +67,9 @@ module _ (counts : EachCallCounts) (others : EachCallSparesOthers) (heap : Heap)
   few_still : (number calls : ℕ) → DoesFew old number calls → DoesFew new number (calls + 1)
   few_still number calls few = elim (is_collect command) [
     | inl is ↦ (let same = stays_by_collect number is in record {
-        few_objects = omega (arith, ap (λ (s : GraphSeat). length s.objects) same, few.few_objects);
-        few_sets = omega (arith, ap (λ (s : GraphSeat). s.sets) same, few.few_sets);
-      })
+      few_objects = omega (arith, ap (λ (s : GraphSeat). length s.objects) same, few.few_objects);
+      few_sets = omega (arith, ap (λ (s : GraphSeat). s.sets) same, few.few_sets);
+    })
     | inr once ↦ few_once once number calls few
   ]
 

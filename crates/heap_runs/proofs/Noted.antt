@@ -81,14 +81,17 @@ module _ (old new : MachineHeapValue) (number p : ℕ) (one : StandsFor old.mach
       let looks : (seat_at new.machine.state number).looks ≡ looked (at old.machine.heap old.machine.state.words Phase) (seat_at old.machine.state number).looks = ap (λ (t : Seat). t.looks) makes.plays.seat in
       let kept = first_kept (seat_at old.machine.state number).looks.first (at old.machine.heap old.machine.state.words Phase) p (cycle_phases * cycle) upto (whole cycle refl) in
       record {
-        can = (here.within, record {
-          idle = between.all_idle number here.within;
-          present = here.there;
-          makes = (
-            subst (λ (l : Looks). FirstUpTo l.first (cycle_phases * cycle)) (sym looks) kept,
-            omega (arith, ap (λ (l : Looks). l.seen) looks, word_is old.machine.heap old.machine.state old.entries one, comes.2),
-          );
-        });
+        can = (
+          here.within,
+          record {
+            idle = between.all_idle number here.within;
+            present = here.there;
+            makes = (
+              subst (λ (l : Looks). FirstUpTo l.first (cycle_phases * cycle)) (sym looks) kept,
+              omega (arith, ap (λ (l : Looks). l.seen) looks, word_is old.machine.heap old.machine.state old.entries one, comes.2),
+            );
+          },
+        );
         now = tt;
       }
   may_note (replies.Waits other answer q) makes comes whole =
@@ -101,13 +104,16 @@ module _ (old new : MachineHeapValue) (number p : ℕ) (one : StandsFor old.mach
       let phase_word : at old.machine.heap old.machine.state.words Phase ≡ q = word_is old.machine.heap old.machine.state old.entries one ∙ behind.here in
       let own_word : at old.machine.heap old.machine.state.words (Answer other) ≡ answer = answer_word_is old.machine.heap old.machine.state old.entries one other answer below behind.present behind.answered in
       let looks : (seat_at new.machine.state number).looks ≡ compared other (at old.machine.heap old.machine.state.words Phase) (at old.machine.heap old.machine.state.words (Answer other))
-          (seen_phase (at old.machine.heap old.machine.state.words Phase) (seat_at old.machine.state number).looks) = ap (λ (t : Seat). t.looks) makes.plays.seat in
+      (seen_phase (at old.machine.heap old.machine.state.words Phase) (seat_at old.machine.state number).looks) = ap (λ (t : Seat). t.looks) makes.plays.seat in
       record {
-        can = (here.within, record {
-          idle = between.all_idle number here.within;
-          present = here.there;
-          makes = ap (λ (l : Looks). l.behind) looks ∙ (rw (phase_word, own_word) (found_then other q answer (seen_phase q (seat_at old.machine.state number).looks) comes.4));
-        });
+        can = (
+          here.within,
+          record {
+            idle = between.all_idle number here.within;
+            present = here.there;
+            makes = ap (λ (l : Looks). l.behind) looks ∙ (rw (phase_word, own_word) (found_then other q answer (seen_phase q (seat_at old.machine.state number).looks) comes.4));
+          },
+        );
         now = record {
           word = answer_word_is new.machine.heap new.machine.state new.entries two other answer there later.present later.answered;
           here = word_is new.machine.heap new.machine.state new.entries two ∙ later.here;
@@ -148,7 +154,7 @@ module _ (start one two three four : MachineHeapValue) (number : ℕ) (reply : C
   pub collect_machine : CollectsMachine start four number
   collect_machine =
       machine_then start three four number (machine_then start two three number (machine_then start one two number (machine_inner start one number inners.Look look) whole.ends.goes.machine)
-          (machine_inner two three number (seen_by reply) sees)) (machine_inner three four number (inners.Note reply) notes)
+      (machine_inner two three number (seen_by reply) sees)) (machine_inner three four number (inners.Note reply) notes)
 
   pub collect_answers : AnswersCollect (play_state_of start) (play_state_of four) number (noted_reply reply)
   collect_answers =
