@@ -18,7 +18,7 @@ use Rattle.core_machine.specs.declared.place.Place.TheVariants.{Idle}
 use Rattle.core_machine.specs.machine.Calls.{call_events, PlaysCall, AnswersNew, TellsLeave, free_count, within_reach}
 use Rattle.core_machine.specs.machine.Machine.{State, seat_at, Begins, Can, Event, Run, state_after_all, history}
 use Rattle.core_machine.specs.seat.Seat.{Seat}
-use Rattle.core_rule.specs.Laws.{IsAlone, OneCallAtATime, StandsFor, FreeIsUnused}
+use Rattle.core_rule.specs.Laws.{OneCallAtATime, StandsFor, FreeIsUnused}
 use Rattle.heap_runs.specs.MachineHeap.{MachineHeapValue, play_state_of, WholeCalls, IsBetweenCalls, CallsOnce}
 use Rattle.heap_runs.specs.PlayHeap.{MayCall, AnswersOnce, IsEnough, seat_state_of}
 use Rattle.heap_runs.proofs.OneSeat.{after_call, call_alone}

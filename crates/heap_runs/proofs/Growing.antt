@@ -20,7 +20,7 @@ use Rattle.heap_model.specs.graph.Legal.{Accepts}
 use Rattle.heap_model.proofs.Histories.{graph_after-more, AcceptsAll-more, KeepsSpaceAfter-more}
 use Rattle.core_machine.specs.seat.Commands.{IsRecord}
 use Rattle.heap_runs.specs.Growing.{is_plain, IsPlainEntry, IsGrowing}
-use Rattle.heap_runs.specs.PlayHeap.{PlayState, IsPlayed, AnswersCall}
+use Rattle.heap_runs.specs.PlayHeap.{PlayState, IsPlayed, AnswersOnce}
 
 -- plain entries come to nothing
 none_summed : (f : Entry → ℕ) → ((number : ℕ) (command : Command) → is_plain command ≡ true → f (Said number command Done) ≡ 0) → (told : List Entry) → AllByRecursion IsPlainEntry told → sum_by f told ≡ 0
@@ -100,7 +100,7 @@ no_record (commands.New d fields) plain is = cc plain
 no_record _ plain is = absurd is
 
 pub growing_answers : (old new : PlayState) (number : ℕ) (command : Command) → AllByRecursion IsPlainEntry old.entries → is_plain command ≡ true → new.heap ≡ old.heap
-    → new.entries ≡ old.entries ++ Said number command Done ∷ [] → new.spare ≡ old.spare → new.turns ≡ old.turns → new.last_turn ≡ old.last_turn → AnswersCall old new number command Done
+    → new.entries ≡ old.entries ++ Said number command Done ∷ [] → new.spare ≡ old.spare → new.turns ≡ old.turns → new.last_turn ≡ old.last_turn → AnswersOnce old new number command Done
 growing_answers old new number command all plain heap entries spare turns last = record {
   adds = record {
     heap = heap;

@@ -1,8 +1,8 @@
 -- What a seat sees for itself of the end of its collect, and notes.
-use Rattle.std.proofs.Common.{◌≡◌, ◌≢◌, ℕ, ◌+◌, ◌*◌, ◌%◌, ◌<◌, ◌≤◌, List, [], ◌∷◌, ◌++◌, length, Option, None, Some, refl, sym, ap, subst, ◌∙◌, append_assoc, lt-ltb, arith}
+use Rattle.std.proofs.Common.{◌≡◌, ℕ, ◌*◌, ◌%◌, ◌<◌, ◌≤◌, List, [], ◌∷◌, ◌++◌, Option, None, Some, refl, sym, ap, subst, ◌∙◌, append_assoc, lt-ltb, arith}
 use Rattle.std.specs.Prelude.{IfSome}
 use Rattle.std.proofs.lemmas.List.{append-nil}
-use Rattle.heap_model.specs.PhasePlan.{cycle_phases, clearing}
+use Rattle.heap_model.specs.PhasePlan.{cycle_phases}
 use Rattle.heap_model.specs.declared.calls.collect.CollectReply.{CollectReply}
 use Rattle.heap_model.specs.declared.calls.collect.CollectReply.TheVariants as replies
 use Rattle.heap_model.specs.declared.calls.collect.Inner.{Inner}
@@ -12,13 +12,10 @@ use Rattle.heap_model.specs.declared.entry.Entry.{Entry}
 use Rattle.heap_model.specs.declared.entry.Entry.TheVariants.{Said}
 use Rattle.heap_model.specs.account.PhaseCounts.{phase}
 use Rattle.heap_model.specs.account.Phases.{IsBehind}
-use Rattle.core_machine.specs.declared.place.Access.TheVariants.{Naming}
-use Rattle.core_machine.specs.declared.place.Place.TheVariants as places
 use Rattle.core_machine.specs.declared.seat.looks.Looks.{Looks}
-use Rattle.core_machine.specs.declared.seat.looks.FoundBehind.{FoundBehind}
 use Rattle.core_machine.specs.declared.table.address.Address.TheVariants.{Phase, Answer}
 use Rattle.core_machine.specs.machine.InnerCalls.{inner_entries}
-use Rattle.core_machine.specs.machine.Machine.{State, seat_at, MayBeginInner}
+use Rattle.core_machine.specs.machine.Machine.{seat_at}
 use Rattle.core_machine.specs.seat.Looks.{first_of, looked, compared, seen_phase, FirstUpTo, noted_reply}
 use Rattle.core_machine.specs.seat.Seat.{Seat}
 use Rattle.core_machine.specs.table.Layout.{at}

@@ -1,7 +1,6 @@
 -- How a collect comes to its end: each turn that is a step alone leaves fewer turns, and where one waits for the seat itself, that answers.
-use Rattle.std.proofs.Common.{◌≡◌, ℕ, ◌+◌, ◌-◌, ◌*◌, ◌==◌, ◌<◌, ◌≤◌, if◌then◌else◌, Bool, true, false, List, [], ◌∷◌, ◌++◌, length, inl, inr, refl, sym, ap, subst, ◌∙◌, arith}
+use Rattle.std.proofs.Common.{◌≡◌, ℕ, ◌+◌, ◌-◌, ◌*◌, ◌==◌, ◌<◌, if◌then◌else◌, Bool, true, false, List, [], ◌∷◌, ◌++◌, inl, inr, refl, sym, ap, ◌∙◌, arith}
 use Rattle.std.proofs.lemmas.Bool.Decides.{eqb_tells}
-use Rattle.std.proofs.lemmas.List.{append-nil}
 use Rattle.std.proofs.lemmas.List.Sums.{sum_by-append}
 use Rattle.heap_model.specs.declared.calls.collect.Inner.TheVariants as inners
 use Rattle.heap_model.specs.declared.calls.collector_calls.Turn.TheVariants as turns
@@ -10,13 +9,11 @@ use Rattle.heap_model.specs.declared.entry.Entry.TheVariants as entries
 use Rattle.heap_model.specs.declared.heap.Heap.{Heap}
 use Rattle.heap_model.specs.account.Effects.{effect_of}
 use Rattle.heap_model.specs.account.PhaseCounts.{phase}
-use Rattle.heap_model.specs.account.Phases.{IsBehind}
 use Rattle.core_machine.specs.declared.collector.stage.Stage.{Stage}
 use Rattle.core_machine.specs.declared.collector.stage.Stage.TheVariants as stages
-use Rattle.core_machine.specs.declared.place.Place.TheVariants.{Idle}
-use Rattle.core_machine.specs.declared.table.address.Address.TheVariants.{Phase, Answer}
+use Rattle.core_machine.specs.declared.table.address.Address.TheVariants.{Phase}
 use Rattle.core_machine.specs.collector.Collector.{Collector, has_answered_of, after_counted_look, turn_at, next_turn, after_look, look_answer}
-use Rattle.core_machine.specs.machine.Machine.{State, seat_at, found_by, Turns, state_after}
+use Rattle.core_machine.specs.machine.Machine.{State, seat_at, found_by}
 use Rattle.core_machine.specs.seat.Seat.{Seat}
 use Rattle.core_machine.specs.table.Layout.{at}
 use Rattle.core_rule.specs.Laws.{StandsFor}
@@ -26,7 +23,6 @@ use Rattle.heap_runs.specs.MachineHeap.{MachineHeapValue, IsBetweenCalls, TurnsM
 use Rattle.heap_runs.specs.PlayHeap.{TakesTurn}
 use Rattle.heap_runs.proofs.OneSeat.{after_inner}
 use Rattle.heap_runs.proofs.Standing.{word_is, answered_last, phase_near}
-use Rattle.heap_runs.proofs.TurnFacts.{none_is}
 
 -- how many phases the seat is behind, which is one at most, and how many turns are left
 abbrev pub behind_by : MachineHeapValue → ℕ → ℕ

@@ -1,11 +1,12 @@
-use Rattle.std.proofs.Common.{◌≡◌, ◌-◌, List, ◌++◌, length, refl, sym, ap, subst, ◌∙◌, arith}
+use Rattle.std.proofs.Common.{◌≡◌, ◌<◌, ◌-◌, List, ◌++◌, length, refl, sym, ap, subst, ◌∙◌, arith}
 use Rattle.heap_model.specs.declared.entry.Entry.{Entry}
+use Rattle.core_machine.specs.machine.Machine.{State, seat_at, MayBegin}
 use Rattle.core_machine.specs.machine.Value.{MachineValue}
 use Rattle.heap_runs.specs.contracts.machine_heap.MachineHeap.{the_view}
 use Rattle.heap_runs.specs.MachineHeap.{MachineHeapValue, play_state_of, CallsOnce}
 use Rattle.heap_runs.specs.PlayHeap.{MayCall, AnswersOnce}
 use Rattle.heap_runs.proofs.Standing.{stands}
-use Rattle.heap_runs.proofs.Calling.{answers_call}
+use Rattle.heap_runs.proofs.Calling.{answers_call, may_begin}
 use Rattle.heap_runs.proofs.MachineCalls.{since, noted_call, told_since, calls_machine, between_again, room_left}
 use Rattle.heap_runs.proofs.machine_heap.MachineHeap.call_once.Goals as goal
 
@@ -15,6 +16,14 @@ room-requires c =
     let may = subst (λ (v : MachineHeapValue). MayCall (play_state_of v) c.args.seat c.args.command.now) (sym c.self.view_is) c.requires.may in
     let s = stands c.law_every_run.ensures.run whole.machine.heap whole.machine.state whole.entries c.self.invariant.0.calls in
     omega (arith, may.within, s.stands.rule.machine.seated)
+
+pub play_call-reply-requires-clause-can : goal.play_call-reply-requires-clause-can
+play_call-reply-requires-clause-can c =
+    let whole : MachineHeapValue = the_view c.self.inside in
+    let may = subst (λ (v : MachineHeapValue). MayCall (play_state_of v) c.args.seat c.args.command.now) (sym c.self.view_is) c.requires.may in
+    let s = stands c.law_every_run.ensures.run whole.machine.heap whole.machine.state whole.entries c.self.invariant.0.calls in
+    subst (λ (state : State). (c.args.seat < length state.seats) × MayBegin (seat_at state c.args.seat) c.args.command.now) (sym (ap (λ (m : MachineValue). m.state) c.room.ensures.same))
+    (may_begin whole c.args.seat c.args.command.now c.requires.once s c.self.invariant.0 may)
 
 pub split_at-requires : goal.split_at-requires
 split_at-requires c =

@@ -3,7 +3,6 @@ use Rattle.heap_model.specs.account.PhaseCounts.{phase}
 use Rattle.heap_model.specs.declared.calls.collect.Inner.{Inner}
 use Rattle.heap_model.specs.declared.reply.Reply.{Reply}
 use Rattle.core_machine.specs.seat.Looks.{FirstUpTo}
-use Rattle.core_machine.specs.machine.Machine.{seat_at}
 use Rattle.heap_runs.specs.Collecting.{MakesInner}
 use Rattle.heap_runs.specs.MachineHeap.{MachineHeapValue, play_state_of}
 use Rattle.heap_runs.specs.PlayHeap.{AnswersCollect}

@@ -1,7 +1,6 @@
 use Rattle.std.proofs.Common.{◌≡◌, ap, subst, ◌∙◌, arith}
 use Rattle.heap_model.specs.declared.calls.collector_calls.Turn.{Turn}
 use Rattle.heap_model.specs.declared.calls.collector_calls.Turn.TheVariants as turns
-use Rattle.heap_runs.specs.Collecting.{EndsFor}
 use Rattle.heap_runs.specs.MachineHeap.{MachineHeapValue, play_state_of, TurnsMachine}
 use Rattle.heap_runs.specs.PlayHeap.{TakesTurn}
 use Rattle.heap_runs.proofs.Collecting.{goes_none, goes_then, goes_turn, goes_answer, ends_waiting, ends_cycle}

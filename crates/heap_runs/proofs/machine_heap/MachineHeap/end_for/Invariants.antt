@@ -1,4 +1,3 @@
-use Rattle.std.proofs.Common.{ℕ}
 use Rattle.heap_runs.specs.Collecting.{GoesOn}
 use Rattle.heap_runs.specs.MachineHeap.{IsBetweenCalls}
 use Rattle.heap_runs.proofs.Waiting.{left_for}

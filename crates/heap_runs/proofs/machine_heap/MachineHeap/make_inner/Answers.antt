@@ -1,9 +1,9 @@
-use Rattle.std.proofs.Common.{◌≡◌, ◌-◌, List, ◌++◌, length, refl, sym, ap, subst, ◌∙◌, arith}
+use Rattle.std.proofs.Common.{◌≡◌, ◌-◌, List, ◌++◌, length, refl, ap, subst, ◌∙◌, arith}
 use Rattle.heap_model.specs.declared.entry.Entry.{Entry}
 use Rattle.core_machine.specs.machine.Value.{MachineValue}
 use Rattle.heap_runs.specs.contracts.machine_heap.MachineHeap.{the_view}
 use Rattle.heap_runs.specs.Collecting.{MakesInner}
-use Rattle.heap_runs.specs.MachineHeap.{MachineHeapValue, IsBetweenCalls}
+use Rattle.heap_runs.specs.MachineHeap.{MachineHeapValue}
 use Rattle.heap_runs.proofs.InnerCalls.{inner_facts, makes_inner}
 use Rattle.heap_runs.proofs.MachineCalls.{since, told_since}
 use Rattle.heap_runs.proofs.machine_heap.MachineHeap.make_inner.Goals as goal

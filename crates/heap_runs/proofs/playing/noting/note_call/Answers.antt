@@ -9,7 +9,7 @@ use Rattle.heap_runs.proofs.playing.noting.note_call.Goals as goal
 pub split_at-requires : goal.split_at-requires
 split_at-requires g c =
     let old : PlayState = g.H.PlayHeap.state c.args.whole.now in
-    let new : PlayState = g.H.PlayHeap.state c.call.new.whole in
+    let new : PlayState = g.H.PlayHeap.state c.call.new.self in
     let tells = tells_call old new c.args.seat c.args.command.now c.in_ok-call.field-0 c.requires.may.served c.in_ok-call.ensures.answers in
     omega (
       arith,
@@ -21,7 +21,7 @@ split_at-requires g c =
 pub returns : goal.returns
 returns g c =
     let old : PlayState = g.H.PlayHeap.state c.args.whole.now in
-    let new : PlayState = g.H.PlayHeap.state c.call.new.whole in
+    let new : PlayState = g.H.PlayHeap.state c.call.new.self in
     let tells = tells_call old new c.args.seat c.args.command.now c.in_ok-call.field-0 c.requires.may.served c.in_ok-call.ensures.answers in
     let more : List Entry = tells.before ++ Said c.args.seat c.args.command.now c.in_ok-call.field-0 ∷ [] in
     let told : c.split_at.result.1.now ≡ more

@@ -1,4 +1,4 @@
-use Rattle.std.proofs.Common.{◌≡◌, ◌∷◌, [], ◌++◌, List, true, refl, sym, subst, rules}
+use Rattle.std.proofs.Common.{◌≡◌, ◌∷◌, [], ◌++◌, List, true, refl, sym, ap, subst, ◌∙◌, rules}
 use Rattle.heap_model.specs.declared.entry.Entry.{Entry}
 use Rattle.heap_model.specs.declared.entry.Entry.TheVariants.{Said}
 use Rattle.heap_model.specs.declared.reply.Reply.TheVariants.{Done}
@@ -23,5 +23,8 @@ returns c =
     let new : PlayState = record old { entries = c.note.new.list.items } in
     record {
       answers = subst (λ (s : PlayState). AnswersCall s new c.args.seat c.args.command.now Done) c.self.view_is
-          (growing_answers old new c.args.seat c.args.command.now c.self.invariant.plain plain refl listed refl refl refl);
+          (record {
+            once = λ apart. growing_answers old new c.args.seat c.args.command.now c.self.invariant.plain plain refl listed refl refl refl;
+            collects = λ is. absurd (cc (sym plain ∙ ap is_plain is));
+          });
     }
