@@ -16,6 +16,10 @@ meta_word meta =
 abbrev pub meta_pointer : Cell → Option ℕ
 meta_pointer cell = if nat_lt cell.value (2 ^ 29) then (if cell.stamp == 0 then None else Some cell.stamp) else None
 
+-- the length in an array's meta, read of any cell; a record's meta has none of an array
+abbrev pub array_length : Cell → Option ℕ
+array_length cell = if nat_lt cell.value (2 ^ 29) then None else Some (cell.value % 2 ^ 13)
+
 -- the length in a meta
 abbrev pub length_of : ℕ → ℕ
 length_of word = (cell_of word).value % 2 ^ 13

@@ -1,5 +1,5 @@
-use Rattle.std.specs.Prelude.{ℕ, ◌^◌, ◌<◌}
-use Rattle.heap_words.specs.Cell.{cell_word, fixed_cell}
+use Rattle.std.specs.Prelude.{ℕ, ◌%◌, ◌^◌, ◌<◌}
+use Rattle.heap_words.specs.Cell.{cell_of, cell_word, fixed_cell}
 use Rattle.heap_words.specs.declared.spot.Spot.{Spot}
 
 -- the half is 0 or 1, and the offset is below 2^32
@@ -9,3 +9,7 @@ IsSpot spot = (spot.half < 2) × (spot.offset < 2 ^ 32)
 -- the word of the fixed cell of the half and the offset
 abbrev pub spot_word : Spot → ℕ
 spot_word spot = cell_word (fixed_cell spot.half spot.offset)
+
+-- the spot that a word tells: the half has one bit, and the offset at most thirty-one
+abbrev pub spot_in : ℕ → Spot
+spot_in word = record { half = (cell_of word).value % 2; offset = (cell_of word).stamp % 2 ^ 31 }

@@ -1,5 +1,5 @@
 ghost use Rattle.std.specs.Prelude.{◌≡◌, ◌^◌, ◌<◌, IsTrue};
-ghost use Rattle.heap_words.specs.Meta.{IsMeta, meta_word, meta_pointer, length_of};
+ghost use Rattle.heap_words.specs.Meta.{IsMeta, meta_word, meta_pointer, array_length, length_of};
 ghost use Rattle.heap_words.specs.Reads.{Reads};
 
 use crate::cell::Cell;
@@ -46,6 +46,17 @@ impl Meta {
             Some(cell.stamp)
         } else {
             None
+        }
+    }
+
+    /// The length in an array's meta, read of any cell. A record's meta tells none.
+    pub fn array_length(cell: &Cell) -> Option<u16>
+        ensures { result ≡ array_length cell.now }
+    {
+        if cell.value < ARRAY {
+            None
+        } else {
+            Some((cell.value % TOO_LONG) as u16)
         }
     }
 

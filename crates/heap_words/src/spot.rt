@@ -1,9 +1,12 @@
 ghost use Rattle.std.specs.Prelude.{◌≡◌, ◌<◌};
 ghost use Rattle.heap_words.specs.Reads.{Reads};
-ghost use Rattle.heap_words.specs.Spot.{IsSpot, spot_word};
+ghost use Rattle.heap_words.specs.Spot.{IsSpot, spot_word, spot_in};
 
 use crate::cell::Cell;
 use crate::kind::Kind;
+
+/// The offsets that a word tells are below this.
+const OFFSETS: u32 = 1 << 31;
 
 /// A place for a spine word, in one of the two halves of the spine space.
 #[derive(Clone, Copy, Debug, PartialEq, Eq)]
@@ -26,6 +29,17 @@ impl Spot {
             stamp: self.offset,
         }
         .pack()
+    }
+
+    /// The spot that a word tells; of a word that no spot packs to some spot.
+    pub fn told(word: u64) -> Spot
+        ensures { result ≡ spot_in word }
+    {
+        let cell = Cell::read(word);
+        Spot {
+            half: (cell.value % 2) as u8,
+            offset: cell.stamp % OFFSETS,
+        }
     }
 
     /// The spot that packs to this word.

@@ -1,15 +1,16 @@
 -- What a word that was loaded tells.
-use Rattle.std.specs.Prelude.{ℕ, ◌-◌, ◌*◌, ◌<◌, ◌==◌, Bool, true, false, if◌then◌else◌, List, Option, Some, None, IfSome, unwrap_or}
+use Rattle.std.specs.Prelude.{ℕ, ◌-◌, ◌*◌, ◌<◌, ◌==◌, Bool, true, false, if◌then◌else◌, List, Option, Some, None, IfSome, unwrap_or, option_map_or}
 use Rattle.heap_words.specs.declared.cell.Cell.{Cell}
 use Rattle.heap_words.specs.declared.kind.Kind.{Kind}
 use Rattle.heap_words.specs.declared.kind.Kind.TheVariants as kinds
 use Rattle.heap_words.specs.Cell.{cell_of}
-pub use Rattle.heap_words.specs.Meta.{meta_pointer, length_of}
+pub use Rattle.heap_words.specs.Meta.{meta_pointer, array_length, length_of}
 use Rattle.heap_words.specs.Name.{name_in}
 use Rattle.heap_model.specs.declared.heap.Heap.{Heap}
 use Rattle.heap_model.specs.declared.id.Id.{Id}
 use Rattle.heap_model.specs.declared.id.Id.TheVariants.{Board, Made}
 use Rattle.heap_model.specs.Limits.{group_fragments}
+use Rattle.heap_model.specs.Needs.{array_words}
 use Rattle.core_machine.specs.declared.table.address.Address.{Address}
 use Rattle.core_machine.specs.declared.table.address.Address.TheVariants.{Phase, Answer, Budget, Spot, Control, Word, Spine}
 use Rattle.core_machine.specs.declared.seat.register.Register.{Register}
@@ -48,6 +49,21 @@ is_fixed kinds.Reference = false
 -- the word is an object's meta, where it is a fragment's first
 abbrev pub is_meta : ℕ → Bool
 is_meta word = is_fixed (cell_of word).kind
+
+-- the length of an array, where a cell of this kind is its meta
+abbrev pub array_length_in : Kind → Cell → Option ℕ
+array_length_in kinds.Fixed cell = array_length cell
+array_length_in kinds.Nil cell = None
+array_length_in kinds.Number cell = None
+array_length_in kinds.Reference cell = None
+
+-- the length of the array whose meta the word is, where it is a fragment's first; no other word tells one
+abbrev pub array_length_of : ℕ → Option ℕ
+array_length_of word = array_length_in (cell_of word).kind (cell_of word)
+
+-- how many words the spine of that array has; 0 where the word is no array's meta
+abbrev pub spine_words_in : ℕ → ℕ
+spine_words_in word = option_map_or array_words (array_length_of word) 0
 
 -- the fragment after the one whose first word this is; 0 where it leads nowhere
 abbrev pub link_of : ℕ → ℕ

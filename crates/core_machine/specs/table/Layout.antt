@@ -1,5 +1,6 @@
 -- The words of a heap's table, and where each of them stands.
 use Rattle.std.specs.Prelude.{◌≡◌, ℕ, ◌+◌, ◌*◌, ◌<◌, nat_lt, if◌then◌else◌, List, slice_index, slice_set}
+use Rattle.heap_words.specs.declared.spot.Spot.{Spot as SpinePlace}
 use Rattle.heap_model.specs.declared.heap.Heap.{Heap}
 use Rattle.heap_model.specs.Limits.{group_fragments, most_seats}
 use Rattle.core_machine.specs.declared.table.address.Address.{Address}
@@ -38,6 +39,10 @@ InTable heap (Spine half offset) = half < 2
 abbrev pub HasWord : Heap → Address → Type 0
 HasWord heap (Spine half offset) = (half < 2) × (offset < 2 * heap.spine)
 HasWord heap address = InTable heap address
+
+-- where word k of a spine stands whose first one stands at this spot
+abbrev pub spine_place : SpinePlace → ℕ → Address
+spine_place spot k = Spine spot.half (spot.offset + k)
 
 -- the word at an address; 0 past the end of the table
 unfoldable pub at : Heap → List ℕ → Address → ℕ
