@@ -1,5 +1,4 @@
 ghost use Rattle.std.specs.Prelude.{◌≡◌, ◌+◌, ◌-◌, ◌<◌, ◌≤◌, ◌^◌, ◌++◌, [], ◌∷◌, length, OnOk, OnErr};
-ghost use Rattle.core_machine.specs.declared.step.Step.TheVariants.{Turning as Turns};
 ghost use Rattle.core_machine.specs.collector.Collector.{opening_collector, next_turn, collector_after, has_answered_of, first_work as first_work_of, after_advance, advance_turn, end_turn, free_turn, look_answer, after_look, after_counted_look};
 ghost use Rattle.core_machine.specs.seat.Fits.{CollectorFits};
 ghost use Rattle.core_machine.specs.table.Decode.{FoundPointsWithin};
@@ -10,7 +9,7 @@ use crate::collector::marking::pass_on;
 use crate::collector::stage::{Scan, Stage};
 use crate::collector::sweeping::{cleared, examine_from, sweep_on, swept};
 use crate::log::Log;
-use crate::step::TurningStep;
+use crate::step::{SpineStep, Step, TurningStep};
 use heap_model::limits::GROUP_FRAGMENTS;
 use heap_model::phase_plan::{CLEARING, CYCLE_PHASES, MARKING, SWEEP};
 use heap_model::{Entry, Heap, Memory, Turn};
@@ -71,18 +70,26 @@ impl CollectorParty {
     }
 
     /// The step of its next turn.
-    pub fn due(&self, heap: &Heap) -> TurningStep
+    pub fn due(&self, heap: &Heap) -> Step
         requires limits { IsHeap heap.now }
         requires fits { CollectorFits heap.now self.now.collector }
-        ensures { Turns result ≡ (next_turn heap.now self.now.collector).step }
+        ensures { result ≡ (next_turn heap.now self.now.collector).step }
     {
-        match self.stage {
+        let step = match self.stage {
             Stage::Looking => TurningStep::LookLoad { seat: self.looked },
             Stage::Passing { group, .. } => TurningStep::GroupLoad { group },
             Stage::Scanning(Scan { fragment, part, .. }) => {
                 TurningStep::ScanLoad { fragment, part }
             }
             Stage::Shading { target, .. } => TurningStep::MarkShade { fragment: target },
+            Stage::Locating {
+                scan: Scan { fragment, .. },
+                ..
+            } => {
+                return Step::Spine(SpineStep::AddressLoad { sentinel: fragment });
+            }
+            Stage::Indexing(scan) => return Step::Spine(scan.load()),
+            Stage::Spreading { target, .. } => TurningStep::MarkShade { fragment: target },
             Stage::Blackening(Scan { fragment, .. }) => TurningStep::Blacken { fragment },
             Stage::Sweeping { group } => TurningStep::GroupLoad { group },
             Stage::Examining { group, place, .. } => TurningStep::MetaLoad {
@@ -96,7 +103,8 @@ impl CollectorParty {
             Stage::Advancing => TurningStep::AdvanceStore {
                 phase: self.phase + 1,
             },
-        }
+        };
+        Step::Turning(step)
     }
 
     /// Whether the seat with this word has answered the phase, or has left.
@@ -221,6 +229,9 @@ impl CollectorParty {
             }
             Stage::Scanning(scan) => self.stage = scan.seen(found),
             Stage::Shading { scan, next, .. } => self.stage = scan.shaded(next),
+            Stage::Locating { scan, words } => self.stage = scan.located(words, found),
+            Stage::Indexing(scan) => self.stage = scan.seen(found),
+            Stage::Spreading { scan, .. } => self.stage = scan.spread(),
             Stage::Blackening(scan) => self.stage = scan.done(),
             Stage::Sweeping { group } => self.stage = swept(heap, group, found),
             Stage::Examining { group, dead, place } => {

@@ -86,7 +86,7 @@ impl Machine {
         if (party as usize) < self.seats.len() {
             self.due_of_seat(party)
         } else {
-            Some(Step::Turning(self.collector.due(&self.heap)))
+            Some(self.collector.due(&self.heap))
         }
     }
 
@@ -199,7 +199,7 @@ impl Machine {
             result ≡ turn.answer (found_by self.old.heap self.old.state turn.step) }
         ensures spent { SpendsRoom self.old self.new (length self.old.state.seats) }
     {
-        let step = Step::Turning(self.collector.due(&self.heap));
+        let step = self.collector.due(&self.heap);
         self.turn(&step).1
     }
 

@@ -22,12 +22,20 @@ pub enum Place {
 /// Where a seat stands while it makes an object.
 #[derive(Clone, Copy)]
 pub enum Making {
+    /// The spine words of the array are added to those that are granted.
+    Granting,
+    /// They were too many: they are taken back, and the refusal is told.
+    Withdrawing,
     /// The next group is claimed.
     Gathering,
     /// Too little was found: what was claimed is given back.
     Returning,
-    /// All was given back: the refusal is told.
+    /// All was given back: the refusal is told, and an array's spine words are taken back.
     Refusing,
+    /// The array's spine gets its place.
+    Placing,
+    /// The spine gets its words.
+    Listing,
     /// The fragments get the words of the new object.
     Storing,
     /// The fragments are born.
@@ -41,6 +49,10 @@ pub enum Access {
     LoadingMeta,
     /// The link to the next fragment is loaded.
     Walking,
+    /// The place of the array's spine is loaded.
+    Locating,
+    /// The spine word is loaded that names the cell's fragment.
+    Indexing,
     /// The field is loaded, for a get.
     Getting,
     /// It was a reference: the object's name is loaded.

@@ -10,6 +10,7 @@ use crate::seat::register::Register;
 use crate::table::fragments::{Hand, Reserve};
 use heap_model::limits::REGISTER_COUNT;
 use heap_model::{Command, Entry, Heap, Id, Memory, Reply};
+use heap_words::Spot;
 use std::alloc::Global;
 use std::marker::Model;
 
@@ -25,7 +26,11 @@ mod local;
 pub(crate) mod looks;
 mod moves;
 pub(crate) mod register;
+mod spine;
 mod walk;
+
+/// Where no spine stands that the seat knows of.
+const NO_SPOT: Spot = Spot { half: 0, offset: 0 };
 
 /// What is kept of a seat: its registers, its fragments, its call in flight, what it answered, and its entries.
 #[derive(Drop)]
@@ -38,6 +43,9 @@ pub struct SeatParty {
     pub(crate) stored: u16,
     pub(crate) tried: u16,
     pub(crate) given: u16,
+    pub(crate) used: u64,
+    pub(crate) spine: Spot,
+    pub(crate) listed: u16,
     pub(crate) command: Command,
     pub(crate) place: Place,
     pub(crate) answered: u64,
@@ -45,6 +53,7 @@ pub struct SeatParty {
     pub(crate) reached: u16,
     pub(crate) links: u16,
     pub(crate) part: u8,
+    pub(crate) address: Spot,
     pub(crate) loaded: u64,
     pub(crate) asked: u64,
     pub(crate) shaded: u8,
@@ -69,6 +78,9 @@ impl Model for SeatParty {
         stored = party.stored;
         tried = party.tried;
         given = party.given;
+        used = party.used;
+        spine = party.spine;
+        listed = party.listed;
         command = party.command;
         place = party.place;
         answered = party.answered;
@@ -76,6 +88,7 @@ impl Model for SeatParty {
         reached = party.reached;
         links = party.links;
         part = party.part;
+        address = party.address;
         loaded = party.loaded;
         asked = party.asked;
         shaded = party.shaded;
@@ -108,6 +121,9 @@ impl SeatParty {
             stored: 0,
             tried: 0,
             given: 0,
+            used: 0,
+            spine: NO_SPOT,
+            listed: 0,
             command: Command::Poll,
             place: Place::Idle,
             answered: 0,
@@ -115,6 +131,7 @@ impl SeatParty {
             reached: 0,
             links: 0,
             part: 0,
+            address: NO_SPOT,
             loaded: 0,
             asked: 0,
             shaded: 0,
@@ -154,10 +171,14 @@ impl SeatParty {
         self.stored = 0;
         self.tried = 0;
         self.given = 0;
+        self.used = 0;
+        self.spine = NO_SPOT;
+        self.listed = 0;
         self.place = Place::Idle;
         self.reached = 0;
         self.links = 0;
         self.part = 0;
+        self.address = NO_SPOT;
         self.loaded = 0;
         self.asked = 0;
         self.shaded = 0;

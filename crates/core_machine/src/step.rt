@@ -1,8 +1,9 @@
 ghost use Rattle.std.specs.Prelude.{◌≡◌};
-ghost use Rattle.core_machine.specs.table.Operation.{address_of, operation_of, making_address, making_operation, access_address, access_operation, handshake_address, handshake_operation, turning_address, turning_operation};
+ghost use Rattle.core_machine.specs.table.Operation.{address_of, operation_of, making_address, making_operation, access_address, access_operation, spine_address, spine_operation, handshake_address, handshake_operation, turning_address, turning_operation};
 
 use crate::step::operation::Operation;
 use crate::table::address::Address;
+use crate::table::newborn::spine_word;
 use heap_model::limits::GROUP_FRAGMENTS;
 use heap_words::{
     ALL_TAKEN, LEFT, MARKS_CLEARED, all_but, birth_bits, blacken_bit, free_mask, shade_bit,
@@ -19,6 +20,8 @@ pub enum Step {
     PollLoad,
     /// A step by which an object is read or written.
     Access(AccessStep),
+    /// A step on spines: their words that are granted, their places, and they themselves.
+    Spine(SpineStep),
     /// A step by which a seat tells what it has answered.
     Handshake(HandshakeStep),
     /// A step of the collector; a seat too looks at another one's word.
@@ -55,6 +58,23 @@ pub enum AccessStep {
     Shade { fragment: u16 },
     /// A field gets another word.
     Swap { fragment: u16, part: u8, word: u64 },
+}
+
+/// A step on spines. The loads are the collector's too.
+#[derive(Clone, Copy)]
+pub enum SpineStep {
+    /// So many more words are granted, or asked for.
+    BudgetAdd { words: u16 },
+    /// So many are granted no longer, or asked for.
+    BudgetTakeBack { words: u16 },
+    /// The next free spine words are taken, so many.
+    SpotClaim { words: u16 },
+    /// A spine word of an array that isn't born yet names a fragment.
+    SpineStore { half: u8, offset: u32, fragment: u16 },
+    /// The place of an array's spine is loaded from its first fragment.
+    AddressLoad { sentinel: u16 },
+    /// A spine word is loaded.
+    WordLoad { half: u8, offset: u32 },
 }
 
 /// A step by which a seat tells in its own word what it has answered.
@@ -100,6 +120,7 @@ impl Step {
             Step::Making(step) => step.address(),
             Step::PollLoad => Address::Phase,
             Step::Access(step) => step.address(),
+            Step::Spine(step) => step.address(),
             Step::Handshake(step) => step.address(),
             Step::Turning(step) => step.address(),
         }
@@ -113,6 +134,7 @@ impl Step {
             Step::Making(step) => step.operation(),
             Step::PollLoad => Operation::Load,
             Step::Access(step) => step.operation(),
+            Step::Spine(step) => step.operation(),
             Step::Handshake(step) => step.operation(),
             Step::Turning(step) => step.operation(),
         }
@@ -173,6 +195,37 @@ impl AccessStep {
             | AccessStep::OldLoad { .. } => Operation::Load,
             AccessStep::Shade { fragment } => Operation::Or(shade_bit(fragment)),
             AccessStep::Swap { word, .. } => Operation::Exchange(word),
+        }
+    }
+}
+
+impl SpineStep {
+    fn address(&self) -> Address
+        ensures { result ≡ spine_address self.now }
+    {
+        match *self {
+            SpineStep::BudgetAdd { .. } | SpineStep::BudgetTakeBack { .. } => Address::Budget,
+            SpineStep::SpotClaim { .. } => Address::Spot,
+            SpineStep::SpineStore { half, offset, .. } | SpineStep::WordLoad { half, offset } => {
+                Address::Spine { half, offset }
+            }
+            SpineStep::AddressLoad { sentinel } => Address::Word {
+                fragment: sentinel,
+                part: 2,
+            },
+        }
+    }
+
+    fn operation(&self) -> Operation
+        ensures { result ≡ spine_operation self.now }
+    {
+        match *self {
+            SpineStep::BudgetAdd { words } | SpineStep::SpotClaim { words } => {
+                Operation::Add(u64::from(words))
+            }
+            SpineStep::BudgetTakeBack { words } => Operation::Subtract(u64::from(words)),
+            SpineStep::SpineStore { fragment, .. } => Operation::Store(spine_word(fragment)),
+            SpineStep::AddressLoad { .. } | SpineStep::WordLoad { .. } => Operation::Load,
         }
     }
 }

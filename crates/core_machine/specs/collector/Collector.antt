@@ -11,8 +11,8 @@ use Rattle.core_machine.specs.declared.collector.stage.Stage.TheVariants as stag
 use Rattle.core_machine.specs.declared.step.Step.TheVariants.{Turning}
 use Rattle.core_machine.specs.declared.step.TurningStep.TheVariants as turning
 pub use Rattle.core_machine.specs.collector.Turn.{Collector, Turn, after_advance, quiet_turn, work_turn, collector_after}
-pub use Rattle.core_machine.specs.collector.Marking.{lowest_grey_of, after_last_group, after_group, after_pass, part_after, scan_step, scan_at, after_scan_load}
-pub use Rattle.core_machine.specs.collector.MarkingTurns.{pass_turn, scan_turn, shade_turn, blacken_turn}
+pub use Rattle.core_machine.specs.collector.Marking.{lowest_grey_of, after_last_group, after_group, after_pass, part_after, scan_step, scan_at, after_scan_load, array_at, after_first_load, spine_step, spine_scan_at, after_address, after_spread}
+pub use Rattle.core_machine.specs.collector.MarkingTurns.{pass_turn, scan_turn, shade_turn, locate_turn, index_turn, spread_turn, blacken_turn}
 pub use Rattle.core_machine.specs.collector.Sweeping.{dead_bits_of, next_place_of, taken_count_of, after_swept, after_examined, after_cleared}
 pub use Rattle.core_machine.specs.collector.SweepingTurns.{sweep_turn, examine_turn, free_turn, clear_turn}
 
@@ -53,7 +53,7 @@ look_answer collector found =
 -- the next seat's word is loaded
 abbrev pub look_turn : Heap → Collector → Turn
 look_turn heap collector =
-    quiet_turn (turning.LookLoad collector.looked) (after_look heap collector) (look_answer collector)
+    quiet_turn (Turning (turning.LookLoad collector.looked)) (after_look heap collector) (look_answer collector)
 
 -- below the last two numbers of a word there is one left for the next phase
 abbrev pub advance_turn : Collector → Turn
@@ -81,6 +81,9 @@ turn_at heap collector stages.Looking = look_turn heap collector
 turn_at heap collector (stages.Passing group found) = pass_turn heap collector group found
 turn_at heap collector (stages.Scanning scan) = scan_turn collector scan
 turn_at heap collector (stages.Shading scan target next) = shade_turn collector scan target next
+turn_at heap collector (stages.Locating scan words) = locate_turn collector scan words
+turn_at heap collector (stages.Indexing scan) = index_turn collector scan
+turn_at heap collector (stages.Spreading scan target) = spread_turn collector scan target
 turn_at heap collector (stages.Blackening scan) = blacken_turn collector scan
 turn_at heap collector (stages.Sweeping group) = sweep_turn heap collector group
 turn_at heap collector (stages.Examining group dead place) = examine_turn heap collector group dead place

@@ -6,8 +6,10 @@ use Rattle.heap_model.specs.Limits.{group_fragments}
 use Rattle.heap_model.specs.PhasePlan.{cycle_phases, marking, sweep, clearing}
 use Rattle.core_machine.specs.collector.Collector.{Collector}
 use Rattle.core_machine.specs.declared.collector.stage.Scan.{Scan}
+use Rattle.core_machine.specs.declared.collector.stage.SpineScan.{SpineScan}
 use Rattle.core_machine.specs.declared.collector.stage.Stage.{Stage}
 use Rattle.core_machine.specs.declared.collector.stage.Stage.TheVariants as stages
+use Rattle.core_machine.specs.table.Layout.{FitsSpot}
 
 -- every seat has answered, and the phase isn't the last one of a cycle
 pub record HasLooked (seats phase looked : ℕ) : Type 0 where
@@ -41,11 +43,41 @@ pub record IsShading (heap : Heap) (phase looked : ℕ) (scan : Scan) (target ne
   pub next_within : next ≤ 4
   pub few_steps : scan.steps ≤ 2 * scan.part + 1
 
--- a scan of a fragment of the heap has seen to its four words
+-- the most words of a spine that a meta tells
+abbrev pub spine_most : ℕ
+spine_most = 2048
+
+-- a scan has loaded the meta of an array with so many spine words, by its first step
+pub record IsLocating (heap : Heap) (phase looked : ℕ) (scan : Scan) (words : ℕ) : Type 0 where
+  pub marks : IsMarking heap.seats phase looked
+  pub fragment_within : scan.fragment < group_fragments * heap.groups
+  pub words_few : words ≤ spine_most
+  pub first_step : scan.steps ≡ 1
+
+-- a scan stands before a word of a spine; two steps led to its first word, and two to each further one
+pub record IsIndexing (heap : Heap) (phase looked : ℕ) (s : SpineScan) : Type 0 where
+  pub marks : IsMarking heap.seats phase looked
+  pub fragment_within : s.scan.fragment < group_fragments * heap.groups
+  pub words_few : s.words ≤ spine_most
+  pub index_within : s.index < s.words
+  pub spine_within : FitsSpot s.spine
+  pub steps_made : s.scan.steps ≡ 2 + 2 * s.index
+
+-- a scan has loaded a word of a spine, which names a fragment of the heap
+pub record IsSpreading (heap : Heap) (phase looked : ℕ) (s : SpineScan) (target : ℕ) : Type 0 where
+  pub marks : IsMarking heap.seats phase looked
+  pub fragment_within : s.scan.fragment < group_fragments * heap.groups
+  pub words_few : s.words ≤ spine_most
+  pub index_within : s.index < s.words
+  pub spine_within : FitsSpot s.spine
+  pub target_within : target < group_fragments * heap.groups
+  pub steps_made : s.scan.steps ≡ 3 + 2 * s.index
+
+-- a scan of a fragment of the heap has seen to its four words, or to its spine
 pub record IsBlackening (heap : Heap) (phase looked : ℕ) (scan : Scan) : Type 0 where
   pub marks : IsMarking heap.seats phase looked
   pub fragment_within : scan.fragment < group_fragments * heap.groups
-  pub few_steps : scan.steps ≤ 8
+  pub few_steps : scan.steps ≤ 2 + 2 * spine_most
 
 -- the sweep stands before a group of the heap
 pub record IsSweeping (heap : Heap) (phase looked group : ℕ) : Type 0 where
@@ -85,6 +117,9 @@ FitsStage heap phase looked stages.Looking = looked < heap.seats
 FitsStage heap phase looked (stages.Passing group found) = IsPassing heap phase looked group
 FitsStage heap phase looked (stages.Scanning scan) = IsScanning heap phase looked scan
 FitsStage heap phase looked (stages.Shading scan target next) = IsShading heap phase looked scan target next
+FitsStage heap phase looked (stages.Locating scan words) = IsLocating heap phase looked scan words
+FitsStage heap phase looked (stages.Indexing s) = IsIndexing heap phase looked s
+FitsStage heap phase looked (stages.Spreading s target) = IsSpreading heap phase looked s target
 FitsStage heap phase looked (stages.Blackening scan) = IsBlackening heap phase looked scan
 FitsStage heap phase looked (stages.Sweeping group) = IsSweeping heap phase looked group
 FitsStage heap phase looked (stages.Examining group dead place) = IsExamining heap phase looked group dead place

@@ -1,11 +1,14 @@
 -- How marking goes on: its passes over the groups, and the scans of what they find.
 use Rattle.std.specs.Prelude.{ℕ, ◌+◌, ◌*◌, ◌==◌, nat_lt, Bool, true, false, if◌then◌else◌, Option, Some, None}
+use Rattle.heap_words.specs.Spot.{spot_in}
 use Rattle.heap_model.specs.declared.heap.Heap.{Heap}
 use Rattle.heap_model.specs.Limits.{group_fragments}
+use Rattle.heap_model.specs.Needs.{array_words}
 use Rattle.core_machine.specs.declared.collector.stage.Scan.{Scan}
+use Rattle.core_machine.specs.declared.collector.stage.SpineScan.{SpineScan}
 use Rattle.core_machine.specs.declared.collector.stage.Stage.{Stage}
 use Rattle.core_machine.specs.declared.collector.stage.Stage.TheVariants as stages
-use Rattle.core_machine.specs.table.Decode.{is_meta}
+use Rattle.core_machine.specs.table.Decode.{is_meta, array_length_of}
 pub use Rattle.heap_words.specs.Control.{lowest_grey_of}
 
 -- how a pass that has seen the last group goes on: where it found something another one begins, else marking has ended and so the phase is done
@@ -38,3 +41,28 @@ scan_at scan part = if nat_lt part 4 then stages.Scanning (record scan { part = 
 abbrev pub after_scan_load : Scan → ℕ → Option ℕ → Stage
 after_scan_load scan next None = scan_at (scan_step scan) next
 after_scan_load scan next (Some target) = stages.Shading (scan_step scan) target next
+
+-- the length of an array, where the word that was found is its meta, a fragment's first word
+abbrev pub array_at : ℕ → ℕ → Option ℕ
+array_at part word = if part == 0 then array_length_of word else None
+
+-- a word was found: behind an array's meta comes the place of its spine
+abbrev pub after_first_load : Scan → Option ℕ → ℕ → Option ℕ → Stage
+after_first_load scan None next target = after_scan_load scan next target
+after_first_load scan (Some cells) next target = stages.Locating (scan_step scan) (array_words cells)
+
+-- one more step of the scan is made
+abbrev pub spine_step : SpineScan → SpineScan
+spine_step s = record s { scan = scan_step s.scan }
+
+-- the scan comes to its spine word; behind the last one all are seen to
+abbrev pub spine_scan_at : SpineScan → Stage
+spine_scan_at s = if nat_lt s.index s.words then stages.Indexing s else stages.Blackening s.scan
+
+-- the place of the spine was found
+abbrev pub after_address : Scan → ℕ → ℕ → Stage
+after_address scan words found = spine_scan_at (record { scan = scan_step scan; spine = spot_in found; words = words; index = 0 })
+
+-- the fragment that its word names was marked: the next word's turn comes
+abbrev pub after_spread : SpineScan → Stage
+after_spread s = spine_scan_at (record (spine_step s) { index = s.index + 1 })

@@ -12,13 +12,13 @@ use Rattle.core_machine.specs.collector.Turn.{Collector, Turn, work_turn}
 -- a group's control word is loaded for what is dead in it
 abbrev pub sweep_turn : Heap → Collector → ℕ → Turn
 sweep_turn heap collector group =
-    work_turn (turning.GroupLoad group)
+    work_turn (Turning (turning.GroupLoad group))
     (λ word. record collector { stage = after_examined heap group (dead_bits_of word) (next_place_of (dead_bits_of word) 0) })
 
 -- the first word of a dead fragment is loaded: whatever it is, the next one's turn comes
 abbrev pub examine_turn : Heap → Collector → ℕ → ℕ → ℕ → Turn
 examine_turn heap collector group dead place =
-    work_turn (turning.MetaLoad (group_fragments * group + place))
+    work_turn (Turning (turning.MetaLoad (group_fragments * group + place)))
     (λ word. record collector { stage = after_examined heap group dead (next_place_of dead (place + 1)) })
 
 -- the group's dead fragments are freed
@@ -34,4 +34,4 @@ free_turn heap collector group dead = record {
 -- a group's marks are cleared, and its taken fragments are counted in the word as it was found
 abbrev pub clear_turn : Heap → Collector → ℕ → ℕ → Turn
 clear_turn heap collector group kept =
-    work_turn (turning.Clear group) (λ word. record collector { stage = after_cleared heap group (kept + taken_count_of word) })
+    work_turn (Turning (turning.Clear group)) (λ word. record collector { stage = after_cleared heap group (kept + taken_count_of word) })

@@ -6,8 +6,6 @@ use Rattle.heap_model.specs.declared.entry.Entry.{Entry}
 use Rattle.core_machine.specs.declared.collector.stage.Stage.{Stage}
 use Rattle.core_machine.specs.declared.collector.stage.Stage.TheVariants.{Looking}
 use Rattle.core_machine.specs.declared.step.Step.{Step}
-use Rattle.core_machine.specs.declared.step.Step.TheVariants.{Turning}
-use Rattle.core_machine.specs.declared.step.TurningStep.{TurningStep}
 
 -- what the machine keeps of the collector
 pub record Collector : Type 0 where
@@ -38,11 +36,11 @@ pub record Turn : Type 1 where
   pub may : Type 0
 
 -- a turn that adds no entry, and that may always be made
-abbrev pub quiet_turn : TurningStep → (ℕ → Collector) → (ℕ → TurnAnswer) → Turn
-quiet_turn step told answer = record { step = Turning step; told = told; adds = []; answer = answer; may = Unit {0} }
+abbrev pub quiet_turn : Step → (ℕ → Collector) → (ℕ → TurnAnswer) → Turn
+quiet_turn step told answer = record { step = step; told = told; adds = []; answer = answer; may = Unit {0} }
 
 -- a turn of a phase's work that adds no entry: it has made a step whatever it found
-abbrev pub work_turn : TurningStep → (ℕ → Collector) → Turn
+abbrev pub work_turn : Step → (ℕ → Collector) → Turn
 work_turn step told = quiet_turn step told (λ found. Stepped)
 
 -- the collector after a turn that found this word

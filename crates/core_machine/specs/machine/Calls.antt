@@ -1,5 +1,5 @@
 -- A call that a seat makes from its begin to its reply, with no step of others between.
-use Rattle.std.specs.Prelude.{◌≡◌, ◌≢◌, ℕ, ◌+◌, ◌≤◌, ◌<◌, ◌-◌, ◌⊎◌, List, [], ◌∷◌, ◌++◌, length, replicate, slice_get, Option, Some, None, option_and_then}
+use Rattle.std.specs.Prelude.{◌≡◌, ◌≢◌, ℕ, ◌+◌, ◌≤◌, ◌<◌, ◌-◌, ◌%◌, ◌^◌, ◌⊎◌, List, [], ◌∷◌, ◌++◌, length, replicate, slice_get, Option, Some, None, option_and_then}
 use Rattle.std.specs.List.{AllByRecursion}
 use Rattle.heap_model.specs.declared.heap.Heap.{Heap}
 use Rattle.heap_model.specs.declared.command.Command.{Command}
@@ -7,10 +7,11 @@ use Rattle.heap_model.specs.declared.command.Command.TheVariants.{Poll, Leave}
 use Rattle.heap_model.specs.declared.entry.Entry.{Entry}
 use Rattle.heap_model.specs.declared.entry.Entry.TheVariants.{Said, Takes, GivesBack, Answers}
 use Rattle.heap_model.specs.declared.reply.Reply.{Reply}
-use Rattle.heap_model.specs.declared.reply.Reply.TheVariants.{Made, Full, NoObject, NoField}
+use Rattle.heap_model.specs.declared.reply.Reply.TheVariants.{Made, Full, SpineFull, NoObject, NoField}
 use Rattle.heap_model.specs.calls.SeatCalls.{ComesBefore, leave_entries}
+use Rattle.heap_model.specs.Needs.{spine_need_of}
 use Rattle.heap_model.specs.account.Space.{need_of}
-use Rattle.core_machine.specs.declared.table.address.Address.TheVariants.{Phase, Control}
+use Rattle.core_machine.specs.declared.table.address.Address.TheVariants.{Phase, Budget, Control}
 use Rattle.core_machine.specs.declared.place.Place.TheVariants.{Idle}
 use Rattle.core_machine.specs.table.Fragments.{clear_in}
 use Rattle.core_machine.specs.table.Layout.{at, SameTable}
@@ -86,6 +87,22 @@ pub record IsRefused (heap : Heap) (old new : State) (number : ℕ) (command : C
 pub record AnswersNew (heap : Heap) (old new : State) (number : ℕ) (command : Command) (reply : Reply) : Type 0 where
   pub made : need_of command ≤ within_reach heap old number → reply ≡ Made (next_object_id number (seat_at old number))
   pub refused : within_reach heap old number < need_of command → IsRefused heap old new number command reply
+
+-- the array's spine words are more than the heap grants beside those that are in use or asked for
+abbrev pub LacksWords : Heap → State → Command → Type 0
+LacksWords heap state command = heap.spine < at heap state.words Budget + spine_need_of command
+
+-- the call was refused its spine words: the refusal shows what is needed and what was granted, and nothing was changed
+pub record IsSpineRefused (heap : Heap) (old new : State) (number : ℕ) (command : Command) (reply : Reply) : Type 0 where
+  pub shows : reply ≡ SpineFull (spine_need_of command) (at heap old.words Budget % 2 ^ 32)
+  pub own_stays : KeepsOwn (seat_at old number) (seat_at new number)
+  pub table_stays : SameTable heap old.words new.words
+
+-- an array is made exactly where both its spine words and its fragments are enough; where both are too few its spine words are refused
+pub record AnswersArray (heap : Heap) (old new : State) (number : ℕ) (command : Command) (reply : Reply) : Type 0 where
+  pub spine_refused : LacksWords heap old command → IsSpineRefused heap old new number command reply
+  pub made : ¬ LacksWords heap old command → need_of command ≤ within_reach heap old number → reply ≡ Made (next_object_id number (seat_at old number))
+  pub refused : ¬ LacksWords heap old command → within_reach heap old number < need_of command → IsRefused heap old new number command reply
 
 -- the reply refuses a get, a set or a len
 abbrev pub IsPlaceRefusal : Reply → Type 0

@@ -6,7 +6,8 @@ use Rattle.heap_model.specs.declared.command.Command.{Command}
 use Rattle.heap_model.specs.declared.command.Command.TheVariants as commands
 use Rattle.heap_model.specs.declared.entry.Entry.{Entry}
 use Rattle.heap_model.specs.Command.{IsCommand}
-use Rattle.core_machine.specs.declared.place.Place.TheVariants.{Idle, Local, Polling, Leaving}
+use Rattle.core_machine.specs.declared.place.Place.TheVariants.{Idle, Making, Local, Polling, Leaving}
+use Rattle.core_machine.specs.declared.place.Making.TheVariants.{Granting}
 use Rattle.core_machine.specs.declared.place.Polling.TheVariants.{Asking}
 use Rattle.core_machine.specs.declared.step.Step.{Step}
 use Rattle.core_machine.specs.seat.Commands.{IsServed}
@@ -43,10 +44,10 @@ state_after_move heap state number move = record state {
   seats = slice_set state.seats number (seat_after move (found_by heap state move.step));
 }
 
--- where a seat stands that begins this call; one that isn't served begins nothing
+-- where a seat stands that begins this call; a collect, which isn't served, begins nothing
 abbrev pub call_start : Heap → Seat → Command → Seat
 call_start heap seat (commands.New d fields) = gather_next heap seat
-call_start heap seat (commands.Array d cells) = seat
+call_start heap seat (commands.Array d cells) = record seat { place = Making Granting }
 call_start heap seat (commands.Get d r i) = access_start seat (register_in seat.registers r)
 call_start heap seat (commands.Set r i v) = access_start seat (register_in seat.registers r)
 call_start heap seat (commands.Num d n) = record seat { place = Local }

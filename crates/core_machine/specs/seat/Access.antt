@@ -1,5 +1,6 @@
 -- How a seat goes on while it reads or writes an object: the way to the field, and what is done with it.
 use Rattle.std.specs.Prelude.{ℕ, ◌+◌, ◌-◌, ◌/◌, ◌%◌, ◌==◌, nat_lt, nat_le, Bool, false, if◌then◌else◌, Option, Some, None, slice_set}
+use Rattle.heap_words.specs.Spot.{spot_in}
 use Rattle.heap_model.specs.declared.command.Command.{Command}
 use Rattle.heap_model.specs.declared.command.Command.TheVariants as commands
 use Rattle.heap_model.specs.declared.id.Id.{Id}
@@ -8,11 +9,11 @@ use Rattle.heap_model.specs.declared.reply.Reply.TheVariants.{Length, NoField}
 use Rattle.heap_model.specs.PhasePlan.{cycle_phases, barriers, clearing}
 use Rattle.core_machine.specs.declared.place.Place.TheVariants as places
 use Rattle.core_machine.specs.declared.place.Access.{Access}
-use Rattle.core_machine.specs.declared.place.Access.TheVariants.{LoadingMeta, Walking, Getting, Naming, LoadingOld, ShadingOld, ShadingNew, Swapping}
+use Rattle.core_machine.specs.declared.place.Access.TheVariants.{LoadingMeta, Walking, Locating, Indexing, Getting, Naming, LoadingOld, ShadingOld, ShadingNew, Swapping}
 use Rattle.core_machine.specs.declared.seat.register.Register.{Register}
 use Rattle.core_machine.specs.declared.seat.register.Register.TheVariants.{Nil, Number, Object}
 use Rattle.core_machine.specs.seat.Commands.{target_of, source_of, field_of}
-use Rattle.core_machine.specs.table.Decode.{link_of, length_of, plain_of}
+use Rattle.core_machine.specs.table.Decode.{link_of, length_of, array_length_of, payload_in, plain_of}
 use Rattle.core_machine.specs.seat.Registers.{register_in, register_head}
 use Rattle.core_machine.specs.seat.Seat.{Seat, after_call}
 
@@ -95,10 +96,31 @@ meta_reply_of commands.Leave found = None
 abbrev pub with_field_place : Seat → Seat
 with_field_place seat = record seat { links = row_of (field_of seat.command); part = part_of (field_of seat.command) }
 
+-- a cell of an array stands in this word of the fragment that a spine word names, to which no link leads
+abbrev pub with_cell_place : Seat → Seat
+with_cell_place seat = record seat { links = 0; part = field_of seat.command % 4 }
+
+-- the way from a record's meta goes by its links, and from an array's by its spine
+abbrev pub after_length : Seat → ℕ → Option ℕ → Seat
+after_length seat found None = after_walk (with_field_place seat) found
+after_length seat found (Some cells) = at_access (with_cell_place seat) Locating
+
 -- the meta was found: it tells where the field stands
 abbrev pub after_meta : Seat → ℕ → Option Reply → Seat
-after_meta seat found None = after_walk (with_field_place seat) found
+after_meta seat found None = after_length seat found (array_length_of found)
 after_meta seat found (Some reply) = after_call seat
+
+-- the place of the spine was found
+abbrev pub after_address : Seat → ℕ → Seat
+after_address seat found = at_access (record seat { address = spot_in found }) Indexing
+
+-- the seat has reached the fragment that this spine word names
+abbrev pub at_payload : Seat → ℕ → Seat
+at_payload seat found = record seat { reached = payload_in found }
+
+-- the spine word was found that names the cell's fragment
+abbrev pub after_index : Seat → ℕ → Seat
+after_index seat found = at_access (at_payload seat found) (field_place_of (at_payload seat found) seat.command)
 
 -- a get's field was found: a number or nil stands in the register, a reference waits for its object's name
 abbrev pub after_get : Seat → ℕ → Option ℕ → Seat

@@ -1,5 +1,5 @@
 -- The moves by which an object is read or written, a row per place.
-use Rattle.std.specs.Prelude.{ℕ, ◌+◌, List, [], ◌∷◌, Option, Some, None, unwrap_or}
+use Rattle.std.specs.Prelude.{ℕ, ◌+◌, ◌/◌, List, [], ◌∷◌, Option, Some, None, unwrap_or}
 use Rattle.heap_model.specs.declared.heap.Heap.{Heap}
 use Rattle.heap_model.specs.declared.entry.Entry.{Entry}
 use Rattle.heap_model.specs.declared.entry.Entry.TheVariants.{Said}
@@ -9,14 +9,15 @@ use Rattle.heap_model.specs.declared.reply.Reply.TheVariants.{Got, Was}
 use Rattle.heap_model.specs.graph.Growth.{set_stamp}
 use Rattle.core_machine.specs.declared.table.address.Address.TheVariants.{Word}
 use Rattle.core_machine.specs.declared.place.Access.{Access}
-use Rattle.core_machine.specs.declared.place.Access.TheVariants.{LoadingMeta, Walking, Getting, Naming, LoadingOld, ShadingOld, ShadingNew, Swapping}
+use Rattle.core_machine.specs.declared.place.Access.TheVariants.{LoadingMeta, Walking, Locating, Indexing, Getting, Naming, LoadingOld, ShadingOld, ShadingNew, Swapping}
 use Rattle.core_machine.specs.declared.seat.register.Register.{Register}
 use Rattle.core_machine.specs.declared.step.Step.TheVariants as steps
 use Rattle.core_machine.specs.declared.step.AccessStep.TheVariants.{WalkLoad, NameLoad, GetLoad, OldLoad, Shade, Swap}
-use Rattle.core_machine.specs.seat.Commands.{source_of}
+use Rattle.core_machine.specs.declared.step.SpineStep.TheVariants.{AddressLoad, WordLoad}
+use Rattle.core_machine.specs.seat.Commands.{source_of, field_of}
 use Rattle.core_machine.specs.table.Layout.{at}
 use Rattle.core_machine.specs.table.Decode.{head_of, id_of, stamp_of, plain_of}
-use Rattle.core_machine.specs.seat.Access.{after_walk, meta_reply_of, after_meta, after_get, after_name, after_old, after_old_load, at_access, after_swap}
+use Rattle.core_machine.specs.seat.Access.{after_walk, meta_reply_of, after_meta, after_address, after_index, after_get, after_name, after_old, after_old_load, at_access, after_swap}
 use Rattle.core_machine.specs.seat.Registers.{register_in, register_word, register_head, value_of}
 use Rattle.core_machine.specs.seat.Seat.{Seat}
 use Rattle.core_machine.specs.Move.{Move, plain_move}
@@ -39,6 +40,15 @@ open_move number seat =
 -- a link is loaded
 abbrev pub walk_move : Seat → Move
 walk_move seat = plain_move (steps.Access (WalkLoad seat.reached)) (after_walk seat) (λ found. [])
+
+-- the place of the array's spine is loaded
+abbrev pub locate_move : Seat → Move
+locate_move seat = plain_move (steps.Spine (AddressLoad seat.reached)) (after_address seat) (λ found. [])
+
+-- the spine word is loaded that names the cell's fragment: each fragment has four cells
+abbrev pub index_move : Seat → Move
+index_move seat =
+    plain_move (steps.Spine (WordLoad seat.address.half (seat.address.offset + field_of seat.command / 4))) (after_index seat) (λ found. [])
 
 -- what a get answers that put this into its register
 abbrev pub got_reply : Register → ℕ → Reply
@@ -110,6 +120,8 @@ swap_move number seat =
 abbrev pub access_move : Heap → ℕ → Seat → Access → Move
 access_move heap number seat LoadingMeta = open_move number seat
 access_move heap number seat Walking = walk_move seat
+access_move heap number seat Locating = locate_move seat
+access_move heap number seat Indexing = index_move seat
 access_move heap number seat Getting = get_move heap number seat
 access_move heap number seat Naming = name_move number seat
 access_move heap number seat LoadingOld = old_move seat

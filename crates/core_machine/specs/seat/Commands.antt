@@ -4,15 +4,26 @@ use Rattle.heap_model.specs.declared.command.Command.{Command}
 use Rattle.heap_model.specs.declared.command.Command.TheVariants.{New, Array, Get, Set, Num, Nil, Copy, Same, Len, Poll, Collect, Leave}
 use Rattle.core_machine.specs.declared.seat.commands.Parts.{Parts}
 
+-- the command makes an object
+abbrev pub MakesObject : Command → Type 0
+MakesObject (New d fields) = Unit {0}
+MakesObject (Array d cells) = Unit {0}
+MakesObject _ = ⊥
+
 -- the command makes a record
 abbrev pub IsRecord : Command → Type 0
 IsRecord (New d fields) = Unit {0}
 IsRecord _ = ⊥
 
--- the machine serves the command: so far it makes no array, and collects for no seat
+-- the command makes an array
+abbrev pub IsArray : Command → Type 0
+IsArray (Array d cells) = Unit {0}
+IsArray _ = ⊥
+
+-- the machine serves the command: all but a collect, which it makes by inner calls
 abbrev pub IsServed : Command → Type 0
 IsServed (New d fields) = Unit {0}
-IsServed (Array d cells) = ⊥
+IsServed (Array d cells) = Unit {0}
 IsServed (Get d r i) = Unit {0}
 IsServed (Set r i v) = Unit {0}
 IsServed (Num d n) = Unit {0}
@@ -26,12 +37,12 @@ IsServed Leave = Unit {0}
 
 -- what a command names that names nothing
 abbrev pub no_parts : Parts
-no_parts = record { target = 0; object = 0; source = 0; field = 0; fields = 0 }
+no_parts = record { target = 0; object = 0; source = 0; field = 0; fields = 0; cells = 0 }
 
 -- what a command names; 0 for what it doesn't name
 abbrev pub parts_of : Command → Parts
 parts_of (New d fields) = record no_parts { target = d; fields = fields }
-parts_of (Array d cells) = record no_parts { target = d }
+parts_of (Array d cells) = record no_parts { target = d; cells = cells }
 parts_of (Get d r i) = record no_parts { target = d; object = r; field = i }
 parts_of (Set r i v) = record no_parts { object = r; field = i; source = v }
 parts_of (Num d n) = record no_parts { target = d }
@@ -62,3 +73,7 @@ field_of command = (parts_of command).field
 -- the fields of the record that a command makes
 abbrev pub fields_of : Command → ℕ
 fields_of command = (parts_of command).fields
+
+-- the cells of the array that a command makes
+abbrev pub cells_of : Command → ℕ
+cells_of command = (parts_of command).cells

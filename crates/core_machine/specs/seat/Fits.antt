@@ -1,5 +1,6 @@
 -- What is true of a seat's own data, whatever the words are.
 use Rattle.std.specs.Prelude.{◌≡◌, ◌*◌, ◌/◌, ◌<◌, ◌≤◌, ◌^◌, true, [], length, All, ℕ, List}
+use Rattle.heap_words.specs.declared.spot.Spot.{Spot}
 use Rattle.heap_model.specs.declared.heap.Heap.{Heap}
 use Rattle.heap_model.specs.declared.command.Command.TheVariants as commands
 use Rattle.heap_model.specs.Command.{IsCommand}
@@ -10,8 +11,9 @@ use Rattle.core_machine.specs.declared.seat.register.Register.{Register}
 use Rattle.core_machine.specs.declared.seat.register.Register.TheVariants.{Nil, Number, Object}
 use Rattle.core_machine.specs.seat.FitsAccess.{FitsAccess, IsNowhere}
 use Rattle.core_machine.specs.table.Decode.{head_of, IsWithinHeap}
+use Rattle.core_machine.specs.table.Layout.{FitsSpot}
 use Rattle.core_machine.specs.seat.Seat.{Seat}
-pub use Rattle.core_machine.specs.seat.FitsMaking.{AreFragments, HasNoHand, IsAtRest, MakesRecord, SeatIsGathering, SeatIsRefusing, HasBody, FitsMaking}
+pub use Rattle.core_machine.specs.seat.FitsMaking.{AreFragments, HasNoSpine, HasNoHand, IsAtRest, MakesNext, SeatIsGranting, SeatIsWithdrawing, SeatIsGathering, SeatIsRefusing, HasBody, IsListed, IsUnstored, HasArrayBody, FitsMaking}
 pub use Rattle.core_machine.specs.seat.FitsHandshake.{IsLocal, AnswersThePhase, FitsLeaving, HasNoAnswer, IsSilent, SeatIsAnswering, FitsPolling}
 pub use Rattle.core_machine.specs.seat.Collecting.{FitsCollecting}
 pub use Rattle.core_machine.specs.collector.FitsTurns.{FitsStage, CollectorFits}
@@ -65,21 +67,23 @@ pub record OwnFits (heap : Heap) (registers : List Register) (reserve : List ℕ
   pub small_reserve : length reserve ≤ most_reserve
   pub reserve_of_cursor : All (λ fragment. fragment / group_fragments ≡ cursor) reserve
 
--- the fragments of the object that a call makes
-pub record HandFits (heap : Heap) (hand body : List ℕ) : Type 0 where
+-- the fragments of the object that a call makes, and the place of its spine
+pub record HandFits (heap : Heap) (hand body : List ℕ) (spine : Spot) : Type 0 where
   pub hand_within : AreFragments heap hand
   pub body_within : AreFragments heap body
+  pub spine_within : FitsSpot spine
 
 -- what a call has reached and loaded
-pub record WayFits (heap : Heap) (reached loaded : ℕ) : Type 0 where
+pub record WayFits (heap : Heap) (reached : ℕ) (address : Spot) (loaded : ℕ) : Type 0 where
   pub reached_within : reached < group_fragments * heap.groups
+  pub address_within : FitsSpot address
   pub loaded_within : IsWithinHeap heap (head_of loaded)
 
 -- the seat's own data fit together
 pub record Fits (heap : Heap) (seat : Seat) : Type 0 where
   pub own : OwnFits heap seat.registers seat.reserve seat.cursor
-  pub hand : HandFits heap seat.hand seat.body
-  pub way : WayFits heap seat.reached seat.loaded
+  pub hand : HandFits heap seat.hand seat.body seat.spine
+  pub way : WayFits heap seat.reached seat.address seat.loaded
   pub asked_small : seat.asked < 2 ^ 64
   pub at_place : FitsPlace heap seat seat.place
   pub way_at_place : FitsWay seat seat.place

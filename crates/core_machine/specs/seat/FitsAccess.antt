@@ -1,27 +1,29 @@
 -- What is true of a seat's own data while it reads or writes an object, whatever the words are.
 use Rattle.std.specs.Prelude.{◌≡◌, ℕ, ◌<◌, true, false, List, Some, IsSome}
+use Rattle.heap_words.specs.declared.spot.Spot.{Spot}
 use Rattle.heap_model.specs.declared.command.Command.{Command}
 use Rattle.heap_model.specs.declared.command.Command.TheVariants.{Get, Set, Len}
 use Rattle.heap_model.specs.Command.{IsCommand}
 use Rattle.core_machine.specs.declared.place.Access.{Access}
-use Rattle.core_machine.specs.declared.place.Access.TheVariants.{LoadingMeta, Walking, Getting, Naming, LoadingOld, ShadingOld, ShadingNew, Swapping}
+use Rattle.core_machine.specs.declared.place.Access.TheVariants.{LoadingMeta, Walking, Locating, Indexing, Getting, Naming, LoadingOld, ShadingOld, ShadingNew, Swapping}
 use Rattle.core_machine.specs.declared.seat.register.Register.{Register}
 use Rattle.core_machine.specs.seat.Commands.{object_of, source_of, field_of}
 use Rattle.core_machine.specs.table.Decode.{head_of}
 use Rattle.core_machine.specs.seat.Access.{row_of, has_barrier_of}
 use Rattle.core_machine.specs.seat.Registers.{register_in, register_head}
-use Rattle.core_machine.specs.seat.Seat.{Seat, HasNumberLeft}
+use Rattle.core_machine.specs.seat.Seat.{Seat, no_spot, HasNumberLeft}
 
 -- nothing was reached or loaded
-pub record HasNoWay (reached links part loaded : ℕ) : Type 0 where
+pub record HasNoWay (reached links part : ℕ) (address : Spot) (loaded : ℕ) : Type 0 where
   pub none_reached : reached ≡ 0
   pub no_links : links ≡ 0
   pub no_part : part ≡ 0
+  pub no_address : address ≡ no_spot
   pub none_loaded : loaded ≡ 0
 
 -- the seat has nothing reached or loaded
 abbrev pub IsNowhere : Seat → Type 0
-IsNowhere seat = HasNoWay seat.reached seat.links seat.part seat.loaded
+IsNowhere seat = HasNoWay seat.reached seat.links seat.part seat.address seat.loaded
 
 -- the command is a get
 abbrev pub IsGet : Command → Type 0
@@ -69,28 +71,35 @@ pub record IsAtHead (registers : List Register) (made sets : ℕ) (command : Com
 abbrev pub SeatIsAtHead : Seat → Type 0
 SeatIsAtHead seat = IsAtHead seat.registers seat.made seat.sets seat.command seat.reached seat.links seat.part seat.loaded
 
--- a field stands in one of the last three words of its fragment
-pub record IsFieldPart (part : ℕ) : Type 0 where
-  pub some : 0 < part
-  pub below : part < 4
-
 -- some links of the way are still to be walked
 pub record IsOnWay (registers : List Register) (made sets : ℕ) (command : Command) (links part loaded : ℕ) : Type 0 where
   pub works : HoldsObject registers made sets command
   pub names : NamesField command
   pub more : 0 < links
   pub some_done : links < row_of (field_of command)
-  pub field_part : IsFieldPart part
+  pub part_within : part < 4
   pub none_loaded : loaded ≡ 0
 
 -- the seat has links of its way still to walk
 abbrev pub SeatIsOnWay : Seat → Type 0
 SeatIsOnWay seat = IsOnWay seat.registers seat.made seat.sets seat.command seat.links seat.part seat.loaded
 
+-- the way stands at an array's first fragment, and goes on by its spine
+pub record IsAtSentinel (registers : List Register) (made sets : ℕ) (command : Command) (links part loaded : ℕ) : Type 0 where
+  pub works : HoldsObject registers made sets command
+  pub names : NamesField command
+  pub no_links : links ≡ 0
+  pub part_within : part < 4
+  pub none_loaded : loaded ≡ 0
+
+-- the seat's way stands at an array's first fragment
+abbrev pub SeatIsAtSentinel : Seat → Type 0
+SeatIsAtSentinel seat = IsAtSentinel seat.registers seat.made seat.sets seat.command seat.links seat.part seat.loaded
+
 -- no link leads on to the field
 pub record IsAtField (links part : ℕ) : Type 0 where
   pub arrived : links ≡ 0
-  pub field_part : IsFieldPart part
+  pub part_within : part < 4
 
 -- the field was reached by a get
 abbrev pub SeatIsAtGet : Seat → Type 0
@@ -104,6 +113,8 @@ SeatIsAtSet seat = WorksOnObject seat × IsSet seat.command × IsAtField seat.li
 abbrev pub FitsAccess : Seat → Access → Type 0
 FitsAccess seat LoadingMeta = SeatIsAtHead seat
 FitsAccess seat Walking = SeatIsOnWay seat
+FitsAccess seat Locating = SeatIsAtSentinel seat
+FitsAccess seat Indexing = SeatIsAtSentinel seat
 FitsAccess seat Getting = SeatIsAtGet seat × (seat.loaded ≡ 0)
 FitsAccess seat Naming = SeatIsAtGet seat × IsSome (head_of seat.loaded)
 FitsAccess seat LoadingOld = SeatIsAtSet seat × (has_barrier_of seat ≡ true) × (seat.loaded ≡ 0)

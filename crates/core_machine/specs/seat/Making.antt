@@ -1,18 +1,23 @@
 -- How a seat goes on while it makes an object: gathering, refusing, storing, bearing.
-use Rattle.std.specs.Prelude.{ℕ, ◌+◌, ◌-◌, ◌*◌, ◌/◌, ◌%◌, ◌==◌, nat_lt, nat_le, if◌then◌else◌, List, [], ◌∷◌, ◌++◌, length, take, drop, slice_index_or, slice_set}
+use Rattle.std.specs.Prelude.{ℕ, ◌+◌, ◌-◌, ◌*◌, ◌/◌, ◌%◌, ◌==◌, nat_lt, nat_le, if◌then◌else◌, List, [], ◌∷◌, ◌++◌, length, take, drop, reverse, slice_index_or, slice_set}
+use Rattle.std.specs.List.{prefix_len}
 use Rattle.heap_words.specs.declared.name.Name.{Name}
+use Rattle.heap_words.specs.declared.spot.Spot.{Spot}
+use Rattle.heap_words.specs.Spot.{spot_in}
+use Rattle.heap_model.specs.declared.command.Command.{Command}
+use Rattle.heap_model.specs.declared.command.Command.TheVariants as commands
 use Rattle.heap_model.specs.declared.heap.Heap.{Heap}
 use Rattle.heap_model.specs.declared.id.Id.{Id}
 use Rattle.heap_model.specs.declared.id.Id.TheVariants.{Made}
 use Rattle.heap_model.specs.Limits.{group_fragments}
 use Rattle.core_machine.specs.declared.place.Making.{Making}
-use Rattle.core_machine.specs.declared.place.Making.TheVariants.{Gathering, Returning, Refusing, Storing, Bearing}
+use Rattle.core_machine.specs.declared.place.Making.TheVariants.{Withdrawing, Gathering, Returning, Refusing, Placing, Listing, Storing, Bearing}
 use Rattle.core_machine.specs.declared.place.Place.TheVariants as places
 use Rattle.core_machine.specs.declared.seat.register.Register.TheVariants.{Object}
-use Rattle.core_machine.specs.seat.Commands.{target_of, fields_of}
-use Rattle.core_machine.specs.table.Fragments.{part_in, part_out, clear_in}
-use Rattle.core_machine.specs.table.Newborn.{record_word_of}
-use Rattle.core_machine.specs.seat.Seat.{Seat, need, after_call}
+use Rattle.core_machine.specs.seat.Commands.{target_of, fields_of, cells_of}
+use Rattle.core_machine.specs.table.Fragments.{in_group, part_in, part_out, clear_in}
+use Rattle.core_machine.specs.table.Newborn.{record_word_of, array_word_of}
+use Rattle.core_machine.specs.seat.Seat.{Seat, need, spine_need, after_call}
 
 -- the group that is claimed next: from the cursor's on, wrapping at the last
 abbrev pub next_group_of : Heap → Seat → ℕ
@@ -26,6 +31,11 @@ last_claimed heap seat = if seat.tried == 0 then seat.cursor else (seat.cursor +
 abbrev pub fragments_gathered : Seat → List ℕ
 fragments_gathered seat = seat.reserve ++ seat.hand
 
+-- what comes once an object has its fragments: an array's spine gets its place, a record's words are stored
+abbrev pub settled_place : Command → Making
+settled_place (commands.Array d cells) = Placing
+settled_place _ = Storing
+
 -- enough is gathered: the first fragments are the new object's, the rest is the reserve, of the group that was claimed last
 abbrev pub after_gather : Heap → Seat → Seat
 after_gather heap seat = record seat {
@@ -34,7 +44,7 @@ after_gather heap seat = record seat {
   hand = take (need seat) (fragments_gathered seat);
   body = take (need seat) (fragments_gathered seat);
   tried = 0;
-  place = places.Making Storing;
+  place = places.Making (settled_place seat.command);
 }
 
 -- where a refusal stands while these fragments are to be given back
@@ -58,6 +68,11 @@ abbrev pub after_claim : Heap → Seat → ℕ → Seat
 after_claim heap seat found =
     gather_next heap (record seat { hand = seat.hand ++ clear_in (next_group_of heap seat) found; tried = seat.tried + 1 })
 
+-- the spine words were asked for where so many were granted or asked for: beside those they are too many, or the gathering begins
+abbrev pub after_budget : Heap → Seat → ℕ → Seat
+after_budget heap seat found =
+    if nat_lt heap.spine (found + spine_need seat) then record seat { used = found; place = places.Making Withdrawing } else gather_next heap seat
+
 -- the group of the first fragment, and of the last
 abbrev pub first_group_of : List ℕ → ℕ
 first_group_of fragments = slice_index_or fragments 0 0 / group_fragments
@@ -65,6 +80,18 @@ first_group_of fragments = slice_index_or fragments 0 0 / group_fragments
 -- the group of the last fragment
 abbrev pub last_group_of : List ℕ → ℕ
 last_group_of fragments = slice_index_or fragments (length fragments - 1) 0 / group_fragments
+
+-- how many of the last fragments are of the last one's group
+abbrev pub last_run : List ℕ → ℕ
+last_run fragments = prefix_len (in_group (last_group_of fragments)) (reverse fragments)
+
+-- the fragments before those
+abbrev pub before_run : List ℕ → List ℕ
+before_run fragments = take (length fragments - last_run fragments) fragments
+
+-- the last fragments, as far as they are of one group
+abbrev pub run_of : List ℕ → List ℕ
+run_of fragments = drop (length fragments - last_run fragments) fragments
 
 -- the fragments of the hand's first group were given back
 abbrev pub after_give_back : Seat → Seat
@@ -82,9 +109,26 @@ next_name number seat = record { owner = number + 1; count = seat.made }
 abbrev pub next_object_id : ℕ → Seat → Id
 next_object_id number seat = Made number seat.made
 
+-- word `part` of fragment k of a new object of this name, with its spine at this place
+abbrev pub newborn_word : Command → Name → Spot → List ℕ → ℕ → ℕ → ℕ
+newborn_word (commands.Array d cells) name spine fragments k part = array_word_of name cells spine k part
+newborn_word command name spine fragments k part = record_word_of name (fields_of command) fragments k part
+
 -- word `part` of fragment k of the object that is made
 abbrev pub newborn_word_of : ℕ → Seat → ℕ → ℕ → ℕ
-newborn_word_of number seat k part = record_word_of (next_name number seat) (fields_of seat.command) seat.body k part
+newborn_word_of number seat k part = newborn_word seat.command (next_name number seat) seat.spine seat.body k part
+
+-- the spine got its place, as the word that was found tells
+abbrev pub after_placing : Seat → ℕ → Seat
+after_placing seat found = record seat { spine = spot_in found; place = places.Making Listing }
+
+-- what comes once so many words of the spine are stored
+abbrev pub list_place : ℕ → ℕ → Making
+list_place listed words = if nat_lt listed words then Listing else Storing
+
+-- one more word of the spine was stored
+abbrev pub after_listing : Seat → Seat
+after_listing seat = record seat { listed = seat.listed + 1; place = places.Making (list_place (seat.listed + 1) (spine_need seat)) }
 
 -- where the fragments stand when so many words are stored
 abbrev pub store_place : ℕ → List ℕ → Making
@@ -94,9 +138,9 @@ store_place stored body = if stored == 4 * length body then Bearing else Storing
 abbrev pub after_store : Seat → Seat
 after_store seat = record seat { stored = seat.stored + 1; place = places.Making (store_place (seat.stored + 1) seat.body) }
 
--- the fragments of the hand's last group were born
+-- the hand's last fragments were born, those of one group
 abbrev pub after_birth : Seat → Seat
-after_birth seat = record seat { hand = part_out (last_group_of seat.hand) seat.hand }
+after_birth seat = record seat { hand = before_run seat.hand }
 
 -- the last fragments were born: the register holds the new object
 abbrev pub after_last_birth : ℕ → Seat → Seat

@@ -1,20 +1,37 @@
 -- The moves by which an object is made, a row per place.
-use Rattle.std.specs.Prelude.{ℕ, ◌/◌, ◌%◌, ◌+◌, ◌==◌, nat_lt, nat_le, Bool, false, if◌then◌else◌, List, [], ◌∷◌, length, slice_index_or}
+use Rattle.std.specs.Prelude.{ℕ, ◌/◌, ◌%◌, ◌+◌, ◌^◌, ◌==◌, nat_lt, nat_le, Bool, false, if◌then◌else◌, List, [], ◌∷◌, length, slice_index_or}
 use Rattle.std.specs.List.{list_all}
+use Rattle.heap_model.specs.declared.command.Command.{Command}
+use Rattle.heap_model.specs.declared.command.Command.TheVariants as commands
 use Rattle.heap_model.specs.declared.heap.Heap.{Heap}
 use Rattle.heap_model.specs.declared.entry.Entry.{Entry}
 use Rattle.heap_model.specs.declared.entry.Entry.TheVariants.{Said, Takes, GivesBack}
 use Rattle.heap_model.specs.declared.reply.Reply.TheVariants as replies
 use Rattle.heap_model.specs.PhasePlan.{cycle_phases, black_births, clearing}
 use Rattle.core_machine.specs.declared.place.Making.{Making}
-use Rattle.core_machine.specs.declared.place.Making.TheVariants.{Gathering, Returning, Refusing, Storing, Bearing}
+use Rattle.core_machine.specs.declared.place.Making.TheVariants.{Granting, Withdrawing, Gathering, Returning, Refusing, Placing, Listing, Storing, Bearing}
 use Rattle.core_machine.specs.declared.step.Step.TheVariants as steps
 use Rattle.core_machine.specs.declared.step.MakingStep.{MakingStep}
 use Rattle.core_machine.specs.declared.step.MakingStep.TheVariants.{Claim, GiveBack, NewbornStore, Birth, LastBirth}
+use Rattle.core_machine.specs.declared.step.Step.{Step}
+use Rattle.core_machine.specs.declared.step.SpineStep.TheVariants.{BudgetAdd, BudgetTakeBack, SpotClaim, SpineStore}
 use Rattle.core_machine.specs.table.Fragments.{in_group, part_in, clear_in, mask_of}
-use Rattle.core_machine.specs.seat.Seat.{Seat, need, after_call}
-use Rattle.core_machine.specs.seat.Making.{next_group_of, after_claim, first_group_of, last_group_of, after_give_back, next_object_id, newborn_word_of, after_store, after_birth, after_last_birth}
+use Rattle.core_machine.specs.seat.Seat.{Seat, need, spine_need, after_call}
+use Rattle.core_machine.specs.seat.Making.{next_group_of, after_claim, after_budget, after_placing, after_listing, first_group_of, last_group_of, run_of, after_give_back, next_object_id, newborn_word_of, after_store, after_birth, after_last_birth}
 use Rattle.core_machine.specs.Move.{Move, plain_move}
+
+-- the spine words of an array are asked for
+abbrev pub grant_move : Heap → ℕ → Seat → Move
+grant_move heap number seat = plain_move (steps.Spine (BudgetAdd (spine_need seat))) (after_budget heap seat) (λ found. [])
+
+-- what a refusal of spine words shows: what was needed, and what was found to be granted, as far as thirty-two bits tell
+abbrev pub spine_full_entry : ℕ → Seat → Entry
+spine_full_entry number seat = Said number seat.command (replies.SpineFull (spine_need seat) (seat.used % 2 ^ 32))
+
+-- they were too many: they are taken back, and the refusal is told
+abbrev pub withdraw_move : ℕ → Seat → Move
+withdraw_move number seat =
+    plain_move (steps.Spine (BudgetTakeBack (spine_need seat))) (λ found. after_call seat) (λ found. spine_full_entry number seat ∷ [])
 
 -- the entry of a claim, where it got some
 abbrev pub takes_some : ℕ → ℕ → List Entry
@@ -40,9 +57,26 @@ give_back_move number seat =
 abbrev pub full_entry : ℕ → Seat → Entry
 full_entry number seat = Said number seat.command (replies.Full (need seat) (length seat.reserve + seat.given))
 
--- the refusal is told, at a load of the phase
+-- the step at which the refusal of a command is told: an array's spine words are taken back, else the phase is loaded
+abbrev pub refusal_step : Command → ℕ → Step
+refusal_step (commands.Array d cells) words = steps.Spine (BudgetTakeBack words)
+refusal_step _ words = steps.PollLoad
+
+-- the refusal is told
 abbrev pub refusal_move : ℕ → Seat → Move
-refusal_move number seat = plain_move steps.PollLoad (λ found. after_call seat) (λ found. full_entry number seat ∷ [])
+refusal_move number seat = plain_move (refusal_step seat.command (spine_need seat)) (λ found. after_call seat) (λ found. full_entry number seat ∷ [])
+
+-- the array's spine gets its place
+abbrev pub placing_move : Seat → Move
+placing_move seat = plain_move (steps.Spine (SpotClaim (spine_need seat))) (after_placing seat) (λ found. [])
+
+-- the store of the spine's next word, which names the next payload fragment
+abbrev pub listing_step : Seat → Step
+listing_step seat = steps.Spine (SpineStore seat.spine.half (seat.spine.offset + seat.listed) (slice_index_or seat.body (seat.listed + 1) 0))
+
+-- the next word of the spine is stored
+abbrev pub listing_move : Seat → Move
+listing_move seat = plain_move (listing_step seat) (λ found. after_listing seat) (λ found. [])
 
 -- the store of word `part` of fragment k of the object
 abbrev pub word_store : ℕ → Seat → ℕ → ℕ → MakingStep
@@ -61,9 +95,9 @@ abbrev pub bears_black_of : Seat → Bool
 bears_black_of seat =
     if nat_le black_births (seat.answered % cycle_phases) then nat_lt (seat.answered % cycle_phases) clearing else false
 
--- the fragments of the hand's last group
+-- the hand's last fragments, as far as they are of one group
 abbrev pub last_part : Seat → List ℕ
-last_part seat = part_in (last_group_of seat.hand) seat.hand
+last_part seat = run_of seat.hand
 
 -- the hand has no other group than its last
 abbrev pub is_last_birth : Seat → Bool
@@ -91,8 +125,12 @@ bearing_move number seat = if is_last_birth seat then last_birth_move number sea
 
 -- the move at each place of making
 abbrev pub making_move : Heap → ℕ → Seat → Making → Move
+making_move heap number seat Granting = grant_move heap number seat
+making_move heap number seat Withdrawing = withdraw_move number seat
 making_move heap number seat Gathering = claim_move heap number seat
 making_move heap number seat Returning = give_back_move number seat
 making_move heap number seat Refusing = refusal_move number seat
+making_move heap number seat Placing = placing_move seat
+making_move heap number seat Listing = listing_move seat
 making_move heap number seat Storing = store_move number seat
 making_move heap number seat Bearing = bearing_move number seat

@@ -1,16 +1,22 @@
 -- What the machine keeps of a seat. The seat's number is its place among the seats, and stands nowhere in it.
 use Rattle.std.specs.Prelude.{ℕ, ◌+◌, ◌<◌, Bool, true, List, [], ◌∷◌, ◌++◌}
+use Rattle.heap_words.specs.declared.spot.Spot.{Spot}
 use Rattle.heap_model.specs.declared.entry.Entry.{Entry}
 use Rattle.heap_model.specs.declared.entry.Entry.TheVariants.{Said}
 use Rattle.heap_model.specs.declared.command.Command.{Command}
 use Rattle.heap_model.specs.declared.command.Command.TheVariants as commands
 use Rattle.heap_model.specs.declared.reply.Reply.{Reply}
 use Rattle.heap_model.specs.Limits.{name_limit, stamp_limit}
+use Rattle.heap_model.specs.Needs.{spine_need_of}
 use Rattle.heap_model.specs.account.Space.{need_of}
 use Rattle.core_machine.specs.declared.place.Place.{Place}
 use Rattle.core_machine.specs.declared.place.Place.TheVariants.{Idle}
 use Rattle.core_machine.specs.declared.seat.register.Register.{Register}
 use Rattle.core_machine.specs.seat.Looks.{Looks, no_looks, forgotten}
+
+-- where no spine stands that the seat knows of
+abbrev pub no_spot : Spot
+no_spot = record { half = 0; offset = 0 }
 
 -- a seat's own data
 pub record Seat : Type 0 where
@@ -30,6 +36,12 @@ pub record Seat : Type 0 where
   pub tried : ℕ
   -- how many fragments it has given back
   pub given : ℕ
+  -- how many spine words were found to be granted or asked for, where the call's own were too many beside them
+  pub used : ℕ
+  -- where the spine stands of the array that is being made, once it has its place
+  pub spine : Spot
+  -- how many of its words have been stored
+  pub listed : ℕ
   -- the call in flight, or the last one
   pub command : Command
   -- where the seat stands in it
@@ -44,6 +56,8 @@ pub record Seat : Type 0 where
   pub links : ℕ
   -- the word of its fragment in which the field stands; 0 until the object's meta is loaded
   pub part : ℕ
+  -- where the spine stands of the array that its call is in, once that was loaded
+  pub address : Spot
   -- the field that the call has loaded: for a get, while the name of what it refers to is awaited, and for a set with the barrier on
   pub loaded : ℕ
   -- the phase that it is about to answer
@@ -70,6 +84,9 @@ absent_seat = record {
   stored = 0;
   tried = 0;
   given = 0;
+  used = 0;
+  spine = no_spot;
+  listed = 0;
   command = commands.Poll;
   place = Idle;
   answered = 0;
@@ -77,6 +94,7 @@ absent_seat = record {
   reached = 0;
   links = 0;
   part = 0;
+  address = no_spot;
   loaded = 0;
   asked = 0;
   shaded = 0;
@@ -90,10 +108,14 @@ absent_seat = record {
 abbrev pub need : Seat → ℕ
 need seat = need_of seat.command
 
+-- the spine words that its call needs
+abbrev pub spine_need : Seat → ℕ
+spine_need seat = spine_need_of seat.command
+
 -- where so many objects were made and sets done, a name is left for the object that the command makes, or a stamp for its set
 abbrev pub HasNumberLeft : ℕ → ℕ → Command → Type 0
 HasNumberLeft made sets (commands.New d fields) = made + 1 < name_limit
-HasNumberLeft made sets (commands.Array d cells) = Unit {0}
+HasNumberLeft made sets (commands.Array d cells) = made + 1 < name_limit
 HasNumberLeft made sets (commands.Get d r i) = Unit {0}
 HasNumberLeft made sets (commands.Set r i v) = sets + 1 < stamp_limit
 HasNumberLeft made sets (commands.Num d n) = Unit {0}
@@ -113,10 +135,14 @@ call_over seat = record seat {
   stored = 0;
   tried = 0;
   given = 0;
+  used = 0;
+  spine = no_spot;
+  listed = 0;
   place = Idle;
   reached = 0;
   links = 0;
   part = 0;
+  address = no_spot;
   loaded = 0;
   asked = 0;
   shaded = 0;

@@ -1,5 +1,5 @@
 -- The words of a heap's table, and where each of them stands.
-use Rattle.std.specs.Prelude.{◌≡◌, ℕ, ◌+◌, ◌*◌, ◌<◌, nat_lt, if◌then◌else◌, List, slice_index, slice_set}
+use Rattle.std.specs.Prelude.{◌≡◌, ℕ, ◌+◌, ◌*◌, ◌^◌, ◌<◌, nat_lt, if◌then◌else◌, List, slice_index, slice_set}
 use Rattle.heap_words.specs.declared.spot.Spot.{Spot as SpinePlace}
 use Rattle.heap_model.specs.declared.heap.Heap.{Heap}
 use Rattle.heap_model.specs.Limits.{group_fragments, most_seats}
@@ -39,6 +39,11 @@ InTable heap (Spine half offset) = half < 2
 abbrev pub HasWord : Heap → Address → Type 0
 HasWord heap (Spine half offset) = (half < 2) × (offset < 2 * heap.spine)
 HasWord heap address = InTable heap address
+
+-- a spot that a word tells: its half is 0 or 1, and its offset below 2^31
+pub record FitsSpot (spot : SpinePlace) : Type 0 where
+  pub half_within : spot.half < 2
+  pub offset_within : spot.offset < 2 ^ 31
 
 -- where word k of a spine stands whose first one stands at this spot
 abbrev pub spine_place : SpinePlace → ℕ → Address

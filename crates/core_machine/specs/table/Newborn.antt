@@ -1,10 +1,12 @@
--- The words of a record whose fields were never set.
-use Rattle.std.specs.Prelude.{ℕ, ◌+◌, ◌==◌, nat_lt, false, if◌then◌else◌, List, length, slice_index_or}
+-- The words of a record whose fields, and of an array whose cells were never set.
+use Rattle.std.specs.Prelude.{ℕ, ◌+◌, ◌==◌, nat_lt, true, false, if◌then◌else◌, List, length, slice_index_or}
 use Rattle.heap_words.specs.declared.kind.Kind.TheVariants.{Reference}
 use Rattle.heap_words.specs.declared.name.Name.{Name}
-use Rattle.heap_words.specs.Cell.{cell_word}
+use Rattle.heap_words.specs.declared.spot.Spot.{Spot}
+use Rattle.heap_words.specs.Cell.{cell_word, fixed_cell}
 use Rattle.heap_words.specs.Meta.{meta_word}
 use Rattle.heap_words.specs.Name.{name_word}
+use Rattle.heap_words.specs.Spot.{spot_word}
 
 -- a link to a fragment
 abbrev pub link_word : ℕ → ℕ
@@ -28,3 +30,20 @@ head_word_of name fields fragments part =
 abbrev pub record_word_of : Name → ℕ → List ℕ → ℕ → ℕ → ℕ
 record_word_of name fields fragments k part =
     if k == 0 then head_word_of name fields fragments part else if part == 0 then link_after fragments k else 0
+
+-- the spine word that names a fragment
+abbrev pub spine_word : ℕ → ℕ
+spine_word fragment = cell_word (fixed_cell fragment 0)
+
+-- the meta of an array
+abbrev pub array_meta : ℕ → ℕ
+array_meta cells = meta_word (record { array = true; length = cells; next = 0 })
+
+-- the words of its first fragment: its meta, its name, the place of its spine, and a fixed word that tells nothing
+abbrev pub sentinel_word_of : Name → ℕ → Spot → ℕ → ℕ
+sentinel_word_of name cells spine part =
+    if part == 0 then array_meta cells else if part == 1 then name_word name else if part == 2 then spot_word spine else cell_word (fixed_cell 0 0)
+
+-- word `part` of fragment k of an array whose cells were never set, with its spine at this place
+abbrev pub array_word_of : Name → ℕ → Spot → ℕ → ℕ → ℕ
+array_word_of name cells spine k part = if k == 0 then sentinel_word_of name cells spine part else 0

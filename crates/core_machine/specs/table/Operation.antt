@@ -1,22 +1,25 @@
 -- Which word each step touches, and what it does with it.
-use Rattle.std.specs.Prelude.{ℕ, ◌/◌, bit_and, bit_or}
+use Rattle.std.specs.Prelude.{ℕ, ◌+◌, ◌-◌, ◌/◌, ◌%◌, ◌^◌, bit_and, bit_or}
 use Rattle.heap_words.specs.declared.phase.TheConstants.{LEFT}
 pub use Rattle.heap_words.specs.Control.{all_taken, all_but_of, word_without_taken, birth_bits_of, shade_bit_of, blacken_bit_of, free_mask_of, marks_cleared}
 use Rattle.heap_model.specs.Limits.{group_fragments}
 use Rattle.core_machine.specs.declared.table.address.Address.{Address}
 use Rattle.core_machine.specs.declared.table.address.Address.TheVariants as addresses
 use Rattle.core_machine.specs.declared.step.operation.Operation.{Operation}
-use Rattle.core_machine.specs.declared.step.operation.Operation.TheVariants.{Load, Store, Exchange, Or, And}
+use Rattle.core_machine.specs.declared.step.operation.Operation.TheVariants.{Load, Store, Exchange, Or, And, Add, Subtract}
 use Rattle.core_machine.specs.declared.step.Step.{Step}
-use Rattle.core_machine.specs.declared.step.Step.TheVariants.{Making, PollLoad, Access, Handshake, Turning}
+use Rattle.core_machine.specs.declared.step.Step.TheVariants.{Making, PollLoad, Access, Spine, Handshake, Turning}
 use Rattle.core_machine.specs.declared.step.MakingStep.{MakingStep}
 use Rattle.core_machine.specs.declared.step.MakingStep.TheVariants.{Claim, GiveBack, NewbornStore, Birth, LastBirth}
 use Rattle.core_machine.specs.declared.step.AccessStep.{AccessStep}
 use Rattle.core_machine.specs.declared.step.AccessStep.TheVariants.{WalkLoad, NameLoad, GetLoad, OldLoad, Shade, Swap}
+use Rattle.core_machine.specs.declared.step.SpineStep.{SpineStep}
+use Rattle.core_machine.specs.declared.step.SpineStep.TheVariants.{BudgetAdd, BudgetTakeBack, SpotClaim, SpineStore, AddressLoad, WordLoad}
 use Rattle.core_machine.specs.declared.step.HandshakeStep.{HandshakeStep}
 use Rattle.core_machine.specs.declared.step.HandshakeStep.TheVariants.{AnswerStore, LeaveStore}
 use Rattle.core_machine.specs.declared.step.TurningStep.{TurningStep}
 use Rattle.core_machine.specs.declared.step.TurningStep.TheVariants as turning
+use Rattle.core_machine.specs.table.Newborn.{spine_word}
 
 -- the word that a step of making touches
 abbrev pub making_address : MakingStep → Address
@@ -34,6 +37,15 @@ access_address (GetLoad fragment part) = addresses.Word fragment part
 access_address (OldLoad fragment part) = addresses.Word fragment part
 access_address (Shade fragment) = addresses.Control (fragment / group_fragments)
 access_address (Swap fragment part word) = addresses.Word fragment part
+
+-- the word that a step on spines touches
+abbrev pub spine_address : SpineStep → Address
+spine_address (BudgetAdd words) = addresses.Budget
+spine_address (BudgetTakeBack words) = addresses.Budget
+spine_address (SpotClaim words) = addresses.Spot
+spine_address (SpineStore half offset fragment) = addresses.Spine half offset
+spine_address (AddressLoad sentinel) = addresses.Word sentinel 2
+spine_address (WordLoad half offset) = addresses.Spine half offset
 
 -- a seat tells what it has answered in its own word
 abbrev pub handshake_address : HandshakeStep → Address
@@ -58,6 +70,7 @@ abbrev pub address_of : Step → Address
 address_of (Making step) = making_address step
 address_of PollLoad = addresses.Phase
 address_of (Access step) = access_address step
+address_of (Spine step) = spine_address step
 address_of (Handshake step) = handshake_address step
 address_of (Turning step) = turning_address step
 
@@ -77,6 +90,15 @@ access_operation (GetLoad fragment part) = Load
 access_operation (OldLoad fragment part) = Load
 access_operation (Shade fragment) = Or (shade_bit_of fragment)
 access_operation (Swap fragment part word) = Exchange word
+
+-- what a step on spines does with its word
+abbrev pub spine_operation : SpineStep → Operation
+spine_operation (BudgetAdd words) = Add words
+spine_operation (BudgetTakeBack words) = Subtract words
+spine_operation (SpotClaim words) = Add words
+spine_operation (SpineStore half offset fragment) = Store (spine_word fragment)
+spine_operation (AddressLoad sentinel) = Load
+spine_operation (WordLoad half offset) = Load
 
 -- what a seat does with its own word
 abbrev pub handshake_operation : HandshakeStep → Operation
@@ -101,6 +123,7 @@ abbrev pub operation_of : Step → Operation
 operation_of (Making step) = making_operation step
 operation_of PollLoad = Load
 operation_of (Access step) = access_operation step
+operation_of (Spine step) = spine_operation step
 operation_of (Handshake step) = handshake_operation step
 operation_of (Turning step) = turning_operation step
 
@@ -111,6 +134,8 @@ operation_result (Store word) found = word
 operation_result (Exchange word) found = word
 operation_result (Or bits) found = bit_or found bits
 operation_result (And bits) found = bit_and found bits
+operation_result (Add number) found = (found + number) % 2 ^ 64
+operation_result (Subtract number) found = (found + 2 ^ 64 - number) % 2 ^ 64
 
 -- the word that a step leaves where it found this one
 abbrev pub word_after : Step → ℕ → ℕ

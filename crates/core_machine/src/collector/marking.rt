@@ -1,15 +1,19 @@
 ghost use Rattle.std.specs.Prelude.{◌≡◌, ◌+◌, ◌*◌, ◌/◌, ◌<◌, ◌≤◌, ◌^◌, IfSome, true};
 ghost use Rattle.heap_model.specs.Heap.{IsHeap};
-ghost use Rattle.core_machine.specs.collector.Marking.{lowest_grey_of, after_last_group, after_group, after_pass, part_after, scan_step, scan_at, after_scan_load};
-ghost use Rattle.core_machine.specs.table.Decode.{pointer_in};
-ghost use Rattle.core_machine.specs.declared.collector.stage.Stage.TheVariants.{Passing};
+ghost use Rattle.core_machine.specs.collector.Marking.{lowest_grey_of, after_last_group, after_group, after_pass, part_after, scan_step, scan_at, array_at, after_first_load, spine_step, spine_scan_at, after_address, after_spread};
+ghost use Rattle.core_machine.specs.collector.FitsTurns.{spine_most};
+ghost use Rattle.core_machine.specs.declared.step.SpineStep.TheVariants.{WordLoad};
+ghost use Rattle.core_machine.specs.table.Decode.{pointer_in, payload_in};
+ghost use Rattle.core_machine.specs.table.Layout.{FitsSpot};
+ghost use Rattle.core_machine.specs.declared.collector.stage.Stage.TheVariants.{Passing, Spreading};
 ghost use Rattle.heap_model.specs.Limits.{group_fragments};
 
-use crate::collector::stage::{Scan, Stage};
-use crate::table::decode::{is_meta, lead_in};
+use crate::collector::stage::{Scan, SpineScan, Stage};
+use crate::step::SpineStep;
+use crate::table::decode::{array_length, is_meta, lead_in, payload};
 use heap_model::Heap;
 use heap_model::limits::GROUP_FRAGMENTS;
-use heap_words::lowest_grey;
+use heap_words::{Spot, lowest_grey};
 
 /// A pass has seen the last group: another one begins where it found something, else the phase is done.
 fn next_pass(found: bool) -> Stage
@@ -72,7 +76,7 @@ impl Scan {
 
     /// One step more was made.
     fn stepped(&self) -> Scan
-        requires { self.now.steps < 8 }
+        requires { self.now.steps ≤ 2 * spine_most + 2 }
         ensures { result ≡ scan_step self.now }
     {
         Scan {
@@ -98,10 +102,14 @@ impl Scan {
         requires part { self.now.part < 4 }
         requires steps { self.now.steps ≤ 2 * self.now.part }
         requires leads { IfSome (pointer_in self.now.part word) (λ target. target < 2 ^ 16) }
-        ensures { result ≡ after_scan_load self.now (part_after self.now.part word) (pointer_in self.now.part word) }
+        ensures { result ≡ after_first_load self.now (array_at self.now.part word) (part_after self.now.part word) (pointer_in self.now.part word) }
     {
         let next = self.next_part(word);
         let scan = self.stepped();
+        if let Some(cells) = self.array_at(word) {
+            let words = (cells + 3) / 4;
+            return Stage::Locating { scan, words };
+        }
         let Some(target) = lead_in(self.part, word) else {
             return scan.at(next);
         };
@@ -110,6 +118,27 @@ impl Scan {
             target: target as u16,
             next,
         }
+    }
+
+    /// The length of an array, where the word that was found is its meta.
+    fn array_at(&self, word: u64) -> Option<u16>
+        ensures { result ≡ array_at self.now.part word }
+    {
+        if self.part == 0 { array_length(word) } else { None }
+    }
+
+    /// The place of its array's spine was found, which has so many words.
+    pub fn located(&self, words: u16, found: u64) -> Stage
+        requires { self.now.steps ≤ 2 * spine_most + 2 }
+        ensures { result ≡ after_address self.now words found }
+    {
+        let scan = SpineScan {
+            scan: self.stepped(),
+            spine: Spot::told(found),
+            words,
+            index: 0,
+        };
+        scan.go_on()
     }
 
     /// What its word led to was marked: the word `next` comes.
@@ -128,5 +157,60 @@ impl Scan {
             group: self.fragment / GROUP_FRAGMENTS,
             found: true,
         }
+    }
+}
+
+impl SpineScan {
+    /// It comes to its spine word, or behind the last one to its end.
+    fn go_on(&self) -> Stage
+        ensures { result ≡ spine_scan_at self.now }
+    {
+        if self.index < self.words {
+            Stage::Indexing(*self)
+        } else {
+            Stage::Blackening(self.scan)
+        }
+    }
+
+    /// The load of its spine word.
+    pub fn load(&self) -> SpineStep
+        requires spine { FitsSpot self.now.spine }
+        requires index { self.now.index < spine_most }
+        ensures { result ≡ WordLoad self.now.spine.half (self.now.spine.offset + self.now.index) }
+    {
+        SpineStep::WordLoad {
+            half: self.spine.half,
+            offset: self.spine.offset + u32::from(self.index),
+        }
+    }
+
+    /// Its spine word was found: the fragment that it names is marked before the next word's turn comes.
+    pub fn seen(&self, word: u64) -> Stage
+        requires steps { self.now.scan.steps ≤ 2 * spine_most + 2 }
+        requires names { payload_in word < 2 ^ 16 }
+        ensures { result ≡ Spreading (spine_step self.now) (payload_in word) }
+    {
+        Stage::Spreading {
+            scan: SpineScan {
+                scan: self.scan.stepped(),
+                ..*self
+            },
+            target: payload(word),
+        }
+    }
+
+    /// The fragment that its spine word names was marked: the next word comes.
+    pub fn spread(&self) -> Stage
+        requires steps { self.now.scan.steps ≤ 2 * spine_most + 2 }
+        requires index { self.now.index < self.now.words }
+        requires words { self.now.words ≤ spine_most }
+        ensures { result ≡ after_spread self.now }
+    {
+        let scan = SpineScan {
+            scan: self.scan.stepped(),
+            index: self.index + 1,
+            ..*self
+        };
+        scan.go_on()
     }
 }

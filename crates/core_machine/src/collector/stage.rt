@@ -1,3 +1,5 @@
+use heap_words::Spot;
+
 /// The scan of a grey fragment: its words are looked at one after another.
 #[derive(Clone, Copy)]
 pub struct Scan {
@@ -7,6 +9,19 @@ pub struct Scan {
     pub part: u8,
     /// How many steps the scan has made.
     pub steps: u16,
+}
+
+/// The scan of an array's first fragment: what its spine's words name is marked, one after another.
+#[derive(Clone, Copy)]
+pub struct SpineScan {
+    /// The fragment, and how many steps the scan has made.
+    pub scan: Scan,
+    /// Where the spine stands.
+    pub spine: Spot,
+    /// How many words it has.
+    pub words: u16,
+    /// The word whose turn it is; those before it are seen to.
+    pub index: u16,
 }
 
 /// Where the collector stands in a phase.
@@ -20,6 +35,12 @@ pub enum Stage {
     Scanning(Scan),
     /// The fragment to which that word led is marked; the word `next` comes after it.
     Shading { scan: Scan, target: u16, next: u8 },
+    /// The place of an array's spine is loaded, which has so many words.
+    Locating { scan: Scan, words: u16 },
+    /// A spine word is loaded.
+    Indexing(SpineScan),
+    /// The fragment that it names is marked.
+    Spreading { scan: SpineScan, target: u16 },
     /// All words of the fragment are seen to: it is told to be scanned.
     Blackening(Scan),
     /// A group's control word is loaded for what is dead in it.

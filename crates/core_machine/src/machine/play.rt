@@ -3,8 +3,8 @@ ghost use Rattle.heap_model.specs.declared.command.Command.TheVariants.{Leave};
 ghost use Rattle.heap_model.specs.account.Space.{need_of};
 ghost use Rattle.core_machine.specs.machine.Machine.{Begins, BeginsInner, Can, seat_at};
 ghost use Rattle.core_machine.specs.machine.InnerCalls.{PlaysInner};
-ghost use Rattle.core_machine.specs.seat.Commands.{IsRecord};
-ghost use Rattle.core_machine.specs.machine.Calls.{PlaysCall, CountsCall, TellsLeave, AnswersNew, IsPlaceRefusal, LeavesAll, last_reply_of};
+ghost use Rattle.core_machine.specs.seat.Commands.{IsRecord, IsArray};
+ghost use Rattle.core_machine.specs.machine.Calls.{PlaysCall, CountsCall, TellsLeave, AnswersNew, AnswersArray, IsPlaceRefusal, LeavesAll, last_reply_of};
 ghost use Rattle.core_machine.specs.machine.Value.{spare_of, SpendsRoom};
 
 use crate::machine::Machine;
@@ -20,6 +20,7 @@ impl Machine {
         ensures counts { CountsCall (seat_at self.old.state seat) (seat_at self.new.state seat) command.now }
         ensures leave { command.now ≡ Leave → TellsLeave self.old.state self.new.state seat }
         ensures answer { IsRecord command.now → AnswersNew self.old.heap self.old.state self.new.state seat command.now result }
+        ensures array { IsArray command.now → AnswersArray self.old.heap self.old.state self.new.state seat command.now result }
         ensures refused { IsPlaceRefusal result → LeavesAll self.old.state self.new.state seat }
         ensures spent { SpendsRoom self.old self.new seat }
     {

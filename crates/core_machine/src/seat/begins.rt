@@ -5,7 +5,7 @@ ghost use Rattle.heap_model.specs.Heap.{IsHeap};
 ghost use Rattle.core_machine.specs.seat.Fits.{Fits};
 ghost use Rattle.core_machine.specs.machine.Machine.{MayBegin, MayBeginInner, after_begin, after_inner_begin};
 
-use crate::place::{Place, Polling};
+use crate::place::{Making, Place, Polling};
 use crate::seat::SeatParty;
 use crate::seat::collecting::first_place;
 use crate::seat::commands::Parts;
@@ -20,8 +20,9 @@ fn is_served(command: &Command) -> bool
     ensures { IsTrue result ↔ IsServed command.now }
 {
     match command {
-        Command::Array { .. } | Command::Collect => false,
+        Command::Collect => false,
         Command::New { .. }
+        | Command::Array { .. }
         | Command::Get { .. }
         | Command::Set { .. }
         | Command::Num { .. }
@@ -50,7 +51,7 @@ impl SeatParty {
         ensures { IsTrue result ↔ HasNumberLeft self.now.seat.made self.now.seat.sets command.now }
     {
         match command {
-            Command::New { .. } => self.made < u32::MAX,
+            Command::New { .. } | Command::Array { .. } => self.made < u32::MAX,
             Command::Set { .. } => self.sets < MOST_SETS,
             _ => true,
         }
@@ -67,6 +68,7 @@ impl SeatParty {
         self.command = command;
         match command {
             Command::New { .. } => self.go_on(heap),
+            Command::Array { .. } => self.place = Place::Making(Making::Granting),
             Command::Get { .. } | Command::Set { .. } | Command::Len { .. } => {
                 self.open(Parts::of(&command).object);
             }
@@ -76,7 +78,7 @@ impl SeatParty {
             | Command::Nil { .. }
             | Command::Copy { .. }
             | Command::Same { .. } => self.place = Place::Local,
-            Command::Array { .. } | Command::Collect => unreachable!(),
+            Command::Collect => unreachable!(),
         }
     }
 

@@ -1,7 +1,7 @@
 ghost use Rattle.std.specs.Prelude.{◌≡◌, ℕ, ◌*◌, ◌/◌, ◌%◌, ◌<◌, ◌^◌, length};
 ghost use Rattle.heap_model.specs.Limits.{register_count, most_seats};
 ghost use Rattle.core_machine.specs.declared.step.Step.TheVariants.{Making as Makes};
-ghost use Rattle.core_machine.specs.seat.Commands.{fields_of, target_of};
+ghost use Rattle.core_machine.specs.seat.Commands.{fields_of, cells_of, target_of};
 ghost use Rattle.core_machine.specs.seat.Fits.{HasBody};
 ghost use Rattle.core_machine.specs.seat.Making.{after_store, newborn_word_of};
 ghost use Rattle.core_machine.specs.Moves.{due_store, bearing_move, last_birth_move, bears_black_of, seat_after};
@@ -12,16 +12,18 @@ use crate::seat::SeatParty;
 use crate::seat::commands::Parts;
 use crate::seat::register::Register;
 use crate::step::MakingStep;
-use crate::table::fragments::{Hand, all_in, last_group, mask_in, rest_of};
-use crate::table::newborn::Newborn;
+use crate::table::fragments::{all_in, last_group, last_run, mask};
+use crate::table::newborn::{Newborn, NewbornArray};
 use heap_model::phase_plan::{BLACK_BIRTHS, CLEARING, CYCLE_PHASES};
-use heap_model::{Entry, Id, Reply};
+use heap_model::{Command, Entry, Id, Reply};
 use heap_words::Name;
 
 impl SeatParty {
     /// Word `part` of fragment `k` of the object that is made.
     fn newborn_word(&self, number: u8, k: usize, part: u8) -> u64
         requires fields { fields_of self.now.seat.command < 2 ^ 13 }
+        requires cells { cells_of self.now.seat.command < 2 ^ 13 }
+        requires half { self.now.seat.spine.half < 2 }
         requires within { k < length self.now.seat.body }
         requires number { number < most_seats }
         ensures { result ≡ newborn_word_of number self.now.seat k part }
@@ -30,14 +32,22 @@ impl SeatParty {
             owner: number + 1,
             count: self.made,
         };
-        let fields = Parts::of(&self.command).fields;
-        let fragments = self.body.as_slice();
-        Newborn {
+        let Command::Array { cells, .. } = self.command else {
+            let fields = Parts::of(&self.command).fields;
+            let fragments = self.body.as_slice();
+            let record = Newborn {
+                name,
+                fields,
+                fragments,
+            };
+            return record.word(k, part);
+        };
+        let array = NewbornArray {
             name,
-            fields,
-            fragments,
-        }
-        .word(k, part)
+            cells,
+            spine: self.spine,
+        };
+        array.word(k, part)
     }
 
     /// The store that is due.
@@ -87,7 +97,8 @@ impl SeatParty {
     {
         let hand = self.hand.as_slice();
         let group = last_group(hand);
-        let bits = mask_in(hand, group);
+        let (_, born) = hand.split_at(hand.len() - last_run(hand));
+        let bits = mask(born);
         let black = self.bears_black();
         if all_in(hand, group) {
             MakingStep::LastBirth { group, bits, black }
@@ -109,7 +120,8 @@ impl SeatParty {
         if all_in(self.hand.as_slice(), group) {
             self.make(number);
         } else {
-            self.hand = rest_of(self.hand.as_slice(), group);
+            let left = self.hand.len() - last_run(self.hand.as_slice());
+            self.hand.truncate(left);
         }
     }
 

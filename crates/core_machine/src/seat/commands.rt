@@ -16,6 +16,8 @@ pub struct Parts {
     pub field: u32,
     /// The fields of the record that is made.
     pub fields: u16,
+    /// The cells of the array that is made.
+    pub cells: u16,
 }
 
 impl Parts {
@@ -26,6 +28,7 @@ impl Parts {
         source: 0,
         field: 0,
         fields: 0,
+        cells: 0,
     };
 
     /// The parts of this command.
@@ -39,9 +42,12 @@ impl Parts {
                 fields,
                 ..none
             },
-            Command::Array { d, .. } | Command::Num { d, .. } | Command::Nil { d } => {
-                Parts { target: d, ..none }
-            }
+            Command::Array { d, cells } => Parts {
+                target: d,
+                cells,
+                ..none
+            },
+            Command::Num { d, .. } | Command::Nil { d } => Parts { target: d, ..none },
             Command::Get { d, r, i } => Parts {
                 target: d,
                 object: r,

@@ -1,13 +1,12 @@
 ghost use Rattle.std.specs.Prelude.{◌≡◌, ◌<◌};
 ghost use Rattle.heap_model.specs.Heap.{IsHeap};
-ghost use Rattle.core_machine.specs.declared.step.Step.TheVariants.{Access as Accesses};
 ghost use Rattle.core_machine.specs.seat.Fits.{Fits, FitsMaking, FitsPolling};
 ghost use Rattle.core_machine.specs.seat.FitsAccess.{FitsAccess};
 ghost use Rattle.core_machine.specs.Moves.{due_step, making_move, access_move, polling_move, leaving_move, collecting_move};
 
 use crate::place::{Access, Collecting, Leaving, Making, Place, Polling};
 use crate::seat::SeatParty;
-use crate::step::{AccessStep, HandshakeStep, MakingStep, Step, TurningStep};
+use crate::step::{AccessStep, HandshakeStep, MakingStep, SpineStep, Step, TurningStep};
 use heap_model::Heap;
 
 impl SeatParty {
@@ -20,27 +19,39 @@ impl SeatParty {
         ensures { result ≡ (making_move heap.now number self.now.seat place).step }
     {
         match place {
+            Making::Granting => Step::Spine(SpineStep::BudgetAdd {
+                words: self.spine_need(),
+            }),
+            Making::Withdrawing => Step::Spine(self.take_back()),
             Making::Gathering => Step::Making(MakingStep::Claim {
                 group: self.next_group(heap),
             }),
             Making::Returning => Step::Making(self.give_back()),
-            Making::Refusing => Step::PollLoad,
+            Making::Refusing => self.refusal_step(),
+            Making::Placing => Step::Spine(SpineStep::SpotClaim {
+                words: self.spine_need(),
+            }),
+            Making::Listing => Step::Spine(self.list()),
             Making::Storing => Step::Making(self.store(number)),
             Making::Bearing => Step::Making(self.birth()),
         }
     }
 
     /// The step of access that is due.
-    fn due_access(&self, heap: &Heap, number: u8, place: Access) -> AccessStep
+    fn due_access(&self, heap: &Heap, number: u8, place: Access) -> Step
         requires limits { IsHeap heap.now }
         requires number { number < heap.now.seats }
         requires fits { Fits heap.now self.now.seat }
         requires at_place { FitsAccess self.now.seat place }
-        ensures { Accesses result ≡ (access_move heap.now number self.now.seat place).step }
+        ensures { result ≡ (access_move heap.now number self.now.seat place).step }
     {
         let fragment = self.reached;
-        match place {
+        let step = match place {
             Access::LoadingMeta | Access::Walking => AccessStep::WalkLoad { fragment },
+            Access::Locating => {
+                return Step::Spine(SpineStep::AddressLoad { sentinel: fragment });
+            }
+            Access::Indexing => return Step::Spine(self.index_load()),
             Access::Getting => AccessStep::GetLoad {
                 fragment,
                 part: self.part,
@@ -63,7 +74,8 @@ impl SeatParty {
                 part: self.part,
                 word: self.new_word(number),
             },
-        }
+        };
+        Step::Access(step)
     }
 
     /// The step of answering the phase that is due.
@@ -118,7 +130,7 @@ impl SeatParty {
             Place::Idle => None,
             Place::Making(place) => Some(self.due_making(heap, number, place)),
             Place::Local => Some(Step::PollLoad),
-            Place::Access(place) => Some(Step::Access(self.due_access(heap, number, place))),
+            Place::Access(place) => Some(self.due_access(heap, number, place)),
             Place::Polling(place) => Some(self.due_polling(number, place)),
             Place::Collecting(place) => Some(self.due_collecting(number, place)),
             Place::Leaving(place) => Some(self.due_leaving(number, place)),

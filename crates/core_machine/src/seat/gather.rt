@@ -4,7 +4,7 @@ ghost use Rattle.heap_model.specs.Limits.{most_reserve};
 ghost use Rattle.core_machine.specs.declared.step.Step.TheVariants.{Making as Makes};
 ghost use Rattle.core_machine.specs.seat.Fits.{SeatIsGathering, SeatIsRefusing};
 ghost use Rattle.core_machine.specs.seat.Seat.{need};
-ghost use Rattle.core_machine.specs.seat.Making.{next_group_of, last_claimed, gather_next, after_gather, refusal_place};
+ghost use Rattle.core_machine.specs.seat.Making.{next_group_of, last_claimed, gather_next, after_gather, refusal_place, settled_place};
 ghost use Rattle.core_machine.specs.Moves.{claim_move, give_back_move, refusal_move, seat_after, first_part};
 ghost use Rattle.core_machine.specs.machine.Value.{KeepsRoom};
 
@@ -12,7 +12,7 @@ use crate::place::{Making, Place};
 use crate::seat::SeatParty;
 use crate::step::MakingStep;
 use crate::table::fragments::{add_clear, copied, count_in, first_group, joined, mask_in, rest_of};
-use heap_model::{Entry, Heap, Reply};
+use heap_model::{Command, Entry, Heap, Reply};
 
 /// Where a refusal stands while these fragments are to be given back.
 fn returning(hand: &[u16]) -> Making
@@ -22,6 +22,16 @@ fn returning(hand: &[u16]) -> Making
         Making::Refusing
     } else {
         Making::Returning
+    }
+}
+
+/// What comes once an object has its fragments.
+fn settled(command: &Command) -> Making
+    ensures { result ≡ settled_place command.now }
+{
+    match command {
+        Command::Array { .. } => Making::Placing,
+        _ => Making::Storing,
     }
 }
 
@@ -41,7 +51,7 @@ impl SeatParty {
         requires small { self.old.seat.cursor + self.old.seat.tried < 65536 }
         requires enough { need self.old.seat ≤ length self.old.seat.reserve + length self.old.seat.hand }
         requires few { length self.old.seat.reserve + length self.old.seat.hand ≤ need self.old.seat + most_reserve }
-        requires record { need self.old.seat ≤ 16 }
+        requires object { need self.old.seat ≤ 1025 }
         ensures seat { self.new.seat ≡ after_gather heap.now self.old.seat }
         ensures spare { self.new.spare ≡ self.old.spare }
     {
@@ -54,7 +64,7 @@ impl SeatParty {
             self.cursor = (self.cursor + self.tried - 1) % heap.groups;
         }
         self.tried = 0;
-        self.place = Place::Making(Making::Storing);
+        self.place = Place::Making(settled(&self.command));
     }
 
     /// Enough is gathered, or the next group is claimed, or, after all groups, the call is refused.
@@ -62,7 +72,7 @@ impl SeatParty {
         requires groups { 0 < heap.now.groups }
         requires small { self.old.seat.cursor + self.old.seat.tried < 65536 }
         requires few { length self.old.seat.reserve + length self.old.seat.hand ≤ need self.old.seat + most_reserve }
-        requires record { need self.old.seat ≤ 16 }
+        requires object { need self.old.seat ≤ 1025 }
         ensures seat { self.new.seat ≡ gather_next heap.now self.old.seat }
         ensures spare { self.new.spare ≡ self.old.spare }
     {

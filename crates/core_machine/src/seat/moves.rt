@@ -24,9 +24,13 @@ impl SeatParty {
         ensures spare { KeepsRoom self.old self.new }
     {
         match place {
+            Making::Granting => self.learn_budget(heap, found),
+            Making::Withdrawing => self.learn_withdrawal(number),
             Making::Gathering => self.learn_claim(heap, number, found),
             Making::Returning => self.learn_give_back(heap, number),
             Making::Refusing => self.learn_refusal(number),
+            Making::Placing => self.learn_spine(found),
+            Making::Listing => self.learn_listing(),
             Making::Storing => self.learn_store(),
             Making::Bearing => self.learn_birth(number),
         }
@@ -46,6 +50,8 @@ impl SeatParty {
         match place {
             Access::LoadingMeta => self.learn_meta(number, found),
             Access::Walking => self.learn_link(found),
+            Access::Locating => self.learn_address(found),
+            Access::Indexing => self.learn_index(found),
             Access::Getting => self.learn_get(number, found),
             Access::Naming => self.learn_name(number, found),
             Access::LoadingOld => self.learn_old(found),

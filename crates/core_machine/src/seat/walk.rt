@@ -1,8 +1,8 @@
 ghost use Rattle.std.specs.Prelude.{◌≡◌, ◌*◌, ◌<◌, ◌≤◌, ◌^◌, IfSome};
 ghost use Rattle.heap_model.specs.Limits.{last_index, register_count};
 ghost use Rattle.core_machine.specs.seat.Commands.{field_of};
-ghost use Rattle.core_machine.specs.table.Decode.{pointer_in};
-ghost use Rattle.core_machine.specs.seat.Access.{row_of, part_of, has_barrier_of, field_place_of, way_place_of, access_start, with_field_place, after_walk, field_reply_of, meta_reply_of};
+ghost use Rattle.core_machine.specs.table.Decode.{pointer_in, array_length_of, payload_in};
+ghost use Rattle.core_machine.specs.seat.Access.{row_of, part_of, has_barrier_of, field_place_of, way_place_of, access_start, with_field_place, after_walk, after_length, after_index, field_reply_of, meta_reply_of};
 ghost use Rattle.core_machine.specs.seat.AccessMoves.{open_move};
 ghost use Rattle.core_machine.specs.seat.Registers.{register_in};
 ghost use Rattle.core_machine.specs.Moves.{seat_after};
@@ -12,7 +12,7 @@ use crate::place::{Access, Place};
 use crate::seat::SeatParty;
 use crate::seat::commands::Parts;
 use crate::seat::register::Register;
-use crate::table::decode::link_in;
+use crate::table::decode::{array_length, link_in, payload};
 use heap_model::phase_plan::{BARRIERS, CLEARING, CYCLE_PHASES};
 use heap_model::{Command, Reply};
 use heap_words::Meta;
@@ -124,6 +124,33 @@ impl SeatParty {
         self.place = Place::Access(self.way_place());
     }
 
+    /// Learns by the meta whether the way goes by links or by a spine.
+    fn learn_length(&mut self, found: u64)
+        requires field { field_of self.old.seat.command ≤ last_index }
+        requires leads { IfSome (pointer_in 0 found) (λ fragment. fragment < 2 ^ 16) }
+        ensures seat { self.new.seat ≡ after_length self.old.seat found (array_length_of found) }
+        ensures spare { self.new.spare ≡ self.old.spare }
+    {
+        if array_length(found).is_some() {
+            self.links = 0;
+            self.part = (Parts::of(&self.command).field % 4) as u8;
+            self.place = Place::Access(Access::Locating);
+            return;
+        }
+        self.learn_field_place();
+        self.learn_link(found);
+    }
+
+    /// Learns the spine word that names the cell's fragment.
+    pub(crate) fn learn_index(&mut self, found: u64)
+        requires { payload_in found < 2 ^ 16 }
+        ensures seat { self.new.seat ≡ after_index self.old.seat found }
+        ensures spare { self.new.spare ≡ self.old.spare }
+    {
+        self.reached = payload(found);
+        self.place = Place::Access(self.field_place());
+    }
+
     /// Learns the object's meta.
     pub(crate) fn learn_meta(&mut self, number: u8, found: u64)
         requires field { field_of self.old.seat.command ≤ last_index }
@@ -133,8 +160,7 @@ impl SeatParty {
         ensures spare { KeepsRoom self.old self.new }
     {
         let Some(reply) = meta_reply(&self.command, found) else {
-            self.learn_field_place();
-            self.learn_link(found);
+            self.learn_length(found);
             return;
         };
         self.reply(number, reply);

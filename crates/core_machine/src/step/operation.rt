@@ -14,6 +14,10 @@ pub enum Operation {
     Or(u64),
     /// These bits alone are kept.
     And(u64),
+    /// The word grows by this number, modulo 2^64.
+    Add(u64),
+    /// The word falls by this number, modulo 2^64.
+    Subtract(u64),
 }
 
 impl Operation {
@@ -26,6 +30,8 @@ impl Operation {
             Operation::Store(word) | Operation::Exchange(word) => word,
             Operation::Or(bits) => found | bits,
             Operation::And(bits) => found & bits,
+            Operation::Add(number) => found.wrapping_add(number),
+            Operation::Subtract(number) => found.wrapping_sub(number),
         }
     }
 }

@@ -1,5 +1,5 @@
 ghost use Rattle.std.specs.Prelude.{◌≡◌, ◌<◌, ◌^◌, IfSome};
-ghost use Rattle.core_machine.specs.table.Decode.{head_of, pointer_in, is_meta as is_meta_of, array_length_of, link_of, id_of, stamp_of, plain_of};
+ghost use Rattle.core_machine.specs.table.Decode.{head_of, pointer_in, is_meta as is_meta_of, array_length_of, payload_in, link_of, id_of, stamp_of, plain_of};
 
 use crate::seat::register::Register;
 use heap_model::Id;
@@ -58,6 +58,14 @@ pub fn array_length(word: u64) -> Option<u16>
         Kind::Fixed => Meta::array_length(&cell),
         Kind::Nil | Kind::Number | Kind::Reference => None,
     }
+}
+
+/// The fragment that a spine word names.
+pub fn payload(word: u64) -> u16
+    requires { payload_in word < 2 ^ 16 }
+    ensures { result ≡ payload_in word }
+{
+    Cell::read(word).value as u16
 }
 
 /// The fragment after the one whose first word this is; 0 where it leads nowhere.

@@ -1,7 +1,7 @@
 ghost use Rattle.std.specs.Prelude.{◌≡◌, ◌+◌, ◌*◌, ◌<◌, ◌≤◌, ◌++◌, ◌/◌, ◌-◌, length, slice_index_or};
 ghost use Rattle.std.specs.List.{list_all};
 ghost use Rattle.heap_model.specs.Limits.{group_fragments, most_groups};
-ghost use Rattle.core_machine.specs.seat.Making.{first_group_of, last_group_of};
+ghost use Rattle.core_machine.specs.seat.Making.{first_group_of, last_group_of, last_run as last_run_of};
 ghost use Rattle.core_machine.specs.table.Fragments.{in_group, part_in, part_out, mask_of, clear_in};
 
 use arrayvec::ArrayVec;
@@ -11,8 +11,8 @@ use heap_words::{is_clear, place_bit};
 /// The most fragments that a seat keeps between two calls, and one more.
 pub const MOST_KEPT: usize = MOST_RESERVE as usize + 1;
 
-/// The most fragments that a hand holds: those of the largest record, less one, and a group.
-pub const MOST_HELD: usize = 31;
+/// The most fragments that a hand holds: those of the largest array, less one, and a group.
+pub const MOST_HELD: usize = 1040;
 
 /// The most fragments of a reserve and a hand together.
 const MOST_JOINED: usize = MOST_KEPT + MOST_HELD;
@@ -107,6 +107,20 @@ pub fn last_group(fragments: &[u16]) -> u16
     ensures { result ≡ last_group_of fragments.now }
 {
     fragments[fragments.len() - 1] / GROUP_FRAGMENTS
+}
+
+/// How many of the last fragments are of the last one's group.
+pub fn last_run(fragments: &[u16]) -> usize
+    requires { 0 < length fragments.now }
+    ensures run { result ≡ last_run_of fragments.now }
+    ensures few { result ≤ length fragments.now }
+{
+    let group = last_group(fragments);
+    fragments
+        .iter()
+        .rev()
+        .take_while(|fragment| **fragment / GROUP_FRAGMENTS == group)
+        .count()
 }
 
 /// The same fragments in a buffer of their own.

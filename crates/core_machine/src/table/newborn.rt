@@ -1,7 +1,72 @@
 ghost use Rattle.std.specs.Prelude.{◌≡◌, ◌<◌, ◌≤◌, ◌^◌, length};
-ghost use Rattle.core_machine.specs.table.Newborn.{record_word_of, link_after, head_word_of, record_meta};
+ghost use Rattle.core_machine.specs.table.Newborn.{record_word_of, link_after, head_word_of, record_meta, spine_word as spine_word_of, array_meta, sentinel_word_of, array_word_of};
 
-use heap_words::{Cell, Kind, Meta, Name};
+use heap_words::{Cell, Kind, Meta, Name, Spot};
+
+/// The spine word that names a fragment.
+pub fn spine_word(fragment: u16) -> u64
+    ensures { result ≡ spine_word_of fragment }
+{
+    fixed_word(u32::from(fragment))
+}
+
+/// A fixed word of this value, with the stamp 0.
+fn fixed_word(value: u32) -> u64
+    requires { value < 2 ^ 30 }
+    ensures { result ≡ spine_word_of value }
+{
+    Cell {
+        kind: Kind::Fixed,
+        value,
+        stamp: 0,
+    }
+    .pack()
+}
+
+/// An array that isn't born yet: its name, how many cells it has, and where its spine stands.
+#[derive(Clone, Copy)]
+pub struct NewbornArray {
+    pub name: Name,
+    pub cells: u16,
+    pub spine: Spot,
+}
+
+impl NewbornArray {
+    /// Word `part` of its fragment `k`, while no cell was ever set.
+    pub fn word(&self, k: usize, part: u8) -> u64
+        requires cells { self.now.cells < 2 ^ 13 }
+        requires half { self.now.spine.half < 2 }
+        ensures { result ≡ array_word_of self.now.name self.now.cells self.now.spine k part }
+    {
+        if k == 0 { self.sentinel_word(part) } else { 0 }
+    }
+
+    /// A word of its first fragment.
+    fn sentinel_word(&self, part: u8) -> u64
+        requires cells { self.now.cells < 2 ^ 13 }
+        requires half { self.now.spine.half < 2 }
+        ensures { result ≡ sentinel_word_of self.now.name self.now.cells self.now.spine part }
+    {
+        match part {
+            0 => self.meta(),
+            1 => self.name.pack(),
+            2 => self.spine.pack(),
+            _ => fixed_word(0),
+        }
+    }
+
+    fn meta(&self) -> u64
+        requires { self.now.cells < 2 ^ 13 }
+        ensures { result ≡ array_meta self.now.cells }
+    {
+        Meta {
+            array: true,
+            length: self.cells,
+            next: 0,
+        }
+        .pack()
+    }
+}
 
 /// A record that isn't born yet: its name, how many fields it has, and its fragments in their order.
 #[derive(Clone, Copy)]
