@@ -1,10 +1,11 @@
--- What the rule keeps beside the state: the history so far, and whose each fragment is.
+-- What the rule keeps beside the state: the history so far, and whose each fragment and each spine word is.
 use Rattle.std.specs.Prelude.{ℕ, ◌+◌, if◌then◌else◌, List, [], ◌∷◌, slice_index_or}
+use Rattle.heap_words.specs.declared.spot.Spot.{Spot}
 use Rattle.heap_model.specs.declared.entry.Entry.{Entry}
 use Rattle.heap_model.specs.declared.id.Id.{Id}
 use Rattle.heap_model.specs.declared.id.Id.TheVariants.{Board}
 use Rattle.core_machine.specs.seat.Registers.{is_same_id}
-use Rattle.core_rule.specs.Owners.{Owner}
+use Rattle.core_rule.specs.Owners.{Owner, SpineOwner}
 
 -- a fragment is white while nothing has marked it; grey once it is marked; black once all that it leads to is
 pub data Colour : Type 0 where
@@ -22,6 +23,12 @@ pub record Book : Type 0 where
   pub owner : ℕ → Owner
   -- the fragments of each object, by its number in the order of making
   pub fragments : ℕ → List ℕ
+  -- where the spine of each array stands, by its number in the order of making
+  pub spines : ℕ → Spot
+  -- whose each spine word is, by its half and its offset in that
+  pub spine_owner : ℕ → ℕ → SpineOwner
+  -- the spine words of arrays that are to be freed or were freed
+  pub gone : ℕ
   -- the colour of each fragment
   pub colour : ℕ → Colour
   -- how long the history was when each seat last began a call

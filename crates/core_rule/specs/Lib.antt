@@ -2,6 +2,7 @@ pub mod Owners
 pub mod Book
 pub mod ControlWords
 pub mod Objects
+pub mod Spines
 pub mod Registers
 pub mod Holding
 pub mod Counts
@@ -17,6 +18,7 @@ pub mod Footprint
 pub mod Roots
 pub mod Together
 pub mod Cycle
+pub mod Budgets
 pub mod Rule
 pub mod Looks
 pub mod Stands

@@ -1,4 +1,4 @@
--- Whose each fragment is.
+-- Whose each fragment and each spine word is.
 use Rattle.std.specs.Prelude.{◌≡◌, ℕ, ◌<◌, ◌==◌, if◌then◌else◌, nat_lt, List}
 use Rattle.core_machine.specs.table.Fragments.{tally}
 
@@ -84,3 +84,11 @@ IsBoards _ = ⊥
 pub record OwnersStand (seats : ℕ) (owner : ℕ → Owner) : Type 0 where
   pub seated : (f : ℕ) → IsSeated seats (owner f)
   pub board : IsBoards (owner 0)
+
+-- a spine word is nobody's; or a seat's that makes an array, as the k-th of its spine; or a kept array's, by the object's number; or it was that of an
+-- array that is to be freed or was freed
+pub data SpineOwner : Type 0 where
+  Open : SpineOwner
+  Placed : (seat k : ℕ) → SpineOwner
+  Spined : (object k : ℕ) → SpineOwner
+  Gone : SpineOwner

@@ -1,5 +1,5 @@
 -- The rule: a book stands for a state.
-use Rattle.std.specs.Prelude.{ℕ, ◌<◌, false, List, drop}
+use Rattle.std.specs.Prelude.{ℕ, ◌<◌, false, List, length, drop}
 use Rattle.heap_model.specs.declared.entry.Entry.{Entry}
 use Rattle.heap_model.specs.declared.heap.Heap.{Heap}
 use Rattle.heap_model.specs.declared.id.Id.{Id}
@@ -12,8 +12,10 @@ use Rattle.core_machine.specs.seat.Seat.{Seat}
 use Rattle.core_machine.specs.machine.Value.{IsMachine}
 use Rattle.core_rule.specs.Book.{Book, Colour}
 use Rattle.core_rule.specs.ControlWords.{Bits}
-use Rattle.core_rule.specs.Objects.{AreMade, Objects, cells_at}
-use Rattle.core_rule.specs.Owners.{Owner, OwnersStand}
+use Rattle.core_rule.specs.Objects.{AreMade, Objects, node_at}
+use Rattle.core_rule.specs.Owners.{Owner, OwnersStand, SpineOwner}
+use Rattle.core_rule.specs.Spines.{SpinesStand, SpineInHand, WordStandsAhead}
+use Rattle.core_rule.specs.Budgets.{BudgetsStand, UsedStands}
 use Rattle.core_rule.specs.Registers.{Registers}
 use Rattle.core_rule.specs.Holding.{Holding, IsStored}
 use Rattle.core_rule.specs.Counts.{CountsAgree, OwnList, AreUsed}
@@ -31,21 +33,24 @@ pub record HeapStands (heap : Heap) (words : List ℕ) (book : Book) : Type 0 wh
   pub control_words : Bits heap words book.owner
   pub owners : OwnersStand heap.seats book.owner
   pub ids : AreMade (graph_of heap book.history) book.made
-  pub objects : Objects heap words (graph_of heap book.history) book.made book.owner book.fragments
+  pub objects : Objects heap words (graph_of heap book.history) book.made book.owner book.fragments book.spines
+  pub spines : SpinesStand heap words heap.seats (length book.made) (node_at (graph_of heap book.history) book.made) book.owner book.fragments book.spines book.spine_owner
   pub used : AreUsed heap book.owner book.history
   pub cycle : HeapInCycle heap words (phase book.history) book.owner book.colour book.fragments
   pub legal : IsLegal heap false book.history
 
 -- what a seat has: its fragments, what it has stored into them, and their order
-pub record OwnStands (heap : Heap) (words : List ℕ) (owner : ℕ → Owner) (number : ℕ) (seat : Seat) : Type 0 where
+pub record OwnStands (heap : Heap) (words : List ℕ) (owner : ℕ → Owner) (spine_owner : ℕ → ℕ → SpineOwner) (number : ℕ) (seat : Seat) : Type 0 where
   pub holding : Holding owner number seat.reserve seat.hand seat.body
   pub stored : IsStored heap words number seat
   pub together : AreTogether heap seat.cursor seat.tried seat.hand seat.body
+  pub spine : SpineInHand heap words spine_owner number seat
 
 -- what it names: its registers, and the way that it is on
-pub record NamesStand (g : Graph) (made : List Id) (owner : ℕ → Owner) (fragments : ℕ → List ℕ) (number : ℕ) (seat : Seat) : Type 0 where
+pub record NamesStand (g : Graph) (made : List Id) (owner : ℕ → Owner) (fragments : ℕ → List ℕ) (spine_owner : ℕ → ℕ → SpineOwner) (number : ℕ) (seat : Seat) : Type 0 where
   pub registers : Registers g made owner fragments number seat.registers seat.place (target_of seat.command)
-  pub way : WayStands (cells_at g made) made owner fragments seat seat.place
+  pub way : WayStands (node_at g made) made owner fragments seat seat.place
+  pub ahead : WordStandsAhead owner spine_owner seat seat.place
 
 -- what the history tells of it: its entries, its counts, its call in flight and what that has gathered
 pub record ToldStands (heap : Heap) (g : Graph) (history : List Entry) (made : List Id) (owner : ℕ → Owner) (fragments : ℕ → List ℕ) (begun number : ℕ) (seat : Seat) : Type 0 where
@@ -53,11 +58,12 @@ pub record ToldStands (heap : Heap) (g : Graph) (history : List Entry) (made : L
   pub counts : CountsAgree g history number seat
   pub began : Began history number begun seat.place
   pub gathers : GathersRight heap owner number (drop begun history) seat.cursor seat.tried seat.given
+  pub used : UsedStands heap history number seat seat.place
 
 -- what is true of a seat
 pub record SeatStands (heap : Heap) (words : List ℕ) (book : Book) (number : ℕ) (seat : Seat) : Type 0 where
-  pub own : OwnStands heap words book.owner number seat
-  pub names : NamesStand (graph_of heap book.history) book.made book.owner book.fragments number seat
+  pub own : OwnStands heap words book.owner book.spine_owner number seat
+  pub names : NamesStand (graph_of heap book.history) book.made book.owner book.fragments book.spine_owner number seat
   pub told : ToldStands heap (graph_of heap book.history) book.history book.made book.owner book.fragments (book.begun number) number seat
   pub cycle : SeatInCycle heap words (phase book.history) (last_answer number book.history) (has_left number book.history) book.owner book.colour number seat
 
@@ -73,3 +79,4 @@ pub record Rule (heap : Heap) (state : State) (book : Book) : Type 0 where
   pub seats_stand : (number : ℕ) → number < heap.seats → SeatStands heap state.words book number (seat_at state number)
   pub collector_stands : CollectorAgrees heap state.collector book.history
   pub marks_stand : MarksStand heap state book.owner book.colour book.fragments
+  pub budgets : BudgetsStand heap state book

@@ -1,12 +1,12 @@
 -- Where a seat stands on the way to a field.
-use Rattle.std.specs.Prelude.{◌≡◌, ℕ, ◌+◌, ◌<◌, List, length, Some, IsSome}
+use Rattle.std.specs.Prelude.{◌≡◌, ℕ, ◌+◌, ◌/◌, ◌%◌, ◌<◌, true, if◌then◌else◌, List, length, Some, IsSome}
 use Rattle.heap_model.specs.declared.command.Command.{Command}
-use Rattle.heap_model.specs.declared.graph.cell.Cell.{Cell}
 use Rattle.heap_model.specs.declared.id.Id.{Id}
+use Rattle.heap_model.specs.graph.Graph.{Node}
 use Rattle.core_machine.specs.declared.place.Place.{Place}
 use Rattle.core_machine.specs.declared.place.Place.TheVariants as places
 use Rattle.core_machine.specs.declared.place.Access.{Access}
-use Rattle.core_machine.specs.declared.place.Access.TheVariants.{LoadingMeta, Walking, Getting, Naming, LoadingOld, ShadingOld, ShadingNew, Swapping}
+use Rattle.core_machine.specs.declared.place.Access.TheVariants.{LoadingMeta, Walking, Locating, Indexing, Getting, Naming, LoadingOld, ShadingOld, ShadingNew, Swapping}
 use Rattle.core_machine.specs.declared.seat.register.Register.TheVariants.{Object}
 use Rattle.core_machine.specs.seat.Commands.{object_of, field_of}
 use Rattle.core_machine.specs.table.Decode.{head_of}
@@ -29,18 +29,34 @@ pub record SetsOut (made : List Id) (owner : ℕ → Owner) (fragments : ℕ →
   pub index : ℕ
   pub way : OnWay made owner fragments seat index 0
 
--- the command's field is one of so many: from this row so many links lead on to the field's row, and it stands in this word there
-pub record FieldAhead (fields : ℕ) (command : Command) (row links part : ℕ) : Type 0 where
-  pub within : field_of command < fields
-  pub leads : row + links ≡ row_of (field_of command)
-  pub there : part ≡ part_of (field_of command)
+-- the row in which a field of a record stands, or a cell of an array: behind the first fragment there are four cells in each
+abbrev pub row_in : Node → ℕ → ℕ
+row_in object field = if object.array then field / 4 + 1 else row_of field
+
+-- the word of its fragment in which it stands
+abbrev pub part_in : Node → ℕ → ℕ
+part_in object field = if object.array then field % 4 else part_of field
+
+-- the command's field is one of the object's: from this row so many links lead on to the field's row, and it stands in this word there
+pub record FieldAhead (object : Node) (command : Command) (row links part : ℕ) : Type 0 where
+  pub within : field_of command < length object.cells
+  pub leads : row + links ≡ row_in object (field_of command)
+  pub there : part ≡ part_in object (field_of command)
 
 -- the way of one whose object has the field
-pub record Finds (cells : ℕ → List Cell) (made : List Id) (owner : ℕ → Owner) (fragments : ℕ → List ℕ) (seat : Seat) : Type 0 where
+pub record Finds (nodes : ℕ → Node) (made : List Id) (owner : ℕ → Owner) (fragments : ℕ → List ℕ) (seat : Seat) : Type 0 where
   pub index : ℕ
   pub row : ℕ
   pub way : OnWay made owner fragments seat index row
-  pub field : FieldAhead (length (cells index)) seat.command row seat.links seat.part
+  pub field : FieldAhead (nodes index) seat.command row seat.links seat.part
+
+-- the way to a cell of an array, of which the first fragment was reached
+pub record Locates (nodes : ℕ → Node) (made : List Id) (owner : ℕ → Owner) (fragments : ℕ → List ℕ) (seat : Seat) : Type 0 where
+  pub index : ℕ
+  pub way : OnWay made owner fragments seat index 0
+  pub an_array : (nodes index).array ≡ true
+  pub within : field_of seat.command < length (nodes index).cells
+  pub there : seat.part ≡ field_of seat.command % 4
 
 -- the object that a set has loaded from its field is a kept one
 pub record LoadedKept (made : List Id) (owner : ℕ → Owner) (fragments : ℕ → List ℕ) (seat : Seat) : Type 0 where
@@ -54,17 +70,19 @@ abbrev pub OldKept : List Id → (ℕ → Owner) → (ℕ → List ℕ) → Seat
 OldKept made owner fragments seat = IsSome (head_of seat.loaded) → LoadedKept made owner fragments seat
 
 -- what is true of the way at each place of access
-abbrev pub AccessStands : (ℕ → List Cell) → List Id → (ℕ → Owner) → (ℕ → List ℕ) → Seat → Access → Type 0
-AccessStands cells made owner fragments seat LoadingMeta = SetsOut made owner fragments seat
-AccessStands cells made owner fragments seat Walking = Finds cells made owner fragments seat
-AccessStands cells made owner fragments seat Getting = Finds cells made owner fragments seat
-AccessStands cells made owner fragments seat Naming = Unit {0}
-AccessStands cells made owner fragments seat LoadingOld = Finds cells made owner fragments seat
-AccessStands cells made owner fragments seat ShadingOld = Finds cells made owner fragments seat × LoadedKept made owner fragments seat
-AccessStands cells made owner fragments seat ShadingNew = Finds cells made owner fragments seat × OldKept made owner fragments seat
-AccessStands cells made owner fragments seat Swapping = Finds cells made owner fragments seat × OldKept made owner fragments seat
+abbrev pub AccessStands : (ℕ → Node) → List Id → (ℕ → Owner) → (ℕ → List ℕ) → Seat → Access → Type 0
+AccessStands nodes made owner fragments seat LoadingMeta = SetsOut made owner fragments seat
+AccessStands nodes made owner fragments seat Walking = Finds nodes made owner fragments seat
+AccessStands nodes made owner fragments seat Locating = Locates nodes made owner fragments seat
+AccessStands nodes made owner fragments seat Indexing = Locates nodes made owner fragments seat
+AccessStands nodes made owner fragments seat Getting = Finds nodes made owner fragments seat
+AccessStands nodes made owner fragments seat Naming = Unit {0}
+AccessStands nodes made owner fragments seat LoadingOld = Finds nodes made owner fragments seat
+AccessStands nodes made owner fragments seat ShadingOld = Finds nodes made owner fragments seat × LoadedKept made owner fragments seat
+AccessStands nodes made owner fragments seat ShadingNew = Finds nodes made owner fragments seat × OldKept made owner fragments seat
+AccessStands nodes made owner fragments seat Swapping = Finds nodes made owner fragments seat × OldKept made owner fragments seat
 
 -- what is true of a seat's way at its place
-abbrev pub WayStands : (ℕ → List Cell) → List Id → (ℕ → Owner) → (ℕ → List ℕ) → Seat → Place → Type 0
-WayStands cells made owner fragments seat (places.Access place) = AccessStands cells made owner fragments seat place
-WayStands cells made owner fragments seat _ = Unit {0}
+abbrev pub WayStands : (ℕ → Node) → List Id → (ℕ → Owner) → (ℕ → List ℕ) → Seat → Place → Type 0
+WayStands nodes made owner fragments seat (places.Access place) = AccessStands nodes made owner fragments seat place
+WayStands nodes made owner fragments seat _ = Unit {0}
