@@ -46,7 +46,7 @@ module _ (heap : Heap) (state : State) (book : Book) (rule : Rule heap state boo
 
   pub held_alive : (f : ℕ) → IsHeld heap state f → IsAlive (book.owner f)
   held_alive f (by_seat number _ here holds) = holds_alive heap state book rule number here f holds
-  held_alive g (by_word f _ held born edge) = word_alive f edge.part g (held_alive f held) born edge.points
+  held_alive g (by_word f _ held born edge) = word_alive f edge.source g (held_alive f held) born edge.points
 
   held_within_heap : (f : ℕ) → IsHeld heap state f → f < 16 * heap.groups
   held_within_heap f held = alive_within heap state.words book.owner f rule.heap_stands.control_words (held_alive f held)

@@ -50,9 +50,9 @@ module _ (heap : Heap) (words : List ℕ) (owner : ℕ → Owner) (colour : ℕ 
   ]
     where
       on : IsWhite owner colour g → IsReached heap words owner colour f → IsReached heap words owner colour g
-      on whites (inr path) = inr (from_white f g path (record { part = part; points = leads }) whites)
+      on whites (inr path) = inr (from_white f g path (record { source = part; points = leads }) whites)
       on whites (inl marked) = elim (grey_or_black colour f marked) as (λ _. IsReached heap words owner colour g) [
-        | inl grey ↦ inr (from_grey f g grey (record { part = part; points = leads }) whites)
+        | inl grey ↦ inr (from_grey f g grey (record { source = part; points = leads }) whites)
         | inr dark ↦ inl (black f part g dark leads)
       ]
 
@@ -79,7 +79,7 @@ module _ (heap : Heap) (words now : List ℕ) (owner : ℕ → Owner) (colour : 
   shaded = with_mark colour m
 
   edge_on : (f g : ℕ) → Edge heap words f g → Edge heap now f g
-  edge_on f g leads = record { part = leads.part; points = leads_on f leads.part g leads.points }
+  edge_on f g leads = record { source = leads.source; points = leads_on f leads.source g leads.points }
 
   -- what gets marked is the fragment, which is grey then
   newly_grey : (f : ℕ) → colour f ≡ White → (f ≡ m) → shaded m ≡ Grey
