@@ -73,12 +73,12 @@ module _ (heap : Heap) (words : List ℕ) (owner : ℕ → Owner) (number : ℕ)
         ]
 
     -- so a fragment of the group leads to one of the group, or to a marked one
-    pub born_ahead : (f part x : ℕ) → 1 ≤ tally f (part_in g seat.hand) → WordPointsTo heap words f part x → (1 ≤ tally x (part_in g seat.hand)) ⊎ IsMarked colour x
-    born_ahead f part x there leads =
+    pub born_ahead : (f source x : ℕ) → 1 ≤ tally f (part_in g seat.hand) → WordPointsTo heap words f source x → (1 ≤ tally x (part_in g seat.hand)) ⊎ IsMarked colour x
+    born_ahead f source x there leads =
         let in_body : 1 ≤ tally f seat.body = omega (arith, there, parts_tally g f seat.hand, body_borne owner number seat.reserve seat.hand seat.body holding some f) in
         let place = place_within f seat.body in
         let k : ℕ = place_of f seat.body in
-        let next = body_leads k part x (place in_body).0 (subst (λ y. WordPointsTo heap words y part x) (sym (place in_body).1) leads) in
+        let next = body_leads k source x (place in_body).0 (subst (λ y. WordPointsTo heap words y source x) (sym (place in_body).1) leads) in
         elim (behind k next.0 (subst (λ y. 1 ≤ tally y (part_in g seat.hand)) (sym (place in_body).1) there)) [
           | inl among ↦ inl (subst (λ y. 1 ≤ tally y (part_in g seat.hand)) (sym next.1) among)
           | inr borne ↦ inr (λ white. absurd (dark (sym (births x (subst (λ y. owner y ≡ Borne number) (sym next.1) (is_borne number _ borne))) ∙ white)))

@@ -1,7 +1,7 @@
 -- Where the sources of fragments lead once a word was written.
 use Rattle.std.specs.Prelude.{if◌then◌else◌}
 use Rattle.std.proofs.Common.{◌≡◌, ◌≢◌, ◌⊎◌, ℕ, suc, ◌+◌, ◌-◌, ◌*◌, ◌<◌, List, length, inl, inr, refl, ap, ◌∙◌, sym, subst, Option, Some, None, nat_lt, arith}
-use Rattle.std.proofs.lemmas.Bool.{cases_eq, cases_lt}
+use Rattle.std.proofs.lemmas.Bool.{cases_eq}
 use Rattle.std.proofs.lemmas.Bool.Decides.{leb_tells}
 use Rattle.heap_words.specs.Spot.{spot_in}
 use Rattle.heap_model.specs.declared.heap.Heap.{Heap}
@@ -12,7 +12,7 @@ use Rattle.core_machine.specs.table.Decode.{pointer_in, payload_in, spine_words_
 use Rattle.core_rule.specs.Colours.{WordPointsTo}
 use Rattle.core_rule.specs.Sources.{spine_pointer, source_pointer}
 use Rattle.core_rule.proofs.colours.SourceCases.{HasNoSpine, source_cases, word_source, word_leads, lead_of_word, word_alone}
-use Rattle.core_rule.proofs.words.Addresses.{at-put_apart, word_after_control, word_same, fragment_other, part_other}
+use Rattle.core_rule.proofs.words.Addresses.{at-put_apart, word_same, fragment_other, part_other}
 
 -- the four words of the fragment are the same, and so are the words of its spine
 pub record SameSources (heap : Heap) (words now : List ℕ) (f : ℕ) : Type 0 where

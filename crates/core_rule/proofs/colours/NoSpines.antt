@@ -17,15 +17,11 @@ use Rattle.core_machine.proofs.table_lemmas.CellWords.{cell_of-cell_word}
 use Rattle.core_rule.specs.Objects.{value_word}
 use Rattle.core_rule.proofs.ways.Told.{HasRoom}
 
--- how many words the spine has whose first word is the cell's
+-- how many words the spine has of a fragment whose first word is the cell's
 abbrev spine_of : Cell → ℕ
 spine_of c = option_map_or array_words (array_length_in c.kind c) 0
 
--- a word of 0 has none
-pub zero_no_spine : spine_words_in 0 ≡ 0
-zero_no_spine = refl
-
--- nor has a cell's word
+-- a cell's word has none
 pub value_no_spine : (head : Id → ℕ) (value : Value) (stamp : ℕ) → HasRoom head value → stamp < 2 ^ 32 → spine_words_in (value_word head value stamp) ≡ 0
 value_no_spine head values.Nil stamp room small = ap spine_of (cell_of-cell_word kinds.Nil 0 stamp (omega arith) small)
 value_no_spine head (values.Number n) stamp room small = ap spine_of (cell_of-cell_word kinds.Number n stamp room small)
@@ -38,12 +34,12 @@ module _ (fragments : List ℕ) (small : (i : ℕ) → i < length fragments → 
     | inr past ↦ let none : get_or fragments 1 0 ≡ 0 = get_or_past fragments 1 0 past in omega (arith, none)
   ]
 
-  -- nor a record's meta
-  pub meta_no_spine : (fields : ℕ) → fields < 2 ^ 29 → spine_words_in (record_meta fields fragments) ≡ 0
+  -- nor has a record's meta
+  meta_no_spine : (fields : ℕ) → fields < 2 ^ 29 → spine_words_in (record_meta fields fragments) ≡ 0
   meta_no_spine fields few = ap spine_of (cell_of-cell_word kinds.Fixed fields (get_or fragments 1 0) (omega (arith, few)) second_small) ∙ rw (lt-ltb fields (2 ^ 29) few) refl
 
-  -- nor a link
-  pub link_no_spine : (k : ℕ) → spine_words_in (link_after fragments k) ≡ 0
+  -- nor a link, nor the 0 in the last fragment
+  link_no_spine : (k : ℕ) → spine_words_in (link_after fragments k) ≡ 0
   link_no_spine k = elim (leb_tells (suc (k + 1)) (length fragments)) as (λ _. spine_words_in (link_after fragments k) ≡ 0) [
     | inl more ↦ rw more.0 (ap spine_of (cell_of-cell_word kinds.Reference (get_or fragments (k + 1) 0) 0 (small (k + 1) (omega (arith, more.1))) (omega arith)))
     | inr last ↦ rw last.0 refl

@@ -45,6 +45,7 @@ watched_part heap state book rule r below reaching is watches =
     let row = row_ahead heap state.words g book.made book.owner book.fragments rule.machine.limits stands.control_words stands.ids stands.objects seat finds in
     record { index = i; place = finds.row; kept = ap book.owner finds.way.here ∙ (stands.objects.kept i finds.way.below finds.way.kept).owned finds.row (omega (arith, row)) }
 
+-- so it is born
 pub watched_born : (heap : Heap) (state : State) (book : Book) (rule : Rule heap state book) (r : ℕ) → r < heap.seats → WatchesBorn book.owner (seat_at state r)
 watched_born heap state book rule r below reaching is watches = ap born_bit (watched_part heap state book rule r below reaching is watches).kept
 

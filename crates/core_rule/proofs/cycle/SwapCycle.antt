@@ -90,11 +90,11 @@ module _ (heap : Heap) (state : State) (book : Book) (number : ℕ) (rule : Rule
       of_some (IsMarked book.colour) (head_of_register (new_register_of seat)) x (sym new_leads ∙ leads) (shaded on).1
 
   pub leads_now : LeadsStay heap state.words words_swapped book.owner book.colour p
-  leads_now making f part x born leads = elim (leads_put heap state.words seat.reached seat.part word (swap_within heap state book number rule here) (swap_part heap state book number rule here place).below
-      (swap_no_spine heap state book number rule here place) swapped_no_spine rule.machine.table f part x leads) [
-    | inl before ↦ inl before
-    | inr new ↦ inr (new_marked making x new.2)
-  ]
+  leads_now making f source x born leads = elim (leads_put heap state.words seat.reached seat.part word (swap_within heap state book number rule here) (swap_part heap state book number rule here place).below
+      (swap_no_spine heap state book number rule here place) swapped_no_spine rule.machine.table f source x leads) [
+        | inl before ↦ inl before
+        | inr new ↦ inr (new_marked making x new.2)
+      ]
 
   -- the heap stands
   pub heap_swapped : HeapInCycle heap words_swapped p book.owner book.colour book.fragments

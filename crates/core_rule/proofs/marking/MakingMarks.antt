@@ -1,5 +1,5 @@
 -- What the making of an object leaves of marking: fragments that no object has come and go, and are born black while it goes on.
-use Rattle.std.proofs.Common.{◌⊎◌, ◌≡◌, ◌≢◌, ℕ, ◌*◌, ◌+◌, ◌%◌, ◌<◌, ◌≤◌, Bool, true, false, List, inl, inr, refl, sym, ap, ◌∙◌, subst, arith}
+use Rattle.std.proofs.Common.{◌⊎◌, ◌≡◌, ◌≢◌, ℕ, ◌*◌, ◌+◌, ◌%◌, ◌<◌, ◌≤◌, Bool, true, false, List, inl, inr, refl, ap, ◌∙◌, subst, arith}
 use Rattle.heap_model.specs.declared.heap.Heap.{Heap}
 use Rattle.heap_model.specs.account.PhaseCounts.{phase}
 use Rattle.core_machine.specs.declared.table.address.Address.TheVariants.{Control, Word}
@@ -7,7 +7,7 @@ use Rattle.core_machine.specs.machine.Machine.{State, seat_at}
 use Rattle.core_machine.specs.Moves.{bears_black_of}
 use Rattle.core_machine.specs.seat.Seat.{Seat}
 use Rattle.core_machine.specs.table.Fragments.{tally}
-use Rattle.core_machine.specs.table.Layout.{at, put}
+use Rattle.core_machine.specs.table.Layout.{put}
 use Rattle.core_rule.specs.Book.{Book, Grey, Black, White}
 use Rattle.core_rule.specs.Colours.{IsBetween}
 use Rattle.core_rule.specs.Owners.{Owner, Kept, Dead, born_bit, owner_after}
@@ -93,8 +93,8 @@ module _ (heap : Heap) (state : State) (book : Book) (rule : Rule heap state boo
       fresh = unborn_grey;
       dark = λ known f fresh. handed_cases (λ x. born_bit x ≡ 1 → book.colour f ≡ Black) o book.owner fs f (λ there born. absurd (omega (arith, born, none))) (λ away born. absurd (omega (arith, born, fresh)));
       light = λ clear f white. white;
-      back = λ marks f part x born leads. inl (leads_control heap state.words g n below f part x leads);
-      on = λ marks f part x born leads. inl (control_leads heap state.words g n below f part x leads);
+      back = λ marks f source x born leads. inl (leads_control heap state.words g n below f source x leads);
+      on = λ marks f source x born leads. inl (control_leads heap state.words g n below f source x leads);
     }
 
     -- they are born, and not yet an object's
@@ -111,8 +111,8 @@ module _ (heap : Heap) (state : State) (book : Book) (rule : Rule heap state boo
         | inr away ↦ absurd (omega (arith, fresh, subst (λ x. born_bit x ≡ 1) (kept_out f away) born))
       ];
       light = λ clear f white. painted_cases (λ c. c ≡ White) (birth_colour black) book.colour fs f (λ there. ap birth_colour (pale clear)) (λ away. white);
-      back = λ marks f part x born leads. inl (leads_control heap state.words g n below f part x leads);
-      on = λ marks f part x born leads. inl (control_leads heap state.words g n below f part x leads);
+      back = λ marks f source x born leads. inl (leads_control heap state.words g n below f source x leads);
+      on = λ marks f source x born leads. inl (control_leads heap state.words g n below f source x leads);
     }
       where
         in_or_out : (f : ℕ) → (1 ≤ tally f fs) ⊎ (tally f fs ≡ 0)
@@ -157,8 +157,8 @@ module _ (heap : Heap) (state : State) (book : Book) (rule : Rule heap state boo
     fresh = λ f fresh. painted_cases (λ c. c ≢ Grey) (birth_colour black) book.colour fs f (λ there. never_grey black) (λ away. unborn_grey f fresh);
     dark = λ known f fresh born. painted_in (birth_colour black) book.colour fs f (omega (arith, bears f, fresh, born)) ∙ ap birth_colour (dark known);
     light = λ clear f white. painted_cases (λ c. c ≡ White) (birth_colour black) book.colour fs f (λ there. ap birth_colour (pale clear)) (λ away. white);
-    back = λ marks f part x born leads. inl (leads_control heap state.words g n below f part x leads);
-    on = λ marks f part x born leads. inl (control_leads heap state.words g n below f part x leads);
+    back = λ marks f source x born leads. inl (leads_control heap state.words g n below f source x leads);
+    on = λ marks f source x born leads. inl (control_leads heap state.words g n below f source x leads);
   }
     where
       no_dead : {j m i k : ℕ} (f : ℕ) → Kept j m ≢ Dead i k

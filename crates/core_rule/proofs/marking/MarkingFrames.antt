@@ -24,8 +24,8 @@ pub record LeavesMarking (heap : Heap) (words now : List ℕ) (owner later : ℕ
   pub fresh : (f : ℕ) → born_bit (owner f) ≡ 0 → coloured f ≢ Grey
   pub dark : settles → (f : ℕ) → born_bit (owner f) ≡ 0 → born_bit (later f) ≡ 1 → coloured f ≡ Black
   pub light : clears → (f : ℕ) → colour f ≡ White → coloured f ≡ White
-  pub back : marks → (f part g : ℕ) → born_bit (owner f) ≡ 1 → WordPointsTo heap now f part g → WordPointsTo heap words f part g ⊎ IsMarked coloured g
-  pub on : marks → (f part g : ℕ) → born_bit (owner f) ≡ 1 → WordPointsTo heap words f part g → WordPointsTo heap now f part g ⊎ IsMarked colour g
+  pub back : marks → (f source g : ℕ) → born_bit (owner f) ≡ 1 → WordPointsTo heap now f source g → WordPointsTo heap words f source g ⊎ IsMarked coloured g
+  pub on : marks → (f source g : ℕ) → born_bit (owner f) ≡ 1 → WordPointsTo heap words f source g → WordPointsTo heap now f source g ⊎ IsMarked colour g
 
 -- this is so at each stage of marking
 abbrev pub OnlyMarks : Type 0 → Stage → Type 0

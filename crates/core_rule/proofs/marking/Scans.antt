@@ -84,9 +84,9 @@ module _ (heap : Heap) (state : State) (book : Book) (rule : Rule heap state boo
   the_object = rule.heap_stands.objects.kept i there.0 there.1
 
   -- where a fragment of a kept object is grey, what it leads to may be marked
-  pub may_mark : IsBetween 1 5 (phase book.history) → book.colour f ≡ Grey → (part m : ℕ) → WordPointsTo heap state.words f part m → MayMark book.owner book.colour book.fragments m
-  may_mark cycle grey part m leads = elim (object_leads heap state.words (graph_of heap book.history) book.made book.owner book.fragments rule.machine.limits rule.heap_stands.control_words
-      rule.heap_stands.ids rule.heap_stands.objects i there.0 there.1 k part m there.2 (subst (λ x. WordPointsTo heap state.words x part m) there.3 leads)) as (λ _. MayMark book.owner book.colour book.fragments m) [
+  pub may_mark : IsBetween 1 5 (phase book.history) → book.colour f ≡ Grey → (source m : ℕ) → WordPointsTo heap state.words f source m → MayMark book.owner book.colour book.fragments m
+  may_mark cycle grey source m leads = elim (object_leads heap state.words (graph_of heap book.history) book.made book.owner book.fragments rule.machine.limits rule.heap_stands.control_words
+      rule.heap_stands.ids rule.heap_stands.objects i there.0 there.1 k source m there.2 (subst (λ x. WordPointsTo heap state.words x source m) there.3 leads)) as (λ _. MayMark book.owner book.colour book.fragments m) [
         | inl next ↦ record {
           part = record { index = i; place = k + 1; kept = ap book.owner next.1 ∙ the_object.owned (k + 1) next.0 };
           first = inr (rule.heap_stands.cycle.coloured.first cycle f i k part_of.kept (λ white. absurd (cc (grey, white))));

@@ -21,7 +21,7 @@ path_grey edge white grey x (from_grey f _ is leads whites) = (f, is)
 path_grey edge white grey x (from_white f _ path leads whites) = path_grey edge white grey f path
 
 module _ (heap : Heap) (words now : List ℕ) (owner : ℕ → Owner) (colour : ℕ → Colour) (fragments : ℕ → List ℕ) (m : ℕ) (kept : IsPart owner m)
-    (back : (f part g : ℕ) → WordPointsTo heap now f part g → WordPointsTo heap words f part g) where
+    (back : (f source g : ℕ) → WordPointsTo heap now f source g → WordPointsTo heap words f source g) where
   abbrev shaded : ℕ → Colour
   shaded = with_mark colour m
 

@@ -1,5 +1,5 @@
 -- What a swap takes out of a field and what it puts in is marked, so marking comes to all that it came to.
-use Rattle.std.proofs.Common.{◌≡◌, ℕ, ◌%◌, ◌^◌, ◌<◌, ◌⊎◌, None, inl, inr, sym, subst, arith, List}
+use Rattle.std.proofs.Common.{◌≡◌, ℕ, ◌%◌, ◌^◌, ◌<◌, ◌⊎◌, None, inl, inr, subst, arith, List}
 use Rattle.heap_model.specs.declared.heap.Heap.{Heap}
 use Rattle.heap_model.specs.declared.id.Value.{Value}
 use Rattle.heap_model.specs.account.PhaseCounts.{phase}
@@ -46,18 +46,18 @@ module _ (heap : Heap) (state : State) (book : Book) (number : ℕ) (rule : Rule
     now = words_swapped heap state book number rule here place value stamp holds names small word is_word
 
     -- each other source leads where it led
-    leads_later : state.collector.phase % 7 ≡ 3 → (f part g : ℕ) → WordPointsTo heap state.words f part g → WordPointsTo heap now f part g ⊎ IsMarked book.colour g
-    leads_later marking f part g leads = 
+    leads_later : state.collector.phase % 7 ≡ 3 → (f source g : ℕ) → WordPointsTo heap state.words f source g → WordPointsTo heap now f source g ⊎ IsMarked book.colour g
+    leads_later marking f source g leads =
         elim (but_leads heap state.words seat.reached seat.part word (swap_within heap state book number rule here) (swap_part heap state book number rule here place).below
-        (swap_no_spine heap state book number rule here place) (swapped_no_spine heap state book number rule here place value stamp holds names small word is_word) f part g leads)
-        as (λ _. WordPointsTo heap now f part g ⊎ IsMarked book.colour g) [
+        (swap_no_spine heap state book number rule here place) (swapped_no_spine heap state book number rule here place value stamp holds names small word is_word) f source g leads)
+        as (λ _. WordPointsTo heap now f source g ⊎ IsMarked book.colour g) [
           | inl still ↦ inl still
-          | inr there ↦ inr (taken_marked marking g (subst (λ p. WordPointsTo heap state.words seat.reached p g) there.1 (subst (λ x. WordPointsTo heap state.words x part g) there.0 leads)))
+          | inr there ↦ inr (taken_marked marking g (subst (λ p. WordPointsTo heap state.words seat.reached p g) there.1 (subst (λ x. WordPointsTo heap state.words x source g) there.0 leads)))
         ]
 
     pub leaves_swap : Leaves heap state book rule now book
     leaves_swap =
-        let before = leaves_words heap state book rule state.words (λ f part g leads. leads) (λ f part g leads. leads) in
+        let before = leaves_words heap state book rule state.words (λ f source g leads. leads) (λ f source g leads. leads) in
         let same : state.collector.phase ≡ phase book.history = rule.collector_stands.phase_told in
         record {
           born = before.born;
@@ -67,7 +67,7 @@ module _ (heap : Heap) (state : State) (book : Book) (number : ℕ) (rule : Rule
           fresh = before.fresh;
           dark = before.dark;
           light = before.light;
-          back = λ marking f part g born leads. leads_now heap state book number rule here place value stamp holds names small word is_word
-              record { from = omega (arith, same, marking); upto = omega (arith, same, marking) } f part g born leads;
-          on = λ marking f part g born leads. leads_later marking f part g leads;
+          back = λ marking f source g born leads. leads_now heap state book number rule here place value stamp holds names small word is_word
+              record { from = omega (arith, same, marking); upto = omega (arith, same, marking) } f source g born leads;
+          on = λ marking f source g born leads. leads_later marking f source g leads;
         }

@@ -27,7 +27,7 @@ pub chain_leads : (heap : Heap) (words : List ℕ) (g : Graph) (made : List Id) 
     → IsHeap heap → Bits heap words owner → AreMade g made → OwnersStand heap.seats owner → Objects heap words g made owner fragments
     → (i k : ℕ) → i < length made → IsKept owner fragments i → k + 1 < length (fragments i)
     → WordPointsTo heap words (fragment_at (fragments i) k) 0 (fragment_at (fragments i) (k + 1))
-chain_leads heap words g made owner fragments limits bits ids owners objects i k below kept more = 
+chain_leads heap words g made owner fragments limits bits ids owners objects i k below kept more =
     word_leads heap words (fragment_at (fragments i) k) 0 (fragment_at (fragments i) (k + 1))
     (kept_within heap words owner (fragment_at (fragments i) k) i k bits ((objects.kept i below kept).owned k (omega (arith, more)))) (omega arith)
     (some_lead (pointer_in 0 (at heap words (Word (fragment_at (fragments i) k) 0))) (fragment_at (fragments i) (k + 1))

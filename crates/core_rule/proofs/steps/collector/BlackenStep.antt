@@ -12,7 +12,7 @@ use Rattle.core_machine.specs.declared.table.address.Address.TheVariants.{Contro
 use Rattle.core_machine.specs.machine.Machine.{State}
 use Rattle.core_machine.specs.table.Layout.{at, put}
 use Rattle.core_rule.specs.Book.{Book, Colour, White, Grey}
-use Rattle.core_rule.specs.Colours.{IsMarked, WordPointsTo}
+use Rattle.core_rule.specs.Colours.{WordPointsTo}
 use Rattle.core_rule.specs.Marking.{IsSeenWhole, MarkingStands}
 use Rattle.core_rule.specs.Owners.{Borne, Kept}
 use Rattle.core_rule.specs.Paths.{IsWhite, Edge, IsReached}

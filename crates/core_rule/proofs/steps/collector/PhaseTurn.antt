@@ -77,8 +77,8 @@ module _ (heap : Heap) (state : State) (book : Book) (rule : Rule heap state boo
   nodes : SameNodes (graph_of heap book.history) (graph_of heap later.history)
   nodes = nodes_same (graph_of heap book.history) (graph_of heap later.history) graph
 
-  pub leads_next : (f part g : ℕ) → WordPointsTo heap words_next f part g → WordPointsTo heap state.words f part g
-  leads_next f part g leads = leads_ahead heap state.words Phase next (omega arith) f part g leads
+  pub leads_next : (f source g : ℕ) → WordPointsTo heap words_next f source g → WordPointsTo heap state.words f source g
+  leads_next f source g leads = leads_ahead heap state.words Phase next (omega arith) f source g leads
 
   heap_on : IsLegal heap false later.history → Coloured heap words_next book.owner book.colour book.fragments (phase book.history + 1) → HeapStands heap words_next later
   heap_on legal coloured =
