@@ -87,14 +87,15 @@ TellsTurn number last (replies.Cycle cycle) = (kept : ℕ) × (last ≡ Some (En
 TellsTurn number last (replies.Waits other answer p) = (other ≢ number) × (last ≡ Some (Waits other answer p))
 TellsTurn number last _ = ⊥
 
--- the collect made some turns, which are counted, and answers of the seat between them, and then told as its one reply what the last
--- turn came to
+-- the collect made at least one turn, each of which is counted, and answers of the seat between them, and then told as its one reply what
+-- the last turn came to
 pub record AnswersCollect (old new : PlayState) (number : ℕ) (reply : Reply) : Type 0 where
   pub heap : new.heap ≡ old.heap
   pub before : List Entry
   pub told : AllByRecursion (TellsInCollect number) before
   pub entries : new.entries ≡ old.entries ++ (before ++ Said number Collect reply ∷ [])
   pub turns : ℕ
+  pub some : 0 < turns
   pub counted : min new.turns (2 ^ 64 - 1) ≡ min (old.turns + turns) (2 ^ 64 - 1)
   pub last : TellsTurn number new.last_turn reply
   pub spare : old.spare + length old.entries ≤ new.spare + length new.entries

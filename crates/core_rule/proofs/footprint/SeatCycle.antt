@@ -172,46 +172,39 @@ module _ (heap : Heap) (state : State) (book : Book) (stands : Stands heap state
     no_arrays = none_told heap state after book book.begun (entries heap state (Steps number)) stands keeps step_mute;
   }
 
-  -- and by the begin of a call
+  -- where a seat comes to stand elsewhere than at an old value, what the others have loaded stays
+  olds_stay : (new : State) → ((r : ℕ) → r ≢ number → seat_at new r ≡ seat_at state r) → ¬ IsOld (seat_at new number).place → (begun : List Id) → IsReach (graph_of heap (up_to_cycle book.history)) begun
+      → (r f i k : ℕ) → r < heap.seats → (seat_at new r).place ≡ places.Access ShadingOld → head_of (seat_at new r).loaded ≡ Some f → (seat_at new r ≡ seat_at state r)
+      ⊎ (book.owner f ≡ Kept i k → is_inside (graph_of heap (up_to_cycle book.history)) begun (id_at book.made i) ≡ true)
+  olds_stay new others elsewhere begun reach r f i k below placed loads = elim (eqb_tells r number) [
+    | inr apart ↦ inl (others r apart.1)
+    | inl same ↦ absurd (elsewhere (subst IsOld (sym (subst (λ n. (seat_at new n).place ≡ places.Access ShadingOld) same.1 placed)) tt))
+  ]
+
+  -- so it is by the begin of a call
   pub begin_cycle : (command : Command) (begun_at : ℕ → ℕ) → Can heap state (Begins number command)
       → (keeps : Keeps heap state (state_after heap state (Begins number command)) book begun_at []) → Stands heap (state_after heap state (Begins number command)) keeps.now
-  begin_cycle command begun_at can keeps = record {
-    rule = keeps.rule;
-    cycle = quiet_cycle heap state (state_after heap state (Begins number command)) book begun_at [] stands keeps tt refl olds;
-    looks = begin_looks heap state book.history keeps.now.history number command seated here can.1 stands.looks keeps.grown;
-    no_arrays = none_told heap state (state_after heap state (Begins number command)) book begun_at [] stands keeps tt;
-  }
-    where
-      olds : (begun : List Id) → IsReach (graph_of heap (up_to_cycle book.history)) begun → (r f i k : ℕ) → r < heap.seats → (seat_at (state_after heap state (Begins number command)) r).place ≡ places.Access ShadingOld
-          → head_of (seat_at (state_after heap state (Begins number command)) r).loaded ≡ Some f → (seat_at (state_after heap state (Begins number command)) r ≡ seat_at state r)
-          ⊎ (book.owner f ≡ Kept i k → is_inside (graph_of heap (up_to_cycle book.history)) begun (id_at book.made i) ≡ true)
-      olds begun reach r f i k below placed loads = elim (eqb_tells r number) [
-        | inr apart ↦ inl (get_or-set_other state.seats number r _ absent_seat apart.1)
-        | inl same ↦
-            let there : seat_at (state_after heap state (Begins number command)) number ≡ after_begin heap seat command = get_or-set_same state.seats number _ absent_seat seated in
-            let is_now : (after_begin heap seat command).place ≡ places.Access ShadingOld
-            = sym (ap (λ (s : Seat). s.place) there) ∙ subst (λ n. (seat_at (state_after heap state (Begins number command)) n).place ≡ places.Access ShadingOld) same.1 placed in
-            absurd (begin_old heap seat command can.1.idle (subst IsOld (sym is_now) tt))
-      ]
+  begin_cycle command begun_at can keeps =
+      let new = state_after heap state (Begins number command) in
+      let place : (seat_at new number).place ≡ (after_begin heap seat command).place = ap (λ (s : Seat). s.place) (get_or-set_same state.seats number _ absent_seat seated) in
+      record {
+        rule = keeps.rule;
+        cycle = quiet_cycle heap state new book begun_at [] stands keeps tt refl
+            (olds_stay new (λ r. get_or-set_other state.seats number r _ absent_seat) (λ old. begin_old heap seat command can.1.idle (subst IsOld place old)));
+        looks = begin_looks heap state book.history keeps.now.history number command seated here can.1 stands.looks keeps.grown;
+        no_arrays = none_told heap state new book begun_at [] stands keeps tt;
+      }
 
   -- and by that of an inner call
   pub inner_cycle : (inner : Inner) (begun_at : ℕ → ℕ) → Can heap state (BeginsInner number inner)
       → (keeps : Keeps heap state (state_after heap state (BeginsInner number inner)) book begun_at []) → Stands heap (state_after heap state (BeginsInner number inner)) keeps.now
-  inner_cycle inner begun_at can keeps = record {
-    rule = keeps.rule;
-    cycle = quiet_cycle heap state (state_after heap state (BeginsInner number inner)) book begun_at [] stands keeps tt refl olds;
-    looks = inner_looks heap state book.history keeps.now.history number inner seated here can.1 stands.looks keeps.grown;
-    no_arrays = none_told heap state (state_after heap state (BeginsInner number inner)) book begun_at [] stands keeps tt;
-  }
-    where
-      olds : (begun : List Id) → IsReach (graph_of heap (up_to_cycle book.history)) begun → (r f i k : ℕ) → r < heap.seats → (seat_at (state_after heap state (BeginsInner number inner)) r).place ≡ places.Access ShadingOld
-          → head_of (seat_at (state_after heap state (BeginsInner number inner)) r).loaded ≡ Some f → (seat_at (state_after heap state (BeginsInner number inner)) r ≡ seat_at state r)
-          ⊎ (book.owner f ≡ Kept i k → is_inside (graph_of heap (up_to_cycle book.history)) begun (id_at book.made i) ≡ true)
-      olds begun reach r f i k below placed loads = elim (eqb_tells r number) [
-        | inr apart ↦ inl (get_or-set_other state.seats number r _ absent_seat apart.1)
-        | inl same ↦
-            let there : seat_at (state_after heap state (BeginsInner number inner)) number ≡ after_inner_begin seat inner = get_or-set_same state.seats number _ absent_seat seated in
-            let is_now : inner_place inner ≡ places.Access ShadingOld
-            = sym (ap (λ (s : Seat). s.place) there) ∙ subst (λ n. (seat_at (state_after heap state (BeginsInner number inner)) n).place ≡ places.Access ShadingOld) same.1 placed in
-            absurd (inner_old inner (subst IsOld (sym is_now) tt))
-      ]
+  inner_cycle inner begun_at can keeps =
+      let new = state_after heap state (BeginsInner number inner) in
+      let place : (seat_at new number).place ≡ inner_place inner = ap (λ (s : Seat). s.place) (get_or-set_same state.seats number _ absent_seat seated) in
+      record {
+        rule = keeps.rule;
+        cycle = quiet_cycle heap state new book begun_at [] stands keeps tt refl
+            (olds_stay new (λ r. get_or-set_other state.seats number r _ absent_seat) (λ old. inner_old inner (subst IsOld place old)));
+        looks = inner_looks heap state book.history keeps.now.history number inner seated here can.1 stands.looks keeps.grown;
+        no_arrays = none_told heap state new book begun_at [] stands keeps tt;
+      }
