@@ -20,18 +20,6 @@ use Rattle.core_rule.proofs.lists.Members.{place_of, tally_at, place_within}
 use Rattle.core_rule.proofs.lists.Tallies.{one_at_same, one_at_other, one_at_bit, sum_tally}
 use Rattle.core_rule.proofs.owners.Handed.{none_or_some}
 
--- each object has as many fragments as a record with its cells
-abbrev pub AllRecords : Graph → Type 0
-AllRecords g = (id : Id) (object : Node) → node g id ≡ Some object → fragments_of object ≡ record_fragments (length object.cells)
-
--- the size of an object that was made
-pub record_size : (g : Graph) → AllRecords g → (id : Id) → IsMade g id → fragments_at g id ≡ record_fragments (length (cells_in (node g id)))
-record_size g records id made = by (node g id) refl made
-  where
-    by : (o : Option Node) → node g id ≡ o → IsSome o → option_map_or fragments_of o 0 ≡ record_fragments (length (cells_in o))
-    by None is some = cc some
-    by (Some object) is some = records id object is
-
 -- whether a fragment is part of the object of this number
 abbrev pub part_bit : ℕ → Owner → ℕ
 part_bit n (Kept i k) = one_at i n
@@ -88,11 +76,11 @@ module _ (heap : Heap) (words : List ℕ) (g : Graph) (made : List Id) (owner : 
         by (Kept i k) is none = one_at_other i n (λ same. omega (arith, there i k same is, none))
         by _ is none = refl
 
-    -- they are as many as a record with its cells has
-    pub parts_counted : ((f : ℕ) → 16 * heap.groups ≤ f → owner f ≡ Free) → sum_upto (16 * heap.groups) (λ f. part_bit n (owner f)) ≡ record_fragments (length (cells_in (node g (id_at made n))))
+    -- they are as many as the graph's object has
+    pub parts_counted : ((f : ℕ) → 16 * heap.groups ≤ f → owner f ≡ Free) → sum_upto (16 * heap.groups) (λ f. part_bit n (owner f)) ≡ fragments_at g (id_at made n)
     parts_counted outside =
         sum_same (16 * heap.groups) (λ f. part_bit n (owner f)) (λ f. tally f (fragments n)) (λ f less. is_part f) ∙ sum_tally (16 * heap.groups) (fragments n) below
-        ∙ (objects.kept n within kept).whole
+        ∙ objects.sizes n within kept
       where
         below : (f : ℕ) → 1 ≤ tally f (fragments n) → f < 16 * heap.groups
         below f there = elim (cases_lt f (16 * heap.groups)) [

@@ -8,22 +8,20 @@ use Rattle.heap_model.specs.declared.heap.Heap.{Heap}
 use Rattle.heap_model.specs.declared.id.Id.{Id}
 use Rattle.heap_model.specs.account.Cycles.{graph_of, bound}
 use Rattle.heap_model.specs.account.PhaseCounts.{phase}
-use Rattle.heap_model.specs.account.Space.{total, words_granted}
+use Rattle.heap_model.specs.account.Space.{total}
 use Rattle.heap_model.specs.account.Windows.{up_to_cycle}
 use Rattle.heap_model.specs.graph.Graph.{Graph}
 use Rattle.heap_model.specs.graph.Objects.{register_value}
 use Rattle.heap_model.specs.graph.Reach.{IsReach}
 use Rattle.core_machine.specs.declared.place.Access.TheVariants.{LoadingOld, ShadingOld}
-use Rattle.core_machine.specs.declared.place.Making.TheVariants.{Bearing}
 use Rattle.core_machine.specs.declared.place.Place.TheVariants as places
 use Rattle.core_machine.specs.declared.table.address.Address.TheVariants.{Word}
 use Rattle.core_machine.specs.collector.Collector.{Collector}
 use Rattle.core_machine.specs.machine.Machine.{State, seat_at, Begins, BeginsInner, Steps, Can, state_after, state_after_due, entries, found_by, after_begin, after_inner_begin}
 use Rattle.core_machine.specs.Moves.{Move, next_move, move_at, seat_after_due}
 use Rattle.core_machine.specs.seat.Access.{has_barrier_of, after_old_load}
-use Rattle.core_machine.specs.seat.Commands.{IsRecord, object_of, target_of}
+use Rattle.core_machine.specs.seat.Commands.{object_of, target_of}
 use Rattle.core_machine.specs.seat.FitsAccess.{SeatIsAtSet}
-use Rattle.core_machine.specs.seat.FitsMaking.{HasBody}
 use Rattle.core_machine.specs.seat.Registers.{register_in}
 use Rattle.core_machine.specs.seat.Seat.{Seat, absent_seat}
 use Rattle.core_machine.specs.table.Decode.{head_of}
@@ -45,7 +43,7 @@ use Rattle.core_rule.proofs.footprint.OldLoads.{IsOld, only_loads, begin_old, in
 use Rattle.core_rule.proofs.looks.Stays.{step_looks, begin_looks, inner_looks}
 use Rattle.core_machine.specs.seat.Collecting.{inner_place}
 use Rattle.heap_model.specs.declared.calls.collect.Inner.{Inner}
-use Rattle.core_rule.proofs.footprint.Shown.{AreMute, mute_begins, mute_phase, mute_words, shown_mute}
+use Rattle.core_rule.proofs.footprint.Shown.{AreMute, mute_begins, mute_phase, shown_mute}
 use Rattle.core_rule.proofs.footprint.StaysInside.{inside_from}
 use Rattle.core_rule.proofs.footprint.WeightGrowth.{total-added}
 use Rattle.core_rule.proofs.steps.Assemble.{Keeps}
@@ -82,10 +80,6 @@ module _ (heap : Heap) (state new : State) (book : Book) (begun_at : ℕ → ℕ
   phase_same : phase now.history ≡ phase book.history
   phase_same = omega (arith, ap phase keeps.grown, total-added (λ e. e.phases) book.history added, mute_phase added mute)
 
-  -- no array is told of
-  pub none_told : words_granted now.history ≡ 0
-  none_told = omega (arith, ap words_granted keeps.grown, total-added (λ e. e.words) book.history added, mute_words added mute, stands.no_arrays)
-
   -- the cycle goes on where the collector stays, and what sets have loaded is inside
   pub quiet_cycle : new.collector ≡ state.collector
       → ((begun : List Id) → IsReach (graph_of heap (up_to_cycle book.history)) begun → (number f i k : ℕ) → number < heap.seats → (seat_at new number).place ≡ places.Access ShadingOld
@@ -114,12 +108,6 @@ module _ (heap : Heap) (state : State) (book : Book) (stands : Stands heap state
   seated : number < length state.seats
   seated = rw stands.rule.machine.seated here
 
-  -- a seat that makes an object makes a record
-  makes : seat.place ≡ places.Making Bearing → IsRecord seat.command
-  makes placed =
-      let fits : HasBody seat × (0 < length seat.hand) × (length seat.hand ≤ length seat.body) × (seat.stored ≡ 4 * length seat.body) = rw placed at (seat_fits stands.rule number here).at_place in
-      fits.0.makes.a_record
-
   -- what a set loads from its field is inside
   loads_inside : (begun : List Id) → IsReach (graph_of heap (up_to_cycle book.history)) begun → seat.place ≡ places.Access LoadingOld → (f i k : ℕ)
       → head_of (at heap state.words (Word seat.reached seat.part)) ≡ Some f → book.owner f ≡ Kept i k → is_inside (graph_of heap (up_to_cycle book.history)) begun (id_at book.made i) ≡ true
@@ -140,7 +128,7 @@ module _ (heap : Heap) (state : State) (book : Book) (stands : Stands heap state
   after = state_after heap state (Steps number)
 
   step_mute : AreMute (entries heap state (Steps number))
-  step_mute = shown_mute heap state number makes seat.place refl
+  step_mute = shown_mute heap state number seat.place
 
   step_olds : (begun : List Id) → IsReach (graph_of heap (up_to_cycle book.history)) begun → (r f i k : ℕ) → r < heap.seats → (seat_at after r).place ≡ places.Access ShadingOld
       → head_of (seat_at after r).loaded ≡ Some f → (seat_at after r ≡ seat_at state r)
@@ -169,7 +157,6 @@ module _ (heap : Heap) (state : State) (book : Book) (stands : Stands heap state
     rule = keeps.rule;
     cycle = quiet_cycle heap state after book book.begun (entries heap state (Steps number)) stands keeps step_mute (due_collector heap state number (next_move heap number seat)) step_olds;
     looks = step_looks heap state book keeps.now.history number stands.rule here stands.looks keeps.grown;
-    no_arrays = none_told heap state after book book.begun (entries heap state (Steps number)) stands keeps step_mute;
   }
 
   -- where a seat comes to stand elsewhere than at an old value, what the others have loaded stays
@@ -192,7 +179,6 @@ module _ (heap : Heap) (state : State) (book : Book) (stands : Stands heap state
         cycle = quiet_cycle heap state new book begun_at [] stands keeps tt refl
             (olds_stay new (λ r. get_or-set_other state.seats number r _ absent_seat) (λ old. begin_old heap seat command can.1.idle (subst IsOld place old)));
         looks = begin_looks heap state book.history keeps.now.history number command seated here can.1 stands.looks keeps.grown;
-        no_arrays = none_told heap state new book begun_at [] stands keeps tt;
       }
 
   -- and by that of an inner call
@@ -206,5 +192,4 @@ module _ (heap : Heap) (state : State) (book : Book) (stands : Stands heap state
         cycle = quiet_cycle heap state new book begun_at [] stands keeps tt refl
             (olds_stay new (λ r. get_or-set_other state.seats number r _ absent_seat) (λ old. inner_old inner (subst IsOld place old)));
         looks = inner_looks heap state book.history keeps.now.history number inner seated here can.1 stands.looks keeps.grown;
-        no_arrays = none_told heap state new book begun_at [] stands keeps tt;
       }
