@@ -1,20 +1,16 @@
 -- A kept object has as many fragments as it is to have.
-use Rattle.std.proofs.Common.{◌≡◌, ℕ, suc, ◌*◌, ◌<◌, ◌≤◌, inl, inr, List, [], ◌∷◌, length, get_or, Option, Some, None, IsSome, refl, sym, ap, ◌∙◌, subst, arith}
-use Rattle.std.specs.Option.{option_map_or}
+use Rattle.std.proofs.Common.{◌≡◌, ℕ, suc, ◌*◌, ◌<◌, ◌≤◌, inl, inr, List, [], ◌∷◌, length, get_or, refl, sym, ap, ◌∙◌, subst, arith}
 use Rattle.std.proofs.lemmas.Bool.{cases_lt}
 use Rattle.std.proofs.lemmas.Bool.Decides.{eqb_tells}
-use Rattle.heap_model.specs.Needs.{record_fragments}
 use Rattle.heap_model.specs.declared.heap.Heap.{Heap}
 use Rattle.heap_model.specs.declared.id.Id.{Id}
-use Rattle.heap_model.specs.graph.Graph.{Graph, Node}
-use Rattle.heap_model.specs.graph.Objects.{node}
-use Rattle.heap_model.specs.graph.Reach.{IsMade}
-use Rattle.heap_model.specs.graph.Sizes.{fragments_of, fragments_at}
+use Rattle.heap_model.specs.graph.Graph.{Graph}
+use Rattle.heap_model.specs.graph.Sizes.{fragments_at}
 use Rattle.core_machine.specs.table.Fragments.{tally}
 use Rattle.core_machine.specs.machine.Sums.{sum_upto}
 use Rattle.core_machine.proofs.table_lemmas.Free.{sum_same, sum_zero}
 use Rattle.core_rule.specs.Book.{id_at}
-use Rattle.core_rule.specs.Objects.{Objects, IsKept, cells_in}
+use Rattle.core_rule.specs.Objects.{Objects, IsKept}
 use Rattle.core_rule.specs.Owners.{Owner, Free, Kept, one_at}
 use Rattle.core_rule.proofs.lists.Members.{place_of, tally_at, place_within}
 use Rattle.core_rule.proofs.lists.Tallies.{one_at_same, one_at_other, one_at_bit, sum_tally}

@@ -1,5 +1,5 @@
 -- What ends a cycle by the rules: counts that are right for each list of what was reached when it began.
-use Rattle.std.proofs.Common.{◌≡◌, ℕ, ◌+◌, ◌*◌, ◌≤◌, List, AllPairs, Contains, arith}
+use Rattle.std.proofs.Common.{◌≡◌, ℕ, ◌+◌, ◌*◌, ◌≤◌, List, AllPairs, Contains}
 use Rattle.heap_model.specs.account.Cycles.{graph_of, bound, IsReachOfBoth, EndsCycleBy, ButSpine}
 use Rattle.heap_model.specs.account.PhaseCounts.{phase, AllAnswered}
 use Rattle.heap_model.specs.account.Space.{fragments_gained, fragments_lost}

@@ -1,5 +1,5 @@
 -- What stands of a cycle goes on by each event of a seat.
-use Rattle.std.proofs.Common.{◌≡◌, ◌≢◌, ℕ, ◌+◌, ◌*◌, ◌%◌, ◌<◌, ◌≤◌, ◌⊎◌, inl, inr, true, List, [], length, Option, Some, None, refl, sym, ap, ◌∙◌, subst, arith}
+use Rattle.std.proofs.Common.{◌≡◌, ◌≢◌, ℕ, ◌+◌, ◌%◌, ◌<◌, ◌⊎◌, inl, inr, true, List, [], length, Option, Some, None, refl, sym, ap, ◌∙◌, subst, arith}
 use Rattle.std.proofs.lemmas.Bool.Decides.{eqb_tells}
 use Rattle.std.proofs.lemmas.List.{get_or-set_same, get_or-set_other}
 use Rattle.heap_model.specs.declared.command.Command.{Command}
@@ -17,7 +17,7 @@ use Rattle.core_machine.specs.declared.place.Access.TheVariants.{LoadingOld, Sha
 use Rattle.core_machine.specs.declared.place.Place.TheVariants as places
 use Rattle.core_machine.specs.declared.table.address.Address.TheVariants.{Word}
 use Rattle.core_machine.specs.collector.Collector.{Collector}
-use Rattle.core_machine.specs.machine.Machine.{State, seat_at, Begins, BeginsInner, Steps, Can, state_after, state_after_due, entries, found_by, after_begin, after_inner_begin}
+use Rattle.core_machine.specs.machine.Machine.{State, seat_at, Begins, BeginsInner, Steps, Can, state_after, state_after_due, entries, found_by, after_begin}
 use Rattle.core_machine.specs.Moves.{Move, next_move, move_at, seat_after_due}
 use Rattle.core_machine.specs.seat.Access.{has_barrier_of, after_old_load}
 use Rattle.core_machine.specs.seat.Commands.{object_of, target_of}

@@ -3,16 +3,13 @@ use Rattle.std.specs.List.{AllByRecursion, list_any}
 use Rattle.std.proofs.Common.{◌≡◌, ℕ, ◌==◌, Bool, true, false, if◌then◌else◌, List, [], ◌∷◌, Option, Some, None, refl, arith}
 use Rattle.std.proofs.lemmas.List.Sums.{sum_by-cons}
 use Rattle.heap_model.specs.declared.command.Command.{Command}
-use Rattle.heap_model.specs.declared.command.Command.TheVariants as commands
 use Rattle.heap_model.specs.declared.entry.Entry.{Entry}
 use Rattle.heap_model.specs.declared.entry.Entry.TheVariants.{Said, Takes}
 use Rattle.heap_model.specs.declared.heap.Heap.{Heap}
 use Rattle.heap_model.specs.declared.reply.Reply.{Reply}
 use Rattle.heap_model.specs.declared.reply.Reply.TheVariants as replies
-use Rattle.heap_model.specs.Needs.{spine_need_of, words_by}
 use Rattle.heap_model.specs.account.Effects.{effect_of}
 use Rattle.heap_model.specs.account.PhaseCounts.{phase}
-use Rattle.heap_model.specs.account.Space.{words_granted}
 use Rattle.heap_model.specs.account.Windows.{begins_cycle}
 use Rattle.core_machine.specs.declared.place.Access.TheVariants.{LoadingMeta, Getting, Swapping}
 use Rattle.core_machine.specs.declared.place.Collecting.TheVariants.{Looking, Comparing, Noting}
@@ -24,16 +21,12 @@ use Rattle.core_machine.specs.declared.place.Making.TheVariants.{Gathering, Retu
 use Rattle.core_machine.specs.declared.place.Place.{Place}
 use Rattle.core_machine.specs.declared.place.Place.TheVariants as places
 use Rattle.core_machine.specs.declared.place.Polling.TheVariants.{Asking, Answering}
-use Rattle.core_machine.specs.declared.seat.register.Register.{Register}
 use Rattle.core_machine.specs.declared.table.address.Address.TheVariants.{Word}
 use Rattle.core_machine.specs.machine.Machine.{State, seat_at, entries_shown}
 use Rattle.core_machine.specs.Moves.{move_at, is_last_birth, last_birth_move, birth_move, takes_some}
-use Rattle.core_machine.specs.seat.Access.{meta_reply_of}
 use Rattle.core_machine.specs.seat.AccessMoves.{got_shows, reply_entries_if}
-use Rattle.core_machine.specs.seat.Commands.{IsRecord}
 use Rattle.core_machine.specs.seat.HandshakeMoves.{poll_adds, phase_told}
 use Rattle.core_machine.specs.seat.Looks.{noted_reply}
-use Rattle.core_machine.specs.seat.Local.{local_reply_of}
 use Rattle.core_machine.specs.seat.Seat.{Seat}
 use Rattle.core_machine.specs.table.Layout.{at}
 use Rattle.core_rule.proofs.entries.PhasesTold.{told_cases, told_if}
