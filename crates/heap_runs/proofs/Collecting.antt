@@ -109,7 +109,7 @@ module _ (old new : MachineHeapValue) (number : ℕ) (turn : Turn) (takes : Take
   quiet_by (turns.Ended cycle kept) comes = rw (added_is (play_state_of old) (play_state_of new) turn takes (entries.Ends cycle kept ∷ []) comes.0) (tt, tt)
 
   -- by a turn
-  unfoldable pub goes_turn : TurnsMachine old new turn → IsPresent old number → GoesOn old new number
+  pub goes_turn : TurnsMachine old new turn → IsPresent old number → GoesOn old new number
   goes_turn turned present =
       let told : List Entry = machines.entries old.machine.heap old.machine.state Turns in
       let seats : new.machine.state.seats ≡ old.machine.state.seats = ap (λ (s : State). s.seats) turned.after in
