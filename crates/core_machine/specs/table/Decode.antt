@@ -1,5 +1,6 @@
 -- What a word that was loaded tells.
-use Rattle.std.specs.Prelude.{ℕ, ◌-◌, ◌*◌, ◌<◌, ◌==◌, Bool, true, false, if◌then◌else◌, List, Option, Some, None, IfSome, unwrap_or, option_map_or}
+use Rattle.std.specs.Prelude.{ℕ, ◌-◌, ◌*◌, ◌<◌, ◌==◌, Bool, true, false, if◌then◌else◌, List, Option, Some, None, IfSome, unwrap_or}
+use Rattle.std.specs.Option.{option_map_or}
 use Rattle.heap_words.specs.declared.cell.Cell.{Cell}
 use Rattle.heap_words.specs.declared.kind.Kind.{Kind}
 use Rattle.heap_words.specs.declared.kind.Kind.TheVariants as kinds
