@@ -12,6 +12,7 @@ use Rattle.heap_model.specs.declared.id.Value.TheVariants.{Nil, Number, Object}
 use Rattle.heap_model.specs.graph.Objects.{node}
 use Rattle.heap_model.specs.graph.Graph.{Graph, Node}
 use Rattle.heap_model.specs.graph.Reach.{IsMade}
+use Rattle.heap_model.specs.graph.Sizes.{fragments_at}
 use Rattle.heap_model.specs.Needs.{record_fragments}
 use Rattle.core_machine.specs.declared.table.address.Address.TheVariants.{Word}
 use Rattle.core_machine.specs.table.Layout.{at}
@@ -84,10 +85,12 @@ pub record KeptObject (heap : Heap) (words : List ℕ) (owner : ℕ → Owner) (
 abbrev pub cells_at : Graph → List Id → ℕ → List Cell
 cells_at g made i = cells_in (node g (id_at made i))
 
--- the kept objects have the graph's cells, and each fragment that is kept is one of theirs; the board begins with fragment 0
+-- the kept objects have the graph's cells and as many fragments as the graph's objects, and each fragment that is kept is one of theirs; the board begins
+-- with fragment 0
 pub record Objects (heap : Heap) (words : List ℕ) (g : Graph) (made : List Id) (owner : ℕ → Owner) (fragments : ℕ → List ℕ) : Type 0 where
   pub kept : (i : ℕ) → i < length made → IsKept owner fragments i
       → KeptObject heap words owner (object_head made fragments) i (id_at made i) (cells_at g made i) (fragments i)
+  pub sizes : (i : ℕ) → i < length made → IsKept owner fragments i → length (fragments i) ≡ fragments_at g (id_at made i)
   pub named : (i j : ℕ) → i < length made → IsKept owner fragments i → (cell : Cell) → slice_get (cells_at g made i) j ≡ Some cell
       → NamesKept made owner fragments cell.value × (cell.stamp < 2 ^ 32)
   pub back : (f i k : ℕ) → owner f ≡ Kept i k → (i < length made) × IsKept owner fragments i × (k < length (fragments i)) × (f ≡ fragment_at (fragments i) k)

@@ -95,6 +95,7 @@ module _ (heap : Heap) (state : State) (book : Book) (rule : Rule heap state boo
   pub objects_later : Objects heap state.words (graph_of heap book.history) book.made now book.fragments
   objects_later = record {
     kept = λ i below is. let was = was_kept i is in object_later i below was.0 was.1;
+    sizes = λ i below is. rule.heap_stands.objects.sizes i below (was_kept i is).0;
     named = λ i j below is cell there. let was = was_kept i is in (named_later i below was.0 was.1 j cell there, (rule.heap_stands.objects.named i j below was.0 cell there).1);
     back = λ f i k is.
         let was = settled_was (book.owner f) (book.colour f) i k is in
