@@ -12,7 +12,6 @@ pub mod Brought
 pub mod WeightGrowth
 pub mod KeptParts
 pub mod KeptSums
-pub mod Records
 pub mod BeginSize
 pub mod Clears
 pub mod EndSize

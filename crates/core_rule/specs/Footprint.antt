@@ -61,6 +61,7 @@ pub record ClearedWithin (heap : Heap) (made begun : List Id) (owner : ℕ → O
 -- what the collector is about to mark is inside; what it counts while it clears marks is right
 abbrev pub StageStandsInside : Heap → List Id → List Id → (Id → Bool) → (ℕ → Owner) → ℕ → Stage → Type 0
 StageStandsInside heap made begun inside owner most (stages.Shading scan target next) = (i k : ℕ) → owner target ≡ Kept i k → inside (id_at made i) ≡ true
+StageStandsInside heap made begun inside owner most (stages.Spreading s target) = (i k : ℕ) → owner target ≡ Kept i k → inside (id_at made i) ≡ true
 StageStandsInside heap made begun inside owner most (stages.Clearing group kept) = ClearedWithin heap made begun owner most group kept
 StageStandsInside heap made begun inside owner most (stages.Ending kept) = ClearedWithin heap made begun owner most heap.groups kept
 StageStandsInside heap made begun inside owner most _ = Unit {0}

@@ -1,9 +1,14 @@
 -- What is true while the collector marks, and after that.
 use Rattle.std.specs.Prelude.{◌≡◌, ◌≢◌, ℕ, ◌+◌, ◌/◌, ◌<◌, ◌≤◌, ◌⊎◌, false, List, Some}
+use Rattle.heap_words.specs.Spot.{spot_in}
 use Rattle.heap_model.specs.declared.heap.Heap.{Heap}
 use Rattle.heap_model.specs.Limits.{group_fragments}
+use Rattle.core_machine.specs.declared.collector.stage.SpineScan.{SpineScan}
 use Rattle.core_machine.specs.declared.collector.stage.Stage.{Stage}
 use Rattle.core_machine.specs.declared.collector.stage.Stage.TheVariants as stages
+use Rattle.core_machine.specs.declared.table.address.Address.TheVariants.{Word}
+use Rattle.core_machine.specs.table.Decode.{spine_words_in}
+use Rattle.core_machine.specs.table.Layout.{at}
 use Rattle.core_rule.specs.Book.{Colour, White, Grey, fragment_at}
 use Rattle.core_rule.specs.Colours.{IsMarked, WordPointsTo}
 use Rattle.core_rule.specs.Flight.{DeletionBarrier}
@@ -22,14 +27,24 @@ pub record MayMark (owner : ℕ → Owner) (colour : ℕ → Colour) (fragments 
   pub part : IsPart owner f
   pub first : (part.place ≡ 0) ⊎ IsMarked colour (fragment_at (fragments part.index) 0)
 
--- the fragment is grey, and its words before this one lead to marked ones alone
-pub record IsSeen (heap : Heap) (words : List ℕ) (colour : ℕ → Colour) (f part : ℕ) : Type 0 where
+-- the fragment is grey, and its sources before this one lead to marked ones alone
+pub record IsSeen (heap : Heap) (words : List ℕ) (colour : ℕ → Colour) (f source : ℕ) : Type 0 where
   pub grey : colour f ≡ Grey
-  pub seen : (p g : ℕ) → p < part → WordPointsTo heap words f p g → IsMarked colour g
+  pub seen : (s g : ℕ) → s < source → WordPointsTo heap words f s g → IsMarked colour g
+
+-- the fragment is grey, and all its sources lead to marked ones
+pub record IsSeenWhole (heap : Heap) (words : List ℕ) (colour : ℕ → Colour) (f : ℕ) : Type 0 where
+  pub grey : colour f ≡ Grey
+  pub seen : (source g : ℕ) → WordPointsTo heap words f source g → IsMarked colour g
 
 -- this word comes after that one; or between them stands an object's name, which leads nowhere
 abbrev pub ComesAfter : (ℕ → Owner) → ℕ → ℕ → ℕ → Type 0
 ComesAfter owner f part next = (next ≡ part + 1) ⊎ ((part ≡ 0) × (next ≡ 2) × ((i : ℕ) × (owner f ≡ Kept i 0)))
+
+-- the spine that the scan is in is that of its fragment, an array's first one
+pub record IsSpineOf (heap : Heap) (words : List ℕ) (s : SpineScan) : Type 0 where
+  pub as_many : s.words ≡ spine_words_in (at heap words (Word s.scan.fragment 0))
+  pub there : s.spine ≡ spot_in (at heap words (Word s.scan.fragment 2))
 
 -- what a scan has seen at each of its places, and has loaded
 abbrev pub ScanStands : Heap → List ℕ → (ℕ → Owner) → (ℕ → Colour) → (ℕ → List ℕ) → Stage → Type 0
@@ -37,7 +52,13 @@ ScanStands heap words owner colour fragments (stages.Scanning scan) = IsSeen hea
 ScanStands heap words owner colour fragments (stages.Shading scan target next) =
     IsSeen heap words colour scan.fragment scan.part × DeletionBarrier heap words colour scan.fragment scan.part (Some target)
     × MayMark owner colour fragments target × ComesAfter owner scan.fragment scan.part next
-ScanStands heap words owner colour fragments (stages.Blackening scan) = IsSeen heap words colour scan.fragment 4
+ScanStands heap words owner colour fragments (stages.Locating scan count) =
+    IsSeen heap words colour scan.fragment 4 × (count ≡ spine_words_in (at heap words (Word scan.fragment 0)))
+ScanStands heap words owner colour fragments (stages.Indexing s) = IsSeen heap words colour s.scan.fragment (4 + s.index) × IsSpineOf heap words s
+ScanStands heap words owner colour fragments (stages.Spreading s target) =
+    IsSeen heap words colour s.scan.fragment (4 + s.index) × IsSpineOf heap words s × WordPointsTo heap words s.scan.fragment (4 + s.index) target
+    × MayMark owner colour fragments target
+ScanStands heap words owner colour fragments (stages.Blackening scan) = IsSeenWhole heap words colour scan.fragment
 ScanStands heap words owner colour fragments _ = Unit {0}
 
 -- while a pass has found nothing, some grey fragment stands in its group or behind it, if there is one at all

@@ -3,7 +3,7 @@ use Rattle.std.specs.Prelude.{ℕ, ◌<◌, false, List, length, drop}
 use Rattle.heap_model.specs.declared.entry.Entry.{Entry}
 use Rattle.heap_model.specs.declared.heap.Heap.{Heap}
 use Rattle.heap_model.specs.declared.id.Id.{Id}
-use Rattle.heap_model.specs.account.Account.{IsLegal}
+use Rattle.heap_model.specs.account.Account.{IsLegalBy, ButSpine}
 use Rattle.heap_model.specs.account.Cycles.{graph_of}
 use Rattle.heap_model.specs.graph.Graph.{Graph}
 use Rattle.core_machine.specs.seat.Commands.{target_of}
@@ -37,7 +37,7 @@ pub record HeapStands (heap : Heap) (words : List ℕ) (book : Book) : Type 0 wh
   pub spines : SpinesStand heap words heap.seats (length book.made) (node_at (graph_of heap book.history) book.made) book.owner book.fragments book.spines book.spine_owner
   pub used : AreUsed heap book.owner book.history
   pub cycle : HeapInCycle heap words (phase book.history) book.owner book.colour book.fragments
-  pub legal : IsLegal heap false book.history
+  pub legal : IsLegalBy ButSpine heap false book.history
 
 -- what a seat has: its fragments, what it has stored into them, and their order
 pub record OwnStands (heap : Heap) (words : List ℕ) (owner : ℕ → Owner) (spine_owner : ℕ → ℕ → SpineOwner) (number : ℕ) (seat : Seat) : Type 0 where

@@ -1,5 +1,5 @@
 -- A collect that goes on: by turns and by answers of its seat.
-use Rattle.std.proofs.Common.{◌≡◌, ◌≢◌, ℕ, zero, suc, ◌+◌, ◌*◌, ◌≤◌, ◌==◌, if◌then◌else◌, List, [], ◌∷◌, ◌++◌, length, filter, inl, inr, refl, sym, ap, subst, ◌∙◌, append_assoc, length-append, arith}
+use Rattle.std.proofs.Common.{◌≡◌, ◌≢◌, ℕ, zero, suc, ◌+◌, ◌*◌, ◌<◌, ◌≤◌, ◌==◌, if◌then◌else◌, List, [], ◌∷◌, ◌++◌, length, filter, inl, inr, refl, sym, ap, subst, ◌∙◌, append_assoc, length-append, arith}
 use Rattle.std.specs.List.{AllByRecursion}
 use Rattle.std.proofs.lemmas.List.{append-nil, append_cancel_left}
 use Rattle.std.proofs.lemmas.Bool.Decides.{eqb_tells}
@@ -81,7 +81,7 @@ pub goes_none : (whole : MachineHeapValue) (number : ℕ) → IsPresent whole nu
 goes_none whole number present =
     record { machine = machine_none whole number; quiet = tt; turns = 0; counted = omega arith; spare = omega arith; present = present; first_stays = refl; onward = omega arith }
 
-pub goes_then : (old now new : MachineHeapValue) (number : ℕ) → GoesOn old now number → GoesOn now new number → GoesOn old new number
+unfoldable pub goes_then : (old now new : MachineHeapValue) (number : ℕ) → GoesOn old now number → GoesOn now new number → GoesOn old new number
 goes_then old now new number first next = record {
   machine = machine_then old now new number first.machine next.machine;
   quiet = quiet_more number first.machine.told next.machine.told first.quiet next.quiet;
@@ -157,10 +157,13 @@ goes_answer old new number makes present =
 -- a last turn that waits for another seat
 pub ends_waiting : (old now new : MachineHeapValue) (number other answer p : ℕ) → GoesOn old now number → TakesTurn (play_state_of now) (play_state_of new) (turns.Waits other answer p)
     → TurnsMachine now new (turns.Waits other answer p) → other ≢ number → EndsFor old new number (replies.Waits other answer p)
+unfolding goes_then goes_turn
 ends_waiting old now new number other answer p goes takes turned apart =
     let shows = wait_shows (play_state_of now) (play_state_of new) other answer p takes in
+    let some : 0 < goes.turns + 1 = omega arith in
     record {
       goes = goes_then old now new number goes (goes_turn now new number (turns.Waits other answer p) takes turned goes.present);
+      some = some;
       comes = (apart, takes.turned.last, shows.0, shows.2, shows.1);
       earlier = λ cycle is. absurd (cc is);
     }
@@ -168,10 +171,13 @@ ends_waiting old now new number other answer p goes takes turned apart =
 -- a last turn that ends a cycle
 pub ends_cycle : (old now new : MachineHeapValue) (number cycle kept : ℕ) → GoesOn old now number → TakesTurn (play_state_of now) (play_state_of new) (turns.Ended cycle kept)
     → TurnsMachine now new (turns.Ended cycle kept) → EndsFor old new number (replies.Cycle cycle)
+unfolding goes_then goes_turn
 ends_cycle old now new number cycle kept goes takes turned =
     let comes = takes.turned.comes_to in
+    let some : 0 < goes.turns + 1 = omega arith in
     record {
       goes = goes_then old now new number goes (goes_turn now new number (turns.Ended cycle kept) takes turned goes.present);
+      some = some;
       comes = (kept, takes.turned.last, comes.2);
       earlier = λ other is. ended_earlier other is comes.1;
     }

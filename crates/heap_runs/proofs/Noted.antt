@@ -1,5 +1,5 @@
 -- What a seat sees for itself of the end of its collect, and notes.
-use Rattle.std.proofs.Common.{◌≡◌, ℕ, ◌*◌, ◌%◌, ◌<◌, ◌≤◌, List, [], ◌∷◌, ◌++◌, Option, None, Some, refl, sym, ap, subst, ◌∙◌, append_assoc, lt-ltb, arith}
+use Rattle.std.proofs.Common.{◌≡◌, ℕ, ◌+◌, ◌*◌, ◌%◌, ◌<◌, ◌≤◌, List, [], ◌∷◌, ◌++◌, Option, None, Some, refl, sym, ap, subst, ◌∙◌, append_assoc, lt-ltb, arith}
 use Rattle.std.specs.Prelude.{IfSome}
 use Rattle.std.proofs.lemmas.List.{append-nil}
 use Rattle.heap_model.specs.PhasePlan.{cycle_phases}
@@ -127,14 +127,18 @@ whole_waiting old new number other answer p ends = record { ends = ends; whole =
 
 -- behind the end of a cycle a whole one is made
 pub whole_behind : (old now new : MachineHeapValue) (number first : ℕ) (reply : CollectReply) → EndsFor old now number (replies.Cycle first) → EndsFor now new number reply → EndsWholeFor old new number reply
-whole_behind old now new number first reply ended ends = record {
-  ends = record {
-    goes = goes_then old now new number ended.goes ends.goes;
-    comes = ends.comes;
-    earlier = λ cycle is. omega (arith, ended.goes.onward, ends.earlier cycle is);
-  };
-  whole = λ cycle is. omega (arith, ended.goes.onward, ended.comes.2, ends.earlier cycle is);
-}
+unfolding goes_then
+whole_behind old now new number first reply ended ends =
+    let some : 0 < ended.goes.turns + ends.goes.turns = omega (arith, ends.some) in
+    record {
+      ends = record {
+        goes = goes_then old now new number ended.goes ends.goes;
+        some = some;
+        comes = ends.comes;
+        earlier = λ cycle is. omega (arith, ended.goes.onward, ends.earlier cycle is);
+      };
+      whole = λ cycle is. omega (arith, ended.goes.onward, ended.comes.2, ends.earlier cycle is);
+    }
 
 -- seeing tells nothing
 seen_none : (whole : MachineHeapValue) (number : ℕ) (reply : CollectReply) → inner_entries whole.machine.heap whole.machine.state.words number (seat_at whole.machine.state number).answered (seen_by reply) ≡ []
@@ -164,6 +168,7 @@ module _ (start one two three four : MachineHeapValue) (number : ℕ) (reply : C
         told = goes.quiet;
         entries = notes.noted ∙ ap (λ (l : List Entry). l ++ said) (seen ∙ goes.machine.noted ∙ ap (λ (l : List Entry). l ++ goes.machine.told) (look.noted ∙ append-nil start.entries)) ∙ append_assoc start.entries goes.machine.told said;
         turns = goes.turns;
+        some = whole.ends.some;
         counted = omega (arith, goes.counted, look.turns_stay, sees.turns_stay, notes.turns_stay);
         last = subst (λ l. TellsTurn number l (noted_reply reply)) (sym (notes.last_stays ∙ sees.last_stays)) (tells_turn two number reply whole.ends.comes);
         spare = omega (arith, look.spare, goes.spare, sees.spare, notes.spare);

@@ -4,12 +4,13 @@ use Rattle.heap_model.specs.declared.heap.Heap.{Heap}
 use Rattle.heap_model.specs.declared.command.Command.{Command}
 use Rattle.heap_model.specs.declared.command.Command.TheVariants as commands
 use Rattle.heap_model.specs.declared.entry.Entry.{Entry}
-use Rattle.heap_model.specs.account.Account.{IsLegal}
+use Rattle.heap_model.specs.account.Account.{ButSpine, IsLegalBy}
 use Rattle.heap_model.specs.account.Cycles.{graph_of}
 use Rattle.heap_model.specs.account.PhaseCounts.{phase, last_answer, has_left}
 use Rattle.heap_model.specs.account.Space.{fragments_gained, fragments_lost, taken_of, spent_of}
 use Rattle.heap_model.specs.calls.SeatCalls.{HasNumber}
 use Rattle.heap_model.specs.graph.Objects.{graph_seat}
+use Rattle.heap_model.proofs.account_lemmas.Judging.{is_whole_without_arrays}
 use Rattle.core_machine.specs.declared.place.Place.TheVariants.{Idle}
 use Rattle.core_machine.specs.declared.table.address.Address.TheVariants.{Phase, Answer}
 use Rattle.core_machine.specs.machine.Calls.{IsPhaseNear}
@@ -81,10 +82,9 @@ module _ (heap : Heap) (state : State) (told : List Entry) (s : StandsFor heap s
 
 -- the entries are a play
 pub played : EveryRunKeeps → WholeCallsPlay → (heap : Heap) (state : State) (told : List Entry) → WholeCalls heap state told → IsPlayed heap told
-played runs plays heap state told calls = record {
-  legal = subst (IsLegal heap true) (sym calls.shown) (plays heap calls.opening calls.events calls.limits calls.opens calls.run calls.whole);
-  none_short = none_short heap state told (stands runs heap state told calls);
-}
+played runs plays heap state told calls =
+    let legal : IsLegalBy ButSpine heap true told = subst (IsLegalBy ButSpine heap true) (sym calls.shown) (plays heap calls.opening calls.events calls.limits calls.opens calls.run calls.whole) in
+    record { legal = legal; whole = is_whole_without_arrays heap true told legal; none_short = none_short heap state told (stands runs heap state told calls) }
 
 -- the word of a seat that hasn't left is its last answer
 pub answer_word_is : (heap : Heap) (state : State) (told : List Entry) → StandsFor heap state [] told → (number answer : ℕ) → number < heap.seats → has_left number told ≡ false → last_answer number told ≡ answer

@@ -59,6 +59,7 @@ ComesTo whole number (Waits other answer p) =
 -- turns were made up to the first that ended a cycle or waits for another seat, as the reply tells
 pub record EndsFor (old new : MachineHeapValue) (number : ℕ) (reply : CollectReply) : Type 0 where
   pub goes : GoesOn old new number
+  pub some : 0 < goes.turns
   pub comes : ComesTo new number reply
   pub earlier : (cycle : ℕ) → reply ≡ Cycle cycle → phase old.entries ≤ cycle_phases * cycle + clearing
 

@@ -12,11 +12,11 @@ use Rattle.heap_model.specs.declared.calls.collector_calls.Turn.{Turn}
 use Rattle.heap_model.specs.declared.calls.collector_calls.Turn.TheVariants.{Stepped, Waits, Ended}
 use Rattle.heap_model.specs.Command.{IsCommand}
 use Rattle.heap_model.specs.Limits.{group_fragments}
-use Rattle.heap_model.specs.account.Account.{IsLegal}
+use Rattle.heap_model.specs.account.Account.{ButSpine, IsLegalBy, IsLegal}
 use Rattle.heap_model.specs.account.Noting.{is_collectors}
 use Rattle.heap_model.specs.account.Phases.{IsBehind}
 use Rattle.heap_model.specs.account.PhaseCounts.{phase}
-use Rattle.heap_model.specs.account.Space.{need_of, fragments_gained, fragments_lost, taken_of, spent_of}
+use Rattle.heap_model.specs.account.Space.{need_of, fragments_gained, fragments_lost, taken_of, spent_of, words_granted}
 use Rattle.heap_model.specs.calls.CollectorCalls.{CollectorState, Turns}
 use Rattle.heap_model.specs.calls.SeatCalls.{HasNumber, Adds}
 use Rattle.heap_model.specs.calls.SeatReplies.{next_id}
@@ -34,9 +34,11 @@ pub record PlayState : Type 0 where
   pub last_turn : Option Turn
   pub turns_left : ℕ
 
--- the entries are legal as a play, and no more fragments were lost than gained
+-- the entries are legal as a play but for the spine words at the ends of cycles, and by the whole of the rules where no array was made; and no more fragments
+-- were lost than gained
 pub record IsPlayed (heap : Heap) (entries : List Entry) : Type 0 where
-  pub legal : IsLegal heap true entries
+  pub legal : IsLegalBy ButSpine heap true entries
+  pub whole : words_granted entries ≡ 0 → IsLegal heap true entries
   pub none_short : fragments_lost entries ≤ fragments_gained entries
 
 -- what contracts see of a seat of it, by the entries of all
@@ -87,14 +89,15 @@ TellsTurn number last (replies.Cycle cycle) = (kept : ℕ) × (last ≡ Some (En
 TellsTurn number last (replies.Waits other answer p) = (other ≢ number) × (last ≡ Some (Waits other answer p))
 TellsTurn number last _ = ⊥
 
--- the collect made some turns, which are counted, and answers of the seat between them, and then told as its one reply what the last
--- turn came to
+-- the collect made at least one turn, each of which is counted, and answers of the seat between them, and then told as its one reply what
+-- the last turn came to
 pub record AnswersCollect (old new : PlayState) (number : ℕ) (reply : Reply) : Type 0 where
   pub heap : new.heap ≡ old.heap
   pub before : List Entry
   pub told : AllByRecursion (TellsInCollect number) before
   pub entries : new.entries ≡ old.entries ++ (before ++ Said number Collect reply ∷ [])
   pub turns : ℕ
+  pub some : 0 < turns
   pub counted : min new.turns (2 ^ 64 - 1) ≡ min (old.turns + turns) (2 ^ 64 - 1)
   pub last : TellsTurn number new.last_turn reply
   pub spare : old.spare + length old.entries ≤ new.spare + length new.entries

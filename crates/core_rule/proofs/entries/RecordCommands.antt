@@ -8,7 +8,7 @@ use Rattle.heap_model.specs.declared.heap.Heap.{Heap}
 use Rattle.heap_model.specs.declared.id.Id.{Id}
 use Rattle.heap_model.specs.declared.id.Id.TheVariants.{Made}
 use Rattle.heap_model.specs.declared.reply.Reply.TheVariants as replies
-use Rattle.heap_model.specs.account.Account.{KeepsSpace}
+use Rattle.heap_model.specs.account.Account.{KeepsSpaceBy, ButSpine}
 use Rattle.heap_model.specs.graph.Changes.{add}
 use Rattle.heap_model.specs.Command.{IsCommand}
 use Rattle.heap_model.specs.graph.Growth.{after_entry}
@@ -47,9 +47,9 @@ module _ (command : Command) (made : IsRecord command) where
 
   -- and keeps the rules of space where its seat has enough
   pub made_keeps : (heap : Heap) (play : Bool) (before : List Entry) (number : ℕ) (id : Id) → spent_of number before + need_of command ≤ taken_of number before
-      → taken_of number before ≤ spent_of number before + need_of command + 15 → KeepsSpace heap play before (entries.Said number command (replies.Made id))
+      → taken_of number before ≤ spent_of number before + need_of command + 15 → KeepsSpaceBy ButSpine heap play before (entries.Said number command (replies.Made id))
   made_keeps heap play before number id enough little =
-      record_only (λ c. spent_of number before + need_of c ≤ taken_of number before → taken_of number before ≤ spent_of number before + need_of c + 15 → KeepsSpace heap play before (entries.Said number c (replies.Made id)))
+      record_only (λ c. spent_of number before + need_of c ≤ taken_of number before → taken_of number before ≤ spent_of number before + need_of c + 15 → KeepsSpaceBy ButSpine heap play before (entries.Said number c (replies.Made id)))
       (λ d fields some few. keeps_made heap play before number d fields id some few) command made enough little
 
   -- a record's refusal changes no object
@@ -63,7 +63,7 @@ module _ (command : Command) (made : IsRecord command) where
 
   -- and keeps the rules of space where it shows what is to be found
   pub full_keeps : (heap : Heap) (play : Bool) (before : List Entry) (number found : ℕ) → spent_of number before ≤ taken_of number before → taken_of number before ≤ spent_of number before + 15
-      → found < need_of command → FindsSpace heap play before number found → KeepsSpace heap play before (entries.Said number command (replies.Full (need_of command) found))
+      → found < need_of command → FindsSpace heap play before number found → KeepsSpaceBy ButSpine heap play before (entries.Said number command (replies.Full (need_of command) found))
   full_keeps heap play before number found own little less finds =
-      record_only (λ c. found < need_of c → KeepsSpace heap play before (entries.Said number c (replies.Full (need_of c) found)))
+      record_only (λ c. found < need_of c → KeepsSpaceBy ButSpine heap play before (entries.Said number c (replies.Full (need_of c) found)))
       (λ d fields small. keeps_full heap play before number d fields found own little small finds) command made less

@@ -16,7 +16,6 @@ use Rattle.core_rule.specs.Footprint.{is_among, is_inside, inside_bit, kept_bit}
 use Rattle.core_rule.specs.Holding.{Holding, fragments_in_hand}
 use Rattle.core_rule.specs.Objects.{AreMade, Objects}
 use Rattle.core_rule.specs.Owners.{Owner, Free, Taken, Borne, Kept, Dead, IsSeated, OwnersStand, one_at, holds_bit, bears_bit}
-use Rattle.core_rule.proofs.footprint.KeptParts.{AllRecords}
 use Rattle.core_rule.proofs.footprint.KeptSums.{kept_among_most}
 use Rattle.core_rule.proofs.lists.SumLemmas.{sum-suc, sum_plus}
 use Rattle.core_rule.proofs.lists.Tallies.{sum_one, sum_one_at}
@@ -88,17 +87,17 @@ inside_parts g made begun ids (Dead i k) within = refl
 
 -- what is inside where a cycle begins is no more than what the seats have and what is reached
 pub size_begins : (heap : Heap) (words : List ℕ) (g : Graph) (made : List Id) (owner : ℕ → Owner) (fragments : ℕ → List ℕ) → AreMade g made → Objects heap words g made owner fragments
-    → AllRecords g → ((f : ℕ) → 16 * heap.groups ≤ f → owner f ≡ Free) → OwnersStand heap.seats owner
+    → ((f : ℕ) → 16 * heap.groups ≤ f → owner f ≡ Free) → OwnersStand heap.seats owner
     → (reserve hand body : ℕ → List ℕ) → ((number : ℕ) → number < heap.seats → Holding owner number (reserve number) (hand number) (body number))
     → (begun : List Id) → AllPairs IsBefore begun
     → sum_upto (16 * heap.groups) (λ f. inside_bit (is_inside g begun) made (owner f))
     ≤ sum_upto heap.seats (λ number. length (reserve number) + length (fragments_in_hand (hand number) (body number))) + fragments_of_all g begun
-size_begins heap words g made owner fragments ids objects records outside owners reserve hand body holding begun ordered =
+size_begins heap words g made owner fragments ids objects outside owners reserve hand body holding begun ordered =
     let n : ℕ = 16 * heap.groups in
     let parts = sum_plus n (λ f. inside_bit (is_inside g begun) made (owner f)) (λ f. seat_bit (owner f)) (λ f. kept_bit (is_among begun) made (owner f))
     (λ f less. inside_parts g made begun ids (owner f) (λ i k is. (objects.back f i k is).0)) in
     let seats = sum_same n (λ f. seat_bit (owner f)) (λ f. sum_upto heap.seats (λ number. own_bit number (owner f))) (λ f less. one_has heap.seats (owner f) (owners.seated f)) in
     let own = seats_have n owner (λ number. length (reserve number) + length (fragments_in_hand (hand number) (body number))) heap.seats
     (λ number below. seat_has n owner number (reserve number) (hand number) (body number) (holding number below)) in
-    let kept = kept_among_most heap words g made owner fragments ids objects records outside begun ordered in
+    let kept = kept_among_most heap words g made owner fragments ids objects outside begun ordered in
     omega (arith, parts, seats, own, kept)

@@ -8,7 +8,6 @@ use Rattle.heap_model.specs.declared.id.Id.{Id}
 use Rattle.heap_model.specs.declared.id.Value.TheVariants as values
 use Rattle.heap_model.specs.account.Cycles.{graph_of, bound, all_bring}
 use Rattle.heap_model.specs.account.PhaseCounts.{phase}
-use Rattle.heap_model.specs.account.Space.{words_granted}
 use Rattle.heap_model.specs.account.Windows.{begins_cycle, up_to_cycle}
 use Rattle.heap_model.specs.graph.Objects.{register_value}
 use Rattle.heap_model.specs.graph.Reach.{IsReach}
@@ -41,8 +40,6 @@ use Rattle.core_rule.proofs.footprint.Brought.{counted_brought}
 use Rattle.core_rule.proofs.footprint.Closed.{registers_inside}
 use Rattle.core_rule.proofs.footprint.Named.{refers_id}
 use Rattle.core_rule.proofs.footprint.NoneNew.{kept_before}
-use Rattle.core_rule.proofs.footprint.Records.{all_records}
-use Rattle.core_rule.proofs.footprint.WeightGrowth.{total-added}
 use Rattle.core_rule.proofs.steps.Assemble.{Keeps}
 
 module _ (heap : Heap) (state new : State) (book : Book) (begun_at : ℕ → ℕ) (p : ℕ) (stands : Stands heap state book) (keeps : Keeps heap state new book begun_at (Advance p ∷ []))
@@ -69,9 +66,6 @@ module _ (heap : Heap) (state new : State) (book : Book) (begun_at : ℕ → ℕ
 
   graph : graph_of heap now.history ≡ graph_of heap book.history
   graph = ap (graph_of heap) keeps.grown ∙ graph-begin heap book.history (Advance p) begins
-
-  none_told : words_granted now.history ≡ 0
-  none_told = omega (arith, ap words_granted keeps.grown, total-added (λ e. e.words) book.history (Advance p ∷ []), stands.no_arrays)
 
   -- every seat has answered at rest or has left, so none loads the old value of a set
   no_set : (number : ℕ) → number < heap.seats → (seat_at state number).place ≢ places.Access ShadingOld
@@ -111,7 +105,7 @@ module _ (heap : Heap) (state new : State) (book : Book) (begun_at : ℕ → ℕ
     size_begun =
         let after = keeps.rule.heap_stands in
         let own : ℕ → ℕ = λ q. length (seat_at new q).reserve + length (fragments_in_hand (seat_at new q).hand (seat_at new q).body) in
-        let size = size_begins heap new.words (graph_of heap now.history) now.made now.owner now.fragments after.ids after.objects (all_records heap now.history after.legal.objects none_told)
+        let size = size_begins heap new.words (graph_of heap now.history) now.made now.owner now.fragments after.ids after.objects
         after.control_words.outside after.owners (λ q. (seat_at new q).reserve) (λ q. (seat_at new q).hand) (λ q. (seat_at new q).body)
         (λ q below. (keeps.rule.seats_stand q below).own.holding) begun reach.ordered in
         let brought = counted_brought heap now.history own (λ q below. (keeps.rule.seats_stand q below).told.counts.unborn) in
@@ -136,5 +130,4 @@ module _ (heap : Heap) (state new : State) (book : Book) (begun_at : ℕ → ℕ
         size = size_begun begun reach;
       };
       looks = looks;
-      no_arrays = none_told;
     }

@@ -18,7 +18,6 @@ use Rattle.core_rule.specs.Objects.{AreMade, Objects, IsKept}
 use Rattle.core_rule.specs.Owners.{Owner, Free, Taken, Borne, Kept, Dead}
 use Rattle.core_rule.proofs.footprint.Clears.{all_inside}
 use Rattle.core_rule.proofs.footprint.Inside.{contains_by_test}
-use Rattle.core_rule.proofs.footprint.KeptParts.{AllRecords}
 use Rattle.core_rule.proofs.footprint.KeptSums.{kept_among}
 use Rattle.core_rule.proofs.lists.SumLemmas.{sum_le}
 
@@ -46,11 +45,11 @@ module _ (made begun both : List Id) (all : (id : Id) → Contains both id → i
 
 -- what is kept of what was reached when the cycle began was counted
 pub kept_least : (heap : Heap) (words : List ℕ) (g : Graph) (made : List Id) (owner : ℕ → Owner) (fragments : ℕ → List ℕ) → AreMade g made → Objects heap words g made owner fragments
-    → AllRecords g → ((f : ℕ) → 16 * heap.groups ≤ f → owner f ≡ Free) → (begun both : List Id) (most kept : ℕ) → ClearedWithin heap made begun owner most heap.groups kept
+    → ((f : ℕ) → 16 * heap.groups ≤ f → owner f ≡ Free) → (begun both : List Id) (most kept : ℕ) → ClearedWithin heap made begun owner most heap.groups kept
     → AllPairs IsBefore both → ((id : Id) → Contains both id → is_among begun id ≡ true)
     → ((id : Id) → Contains both id → (object_number made id < length made) × IsKept owner fragments (object_number made id)) → fragments_of_all g both ≤ kept
-kept_least heap words g made owner fragments ids objects records outside begun both most kept cleared ordered among all =
-    let size = kept_among heap words g made owner fragments ids objects records outside both ordered all in
+kept_least heap words g made owner fragments ids objects outside begun both most kept cleared ordered among all =
+    let size = kept_among heap words g made owner fragments ids objects outside both ordered all in
     let fewer = sum_le (16 * heap.groups) (λ f. kept_bit (is_among both) made (owner f)) (λ f. kept_bit (is_among begun) made (owner f)) (λ f less. fewer_kept made begun both among (owner f)) in
     let whole = sum_same (16 * heap.groups) (in_groups_before heap.groups (λ f. kept_bit (is_among begun) made (owner f))) (λ f. kept_bit (is_among begun) made (owner f))
     (λ f less. let its : f / 16 < heap.groups = omega (arith, less) in grind (arith, nat_tests, its)) in

@@ -3,7 +3,7 @@ use Rattle.std.proofs.Common.{◌≡◌, ℕ, ◌/◌, ◌%◌, inr, List, sym, 
 use Rattle.heap_model.specs.declared.entry.Entry.TheVariants.{Ends}
 use Rattle.heap_model.specs.declared.heap.Heap.{Heap}
 use Rattle.heap_model.specs.declared.id.Id.{Id}
-use Rattle.heap_model.specs.account.Cycles.{graph_of, bound, EndsCycle}
+use Rattle.heap_model.specs.account.Cycles.{graph_of, bound, EndsCycleBy, ButSpine}
 use Rattle.heap_model.specs.account.PhaseCounts.{phase}
 use Rattle.heap_model.specs.account.Windows.{up_to_cycle}
 use Rattle.heap_model.specs.graph.Reach.{IsReach}
@@ -18,7 +18,6 @@ use Rattle.core_rule.proofs.footprint.EndSize.{used_within, kept_most, kept_leas
 use Rattle.core_rule.proofs.footprint.Inside.{among_contained}
 use Rattle.core_rule.proofs.footprint.KeptReached.{reached_kept}
 use Rattle.core_rule.proofs.footprint.Leaving.{IsCountedRight, ends_cycle}
-use Rattle.core_rule.proofs.footprint.Records.{all_records}
 use Rattle.core_rule.proofs.marking.Marks.{settled_phase}
 
 module _ (heap : Heap) (state : State) (book : Book) (stands : Stands heap state book) (kept : ℕ) (ending : state.collector.stage ≡ stages.Ending kept) where
@@ -45,11 +44,11 @@ module _ (heap : Heap) (state : State) (book : Book) (stands : Stands heap state
             book.history most old.used foot.size;
         at_most = kept_most heap book.made begun book.owner most heap.groups kept cleared;
         at_least = λ both ordered all. kept_least heap state.words (graph_of heap book.history) book.made book.owner book.fragments old.ids old.objects
-            (all_records heap book.history old.legal.objects stands.no_arrays) old.control_words.outside begun both most kept cleared ordered
+            old.control_words.outside begun both most kept cleared ordered
             (λ id there. among_contained begun id (all id there).1) (λ id there. reached_kept heap state book rule id (all id there).0);
       }
 
   -- so it may end
-  pub ends_rightly : EndsCycle heap book.history (Ends (state.collector.phase / 7) kept)
+  pub ends_rightly : EndsCycleBy ButSpine heap book.history (Ends (state.collector.phase / 7) kept)
   ends_rightly = ends_cycle heap book.history (state.collector.phase / 7) kept (let told = rule.collector_stands.phase_told in omega (arith, told, last))
-      (λ number below present. rule.collector_stands.looked number (omega (arith, below, fits.all)) below present) stands.no_arrays counted
+      (λ number below present. rule.collector_stands.looked number (omega (arith, below, fits.all)) below present) counted

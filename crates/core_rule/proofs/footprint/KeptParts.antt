@@ -1,36 +1,20 @@
 -- A kept object has as many fragments as it is to have.
-use Rattle.std.proofs.Common.{◌≡◌, ℕ, suc, ◌*◌, ◌<◌, ◌≤◌, inl, inr, List, [], ◌∷◌, length, get_or, Option, Some, None, IsSome, refl, sym, ap, ◌∙◌, subst, arith}
-use Rattle.std.specs.Option.{option_map_or}
+use Rattle.std.proofs.Common.{◌≡◌, ℕ, suc, ◌*◌, ◌<◌, ◌≤◌, inl, inr, List, [], ◌∷◌, length, get_or, refl, sym, ap, ◌∙◌, subst, arith}
 use Rattle.std.proofs.lemmas.Bool.{cases_lt}
 use Rattle.std.proofs.lemmas.Bool.Decides.{eqb_tells}
-use Rattle.heap_model.specs.Needs.{record_fragments}
 use Rattle.heap_model.specs.declared.heap.Heap.{Heap}
 use Rattle.heap_model.specs.declared.id.Id.{Id}
-use Rattle.heap_model.specs.graph.Graph.{Graph, Node}
-use Rattle.heap_model.specs.graph.Objects.{node}
-use Rattle.heap_model.specs.graph.Reach.{IsMade}
-use Rattle.heap_model.specs.graph.Sizes.{fragments_of, fragments_at}
+use Rattle.heap_model.specs.graph.Graph.{Graph}
+use Rattle.heap_model.specs.graph.Sizes.{fragments_at}
 use Rattle.core_machine.specs.table.Fragments.{tally}
 use Rattle.core_machine.specs.machine.Sums.{sum_upto}
 use Rattle.core_machine.proofs.table_lemmas.Free.{sum_same, sum_zero}
 use Rattle.core_rule.specs.Book.{id_at}
-use Rattle.core_rule.specs.Objects.{Objects, IsKept, cells_in}
+use Rattle.core_rule.specs.Objects.{Objects, IsKept}
 use Rattle.core_rule.specs.Owners.{Owner, Free, Kept, one_at}
 use Rattle.core_rule.proofs.lists.Members.{place_of, tally_at, place_within}
 use Rattle.core_rule.proofs.lists.Tallies.{one_at_same, one_at_other, one_at_bit, sum_tally}
 use Rattle.core_rule.proofs.owners.Handed.{none_or_some}
-
--- each object has as many fragments as a record with its cells
-abbrev pub AllRecords : Graph → Type 0
-AllRecords g = (id : Id) (object : Node) → node g id ≡ Some object → fragments_of object ≡ record_fragments (length object.cells)
-
--- the size of an object that was made
-pub record_size : (g : Graph) → AllRecords g → (id : Id) → IsMade g id → fragments_at g id ≡ record_fragments (length (cells_in (node g id)))
-record_size g records id made = by (node g id) refl made
-  where
-    by : (o : Option Node) → node g id ≡ o → IsSome o → option_map_or fragments_of o 0 ≡ record_fragments (length (cells_in o))
-    by None is some = cc some
-    by (Some object) is some = records id object is
 
 -- whether a fragment is part of the object of this number
 abbrev pub part_bit : ℕ → Owner → ℕ
@@ -88,11 +72,11 @@ module _ (heap : Heap) (words : List ℕ) (g : Graph) (made : List Id) (owner : 
         by (Kept i k) is none = one_at_other i n (λ same. omega (arith, there i k same is, none))
         by _ is none = refl
 
-    -- they are as many as a record with its cells has
-    pub parts_counted : ((f : ℕ) → 16 * heap.groups ≤ f → owner f ≡ Free) → sum_upto (16 * heap.groups) (λ f. part_bit n (owner f)) ≡ record_fragments (length (cells_in (node g (id_at made n))))
+    -- they are as many as the graph's object has
+    pub parts_counted : ((f : ℕ) → 16 * heap.groups ≤ f → owner f ≡ Free) → sum_upto (16 * heap.groups) (λ f. part_bit n (owner f)) ≡ fragments_at g (id_at made n)
     parts_counted outside =
         sum_same (16 * heap.groups) (λ f. part_bit n (owner f)) (λ f. tally f (fragments n)) (λ f less. is_part f) ∙ sum_tally (16 * heap.groups) (fragments n) below
-        ∙ (objects.kept n within kept).whole
+        ∙ objects.sizes n within kept
       where
         below : (f : ℕ) → 1 ≤ tally f (fragments n) → f < 16 * heap.groups
         below f there = elim (cases_lt f (16 * heap.groups)) [

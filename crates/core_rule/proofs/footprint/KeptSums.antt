@@ -15,7 +15,7 @@ use Rattle.core_rule.specs.Book.{fragment_at, id_at, object_number}
 use Rattle.core_rule.specs.Footprint.{is_among, kept_bit}
 use Rattle.core_rule.specs.Objects.{AreMade, Objects, IsKept}
 use Rattle.core_rule.specs.Owners.{Owner, Free, Taken, Borne, Kept, Dead}
-use Rattle.core_rule.proofs.footprint.KeptParts.{AllRecords, record_size, part_bit, parts_none, parts_counted}
+use Rattle.core_rule.proofs.footprint.KeptParts.{part_bit, parts_none, parts_counted}
 use Rattle.core_rule.proofs.graph.Numbering.{id_tells, id_at-number_of}
 use Rattle.core_rule.proofs.lists.SumLemmas.{sum_plus}
 use Rattle.core_rule.proofs.lists.Tallies.{one_at_same, one_at_other}
@@ -84,14 +84,13 @@ module _ (heap : Heap) (words : List ℕ) (g : Graph) (made : List Id) (owner : 
   among_none : sum_upto (16 * heap.groups) (λ f. kept_bit (is_among []) made (owner f)) ≡ 0
   among_none = sum_zero (16 * heap.groups) (λ f. kept_bit (is_among []) made (owner f)) (λ f less. none_among (owner f))
 
-  module _ (records : AllRecords g) (outside : (f : ℕ) → 16 * heap.groups ≤ f → owner f ≡ Free) where
+  module _ (outside : (f : ℕ) → 16 * heap.groups ≤ f → owner f ≡ Free) where
     -- a kept object's fragments are those of the graph's
     kept_size : (x : Id) → object_number made x < length made → IsKept owner fragments (object_number made x)
         → sum_upto (16 * heap.groups) (λ f. part_bit (object_number made x) (owner f)) ≡ fragments_at g x
     kept_size x within kept =
         let its : id_at made (object_number made x) ≡ x = id_at-number_of made x within in
-        parts_counted heap words g made owner fragments objects (object_number made x) within kept outside ∙ sym (record_size g records (id_at made (object_number made x)) (ids.in_graph (object_number made x) within))
-        ∙ ap (fragments_at g) its
+        parts_counted heap words g made owner fragments objects (object_number made x) within kept outside ∙ ap (fragments_at g) its
 
     -- and at most these where it may not be kept
     most_size : (x : Id) → sum_upto (16 * heap.groups) (λ f. part_bit (object_number made x) (owner f)) ≤ fragments_at g x

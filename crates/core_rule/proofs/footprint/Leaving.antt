@@ -1,8 +1,8 @@
 -- What ends a cycle by the rules: counts that are right for each list of what was reached when it began.
-use Rattle.std.proofs.Common.{◌≡◌, ℕ, ◌+◌, ◌*◌, ◌≤◌, List, AllPairs, Contains, arith}
-use Rattle.heap_model.specs.account.Cycles.{graph_of, bound, IsReachOfBoth, EndsCycle}
+use Rattle.std.proofs.Common.{◌≡◌, ℕ, ◌+◌, ◌*◌, ◌≤◌, List, AllPairs, Contains}
+use Rattle.heap_model.specs.account.Cycles.{graph_of, bound, IsReachOfBoth, EndsCycleBy, ButSpine}
 use Rattle.heap_model.specs.account.PhaseCounts.{phase, AllAnswered}
-use Rattle.heap_model.specs.account.Space.{fragments_gained, fragments_lost, words_granted}
+use Rattle.heap_model.specs.account.Space.{fragments_gained, fragments_lost}
 use Rattle.heap_model.specs.account.Windows.{up_to_cycle}
 use Rattle.heap_model.specs.declared.entry.Entry.{Entry}
 use Rattle.heap_model.specs.declared.entry.Entry.TheVariants as entries
@@ -20,18 +20,18 @@ pub record IsCountedRight (heap : Heap) (history : List Entry) (kept : ℕ) (beg
   pub at_least : (both : List Id) → AllPairs IsBefore both → ((id : Id) → Contains both id → Reaches (graph_of heap history) id × Contains begun id)
       → fragments_of_all (graph_of heap history) both ≤ kept
 
-module _ (heap : Heap) (history : List Entry) (cycle kept : ℕ) (in_last : phase history ≡ cycle_phases * cycle + clearing) (answered : AllAnswered heap history) (none : words_granted history ≡ 0)
+module _ (heap : Heap) (history : List Entry) (cycle kept : ℕ) (in_last : phase history ≡ cycle_phases * cycle + clearing) (answered : AllAnswered heap history)
     (right : (begun : List Id) → IsReach (graph_of heap (up_to_cycle history)) begun → IsCountedRight heap history kept begun) where
   -- there is a list of what was reached then, so what is reached in both was counted
   counted : (both : List Id) → IsReachOfBoth (graph_of heap (up_to_cycle history)) (graph_of heap history) both → fragments_of_all (graph_of heap history) both ≤ kept
   counted both is = by_reach (graph_of heap (up_to_cycle history)) (fragments_of_all (graph_of heap history) both) kept (λ begun reach.
       (right begun reach).at_least both is.ordered (λ id there. (((is.reached id).0 there).1, (reach.reached id).1 ((is.reached id).0 there).0)))
 
-  pub ends_cycle : EndsCycle heap history (entries.Ends cycle kept)
+  pub ends_cycle : EndsCycleBy ButSpine heap history (entries.Ends cycle kept)
   ends_cycle = (
     (in_last, answered),
     record {
-      within = λ begun reach. record { used = (right begun reach).used; spine = omega (arith, none); at_most = (right begun reach).at_most };
+      within = λ begun reach. record { used = (right begun reach).used; spine = tt; at_most = (right begun reach).at_most };
       reached = counted;
     },
   )

@@ -1,5 +1,5 @@
 -- What stands of a cycle goes on by each event of a seat.
-use Rattle.std.proofs.Common.{◌≡◌, ◌≢◌, ℕ, ◌+◌, ◌*◌, ◌%◌, ◌<◌, ◌≤◌, ◌⊎◌, inl, inr, true, List, [], length, Option, Some, None, refl, sym, ap, ◌∙◌, subst, arith}
+use Rattle.std.proofs.Common.{◌≡◌, ◌≢◌, ℕ, ◌+◌, ◌%◌, ◌<◌, ◌⊎◌, inl, inr, true, List, [], length, Option, Some, None, refl, sym, ap, ◌∙◌, subst, arith}
 use Rattle.std.proofs.lemmas.Bool.Decides.{eqb_tells}
 use Rattle.std.proofs.lemmas.List.{get_or-set_same, get_or-set_other}
 use Rattle.heap_model.specs.declared.command.Command.{Command}
@@ -8,22 +8,20 @@ use Rattle.heap_model.specs.declared.heap.Heap.{Heap}
 use Rattle.heap_model.specs.declared.id.Id.{Id}
 use Rattle.heap_model.specs.account.Cycles.{graph_of, bound}
 use Rattle.heap_model.specs.account.PhaseCounts.{phase}
-use Rattle.heap_model.specs.account.Space.{total, words_granted}
+use Rattle.heap_model.specs.account.Space.{total}
 use Rattle.heap_model.specs.account.Windows.{up_to_cycle}
 use Rattle.heap_model.specs.graph.Graph.{Graph}
 use Rattle.heap_model.specs.graph.Objects.{register_value}
 use Rattle.heap_model.specs.graph.Reach.{IsReach}
 use Rattle.core_machine.specs.declared.place.Access.TheVariants.{LoadingOld, ShadingOld}
-use Rattle.core_machine.specs.declared.place.Making.TheVariants.{Bearing}
 use Rattle.core_machine.specs.declared.place.Place.TheVariants as places
 use Rattle.core_machine.specs.declared.table.address.Address.TheVariants.{Word}
 use Rattle.core_machine.specs.collector.Collector.{Collector}
-use Rattle.core_machine.specs.machine.Machine.{State, seat_at, Begins, BeginsInner, Steps, Can, state_after, state_after_due, entries, found_by, after_begin, after_inner_begin}
+use Rattle.core_machine.specs.machine.Machine.{State, seat_at, Begins, BeginsInner, Steps, Can, state_after, state_after_due, entries, found_by, after_begin}
 use Rattle.core_machine.specs.Moves.{Move, next_move, move_at, seat_after_due}
 use Rattle.core_machine.specs.seat.Access.{has_barrier_of, after_old_load}
-use Rattle.core_machine.specs.seat.Commands.{IsRecord, object_of, target_of}
+use Rattle.core_machine.specs.seat.Commands.{object_of, target_of}
 use Rattle.core_machine.specs.seat.FitsAccess.{SeatIsAtSet}
-use Rattle.core_machine.specs.seat.FitsMaking.{HasBody}
 use Rattle.core_machine.specs.seat.Registers.{register_in}
 use Rattle.core_machine.specs.seat.Seat.{Seat, absent_seat}
 use Rattle.core_machine.specs.table.Decode.{head_of}
@@ -45,7 +43,7 @@ use Rattle.core_rule.proofs.footprint.OldLoads.{IsOld, only_loads, begin_old, in
 use Rattle.core_rule.proofs.looks.Stays.{step_looks, begin_looks, inner_looks}
 use Rattle.core_machine.specs.seat.Collecting.{inner_place}
 use Rattle.heap_model.specs.declared.calls.collect.Inner.{Inner}
-use Rattle.core_rule.proofs.footprint.Shown.{AreMute, mute_begins, mute_phase, mute_words, shown_mute}
+use Rattle.core_rule.proofs.footprint.Shown.{AreMute, mute_begins, mute_phase, shown_mute}
 use Rattle.core_rule.proofs.footprint.StaysInside.{inside_from}
 use Rattle.core_rule.proofs.footprint.WeightGrowth.{total-added}
 use Rattle.core_rule.proofs.steps.Assemble.{Keeps}
@@ -82,10 +80,6 @@ module _ (heap : Heap) (state new : State) (book : Book) (begun_at : ℕ → ℕ
   phase_same : phase now.history ≡ phase book.history
   phase_same = omega (arith, ap phase keeps.grown, total-added (λ e. e.phases) book.history added, mute_phase added mute)
 
-  -- no array is told of
-  pub none_told : words_granted now.history ≡ 0
-  none_told = omega (arith, ap words_granted keeps.grown, total-added (λ e. e.words) book.history added, mute_words added mute, stands.no_arrays)
-
   -- the cycle goes on where the collector stays, and what sets have loaded is inside
   pub quiet_cycle : new.collector ≡ state.collector
       → ((begun : List Id) → IsReach (graph_of heap (up_to_cycle book.history)) begun → (number f i k : ℕ) → number < heap.seats → (seat_at new number).place ≡ places.Access ShadingOld
@@ -114,12 +108,6 @@ module _ (heap : Heap) (state : State) (book : Book) (stands : Stands heap state
   seated : number < length state.seats
   seated = rw stands.rule.machine.seated here
 
-  -- a seat that makes an object makes a record
-  makes : seat.place ≡ places.Making Bearing → IsRecord seat.command
-  makes placed =
-      let fits : HasBody seat × (0 < length seat.hand) × (length seat.hand ≤ length seat.body) × (seat.stored ≡ 4 * length seat.body) = rw placed at (seat_fits stands.rule number here).at_place in
-      fits.0.makes.a_record
-
   -- what a set loads from its field is inside
   loads_inside : (begun : List Id) → IsReach (graph_of heap (up_to_cycle book.history)) begun → seat.place ≡ places.Access LoadingOld → (f i k : ℕ)
       → head_of (at heap state.words (Word seat.reached seat.part)) ≡ Some f → book.owner f ≡ Kept i k → is_inside (graph_of heap (up_to_cycle book.history)) begun (id_at book.made i) ≡ true
@@ -140,7 +128,7 @@ module _ (heap : Heap) (state : State) (book : Book) (stands : Stands heap state
   after = state_after heap state (Steps number)
 
   step_mute : AreMute (entries heap state (Steps number))
-  step_mute = shown_mute heap state number makes seat.place refl
+  step_mute = shown_mute heap state number seat.place
 
   step_olds : (begun : List Id) → IsReach (graph_of heap (up_to_cycle book.history)) begun → (r f i k : ℕ) → r < heap.seats → (seat_at after r).place ≡ places.Access ShadingOld
       → head_of (seat_at after r).loaded ≡ Some f → (seat_at after r ≡ seat_at state r)
@@ -169,49 +157,39 @@ module _ (heap : Heap) (state : State) (book : Book) (stands : Stands heap state
     rule = keeps.rule;
     cycle = quiet_cycle heap state after book book.begun (entries heap state (Steps number)) stands keeps step_mute (due_collector heap state number (next_move heap number seat)) step_olds;
     looks = step_looks heap state book keeps.now.history number stands.rule here stands.looks keeps.grown;
-    no_arrays = none_told heap state after book book.begun (entries heap state (Steps number)) stands keeps step_mute;
   }
 
-  -- and by the begin of a call
+  -- where a seat comes to stand elsewhere than at an old value, what the others have loaded stays
+  olds_stay : (new : State) → ((r : ℕ) → r ≢ number → seat_at new r ≡ seat_at state r) → ¬ IsOld (seat_at new number).place → (begun : List Id) → IsReach (graph_of heap (up_to_cycle book.history)) begun
+      → (r f i k : ℕ) → r < heap.seats → (seat_at new r).place ≡ places.Access ShadingOld → head_of (seat_at new r).loaded ≡ Some f → (seat_at new r ≡ seat_at state r)
+      ⊎ (book.owner f ≡ Kept i k → is_inside (graph_of heap (up_to_cycle book.history)) begun (id_at book.made i) ≡ true)
+  olds_stay new others elsewhere begun reach r f i k below placed loads = elim (eqb_tells r number) [
+    | inr apart ↦ inl (others r apart.1)
+    | inl same ↦ absurd (elsewhere (subst IsOld (sym (subst (λ n. (seat_at new n).place ≡ places.Access ShadingOld) same.1 placed)) tt))
+  ]
+
+  -- so it is by the begin of a call
   pub begin_cycle : (command : Command) (begun_at : ℕ → ℕ) → Can heap state (Begins number command)
       → (keeps : Keeps heap state (state_after heap state (Begins number command)) book begun_at []) → Stands heap (state_after heap state (Begins number command)) keeps.now
-  begin_cycle command begun_at can keeps = record {
-    rule = keeps.rule;
-    cycle = quiet_cycle heap state (state_after heap state (Begins number command)) book begun_at [] stands keeps tt refl olds;
-    looks = begin_looks heap state book.history keeps.now.history number command seated here can.1 stands.looks keeps.grown;
-    no_arrays = none_told heap state (state_after heap state (Begins number command)) book begun_at [] stands keeps tt;
-  }
-    where
-      olds : (begun : List Id) → IsReach (graph_of heap (up_to_cycle book.history)) begun → (r f i k : ℕ) → r < heap.seats → (seat_at (state_after heap state (Begins number command)) r).place ≡ places.Access ShadingOld
-          → head_of (seat_at (state_after heap state (Begins number command)) r).loaded ≡ Some f → (seat_at (state_after heap state (Begins number command)) r ≡ seat_at state r)
-          ⊎ (book.owner f ≡ Kept i k → is_inside (graph_of heap (up_to_cycle book.history)) begun (id_at book.made i) ≡ true)
-      olds begun reach r f i k below placed loads = elim (eqb_tells r number) [
-        | inr apart ↦ inl (get_or-set_other state.seats number r _ absent_seat apart.1)
-        | inl same ↦
-            let there : seat_at (state_after heap state (Begins number command)) number ≡ after_begin heap seat command = get_or-set_same state.seats number _ absent_seat seated in
-            let is_now : (after_begin heap seat command).place ≡ places.Access ShadingOld
-            = sym (ap (λ (s : Seat). s.place) there) ∙ subst (λ n. (seat_at (state_after heap state (Begins number command)) n).place ≡ places.Access ShadingOld) same.1 placed in
-            absurd (begin_old heap seat command can.1.idle (subst IsOld (sym is_now) tt))
-      ]
+  begin_cycle command begun_at can keeps =
+      let new = state_after heap state (Begins number command) in
+      let place : (seat_at new number).place ≡ (after_begin heap seat command).place = ap (λ (s : Seat). s.place) (get_or-set_same state.seats number _ absent_seat seated) in
+      record {
+        rule = keeps.rule;
+        cycle = quiet_cycle heap state new book begun_at [] stands keeps tt refl
+            (olds_stay new (λ r. get_or-set_other state.seats number r _ absent_seat) (λ old. begin_old heap seat command can.1.idle (subst IsOld place old)));
+        looks = begin_looks heap state book.history keeps.now.history number command seated here can.1 stands.looks keeps.grown;
+      }
 
   -- and by that of an inner call
   pub inner_cycle : (inner : Inner) (begun_at : ℕ → ℕ) → Can heap state (BeginsInner number inner)
       → (keeps : Keeps heap state (state_after heap state (BeginsInner number inner)) book begun_at []) → Stands heap (state_after heap state (BeginsInner number inner)) keeps.now
-  inner_cycle inner begun_at can keeps = record {
-    rule = keeps.rule;
-    cycle = quiet_cycle heap state (state_after heap state (BeginsInner number inner)) book begun_at [] stands keeps tt refl olds;
-    looks = inner_looks heap state book.history keeps.now.history number inner seated here can.1 stands.looks keeps.grown;
-    no_arrays = none_told heap state (state_after heap state (BeginsInner number inner)) book begun_at [] stands keeps tt;
-  }
-    where
-      olds : (begun : List Id) → IsReach (graph_of heap (up_to_cycle book.history)) begun → (r f i k : ℕ) → r < heap.seats → (seat_at (state_after heap state (BeginsInner number inner)) r).place ≡ places.Access ShadingOld
-          → head_of (seat_at (state_after heap state (BeginsInner number inner)) r).loaded ≡ Some f → (seat_at (state_after heap state (BeginsInner number inner)) r ≡ seat_at state r)
-          ⊎ (book.owner f ≡ Kept i k → is_inside (graph_of heap (up_to_cycle book.history)) begun (id_at book.made i) ≡ true)
-      olds begun reach r f i k below placed loads = elim (eqb_tells r number) [
-        | inr apart ↦ inl (get_or-set_other state.seats number r _ absent_seat apart.1)
-        | inl same ↦
-            let there : seat_at (state_after heap state (BeginsInner number inner)) number ≡ after_inner_begin seat inner = get_or-set_same state.seats number _ absent_seat seated in
-            let is_now : inner_place inner ≡ places.Access ShadingOld
-            = sym (ap (λ (s : Seat). s.place) there) ∙ subst (λ n. (seat_at (state_after heap state (BeginsInner number inner)) n).place ≡ places.Access ShadingOld) same.1 placed in
-            absurd (inner_old inner (subst IsOld (sym is_now) tt))
-      ]
+  inner_cycle inner begun_at can keeps =
+      let new = state_after heap state (BeginsInner number inner) in
+      let place : (seat_at new number).place ≡ inner_place inner = ap (λ (s : Seat). s.place) (get_or-set_same state.seats number _ absent_seat seated) in
+      record {
+        rule = keeps.rule;
+        cycle = quiet_cycle heap state new book begun_at [] stands keeps tt refl
+            (olds_stay new (λ r. get_or-set_other state.seats number r _ absent_seat) (λ old. inner_old inner (subst IsOld place old)));
+        looks = inner_looks heap state book.history keeps.now.history number inner seated here can.1 stands.looks keeps.grown;
+      }

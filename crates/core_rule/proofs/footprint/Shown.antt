@@ -1,18 +1,15 @@
--- What an event of a seat shows begins no phase, and makes no array.
+-- What an event of a seat shows begins no phase.
 use Rattle.std.specs.List.{AllByRecursion, list_any}
 use Rattle.std.proofs.Common.{◌≡◌, ℕ, ◌==◌, Bool, true, false, if◌then◌else◌, List, [], ◌∷◌, Option, Some, None, refl, arith}
 use Rattle.std.proofs.lemmas.List.Sums.{sum_by-cons}
 use Rattle.heap_model.specs.declared.command.Command.{Command}
-use Rattle.heap_model.specs.declared.command.Command.TheVariants as commands
 use Rattle.heap_model.specs.declared.entry.Entry.{Entry}
 use Rattle.heap_model.specs.declared.entry.Entry.TheVariants.{Said, Takes}
 use Rattle.heap_model.specs.declared.heap.Heap.{Heap}
 use Rattle.heap_model.specs.declared.reply.Reply.{Reply}
 use Rattle.heap_model.specs.declared.reply.Reply.TheVariants as replies
-use Rattle.heap_model.specs.Needs.{spine_need_of, words_by}
 use Rattle.heap_model.specs.account.Effects.{effect_of}
 use Rattle.heap_model.specs.account.PhaseCounts.{phase}
-use Rattle.heap_model.specs.account.Space.{words_granted}
 use Rattle.heap_model.specs.account.Windows.{begins_cycle}
 use Rattle.core_machine.specs.declared.place.Access.TheVariants.{LoadingMeta, Getting, Swapping}
 use Rattle.core_machine.specs.declared.place.Collecting.TheVariants.{Looking, Comparing, Noting}
@@ -24,25 +21,20 @@ use Rattle.core_machine.specs.declared.place.Making.TheVariants.{Gathering, Retu
 use Rattle.core_machine.specs.declared.place.Place.{Place}
 use Rattle.core_machine.specs.declared.place.Place.TheVariants as places
 use Rattle.core_machine.specs.declared.place.Polling.TheVariants.{Asking, Answering}
-use Rattle.core_machine.specs.declared.seat.register.Register.{Register}
 use Rattle.core_machine.specs.declared.table.address.Address.TheVariants.{Word}
 use Rattle.core_machine.specs.machine.Machine.{State, seat_at, entries_shown}
 use Rattle.core_machine.specs.Moves.{move_at, is_last_birth, last_birth_move, birth_move, takes_some}
-use Rattle.core_machine.specs.seat.Access.{meta_reply_of}
 use Rattle.core_machine.specs.seat.AccessMoves.{got_shows, reply_entries_if}
-use Rattle.core_machine.specs.seat.Commands.{IsRecord}
 use Rattle.core_machine.specs.seat.HandshakeMoves.{poll_adds, phase_told}
 use Rattle.core_machine.specs.seat.Looks.{noted_reply}
-use Rattle.core_machine.specs.seat.Local.{local_reply_of}
 use Rattle.core_machine.specs.seat.Seat.{Seat}
 use Rattle.core_machine.specs.table.Layout.{at}
 use Rattle.core_rule.proofs.entries.PhasesTold.{told_cases, told_if}
 
--- the entry begins no phase, and makes no array
+-- the entry begins no phase
 pub record IsMute (entry : Entry) : Type 0 where
   pub no_begin : begins_cycle entry ≡ false
   pub no_phase : (effect_of entry).phases ≡ 0
-  pub no_words : (effect_of entry).words ≡ 0
 
 abbrev pub AreMute : List Entry → Type 0
 AreMute entries = AllByRecursion IsMute entries
@@ -56,97 +48,56 @@ pub mute_phase : (entries : List Entry) → AreMute entries → phase entries �
 mute_phase [] mute = refl
 mute_phase (entry ∷ entries) mute = omega (arith, sum_by-cons (λ e. (effect_of e).phases) entry entries, mute.0.no_phase, mute_phase entries mute.1)
 
-pub mute_words : (entries : List Entry) → AreMute entries → words_granted entries ≡ 0
-mute_words [] mute = refl
-mute_words (entry ∷ entries) mute = omega (arith, sum_by-cons (λ e. (effect_of e).words) entry entries, mute.0.no_words, mute_words entries mute.1)
-
--- a reply makes no array where its command asks for none
-words_none : (command : Command) (reply : Reply) → spine_need_of command ≡ 0 → words_by command reply ≡ 0
-words_none command (replies.Made id) none = none
-words_none command _ none = refl
-
-record_words : (command : Command) → IsRecord command → spine_need_of command ≡ 0
-record_words (commands.New d fields) makes = refl
-record_words _ makes = absurd makes
-
-local_words : (held : List Register) (command : Command) → words_by command (local_reply_of held command) ≡ 0
-local_words held (commands.Array d cells) = refl
-local_words held (commands.New d fields) = refl
-local_words held (commands.Get d r i) = refl
-local_words held (commands.Set r i v) = refl
-local_words held (commands.Num d n) = refl
-local_words held (commands.Nil d) = refl
-local_words held (commands.Copy d r) = refl
-local_words held (commands.Same a b) = words_none (commands.Same a b) (local_reply_of held (commands.Same a b)) refl
-local_words held (commands.Len r) = refl
-local_words held commands.Poll = refl
-local_words held commands.Collect = refl
-local_words held commands.Leave = refl
-
-meta_words : (command : Command) (found : ℕ) (reply : Reply) → meta_reply_of command found ≡ Some reply → words_by command reply ≡ 0
-meta_words (commands.Array d cells) found reply is = absurd (cc is)
-meta_words (commands.New d fields) found reply is = words_none (commands.New d fields) reply refl
-meta_words (commands.Get d r i) found reply is = words_none (commands.Get d r i) reply refl
-meta_words (commands.Set r i v) found reply is = words_none (commands.Set r i v) reply refl
-meta_words (commands.Num d n) found reply is = words_none (commands.Num d n) reply refl
-meta_words (commands.Nil d) found reply is = words_none (commands.Nil d) reply refl
-meta_words (commands.Copy d r) found reply is = words_none (commands.Copy d r) reply refl
-meta_words (commands.Same a b) found reply is = words_none (commands.Same a b) reply refl
-meta_words (commands.Len r) found reply is = words_none (commands.Len r) reply refl
-meta_words commands.Poll found reply is = words_none commands.Poll reply refl
-meta_words commands.Collect found reply is = words_none commands.Collect reply refl
-meta_words commands.Leave found reply is = words_none commands.Leave reply refl
-
 -- one entry
-pub one_mute : (entry : Entry) → begins_cycle entry ≡ false → (effect_of entry).phases ≡ 0 → (effect_of entry).words ≡ 0 → AreMute (entry ∷ [])
-one_mute entry begin phases words = (record { no_begin = begin; no_phase = phases; no_words = words }, tt)
+pub one_mute : (entry : Entry) → begins_cycle entry ≡ false → (effect_of entry).phases ≡ 0 → AreMute (entry ∷ [])
+one_mute entry begin phases = (record { no_begin = begin; no_phase = phases }, tt)
 
 claim_mute : (number count : ℕ) → AreMute (takes_some number count)
 claim_mute number count = by (count == 0)
   where
     by : (b : Bool) → AreMute (if b then [] else Takes number count ∷ [])
     by true = tt
-    by false = one_mute (Takes number count) refl refl refl
+    by false = one_mute (Takes number count) refl refl
 
 poll_mute : (number : ℕ) (seat : Seat) (found : ℕ) → AreMute (poll_adds number seat found)
-poll_mute number seat found = told_if AreMute number seat.command found (found == seat.answered) tt (one_mute (Said number seat.command (replies.Phase found)) refl refl refl)
+poll_mute number seat found = told_if AreMute number seat.command found (found == seat.answered) tt (one_mute (Said number seat.command (replies.Phase found)) refl refl)
 
 answer_mute : (number : ℕ) (command : Command) (p : ℕ) → AreMute (phase_told number command p)
-answer_mute number command p = told_cases AreMute number command p tt (one_mute (Said number command (replies.Phase p)) refl refl refl)
+answer_mute number command p = told_cases AreMute number command p tt (one_mute (Said number command (replies.Phase p)) refl refl)
 
 note_mute : (number : ℕ) (command : Command) (reply : CollectReply) → AreMute (Said number command (noted_reply reply) ∷ [])
-note_mute number command (notes.Cycle j) = one_mute _ refl refl refl
-note_mute number command (notes.Waits other answered p) = one_mute _ refl refl refl
+note_mute number command (notes.Cycle j) = one_mute _ refl refl
+note_mute number command (notes.Waits other answered p) = one_mute _ refl refl
 
-meta_mute : (number : ℕ) (seat : Seat) (found : ℕ) (reply : Option Reply) → meta_reply_of seat.command found ≡ reply → AreMute (reply_entries_if number seat reply)
-meta_mute number seat found None is = tt
-meta_mute number seat found (Some reply) is = one_mute (Said number seat.command reply) refl refl (meta_words seat.command found reply is)
+meta_mute : (number : ℕ) (seat : Seat) (reply : Option Reply) → AreMute (reply_entries_if number seat reply)
+meta_mute number seat None = tt
+meta_mute number seat (Some reply) = one_mute (Said number seat.command reply) refl refl
 
 get_mute : (heap : Heap) (number : ℕ) (seat : Seat) (words : List ℕ) (found : ℕ) (head : Option ℕ) → AreMute (got_shows heap number seat words found head)
-get_mute heap number seat words found None = one_mute _ refl refl refl
-get_mute heap number seat words found (Some head) = one_mute _ refl refl refl
+get_mute heap number seat words found None = one_mute _ refl refl
+get_mute heap number seat words found (Some head) = one_mute _ refl refl
 
-module _ (heap : Heap) (state : State) (number : ℕ) (makes : (seat_at state number).place ≡ places.Making Bearing → IsRecord (seat_at state number).command) where
+module _ (heap : Heap) (state : State) (number : ℕ) where
   -- what a seat's step shows
-  pub shown_mute : (place : Place) → (seat_at state number).place ≡ place → AreMute (entries_shown heap state (move_at heap number (seat_at state number) place))
-  shown_mute (places.Making Gathering) placed = claim_mute number _
-  shown_mute (places.Making Returning) placed = one_mute _ refl refl refl
-  shown_mute (places.Making Refusing) placed = one_mute _ refl refl refl
-  shown_mute (places.Making Bearing) placed = by (is_last_birth (seat_at state number))
+  pub shown_mute : (place : Place) → AreMute (entries_shown heap state (move_at heap number (seat_at state number) place))
+  shown_mute (places.Making Gathering) = claim_mute number _
+  shown_mute (places.Making Returning) = one_mute _ refl refl
+  shown_mute (places.Making Refusing) = one_mute _ refl refl
+  shown_mute (places.Making Bearing) = by (is_last_birth (seat_at state number))
     where
       by : (last : Bool) → AreMute (entries_shown heap state (Some (if last then last_birth_move number (seat_at state number) else birth_move (seat_at state number))))
-      by true = one_mute _ refl refl (record_words (seat_at state number).command (makes placed))
+      by true = one_mute _ refl refl
       by false = tt
-  shown_mute places.Local placed = one_mute _ refl refl (local_words (seat_at state number).registers (seat_at state number).command)
-  shown_mute (places.Access LoadingMeta) placed = meta_mute number (seat_at state number) _ _ refl
-  shown_mute (places.Access Getting) placed = get_mute heap number (seat_at state number) state.words (at heap state.words (Word (seat_at state number).reached (seat_at state number).part)) _
-  shown_mute (places.Access Swapping) placed = one_mute _ refl refl refl
-  shown_mute (places.Polling Asking) placed = poll_mute number (seat_at state number) _
-  shown_mute (places.Polling Answering) placed = (record { no_begin = refl; no_phase = refl; no_words = refl }, answer_mute number (seat_at state number).command _)
-  shown_mute (places.Collecting Looking) placed = tt
-  shown_mute (places.Collecting (collecting.Asking other)) placed = tt
-  shown_mute (places.Collecting (Comparing other p)) placed = tt
-  shown_mute (places.Collecting (Noting reply)) placed = note_mute number (seat_at state number).command reply
-  shown_mute (places.Leaving Emptying) placed = one_mute _ refl refl refl
-  shown_mute (places.Leaving Parting) placed = one_mute _ refl refl refl
-  shown_mute _ placed = tt
+  shown_mute places.Local = one_mute _ refl refl
+  shown_mute (places.Access LoadingMeta) = meta_mute number (seat_at state number) _
+  shown_mute (places.Access Getting) = get_mute heap number (seat_at state number) state.words (at heap state.words (Word (seat_at state number).reached (seat_at state number).part)) _
+  shown_mute (places.Access Swapping) = one_mute _ refl refl
+  shown_mute (places.Polling Asking) = poll_mute number (seat_at state number) _
+  shown_mute (places.Polling Answering) = (record { no_begin = refl; no_phase = refl }, answer_mute number (seat_at state number).command _)
+  shown_mute (places.Collecting Looking) = tt
+  shown_mute (places.Collecting (collecting.Asking other)) = tt
+  shown_mute (places.Collecting (Comparing other p)) = tt
+  shown_mute (places.Collecting (Noting reply)) = note_mute number (seat_at state number).command reply
+  shown_mute (places.Leaving Emptying) = one_mute _ refl refl
+  shown_mute (places.Leaving Parting) = one_mute _ refl refl
+  shown_mute _ = tt

@@ -8,7 +8,6 @@ use Rattle.heap_model.specs.declared.heap.Heap.{Heap}
 use Rattle.heap_model.specs.declared.id.Id.{Id}
 use Rattle.heap_model.specs.account.Cycles.{graph_of, bound}
 use Rattle.heap_model.specs.account.PhaseCounts.{phase}
-use Rattle.heap_model.specs.account.Space.{words_granted}
 use Rattle.heap_model.specs.account.Windows.{up_to_cycle, begins_cycle}
 use Rattle.heap_model.proofs.Histories.{total-more}
 use Rattle.core_machine.specs.collector.Collector.{turn_at}
@@ -25,7 +24,6 @@ use Rattle.core_rule.proofs.footprint.CarryCycle.{carry_cycle}
 use Rattle.core_rule.proofs.footprint.CycleBegins.{cycle_begins}
 use Rattle.core_rule.proofs.footprint.FootprintGoes.{footprint_goes, stage_goes, old_goes}
 use Rattle.core_rule.proofs.footprint.Shown.{AreMute, one_mute, mute_begins, mute_phase}
-use Rattle.core_rule.proofs.footprint.SeatCycle.{none_told}
 use Rattle.core_rule.proofs.footprint.StagesInside.{turn_inside}
 use Rattle.core_rule.proofs.footprint.WeightGrowth.{total-added}
 use Rattle.core_rule.proofs.looks.Stays.{turn_looks}
@@ -65,15 +63,11 @@ module _ (heap : Heap) (state : State) (book : Book) (stands : Stands heap state
         cycle = on_cycle stage is keeps (mute_begins (turn_at heap state.collector stage).adds mute) (λ running rests. running (ap (λ p. p % 7) same ∙ rests))
             (λ begun inside most foot ends f i k owned. foot.kept f i k owned (inr (ap (λ p. p % 7) (sym same) ∙ ends)));
         looks = turn_looks heap state book.history keeps.now.history stage stands.looks keeps.grown;
-        no_arrays = none_told heap state (after stage) book book.begun (turn_at heap state.collector stage).adds stands keeps mute;
       }
 
   -- by one that begins the next phase
   abbrev next : ℕ
   next = state.collector.phase + 1
-
-  no_words : (keeps : TurnKept stages.Advancing) → words_granted keeps.now.history ≡ 0
-  no_words keeps = omega (arith, ap words_granted keeps.grown, total-more (λ e. e.words) book.history (Advance next), stands.no_arrays)
 
   next_phase : (keeps : TurnKept stages.Advancing) → phase keeps.now.history ≡ phase book.history + 1
   next_phase keeps = ap phase keeps.grown ∙ total-more (λ e. e.phases) book.history (Advance next)
@@ -97,7 +91,6 @@ module _ (heap : Heap) (state : State) (book : Book) (stands : Stands heap state
           (λ running rests. other.1 (let told = rule.collector_stands.phase_told in omega (arith, rests, told)))
           (swept_inside is keeps);
       looks = turn_looks heap state book.history keeps.now.history stages.Advancing stands.looks keeps.grown;
-      no_arrays = no_words keeps;
     }
   ]
     where
@@ -115,14 +108,13 @@ module _ (heap : Heap) (state : State) (book : Book) (stands : Stands heap state
         rule = keeps.rule;
         cycle = λ running. absurd (running (omega (arith, grown, told, fits.for_clearing)));
         looks = turn_looks heap state book.history keeps.now.history (stages.Ending kept) stands.looks keeps.grown;
-        no_arrays = omega (arith, ap words_granted keeps.grown, total-more (λ e. e.words) book.history entry, stands.no_arrays);
       }
 
   -- so by each turn
   pub turn_cycle : (stage : Stage) → state.collector.stage ≡ stage → (keeps : TurnKept stage) → Stands heap (after stage) keeps.now
   turn_cycle stages.Advancing is keeps = advance_stands is keeps
   turn_cycle (stages.Ending kept) is keeps = end_stands kept is keeps
-  turn_cycle (stages.Freeing group dead) is keeps = mute_stands (stages.Freeing group dead) is (one_mute _ refl refl refl) keeps
+  turn_cycle (stages.Freeing group dead) is keeps = mute_stands (stages.Freeing group dead) is (one_mute _ refl refl) keeps
   turn_cycle stages.Looking is keeps = mute_stands stages.Looking is tt keeps
   turn_cycle (stages.Passing group found) is keeps = mute_stands (stages.Passing group found) is tt keeps
   turn_cycle (stages.Scanning scan) is keeps = mute_stands (stages.Scanning scan) is tt keeps

@@ -3,7 +3,7 @@ use Rattle.std.proofs.Common.{◌≡◌, ℕ, ◌+◌, ◌*◌, ◌%◌, ◌^◌
 use Rattle.heap_model.specs.declared.entry.Entry.{Entry}
 use Rattle.heap_model.specs.declared.entry.Entry.TheVariants.{Frees}
 use Rattle.heap_model.specs.declared.heap.Heap.{Heap}
-use Rattle.heap_model.specs.account.Account.{IsLegal}
+use Rattle.heap_model.specs.account.Account.{IsLegalBy, ButSpine}
 use Rattle.heap_model.specs.account.Cycles.{graph_of}
 use Rattle.heap_model.specs.account.PhaseCounts.{phase, last_answer, has_left}
 use Rattle.heap_model.specs.account.Space.{fragments_gained, fragments_lost}
@@ -96,7 +96,7 @@ module _ (heap : Heap) (state : State) (book : Book) (rule : Rule heap state boo
   room = omega (arith, rule.heap_stands.used, fewer_taken)
 
   module _ (sweeps : phase book.history % 7 ≡ 5) (some : 1 ≤ length fs) (after : AfterMarking book.owner book.colour) where
-    legal : IsLegal heap false book_freed.history
+    legal : IsLegalBy ButSpine heap false book_freed.history
     legal = legal_more heap false book.history entry rule.heap_stands.legal tt (keeps_frees heap false book.history (length fs) (sweeps, some, room))
 
     -- what is marked stays born
@@ -109,7 +109,7 @@ module _ (heap : Heap) (state : State) (book : Book) (rule : Rule heap state boo
       word = phase_after_control heap state.words word g ∙ old.word;
       marks = freed_marks heap state.words g rule.machine.table below book.colour old.marks dead small;
       coloured = coloured_stays heap state.words words_freed book.owner owner book.colour book.fragments (phase book.history)
-          (λ making f part x born leads. inl (leads_control heap state.words g word below f part x leads)) marked_born same.was old.coloured;
+          (λ making f source x born leads. inl (leads_control heap state.words g word below f source x leads)) marked_born same.was old.coloured;
     }
 
     -- the heap stands

@@ -1,9 +1,11 @@
 -- What stays where the graph's objects do.
 use Rattle.std.proofs.Common.{◌≡◌, ℕ, List, Option, IsSome, slice_get, sym, ap, ◌∙◌, subst}
+use Rattle.std.specs.Option.{option_map_or}
 use Rattle.heap_model.specs.declared.heap.Heap.{Heap}
 use Rattle.heap_model.specs.declared.id.Id.{Id}
 use Rattle.heap_model.specs.graph.Objects.{node}
 use Rattle.heap_model.specs.graph.Graph.{Graph, Node}
+use Rattle.heap_model.specs.graph.Sizes.{fragments_of}
 use Rattle.core_rule.specs.Book.{id_at}
 use Rattle.core_rule.specs.Objects.{AreMade, Objects, cells_in, cells_at}
 use Rattle.core_rule.specs.Owners.{Owner}
@@ -35,6 +37,7 @@ module _ (g now : Graph) (made : List Id) (same : SameNodes g now) where
     pub objects_stay : (heap : Heap) (words : List ℕ) → Objects heap words g made owner fragments → Objects heap words now made owner fragments
     objects_stay heap words objects = record {
       kept = λ i below is. rw (cells_stay i) (objects.kept i below is);
+      sizes = λ i below is. objects.sizes i below is ∙ ap (λ (o : Option Node). option_map_or fragments_of o 0) (sym (same.nodes (id_at made i)));
       named = λ i j below is cell there. objects.named i j below is cell (sym (ap (λ cells. slice_get cells j) (cells_stay i)) ∙ there);
       back = objects.back;
       board = objects.board;

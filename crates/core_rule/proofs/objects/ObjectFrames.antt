@@ -24,6 +24,7 @@ module _ (heap : Heap) (words now : List ℕ) (g : Graph) (made : List Id) (owne
       owned = one.owned;
       stored = λ k part p number. same _ i k part (one.owned k p) number ∙ one.stored k part p number;
     };
+    sizes = old.sizes;
     named = old.named;
     back = old.back;
     board = old.board;
@@ -84,6 +85,7 @@ module _ (owner now : ℕ → Owner) (same : SameKept owner now) (made : List Id
       owned = λ k p. same.stays _ _ _ (one.owned k p);
       stored = one.stored;
     };
+    sizes = λ i below is. old.sizes i below (same.was _ _ _ is);
     named = λ i j below is cell there. let one = old.named i j below (same.was _ _ _ is) cell there in (names_kept cell.value one.0, one.1);
     back = λ f i k is. let one = old.back f i k (same.was f i k is) in (one.0, same.stays _ _ _ one.1, one.2, one.3);
     board = old.board;

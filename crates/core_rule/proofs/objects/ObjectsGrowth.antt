@@ -1,5 +1,6 @@
 -- The objects when one more is made of a seat's fragments.
-use Rattle.std.proofs.Common.{◌≡◌, ◌^◌, ◌≢◌, ℕ, zero, suc, ◌+◌, ◌<◌, ◌≤◌, false, List, [], ◌∷◌, ◌++◌, length, replicate, slice_get, Some, inl, inr, sym, ap, ◌∙◌, subst, arith, length-append}
+use Rattle.std.proofs.Common.{◌≡◌, ◌^◌, ◌≢◌, ℕ, zero, suc, ◌+◌, ◌<◌, ◌≤◌, false, List, [], ◌∷◌, ◌++◌, length, replicate, slice_get, Option, Some, inl, inr, sym, ap, ◌∙◌, subst, arith, length-append}
+use Rattle.std.specs.Option.{option_map_or}
 use Rattle.std.proofs.lemmas.Option.{slice_get_within}
 use Rattle.std.proofs.lemmas.List.{length-replicate}
 use Rattle.heap_model.specs.declared.id.Id.TheVariants.{Board}
@@ -8,7 +9,8 @@ use Rattle.heap_model.specs.declared.heap.Heap.{Heap}
 use Rattle.heap_model.specs.declared.id.Id.{Id}
 use Rattle.heap_model.specs.Needs.{record_fragments}
 use Rattle.heap_model.specs.graph.Objects.{node}
-use Rattle.heap_model.specs.graph.Graph.{Graph, fresh, unset}
+use Rattle.heap_model.specs.graph.Graph.{Graph, Node, fresh, unset}
+use Rattle.heap_model.specs.graph.Sizes.{fragments_of, fragments_at}
 use Rattle.core_machine.specs.declared.table.address.Address.TheVariants.{Word}
 use Rattle.core_machine.specs.table.Fragments.{tally}
 use Rattle.core_machine.specs.table.Layout.{at}
@@ -90,6 +92,20 @@ module _ (heap : Heap) (words : List ℕ) (g now : Graph) (made : List Id) (id :
         stored = λ k part p number. new.newborn k part p number ∙ sym (newborn_is (object_head now_made now_fragments) (name_of id) fields body k part);
       }
 
+  -- as many fragments as the graph's objects
+  abbrev IsSized : ℕ → Type 0
+  IsSized i = IsKept now_owner now_fragments i → length (now_fragments i) ≡ fragments_at now (id_at now_made i)
+
+  old_sized : (i : ℕ) → i < length made → IsSized i
+  old_sized i below is =
+      ap (λ (fs : List ℕ). length fs) (object_old fragments (length made) body i (old_apart made i below)) ∙ old.sizes i below (kept_before made id owner fragments body new.unkept i below is)
+      ∙ ap (λ (o : Option Node). option_map_or fragments_of o 0) (sym (node_at g now made id (fresh false fields) ids more i below))
+
+  new_sized : IsSized (length made)
+  new_sized is =
+      ap (λ (fs : List ℕ). length fs) (object_new fragments (length made) body) ∙ new.whole ∙ ap record_fragments (sym (length-replicate fields unset))
+      ∙ ap (λ (o : Option Node). option_map_or fragments_of o 0) (sym (ap (node now) (id_at-new made id) ∙ more.new))
+
   new_named : (j : ℕ) (cell : Cell) → slice_get (cells_at now now_made (length made)) j ≡ Some cell → NamesKept now_made now_owner now_fragments cell.value × (cell.stamp < 2 ^ 32)
   new_named j cell there =
       let is : cell ≡ unset = unset_cell fields j cell (ap (λ cells. slice_get cells j) (sym cells_new) ∙ there) in
@@ -128,6 +144,7 @@ module _ (heap : Heap) (words : List ℕ) (g now : Graph) (made : List Id) (id :
   pub objects_grown : Objects heap words now now_made now_owner now_fragments
   objects_grown = record {
     kept = old_or_new g now made id (fresh false fields) ids more (λ i. IsKept now_owner now_fragments i → IsKeptNow i (id_at now_made i) (cells_at now now_made i) (now_fragments i)) old_kept new_kept;
+    sizes = old_or_new g now made id (fresh false fields) ids more IsSized old_sized new_sized;
     named = λ i j below. old_or_new g now made id (fresh false fields) ids more
         (λ x. IsKept now_owner now_fragments x → (cell : Cell) → slice_get (cells_at now now_made x) j ≡ Some cell → NamesKept now_made now_owner now_fragments cell.value × (cell.stamp < 2 ^ 32))
         (λ x less. old_named x j less) (λ is. new_named j) i below;

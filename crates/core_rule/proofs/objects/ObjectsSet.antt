@@ -1,5 +1,6 @@
 -- The objects after one cell of one of them was set: its word is the new one, and no other word changes.
 use Rattle.std.proofs.Common.{◌≡◌, ◌≢◌, ℕ, ◌*◌, ◌^◌, ◌<◌, inl, inr, List, length, set, slice_get, Option, Some, None, IsSome, refl, sym, ap, ◌∙◌, subst, arith}
+use Rattle.std.specs.Option.{option_map_or}
 use Rattle.std.proofs.lemmas.Bool.{cases_eq}
 use Rattle.std.proofs.lemmas.List.{length-set}
 use Rattle.heap_model.specs.declared.graph.cell.Cell.{Cell}
@@ -8,6 +9,7 @@ use Rattle.heap_model.specs.declared.id.Id.{Id}
 use Rattle.heap_model.specs.Needs.{record_fragments}
 use Rattle.heap_model.specs.graph.Objects.{node}
 use Rattle.heap_model.specs.graph.Graph.{Graph, Node}
+use Rattle.heap_model.specs.graph.Sizes.{fragments_of, fragments_at}
 use Rattle.core_machine.specs.declared.table.address.Address.TheVariants.{Word}
 use Rattle.core_machine.specs.table.Layout.{at, put, table_length}
 use Rattle.core_machine.specs.seat.Access.{row_of, part_of}
@@ -46,6 +48,13 @@ module _ (heap : Heap) (words : List ℕ) (g now : Graph) (number : ℕ) (made :
   lengths_stay j = elim (id_tells (id_at made j) (id_at made n)) as (λ _. length (cells_at now made j) ≡ length (cells_at g made j)) [
     | inl e ↦ subst (λ x. length (cells_in (node now x)) ≡ length (cells_in (node g x))) (sym e.1) (ap length cells_set ∙ length-set (cells_at g made n) i cell)
     | inr e ↦ ap length (cells_rest (id_at made j) e.1)
+  ]
+
+  -- and has as many fragments
+  sizes_stay : (j : ℕ) → fragments_at now (id_at made j) ≡ fragments_at g (id_at made j)
+  sizes_stay j = elim (id_tells (id_at made j) (id_at made n)) as (λ _. fragments_at now (id_at made j) ≡ fragments_at g (id_at made j)) [
+    | inl e ↦ subst (λ x. fragments_at now x ≡ fragments_at g x) (sym e.1) (rw (sets.written object.0 object.1, object.1, length-set object.0.cells i cell) refl)
+    | inr e ↦ ap (λ (o : Option Node). option_map_or fragments_of o 0) (sets.rest (id_at made j) e.1)
   ]
 
   -- the same ids are those of objects
@@ -172,6 +181,7 @@ module _ (heap : Heap) (words : List ℕ) (g now : Graph) (number : ℕ) (made :
         | inl e ↦ subst (λ x. KeptObject heap now_words owner head x (id_at made x) (cells_at now made x) (fragments x)) (sym e) kept_set
         | inr apart ↦ kept_rest j less apart is
       ];
+      sizes = λ j less is. old.sizes j less is ∙ sym (sizes_stay j);
       named = λ j m less is c there. elim (cases_eq j n) [
         | inl e ↦ named_set m c (ap (λ x. slice_get (cells_at now made x) m) (sym e) ∙ there)
         | inr apart ↦ named_rest j m less apart is c there

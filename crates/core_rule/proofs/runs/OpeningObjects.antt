@@ -11,6 +11,7 @@ use Rattle.heap_model.specs.declared.id.Id.{Id}
 use Rattle.heap_model.specs.declared.id.Id.TheVariants.{Board, Made}
 use Rattle.heap_model.specs.graph.Objects.{absent_graph_seat, graph_seat}
 use Rattle.heap_model.specs.graph.Reach.{IsMade}
+use Rattle.heap_model.specs.graph.Sizes.{fragments_at}
 use Rattle.heap_model.specs.graph.Graph.{GraphSeat, opening, opening_graph_seat, unset}
 use Rattle.core_machine.specs.declared.table.address.Address.{Address}
 use Rattle.core_machine.specs.declared.table.address.Address.TheVariants.{Control, Word}
@@ -106,6 +107,7 @@ module _ (heap : Heap) (words : List ℕ) (some : 1 ≤ heap.groups) (open_words
   opening_objects = record {
     kept = λ i below is. let none : 0 ≡ i = omega arith in
         subst (λ x. KeptObject heap words opening_owner (object_head opening_made opening_fragments) x (id_at opening_made x) (cells_at (opening heap) opening_made x) (opening_fragments x)) none board_kept;
+    sizes = λ i below is. let none : 0 ≡ i = omega arith in subst (λ x. length (opening_fragments x) ≡ fragments_at (opening heap) (id_at opening_made x)) none refl;
     named = λ i j below is cell there. let none : i ≡ 0 = omega arith in
         let blank : cell ≡ unset = unset_cell 32 j cell (subst (λ x. slice_get (cells_at (opening heap) opening_made x) j ≡ Some cell) none there) in
         subst (λ (c : Cell). NamesKept opening_made opening_owner opening_fragments c.value × (c.stamp < 2 ^ 32)) (sym blank) (tt, omega arith);
