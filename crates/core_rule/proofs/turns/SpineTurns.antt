@@ -7,7 +7,6 @@ use Rattle.core_machine.specs.collector.Marking.{scan_step, spine_step, spine_sc
 use Rattle.core_machine.specs.declared.collector.stage.Scan.{Scan}
 use Rattle.core_machine.specs.declared.collector.stage.SpineScan.{SpineScan}
 use Rattle.core_machine.specs.declared.collector.stage.Stage.TheVariants as stages
-use Rattle.core_machine.specs.declared.table.address.Address.{Address}
 use Rattle.core_machine.specs.declared.table.address.Address.TheVariants.{Control, Word, Spine}
 use Rattle.core_machine.specs.table.Decode.{payload_in}
 use Rattle.core_machine.specs.table.Layout.{at, put}
@@ -35,9 +34,9 @@ locate_leaves scan spine_words heap state book rule locating stepped =
 pub index_leaves : (s : SpineScan) → IsFewWords (stages.Indexing s) → StageLeavesFewer (stages.Indexing s)
 index_leaves s few heap state book rule indexing stepped =
     let fits : IsIndexing heap state.collector.phase state.collector.looked s = rw indexing at rule.machine.collector_fit.at_stage in
-    let place : Address = Spine s.spine.half (s.spine.offset + s.index) in
+    let word : ℕ = at heap state.words (Spine s.spine.half (s.spine.offset + s.index)) in
     rw (put-at heap state.words (Spine s.spine.half (s.spine.offset + s.index)))
-    (fewer_at heap state (stages.Indexing s) state.words state.collector.looked (stages.Spreading (spine_step s) (payload_in (at heap state.words place))) indexing
+    (fewer_at heap state (stages.Indexing s) state.words state.collector.looked (stages.Spreading (spine_step s) (payload_in word)) indexing
     (scan_goes_on heap state.collector.phase state.collector.looked state.words s.scan (omega (arith, fits.steps_made, fits.index_within, few))))
 
 pub spread_leaves : (s : SpineScan) (target : ℕ) → IsFewWords (stages.Spreading s target) → StageLeavesFewer (stages.Spreading s target)
