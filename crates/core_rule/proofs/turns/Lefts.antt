@@ -2,8 +2,6 @@
 use Rattle.std.proofs.Common.{◌≡◌, ℕ, ◌+◌, ◌-◌, ◌*◌, ◌%◌, ◌<◌, ◌≤◌, List, arith}
 use Rattle.heap_model.specs.declared.calls.collector_calls.Turn.TheVariants.{Stepped}
 use Rattle.heap_model.specs.declared.heap.Heap.{Heap}
-use Rattle.heap_model.specs.Limits.{most_cells}
-use Rattle.heap_model.specs.Needs.{array_words}
 use Rattle.core_machine.specs.collector.Collector.{turn_at}
 use Rattle.core_machine.specs.declared.collector.stage.Stage.{Stage}
 use Rattle.core_machine.specs.declared.collector.stage.Stage.TheVariants as stages
@@ -17,19 +15,6 @@ abbrev pub StageLeavesFewer : Stage → Type 0
 StageLeavesFewer stage = (heap : Heap) (state : State) (book : Book) → Rule heap state book → state.collector.stage ≡ stage
     → (turn_at heap state.collector stage).answer (found_by heap state (turn_at heap state.collector stage).step) ≡ Stepped
     → turns_left heap (state_after_turn heap state (turn_at heap state.collector stage)) < turns_left heap state
-
--- the array that is scanned has no more spine words than one of the most cells has, and a scan that has seen to all its words has made no more steps than
--- such an array's
-abbrev pub IsFewWords : Stage → Type 0
-IsFewWords (stages.Locating scan spine_words) = spine_words ≤ array_words most_cells
-IsFewWords (stages.Indexing s) = s.words ≤ array_words most_cells
-IsFewWords (stages.Spreading s target) = s.words ≤ array_words most_cells
-IsFewWords (stages.Blackening scan) = scan.steps ≤ 2 + 2 * array_words most_cells
-IsFewWords _ = Unit {0}
-
--- so it is of the collector's stage, by the rule
-abbrev pub HasFewWords : Type 0
-HasFewWords = (heap : Heap) (state : State) (book : Book) → Rule heap state book → IsFewWords state.collector.stage
 
 beside : (a x y : ℕ) → x < y → a + x < a + y
 beside a x y less = omega (arith, less)
