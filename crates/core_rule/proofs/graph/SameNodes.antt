@@ -1,8 +1,9 @@
 -- What stays where the graph's objects do.
-use Rattle.std.proofs.Common.{◌≡◌, ℕ, List, length, Option, Some, None, IsSome, slice_get, refl, sym, ap, ◌∙◌, subst}
+use Rattle.std.proofs.Common.{◌≡◌, ℕ, Bool, true, false, List, length, Option, Some, None, IsSome, slice_get, refl, sym, ap, ◌∙◌, subst}
 use Rattle.std.specs.Prelude.{if◌then◌else◌}
 use Rattle.std.specs.Option.{option_map_or}
 use Rattle.heap_words.specs.declared.spot.Spot.{Spot}
+use Rattle.heap_model.specs.declared.graph.cell.Cell.{Cell}
 use Rattle.heap_model.specs.declared.heap.Heap.{Heap}
 use Rattle.heap_model.specs.declared.id.Id.{Id}
 use Rattle.heap_model.specs.Needs.{record_fragments, array_fragments, array_words}
@@ -12,6 +13,15 @@ use Rattle.heap_model.specs.graph.Sizes.{fragments_of, spine_words_of}
 use Rattle.core_rule.specs.Book.{id_at}
 use Rattle.core_rule.specs.Objects.{AreMade, Objects, node_in, node_at, cells_at}
 use Rattle.core_rule.specs.Owners.{Owner}
+
+-- an object is an array of some cells or a record of them
+pub node_cases : (P : Node → Type 0) → ((cells : List Cell) → P (record { array = true; cells = cells })) → ((cells : List Cell) → P (record { array = false; cells = cells }))
+    → (object : Node) → P object
+node_cases P an_array a_record object = by object.array
+  where
+    by : (array : Bool) → P (record { array = array; cells = object.cells })
+    by true = an_array object.cells
+    by false = a_record object.cells
 
 -- an object that was made is there
 pub made_node : (o : Option Node) → IsSome o → o ≡ Some (node_in o)
