@@ -41,6 +41,7 @@ module _ (nodes now_nodes : ℕ → Node) (made now_made : List Id) (owner now_o
   ahead_stays now before command row links part shape ahead = record {
     within = rw shape.cells ahead.within;
     leads = ahead.leads ∙ ap (λ a. if a then field_of command / 4 + 1 else row_of (field_of command)) (sym shape.kind);
+    linked = λ an_array. ahead.linked (sym shape.kind ∙ an_array);
     there = ahead.there ∙ ap (λ a. if a then field_of command % 4 else part_of (field_of command)) (sym shape.kind);
   }
 
