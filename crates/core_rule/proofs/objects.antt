@@ -1,4 +1,5 @@
 -- Kept objects, their words and names.
+pub mod ObjectWords
 pub mod CellWords
 pub mod ObjectsSet
 pub mod ObjectFrames
