@@ -7,6 +7,7 @@ pub mod LookTurn
 pub mod PassTurn
 pub mod ScanTurn
 pub mod ShadeTurn
+pub mod SpineTurns
 pub mod SweepTurn
 pub mod Turning
 pub mod Standing
@@ -25,6 +26,9 @@ stands_at stages.Looking = LookTurn.look_stands
 stands_at (stages.Passing group found) = PassTurn.pass_stands group found
 stands_at (stages.Scanning scan) = ScanTurn.scan_stands scan
 stands_at (stages.Shading scan target next) = ShadeTurn.shade_stands scan target next
+stands_at (stages.Locating scan words) = SpineTurns.locate_stands scan words
+stands_at (stages.Indexing s) = SpineTurns.index_stands s
+stands_at (stages.Spreading s target) = SpineTurns.spread_stands s target
 stands_at (stages.Blackening scan) = BlackenTurn.blacken_stands scan
 stands_at (stages.Sweeping group) = SweepTurn.sweep_stands group
 stands_at (stages.Examining group dead place) = SweepTurn.examine_stands group dead place

@@ -1,8 +1,9 @@
 -- What is true while the collector marks, and after that.
-use Rattle.std.specs.Prelude.{◌≡◌, ◌≢◌, ℕ, ◌+◌, ◌/◌, ◌<◌, ◌≤◌, ◌⊎◌, false, List, Some}
+use Rattle.std.specs.Prelude.{◌≡◌, ◌≢◌, ℕ, ◌+◌, ◌*◌, ◌/◌, ◌<◌, ◌≤◌, ◌⊎◌, false, List, Some}
 use Rattle.heap_words.specs.Spot.{spot_in}
 use Rattle.heap_model.specs.declared.heap.Heap.{Heap}
-use Rattle.heap_model.specs.Limits.{group_fragments}
+use Rattle.heap_model.specs.Limits.{group_fragments, most_cells}
+use Rattle.heap_model.specs.Needs.{array_words}
 use Rattle.core_machine.specs.declared.collector.stage.SpineScan.{SpineScan}
 use Rattle.core_machine.specs.declared.collector.stage.Stage.{Stage}
 use Rattle.core_machine.specs.declared.collector.stage.Stage.TheVariants as stages
@@ -61,6 +62,15 @@ ScanStands heap words owner colour fragments (stages.Spreading s target) =
 ScanStands heap words owner colour fragments (stages.Blackening scan) = IsSeenWhole heap words colour scan.fragment
 ScanStands heap words owner colour fragments _ = Unit {0}
 
+-- the array that is scanned has no more spine words than one of the most cells has, and a scan that has seen to all its words has made no more steps than
+-- such an array's
+abbrev pub IsFewWords : Stage → Type 0
+IsFewWords (stages.Locating scan spine_words) = spine_words ≤ array_words most_cells
+IsFewWords (stages.Indexing s) = s.words ≤ array_words most_cells
+IsFewWords (stages.Spreading s target) = s.words ≤ array_words most_cells
+IsFewWords (stages.Blackening scan) = scan.steps ≤ 2 + 2 * array_words most_cells
+IsFewWords _ = Unit {0}
+
 -- while a pass has found nothing, some grey fragment stands in its group or behind it, if there is one at all
 abbrev pub PassStands : (ℕ → Colour) → Stage → Type 0
 PassStands colour (stages.Passing group false) = (f : ℕ) → colour f ≡ Grey → (x : ℕ) × (colour x ≡ Grey) × (group ≤ x / group_fragments)
@@ -77,6 +87,7 @@ pub record AfterMarking (owner : ℕ → Owner) (colour : ℕ → Colour) : Type
 pub record MarkingStands (heap : Heap) (words : List ℕ) (owner : ℕ → Owner) (colour : ℕ → Colour) (fragments : ℕ → List ℕ) (phase : ℕ) (stage : Stage) : Type 0 where
   pub grey : (f : ℕ) → colour f ≡ Grey → IsPart owner f
   pub scan : ScanStands heap words owner colour fragments stage
+  pub few : IsFewWords stage
   pub pass : PassStands colour stage
   pub sweep_stands : SweepStands heap owner colour phase stage
   pub alive : ¬ IsSettled phase stage → (f i k : ℕ) → owner f ≢ Dead i k

@@ -3,6 +3,7 @@ use Rattle.std.proofs.Common.{suc, ℕ, ◌+◌, ◌≤◌, inl, inr, arith}
 use Rattle.std.proofs.lemmas.Bool.Decides.{leb_tells}
 use Rattle.heap_model.specs.declared.heap.Heap.{Heap}
 use Rattle.core_machine.specs.declared.collector.stage.Stage.TheVariants as stages
+use Rattle.core_machine.specs.declared.step.Step.TheVariants.{Turning}
 use Rattle.core_machine.specs.declared.step.TurningStep.TheVariants as turning
 use Rattle.core_machine.specs.collector.Sweeping.{taken_count_of, after_cleared}
 use Rattle.core_machine.specs.collector.FitsTurns.{FitsStage, IsClearing}
@@ -20,7 +21,7 @@ fits_cleared heap phase looked group kept more is few =
 
 pub clear_stands : (group kept : ℕ) → StageStands (stages.Clearing group kept)
 clear_stands group kept heap collector limits fits clearing here =
-    work_stands heap (turning.Clear group) (λ word. record collector { stage = after_cleared heap group (kept + taken_count_of word) })
+    work_stands heap (Turning (turning.Clear group)) (λ word. record collector { stage = after_cleared heap group (kept + taken_count_of word) })
     record { in_table = here.group_within; wide = λ found small. and_wide found _ small; leads = λ found led. tt }
     (λ word led. stage_fits heap collector (after_cleared heap group (kept + taken_count_of word)) fits
     (fits_cleared heap collector.phase collector.looked group kept (taken_count_of word) here (taken_few word)))

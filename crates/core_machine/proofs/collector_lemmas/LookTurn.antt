@@ -46,5 +46,5 @@ module _ (heap : Heap) (collector : Collector) (limits : IsHeap heap) (fits : Co
 
 pub look_stands : StageStands stages.Looking
 look_stands heap collector limits fits looking within =
-    quiet_stands heap (turning.LookLoad collector.looked) (after_look heap collector) (look_answer collector)
+    quiet_stands heap (Turning (turning.LookLoad collector.looked)) (after_look heap collector) (look_answer collector)
     (load_stands heap (Turning (turning.LookLoad collector.looked)) refl (omega (arith, within, limits.seats_fit))) (λ found led. fits_looked_at heap collector limits fits looking within found)

@@ -32,7 +32,7 @@ module _ (heap : Heap) (limits : IsHeap heap) (phase looked : ℕ) (marks : IsMa
 
 pub pass_stands : (group : ℕ) (found : Bool) → StageStands (stages.Passing group found)
 pass_stands group found heap collector limits fits passing here =
-    work_stands heap (turning.GroupLoad group) (λ word. record collector { stage = after_pass heap group found (lowest_grey_of word) })
+    work_stands heap (Turning (turning.GroupLoad group)) (λ word. record collector { stage = after_pass heap group found (lowest_grey_of word) })
     (load_stands heap (Turning (turning.GroupLoad group)) refl here.group_within)
     (λ word led. stage_fits heap collector (after_pass heap group found (lowest_grey_of word)) fits
     (fits_pass heap limits collector.phase collector.looked here.marks group found (lowest_grey_of word) here.group_within (grey_place word)))

@@ -2,6 +2,7 @@
 use Rattle.std.proofs.Common.{ℕ, arith}
 use Rattle.core_machine.specs.declared.collector.stage.Scan.{Scan}
 use Rattle.core_machine.specs.declared.collector.stage.Stage.TheVariants as stages
+use Rattle.core_machine.specs.declared.step.Step.TheVariants.{Turning}
 use Rattle.core_machine.specs.declared.step.TurningStep.TheVariants as turning
 use Rattle.core_machine.specs.collector.Marking.{scan_step, scan_at}
 use Rattle.core_machine.proofs.collector_lemmas.ScanTurn.{fits_at}
@@ -10,7 +11,7 @@ use Rattle.core_machine.proofs.table_lemmas.Wide.{shade_wide}
 
 pub shade_stands : (scan : Scan) (target next : ℕ) → StageStands (stages.Shading scan target next)
 shade_stands scan target next heap collector limits fits shading here =
-    work_stands heap (turning.MarkShade target) (λ word. record collector { stage = scan_at (scan_step scan) next })
+    work_stands heap (Turning (turning.MarkShade target)) (λ word. record collector { stage = scan_at (scan_step scan) next })
     record { in_table = omega (arith, here.target_within); wide = λ found small. shade_wide target found small; leads = λ found led. tt }
     (λ word led. stage_fits heap collector (scan_at (scan_step scan) next) fits
     (fits_at heap collector.phase collector.looked here.marks (scan_step scan) here.fragment_within next here.next_within (omega (arith, here.few_steps, here.part_before))))

@@ -6,8 +6,7 @@ use Rattle.heap_model.specs.declared.entry.Entry.{Entry}
 use Rattle.heap_model.specs.declared.heap.Heap.{Heap}
 use Rattle.heap_model.specs.Heap.{IsHeap}
 use Rattle.core_machine.specs.declared.collector.stage.Stage.{Stage}
-use Rattle.core_machine.specs.declared.step.Step.TheVariants.{Turning}
-use Rattle.core_machine.specs.declared.step.TurningStep.{TurningStep}
+use Rattle.core_machine.specs.declared.step.Step.{Step}
 use Rattle.core_machine.specs.collector.Collector.{Collector, Turn, after_advance, quiet_turn, work_turn, turn_at, collector_after}
 use Rattle.core_machine.specs.collector.FitsTurns.{FitsStage, CollectorFits}
 use Rattle.core_machine.specs.table.Decode.{FoundPointsWithin}
@@ -25,8 +24,8 @@ StageStands stage = (heap : Heap) (collector : Collector) → IsHeap heap → Co
     → FitsStage heap collector.phase collector.looked stage → TurnStands heap (turn_at heap collector stage)
 
 -- a turn that adds no entry
-pub quiet_stands : (heap : Heap) (step : TurningStep) (told : ℕ → Collector) (answer : ℕ → TurnAnswer) → StepStands heap (Turning step)
-    → ((found : ℕ) → FoundPointsWithin heap (address_of (Turning step)) found → CollectorFits heap (told found)) → TurnStands heap (quiet_turn step told answer)
+pub quiet_stands : (heap : Heap) (step : Step) (told : ℕ → Collector) (answer : ℕ → TurnAnswer) → StepStands heap step
+    → ((found : ℕ) → FoundPointsWithin heap (address_of step) found → CollectorFits heap (told found)) → TurnStands heap (quiet_turn step told answer)
 quiet_stands heap step told answer stands fits = record {
   step = stands;
   fits = λ found led may. record {
@@ -42,8 +41,8 @@ pub stage_fits : (heap : Heap) (collector : Collector) (stage : Stage) → Colle
 stage_fits heap collector stage fits here = record { phase_within = fits.phase_within; phase_told = fits.phase_told; at_stage = here }
 
 -- a turn of a phase's work that adds no entry
-pub work_stands : (heap : Heap) (step : TurningStep) (told : ℕ → Collector) → StepStands heap (Turning step)
-    → ((found : ℕ) → FoundPointsWithin heap (address_of (Turning step)) found → CollectorFits heap (told found)) → TurnStands heap (work_turn step told)
+pub work_stands : (heap : Heap) (step : Step) (told : ℕ → Collector) → StepStands heap step
+    → ((found : ℕ) → FoundPointsWithin heap (address_of step) found → CollectorFits heap (told found)) → TurnStands heap (work_turn step told)
 work_stands heap step told stands fits = quiet_stands heap step told (λ found. Stepped) stands fits
 
 -- a turn that begins the next phase of which this entry tells

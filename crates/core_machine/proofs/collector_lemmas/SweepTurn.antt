@@ -33,14 +33,14 @@ module _ (heap : Heap) (phase looked group : ℕ) (sweeps : IsSweeping heap phas
 
 pub sweep_stands : (group : ℕ) → StageStands (stages.Sweeping group)
 sweep_stands group heap collector limits fits sweeping here =
-    work_stands heap (turning.GroupLoad group) (λ word. record collector { stage = after_examined heap group (dead_bits_of word) (next_place_of (dead_bits_of word) 0) })
+    work_stands heap (Turning (turning.GroupLoad group)) (λ word. record collector { stage = after_examined heap group (dead_bits_of word) (next_place_of (dead_bits_of word) 0) })
     (load_stands heap (Turning (turning.GroupLoad group)) refl here.group_within)
     (λ word led. stage_fits heap collector (after_examined heap group (dead_bits_of word) (next_place_of (dead_bits_of word) 0)) fits
     (fits_examined heap collector.phase collector.looked group here (dead_bits_of word) (next_place_of (dead_bits_of word) 0) (dead_few word) (place_stands (dead_bits_of word) 0)))
 
 pub examine_stands : (group dead place : ℕ) → StageStands (stages.Examining group dead place)
 examine_stands group dead place heap collector limits fits examining here =
-    work_stands heap (turning.MetaLoad (16 * group + place)) (λ word. record collector { stage = after_examined heap group dead (next_place_of dead (place + 1)) })
+    work_stands heap (Turning (turning.MetaLoad (16 * group + place))) (λ word. record collector { stage = after_examined heap group dead (next_place_of dead (place + 1)) })
     (load_stands heap (Turning (turning.MetaLoad (16 * group + place))) refl (omega (arith, here.sweeps.group_within, here.place_within), omega arith))
     (λ word led. stage_fits heap collector (after_examined heap group dead (next_place_of dead (place + 1))) fits
     (fits_examined heap collector.phase collector.looked group here.sweeps dead (next_place_of dead (place + 1)) here.dead_within (place_stands dead (place + 1))))

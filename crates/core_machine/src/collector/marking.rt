@@ -124,7 +124,11 @@ impl Scan {
     fn array_at(&self, word: u64) -> Option<u16>
         ensures { result ≡ array_at self.now.part word }
     {
-        if self.part == 0 { array_length(word) } else { None }
+        if self.part == 0 {
+            array_length(word)
+        } else {
+            None
+        }
     }
 
     /// The place of its array's spine was found, which has so many words.

@@ -3,7 +3,7 @@ use Rattle.std.proofs.Common.{suc, ◌≡◌, ℕ, ◌+◌, ◌-◌, ◌*◌, �
 use Rattle.std.proofs.lemmas.Bool.Decides.{leb_tells}
 use Rattle.heap_words.specs.Control.{shade_bit_of, blacken_bit_of}
 use Rattle.heap_model.specs.declared.heap.Heap.{Heap}
-use Rattle.core_machine.specs.collector.Marking.{lowest_grey_of, after_last_group, after_group, after_pass, part_after, scan_step, scan_at, after_scan_load}
+use Rattle.core_machine.specs.collector.Marking.{lowest_grey_of, after_last_group, after_group, after_pass, part_after, scan_step, scan_at, after_scan_load, array_at, after_first_load}
 use Rattle.core_machine.specs.collector.FitsTurns.{IsPassing, IsScanning, IsShading, IsBlackening}
 use Rattle.core_machine.specs.declared.collector.stage.Scan.{Scan}
 use Rattle.core_machine.specs.declared.collector.stage.Stage.{Stage}
@@ -23,7 +23,7 @@ use Rattle.core_rule.proofs.colours.BlackenColours.{with_scan, marks_blacken}
 use Rattle.core_rule.proofs.colours.ShadeColours.{with_mark, marks_shade}
 use Rattle.core_rule.proofs.marking.GreyPlaces.{lowest_is_grey}
 use Rattle.core_rule.proofs.marking.Scans.{scan_cases}
-use Rattle.core_rule.proofs.turns.Lefts.{StageLeavesFewer, fewer_at}
+use Rattle.core_rule.proofs.turns.Lefts.{IsFewWords, StageLeavesFewer, fewer_at}
 use Rattle.core_rule.proofs.turns.ScannedCounts.{scanned_black, black_same, black_more, black_fewer}
 
 -- a scan begins: one fragment more counts as seen, which is more than the scan and the next pass take
@@ -72,7 +72,8 @@ module _ (heap : Heap) (phase looked : ℕ) (words : List ℕ) where
     | inr last ↦ rw last.0 (last_group_leaves group found below)
   ]
 
-  scan_goes_on : (scan : Scan) → scan.steps < 2051 → scanning_left heap words (scan_step scan) < scanning_left heap words scan
+  -- a scan has made one step more
+  pub scan_goes_on : (scan : Scan) → scan.steps < 2051 → scanning_left heap words (scan_step scan) < scanning_left heap words scan
   scan_goes_on scan few = less_of_scan heap.groups (scanned_count heap words + 1) (2051 - scan.steps) (2051 - (scan.steps + 1)) (scan.fragment / 16) (heap.groups + 1) (omega (arith, few))
 
   scan_at_leaves : (scan : Scan) (part : ℕ) → scan.steps < 2051 → stage_left heap words phase looked (scan_at (scan_step scan) part) < scanning_left heap words scan
@@ -81,6 +82,11 @@ module _ (heap : Heap) (phase looked : ℕ) (words : List ℕ) where
   scan_load_leaves : (scan : Scan) (next : ℕ) (found : Option ℕ) → scan.steps < 2051 → stage_left heap words phase looked (after_scan_load scan next found) < scanning_left heap words scan
   scan_load_leaves scan next None few = scan_at_leaves scan next few
   scan_load_leaves scan next (Some target) few = scan_goes_on scan few
+
+  first_load_leaves : (scan : Scan) (length : Option ℕ) (next : ℕ) (found : Option ℕ) → scan.steps < 2051
+      → stage_left heap words phase looked (after_first_load scan length next found) < scanning_left heap words scan
+  first_load_leaves scan None next found few = scan_load_leaves scan next found few
+  first_load_leaves scan (Some cells) next found few = scan_goes_on scan few
 
 module _ (heap : Heap) (state : State) (book : Book) (rule : Rule heap state book) where
   abbrev phase : ℕ
@@ -107,7 +113,7 @@ module _ (heap : Heap) (state : State) (book : Book) (rule : Rule heap state boo
         rw here (scan_begins heap.groups (scanned_count heap state.words) group (next_pass heap.groups found) (seen_few (16 * group + place) (omega (arith, within, below)) grey))
 
   -- a shade scans nothing
-  shaded_count : (m : ℕ) → m < 16 * heap.groups
+  pub shaded_count : (m : ℕ) → m < 16 * heap.groups
       → scanned_count heap (put heap state.words (Control (m / 16)) (bit_or (at heap state.words (Control (m / 16))) (shade_bit_of m))) ≡ scanned_count heap state.words
   shaded_count m within =
       scanned_black heap _ (with_mark book.colour m) (marks_shade heap state.words book.owner book.colour m rule.machine.table within marks)
@@ -133,8 +139,8 @@ scan_leaves scan heap state book rule scanning stepped =
     let fits : IsScanning heap state.collector.phase state.collector.looked scan = rw scanning at rule.machine.collector_fit.at_stage in
     let word : ℕ = at heap state.words (Word scan.fragment scan.part) in
     rw (put-at heap state.words (Word scan.fragment scan.part))
-    (fewer_at heap state (stages.Scanning scan) state.words state.collector.looked (after_scan_load scan (part_after scan.part word) (pointer_in scan.part word)) scanning
-    (scan_load_leaves heap state.collector.phase state.collector.looked state.words scan (part_after scan.part word) (pointer_in scan.part word) (omega (arith, fits.few_steps, fits.part_within))))
+    (fewer_at heap state (stages.Scanning scan) state.words state.collector.looked (after_first_load scan (array_at scan.part word) (part_after scan.part word) (pointer_in scan.part word)) scanning
+    (first_load_leaves heap state.collector.phase state.collector.looked state.words scan (array_at scan.part word) (part_after scan.part word) (pointer_in scan.part word) (omega (arith, fits.few_steps, fits.part_within))))
 
 pub shade_leaves : (scan : Scan) (target next : ℕ) → StageLeavesFewer (stages.Shading scan target next)
 shade_leaves scan target next heap state book rule shading stepped =
@@ -145,11 +151,11 @@ shade_leaves scan target next heap state book rule shading stepped =
     (shaded_count heap state book rule target fits.target_within)
     (scan_at_leaves heap state.collector.phase state.collector.looked now scan next (omega (arith, fits.few_steps, fits.part_within))))
 
-pub blacken_leaves : (scan : Scan) → StageLeavesFewer (stages.Blackening scan)
-blacken_leaves scan heap state book rule blackening stepped =
+pub blacken_leaves : (scan : Scan) → IsFewWords (stages.Blackening scan) → StageLeavesFewer (stages.Blackening scan)
+blacken_leaves scan few heap state book rule blackening stepped =
     let fits : IsBlackening heap state.collector.phase state.collector.looked scan = rw blackening at rule.machine.collector_fit.at_stage in
     let seen : IsSeenWhole heap state.words book.colour scan.fragment = rw blackening at rule.marks_stand.heap_marks.scan in
     let now : List ℕ = put heap state.words (Control (scan.fragment / 16)) (bit_or (at heap state.words (Control (scan.fragment / 16))) (blacken_bit_of scan.fragment)) in
     fewer_at heap state (stages.Blackening scan) now state.collector.looked (stages.Passing (scan.fragment / 16) true) blackening
     (rw (blackened_count heap state book rule scan.fragment fits.fragment_within seen.grey)
-    (less_of_scan heap.groups (scanned_count heap state.words + 1) (2051 - scan.steps) 0 (scan.fragment / 16) (heap.groups + 1) (omega (arith, fits.few_steps))))
+    (less_of_scan heap.groups (scanned_count heap state.words + 1) (2051 - scan.steps) 0 (scan.fragment / 16) (heap.groups + 1) (omega (arith, few))))

@@ -1,0 +1,24 @@
+-- A scan goes on with few spine words, and ends with few steps.
+use Rattle.std.specs.Prelude.{IfSome}
+use Rattle.std.proofs.Common.{◌≡◌, ℕ, ◌+◌, ◌*◌, ◌≤◌, Option, Some, None, arith}
+use Rattle.core_machine.specs.collector.Marking.{scan_step, scan_at, after_first_load, spine_scan_at}
+use Rattle.core_machine.specs.declared.collector.stage.Scan.{Scan}
+use Rattle.core_machine.specs.declared.collector.stage.SpineScan.{SpineScan}
+use Rattle.core_machine.proofs.collector_lemmas.SpineTurns.{spine_cases}
+use Rattle.core_rule.proofs.marking.Scans.{scan_cases}
+use Rattle.core_rule.proofs.turns.Lefts.{IsFewWords}
+
+-- a scan of four words makes eight steps at most
+pub few_at : (scan : Scan) (part : ℕ) → scan.steps ≤ 8 → IsFewWords (scan_at scan part)
+few_at scan part few = scan_cases IsFewWords scan part tt (λ behind. omega (arith, few))
+
+-- a scan of a spine makes two steps before its first word, and two for each one
+pub few_spine : (s : SpineScan) → s.words ≤ 1024 → s.index ≤ s.words → s.scan.steps ≡ 2 + 2 * s.index → IsFewWords (spine_scan_at s)
+few_spine s few below made = spine_cases IsFewWords s (λ more. few) (λ done. omega (arith, made, below, few))
+
+-- an array's first word leads to few spine words where it tells no more cells than an array has
+pub few_loaded : (scan : Scan) (length : Option ℕ) (next : ℕ) (target : Option ℕ) → scan.steps ≤ 6 → IfSome length (λ cells. cells ≤ 4096)
+    → IsFewWords (after_first_load scan length next target)
+few_loaded scan None next None few told = few_at (scan_step scan) next (omega (arith, few))
+few_loaded scan None next (Some target) few told = tt
+few_loaded scan (Some cells) next target few told = omega (arith, told)

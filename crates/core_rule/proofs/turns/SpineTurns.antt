@@ -1,0 +1,49 @@
+-- Each turn of the scan of an array's first fragment leaves fewer turns, where its spine has few words.
+use Rattle.std.proofs.Common.{◌≡◌, ℕ, ◌+◌, ◌-◌, ◌/◌, ◌<◌, List, refl, subst, bit_or, arith}
+use Rattle.heap_words.specs.Control.{shade_bit_of}
+use Rattle.heap_model.specs.declared.heap.Heap.{Heap}
+use Rattle.core_machine.specs.collector.FitsTurns.{IsLocating, IsIndexing, IsSpreading}
+use Rattle.core_machine.specs.collector.Marking.{scan_step, spine_step, spine_scan_at, after_address, after_spread}
+use Rattle.core_machine.specs.declared.collector.stage.Scan.{Scan}
+use Rattle.core_machine.specs.declared.collector.stage.SpineScan.{SpineScan}
+use Rattle.core_machine.specs.declared.collector.stage.Stage.TheVariants as stages
+use Rattle.core_machine.specs.declared.table.address.Address.TheVariants.{Control, Word, Spine}
+use Rattle.core_machine.specs.table.Decode.{payload_in}
+use Rattle.core_machine.specs.table.Layout.{at, put}
+use Rattle.core_machine.proofs.collector_lemmas.SpineTurns.{spine_cases}
+use Rattle.core_machine.proofs.table_lemmas.Addresses.{put-at}
+use Rattle.core_rule.specs.TurnsLeft.{marking_left, scanning_left, stage_left}
+use Rattle.core_rule.proofs.turns.Lefts.{IsFewWords, StageLeavesFewer, fewer_at}
+use Rattle.core_rule.proofs.turns.MarkingTurns.{scan_goes_on, shaded_count}
+
+-- wherever it goes on, a step more is made
+spine_at_leaves : (heap : Heap) (phase looked : ℕ) (words : List ℕ) (scan : Scan) (s : SpineScan) → s.scan ≡ scan_step scan → scan.steps < 2051
+    → stage_left heap words phase looked (spine_scan_at s) < scanning_left heap words scan
+spine_at_leaves heap phase looked words scan s made few =
+    let less : scanning_left heap words s.scan < scanning_left heap words scan = rw made (scan_goes_on heap phase looked words scan few) in
+    spine_cases (λ stage. stage_left heap words phase looked stage < scanning_left heap words scan) s (λ more. less) (λ done. less)
+
+pub locate_leaves : (scan : Scan) (spine_words : ℕ) → StageLeavesFewer (stages.Locating scan spine_words)
+locate_leaves scan spine_words heap state book rule locating stepped =
+    let fits : IsLocating heap state.collector.phase state.collector.looked scan spine_words = rw locating at rule.machine.collector_fit.at_stage in
+    let word : ℕ = at heap state.words (Word scan.fragment 2) in
+    rw (put-at heap state.words (Word scan.fragment 2))
+    (fewer_at heap state (stages.Locating scan spine_words) state.words state.collector.looked (after_address scan spine_words word) locating
+    (spine_at_leaves heap state.collector.phase state.collector.looked state.words scan _ refl (omega (arith, fits.first_step))))
+
+pub index_leaves : (s : SpineScan) → IsFewWords (stages.Indexing s) → StageLeavesFewer (stages.Indexing s)
+index_leaves s few heap state book rule indexing stepped =
+    let fits : IsIndexing heap state.collector.phase state.collector.looked s = rw indexing at rule.machine.collector_fit.at_stage in
+    let word : ℕ = at heap state.words (Spine s.spine.half (s.spine.offset + s.index)) in
+    rw (put-at heap state.words (Spine s.spine.half (s.spine.offset + s.index)))
+    (fewer_at heap state (stages.Indexing s) state.words state.collector.looked (stages.Spreading (spine_step s) (payload_in word)) indexing
+    (scan_goes_on heap state.collector.phase state.collector.looked state.words s.scan (omega (arith, fits.steps_made, fits.index_within, few))))
+
+pub spread_leaves : (s : SpineScan) (target : ℕ) → IsFewWords (stages.Spreading s target) → StageLeavesFewer (stages.Spreading s target)
+spread_leaves s target few heap state book rule spreading stepped =
+    let fits : IsSpreading heap state.collector.phase state.collector.looked s target = rw spreading at rule.machine.collector_fit.at_stage in
+    let now : List ℕ = put heap state.words (Control (target / 16)) (bit_or (at heap state.words (Control (target / 16))) (shade_bit_of target)) in
+    fewer_at heap state (stages.Spreading s target) now state.collector.looked (after_spread s) spreading
+    (subst (λ n. stage_left heap now state.collector.phase state.collector.looked (after_spread s) < marking_left heap.groups (n + 1) (2051 - s.scan.steps) (s.scan.fragment / 16) (heap.groups + 1))
+    (shaded_count heap state book rule target fits.target_within)
+    (spine_at_leaves heap state.collector.phase state.collector.looked now s.scan _ refl (omega (arith, fits.steps_made, fits.index_within, few))))
