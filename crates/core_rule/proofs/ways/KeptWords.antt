@@ -98,7 +98,7 @@ module _ (heap : Heap) (words : List ℕ) (g : Graph) (made : List Id) (owner : 
     array_found kind = the_object.stored 0 0 some_fragment (omega arith) ∙ array_meta_at _ _ _ _ object kind
 
     -- it is one or the other
-    by_kind : (P : Type 0) → (object.array ≡ true → P) → (object.array ≡ false → P) → P
+    pub by_kind : (P : Type 0) → (object.array ≡ true → P) → (object.array ≡ false → P) → P
     by_kind P an_array a_record = by object.array refl
       where
         by : (array : Bool) → object.array ≡ array → P
@@ -130,6 +130,9 @@ module _ (heap : Heap) (words : List ℕ) (g : Graph) (made : List Id) (owner : 
 
     pub spine_found : object.array ≡ true → FitsSpot (spines index) → spot_in (at heap words (Word (fragment_at (fragments index) 0) 2)) ≡ spines index
     spine_found kind fits = ap spot_in (the_object.stored 0 2 some_fragment (omega arith) ∙ spine_place_at _ _ _ _ object kind) ∙ spot_in-word (spines index) fits
+
+    pub payload_below : object.array ≡ true → (j : ℕ) → j + 1 < length (fragments index) → j < spine_words_of object
+    payload_below kind j within = omega (arith, within, the_object.whole, array_payloads object kind)
 
     payload_there : (j : ℕ) → j < spine_words_of object → j + 1 < length (fragments index)
     payload_there j within = by_kind _

@@ -4,7 +4,7 @@ use Rattle.std.proofs.lemmas.Bool.{lt-ltb}
 use Rattle.std.proofs.lemmas.Bool.Decides.{eqb_tells}
 use Rattle.heap_model.specs.Needs.{record_fragments}
 use Rattle.heap_model.specs.graph.Graph.{Node}
-use Rattle.heap_model.specs.graph.Sizes.{fragments_of}
+use Rattle.heap_model.specs.graph.Sizes.{fragments_of, spine_words_of}
 use Rattle.core_machine.specs.seat.Access.{row_of, part_of}
 use Rattle.core_rule.specs.Objects.{is_cell}
 use Rattle.core_rule.specs.Ways.{row_in, part_in}
@@ -39,3 +39,8 @@ part_fits object i = node_cases (λ o. part_in o i < 4) (λ cells. omega arith) 
 pub row_fits : (object : Node) (i : ℕ) → i < length object.cells → row_in object i < fragments_of object
 row_fits object i = node_cases (λ (o : Node). i < length o.cells → row_in o i < fragments_of o)
     (λ cells within. omega (arith, within)) (λ cells within. omega (arith, within)) object
+
+-- an array has the spine word that names the fragment of each of its cells
+pub array_word : (object : Node) (i : ℕ) → object.array ≡ true → i < length object.cells → i / 4 < spine_words_of object
+array_word object i = node_cases (λ (o : Node). o.array ≡ true → i < length o.cells → i / 4 < spine_words_of o)
+    (λ cells kind within. omega (arith, within)) (λ cells kind within. absurd (cc kind)) object
