@@ -1,10 +1,9 @@
 -- The fields at which sets stand are born; so a store into a seat's new object leaves them, and the colours.
 use Rattle.std.proofs.Common.{◌≡◌, ℕ, ◌*◌, ◌<◌, List, refl, ap, ◌∙◌, subst, arith, inl}
-use Rattle.heap_model.specs.declared.graph.cell.Cell.{Cell}
 use Rattle.heap_model.specs.declared.heap.Heap.{Heap}
 use Rattle.heap_model.specs.declared.id.Id.{Id}
 use Rattle.heap_model.specs.account.Cycles.{graph_of}
-use Rattle.heap_model.specs.graph.Graph.{Graph}
+use Rattle.heap_model.specs.graph.Graph.{Graph, Node}
 use Rattle.core_machine.specs.machine.Machine.{State, seat_at}
 use Rattle.core_rule.specs.Rule.{Rule}
 use Rattle.core_machine.specs.declared.table.address.Address.TheVariants.{Phase, Answer, Word}
@@ -16,7 +15,7 @@ use Rattle.core_machine.specs.seat.Seat.{Seat}
 use Rattle.core_rule.specs.Book.{Book, Colour}
 use Rattle.core_rule.specs.Cycle.{HeapInCycle}
 use Rattle.core_rule.specs.Marking.{IsPart}
-use Rattle.core_rule.specs.Objects.{cells_at}
+use Rattle.core_rule.specs.Objects.{node_at}
 use Rattle.core_rule.specs.Owners.{Owner, born_bit}
 use Rattle.core_rule.specs.Ways.{Finds, WayStands}
 use Rattle.core_rule.proofs.words.Addresses.{at-put_apart, control_after_word}
@@ -25,8 +24,8 @@ use Rattle.core_rule.proofs.ways.KeptWords.{row_ahead}
 use Rattle.core_rule.proofs.colours.LeadsFrames.{same_beside, leads_same}
 use Rattle.core_rule.proofs.colours.MarkWords.{marks_same}
 
-module _ (cells : ℕ → List Cell) (made : List Id) (owner : ℕ → Owner) (fragments : ℕ → List ℕ) (seat : Seat) where
-  way_found : (reaching : Access) → IsWatching reaching → WayStands cells made owner fragments seat (places.Access reaching) → Finds cells made owner fragments seat
+module _ (nodes : ℕ → Node) (made : List Id) (owner : ℕ → Owner) (fragments : ℕ → List ℕ) (seat : Seat) where
+  way_found : (reaching : Access) → IsWatching reaching → WayStands nodes made owner fragments seat (places.Access reaching) → Finds nodes made owner fragments seat
   way_found ShadingOld watches way = way.0
   way_found ShadingNew watches way = way.0
   way_found Swapping watches way = way.0
@@ -39,8 +38,8 @@ watched_part heap state book rule r below reaching is watches =
     let seat : Seat = seat_at state r in
     let g : Graph = graph_of heap book.history in
     let stands = rule.heap_stands in
-    let finds = way_found (cells_at g book.made) book.made book.owner book.fragments seat reaching watches
-    (subst (WayStands (cells_at g book.made) book.made book.owner book.fragments seat) is (rule.seats_stand r below).names.way) in
+    let finds = way_found (node_at g book.made) book.made book.owner book.fragments seat reaching watches
+    (subst (WayStands (node_at g book.made) book.made book.owner book.fragments seat) is (rule.seats_stand r below).names.way) in
     let i : ℕ = finds.index in
     let row = row_ahead heap state.words g book.made book.owner book.fragments rule.machine.limits stands.control_words stands.ids stands.objects seat finds in
     record { index = i; place = finds.row; kept = ap book.owner finds.way.here ∙ (stands.objects.kept i finds.way.below finds.way.kept).owned finds.row (omega (arith, row)) }
