@@ -1,4 +1,5 @@
 -- A whole call, place by place, to its reply.
+pub mod Asking
 pub mod Awaits
 pub mod CallEnd
 pub mod CallRoom
