@@ -5,6 +5,8 @@ pub mod CallEnd
 pub mod CallRoom
 pub mod Calling
 pub mod Claiming
+pub mod GoingOn
+pub mod Granting
 pub mod InnerCalls
 pub mod Owes
 pub mod Playing

@@ -87,7 +87,7 @@ none_asked heap old now asks small (Spine half offset) within = asks.others (Spi
 pub refusal_restores : (heap : Heap) (command : Command) (old base now : List ℕ) → MakesObject command → IsCommand command → length now ≡ table_length heap
     → ((a : Address) → InTable heap a → at heap old a < 2 ^ 64) → AsksWords heap (spine_need_of command) old base → SameTable heap base now
     → SameTable heap old (put heap now (address_of (refusal_step command (spine_need_of command)))
-        (word_after (refusal_step command (spine_need_of command)) (at heap now (address_of (refusal_step command (spine_need_of command))))))
+    (word_after (refusal_step command (spine_need_of command)) (at heap now (address_of (refusal_step command (spine_need_of command))))))
 refusal_restores heap (Array d cells) old base now makes range table small asks same =
     let few = words_of_array (Array d cells) tt range in
     taken_back heap (spine_need_of (Array d cells)) old base asks now table small (omega (arith, few.1)) same

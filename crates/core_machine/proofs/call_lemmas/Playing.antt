@@ -39,24 +39,9 @@ use Rattle.core_machine.proofs.table_lemmas.Filters.{out_shorter}
 use Rattle.core_machine.proofs.call_lemmas.Asking.{AsksWords, asks_none, asks_some, asks_free, asks_small, taken_back, refusal_restores}
 use Rattle.core_machine.proofs.call_lemmas.Restoring.{Claims, claims_none, claims_more, claims_less, claims_over}
 use Rattle.core_machine.proofs.machine_lemmas.Runs.{seat_at-set}
-use Rattle.core_machine.proofs.call_lemmas.Stages.{WhileWithdrawing, WhileGathering, WhileReturning, WhileMaking, Untouched, StageOf, Stage}
-
--- each group is passed when as many were claimed as there are
-every_group : (groups cursor tried g : ℕ) (P : ℕ → Type 0) → cursor < groups → groups ≤ tried → g < groups
-    → ((i : ℕ) → i < tried → P ((cursor + i) % groups)) → P g
-every_group groups cursor tried g P c t within passed =
-    elim (leb_tells cursor g) as (λ _. P g) [
-      | inl above ↦
-          let e : cursor + (g - cursor) ≡ g = omega (arith, above.1) in
-          subst P (ap (λ (n : ℕ). n % groups) e ∙ mod-eq_of_lt within) (passed (g - cursor) (omega arith))
-      | inr below ↦
-          let e : cursor + (g + groups - cursor) ≡ g + groups = omega (arith, below.1) in
-          subst P (ap (λ (n : ℕ). n % groups) e ∙ add-mod_right g groups ∙ mod-eq_of_lt within) (passed (g + groups - cursor) (omega (arith, below.1)))
-    ]
-
--- no entries more
-with_entries-nil : (seat : Seat) → with_entries seat [] ≡ seat
-with_entries-nil seat = ap (λ (mine : List Entry). record seat { mine = mine }) (append-nil seat.mine)
+use Rattle.core_machine.proofs.call_lemmas.Stages.{WhileWithdrawing, WhileGathering, WhileReturning, WhileMaking, Untouched, StageOf, Stage, StageAfter}
+use Rattle.core_machine.proofs.call_lemmas.GoingOn.{own_kept, stage_goes_on}
+use Rattle.core_machine.proofs.call_lemmas.Granting.{stage_granted, stage_withdrawn}
 
 -- the group that was claimed is passed too
 passed_more : (heap : Heap) (words : List ℕ) (cursor tried i : ℕ) → length words ≡ table_length heap → (cursor + tried) % heap.groups < heap.groups → i < tried + 1
@@ -74,303 +59,144 @@ passed_more heap words cursor tried i table within below passed =
           rw (at-put_other heap words (Control group) (Control k) (bit_or n all_taken) within (omega arith) (λ e. there.1 (cc e))) (passed i earlier)
     ]
 
--- a record needs no spine word
-record_words : (command : Command) → IsRecord command → spine_need_of command ≡ 0
-record_words (New d fields) a_record = refl
-record_words _ a_record = absurd a_record
+module _ (heap : Heap) (old : State) (number : ℕ) (command : Command) (now : State) (told : List Entry) (machine : IsMachine heap now) (within : number < length now.seats)
+    (small : (a : Address) → InTable heap a → at heap old.words a < 2 ^ 64) where
+  abbrev pub the_seat : Seat
+  the_seat = seat_at now number
 
--- what the seat keeps of its own, whatever else changes
-own_kept : (old seat next : Seat) → KeepsOwn old seat → next.registers ≡ seat.registers → next.reserve ≡ seat.reserve → next.cursor ≡ seat.cursor → next.made ≡ seat.made → KeepsOwn old next
-own_kept old seat next own registers reserve cursor made = record {
-  registers_stay = registers ∙ own.registers_stay;
-  reserve_stays = reserve ∙ own.reserve_stays;
-  cursor_stays = cursor ∙ own.cursor_stays;
-  made_stays = made ∙ own.made_stays;
-}
+  -- what a move leads to
+  abbrev pub Leads : Move → Type 0
+  Leads = StageAfter heap old number command now told
 
--- a seat that was left alone keeps its own
-untouched_own : (old now : State) (number : ℕ) (told : List Entry) (seat : Seat) → Untouched old now number told seat → KeepsOwn (seat_at old number) seat
-untouched_own old now number told seat is = record {
-  registers_stay = ap (λ (s : Seat). s.registers) is.seat_stays;
-  reserve_stays = ap (λ (s : Seat). s.reserve) is.seat_stays;
-  cursor_stays = ap (λ (s : Seat). s.cursor) is.seat_stays;
-  made_stays = ap (λ (s : Seat). s.made) is.seat_stays;
-}
-
--- an array is no record
-array_no_record : (command : Command) → IsArray command → IsRecord command → ⊥
-array_no_record (Array d cells) an_array a_record = a_record
-array_no_record _ an_array a_record = an_array
-
-module _ (heap : Heap) (old : State) (number : ℕ) (command : Command) where
-  -- while what was claimed is given back, of which nothing was yet
-  while_returning : (now : State) (told more : List Entry) (seat : Seat) → seat.given ≡ 0 → WhileGathering heap old now.words number command told seat → free_count heap now.words ≡ 0 → (m : Making)
-      → WhileReturning heap old now.words number command told (with_entries (record seat { place = places.Making m }) more)
-  while_returning now told more seat none while nothing m = record {
-    own = own_kept (seat_at old number) seat _ while.own refl refl refl refl;
-    all = omega (arith, while.free, nothing, none);
-    claims = while.claims;
-    gives = subst (λ (given : ℕ). GivesBackAll number given seat.hand told) (sym none) (gives_none number (length (seat_at old number).reserve) (need_of command) seat.hand told while.takes);
-  }
-
-  -- where the call goes on with what is gathered
-  stage_goes_on : (now : State) (told more : List Entry) (seat : Seat) → seat.command ≡ command → seat.given ≡ 0 → seat.cursor < heap.groups
-      → WhileGathering heap old now.words number command told seat
-      → Stage heap old now number command told (with_entries (gather_next heap seat) more) (gather_next heap seat).place
-  stage_goes_on now told more seat is none cursor while =
-      let long = length-append seat.reserve seat.hand in
-      let kept = ap (length {A = ℕ}) while.own.reserve_stays in
-      goes_on_cases (λ s. Stage heap old now number command told (with_entries s more) s.place) heap seat
-      (λ enough.
-      let making : WhileMaking heap old number command told seat.made = record {
-        granted = while.claims.granted;
-        enough = omega (arith, while.free, enough, ap need_of is);
-        made_stays = while.own.made_stays;
-        claimed = taken_enough number (length (seat_at old number).reserve) (need_of command) seat.hand told (next_object_id number (seat_at old number)) while.takes (omega (arith, enough, ap need_of is));
-      } in
-      settled_cases (λ m. Stage heap old now number command told (with_entries (record (after_gather heap seat) { place = places.Making m }) more) (places.Making m)) seat.command
-      (λ an_array. (is, making)) (λ other. (is, making)))
-      (λ few left. (
-        is,
-        record {
-          own = own_kept (seat_at old number) seat _ while.own refl refl refl refl;
-          free = while.free;
-          passed = while.passed;
-          claims = while.claims;
-          takes = while.takes;
-        },
-      ))
-      (λ few all.
-      let nothing = sum_zero heap.groups (λ g. length (clear_in g (at heap now.words (Control g))))
-      (λ g within. ap length (every_group heap.groups seat.cursor seat.tried g (λ k. clear_in k (at heap now.words (Control k)) ≡ []) cursor all within while.passed)) in
-      returning_cases (λ m. Stage heap old now number command told (with_entries (record seat { place = places.Making m }) more) (places.Making m)) seat.hand
-      (λ empty. (is, while_returning now told more seat none while nothing Refusing))
-      (λ some. (is, while_returning now told more seat none while nothing Returning)))
-
-  -- the making of a record is begun
-  pub stage_begun_new : (now : State) → Fits heap (seat_at old number) → (seat_at old number).place ≡ places.Idle → now.words ≡ old.words
-      → at heap old.words Budget < 2 ^ 64 → IsRecord command
-      → Stage heap old now number command [] (gather_next heap (record (seat_at old number) { command = command })) (gather_next heap (record (seat_at old number) { command = command })).place
-  stage_begun_new now fits idle same small a_record =
-      let seat = seat_at old number in
-      let rest : IsAtRest seat = subst (FitsPlace heap seat) idle fits.at_place in
-      let begun_ = gather_next heap (record seat { command = command }) in
-      subst (λ (s : Seat). Stage heap old now number command [] s begun_.place) (with_entries-nil begun_)
-      (stage_goes_on now [] [] (record seat { command = command }) refl rest.none_given fits.own.cursor_within (record {
-        own = record { registers_stay = refl; reserve_stays = refl; cursor_stays = refl; made_stays = refl };
-        free = rw (same, rest.empty_hand) (omega arith);
-        passed = λ i below. absurd (omega (arith, rest.none_tried));
+  stage_claimed : SeatIsGathering heap the_seat → the_seat.command ≡ command → WhileGathering heap old now.words number command told the_seat → Leads (claim_move heap number the_seat)
+  stage_claimed is same while =
+      let seat = the_seat in
+      let fits = machine.fit number within in
+      let group = next_group_of heap seat in
+      let n = at heap now.words (Control group) in
+      let there : group < heap.groups = omega (arith, fits.own.cursor_within) in
+      let got = clear_in group n in
+      let after_ = put heap now.words (Control group) (bit_or n all_taken) in
+      let freed = free-claimed heap now.words group machine.table there in
+      let lacks : (part_in group seat.hand ≡ []) ⊎ (got ≡ []) = elim (while.claims.claims.controls group there) [ inl untouched ↦ inl untouched.0 | inr claimed ↦ inr claimed.1 ] in
+      stage_goes_on heap old number command (state_after_move heap now number (claim_move heap number seat)) _ (takes_some number (length got))
+      (record seat { hand = seat.hand ++ got; tried = seat.tried + 1 }) same is.none_given fits.own.cursor_within (record {
+        own = own_kept (seat_at old number) seat _ while.own refl refl refl refl;
+        free = omega (arith, freed, while.free, length-append seat.hand got);
+        passed = λ i below. passed_more heap now.words seat.cursor seat.tried i machine.table there below while.passed;
         claims = record {
-          base = old.words;
-          asked = subst (λ (n : ℕ). AsksWords heap n old.words old.words) (sym (record_words command a_record)) (asks_none heap old.words small);
-          granted = λ an_array. absurd (array_no_record command an_array a_record);
-          claims = rw (same, rest.empty_hand) (claims_none heap old.words);
+          base = while.claims.base;
+          asked = while.claims.asked;
+          granted = while.claims.granted;
+          claims = claims_more heap while.claims.base now.words seat.hand group machine.table there (asks_small heap (spine_need_of command) old.words while.claims.base while.claims.asked small) while.claims.claims;
         };
-        takes = rw rest.empty_hand (taken_none number (length seat.reserve) (need_of command) fits.own.small_reserve);
-      }))
+        takes = taken_more number (length (seat_at old number).reserve) (need_of command) seat.hand told group n while.takes
+            (omega (arith, is.too_few, ap need_of same, ap (length {A = ℕ}) while.own.reserve_stays)) lacks;
+      })
 
-  module _ (now : State) (told : List Entry) (machine : IsMachine heap now) (within : number < length now.seats)
-      (small : (a : Address) → InTable heap a → at heap old.words a < 2 ^ 64) where
-    abbrev pub the_seat : Seat
-    the_seat = seat_at now number
+  stage_given_back : SeatIsRefusing heap the_seat → 0 < length the_seat.hand → the_seat.command ≡ command → WhileReturning heap old now.words number command told the_seat
+      → Leads (give_back_move number the_seat)
+  stage_given_back is some same while =
+      let seat = the_seat in
+      let fits = machine.fit number within in
+      let group = first_group_of seat.hand in
+      let there : group < heap.groups = group_within heap seat.hand 0 some fits.hand.hand_within in
+      let both = length-filter_both (in_group group) (out_of_group group) (λ f. refl) seat.hand in
+      let fewer = out_shorter group seat.hand 0 some refl in
+      let less = claims_less heap while.claims.base now.words seat.hand group machine.table there (omega arith) while.claims.claims in
+      let entry = GivesBack number (length (part_in group seat.hand)) in
+      let after_ = state_after_move heap now number (give_back_move number seat) in
+      let next : (m : Making) → WhileReturning heap old after_.words number command (told ++ entry ∷ []) (with_entries (record (after_give_back seat) { place = places.Making m }) (entry ∷ [])) = λ m. record {
+        own = own_kept (seat_at old number) seat _ while.own refl refl refl refl;
+        all = omega (arith, while.all);
+        claims = record { base = while.claims.base; asked = while.claims.asked; granted = while.claims.granted; claims = less };
+        gives = gives_more number seat.given seat.hand told while.gives some;
+      } in
+      returning_cases (λ m. Stage heap old after_ number command (told ++ entry ∷ []) (with_entries (record (after_give_back seat) { place = places.Making m }) (entry ∷ [])) (places.Making m))
+      (part_out group seat.hand) (λ empty. (same, next Refusing)) (λ left. (same, next Returning))
 
-    -- what a move leads to
-    abbrev pub Leads : Move → Type 0
-    Leads move =
-        let found = found_by heap now move.step in
-        Stage heap old (state_after_move heap now number move) number command (told ++ move.shows now.words found) (seat_after move found) (seat_after move found).place
+  stage_refused : SeatIsRefusing heap the_seat → the_seat.hand ≡ [] → the_seat.command ≡ command → WhileReturning heap old now.words number command told the_seat
+      → Leads (refusal_move number the_seat)
+  stage_refused is empty same while =
+      let seat = the_seat in
+      let after_ = state_after_move heap now number (refusal_move number seat) in
+      let here : seat_at after_ number ≡ seat_after (refusal_move number seat) (found_by heap now (refusal_move number seat).step) = seat_at-set now.seats number _ within in
+      let given : seat.given ≡ free_count heap old.words = omega (arith, while.all, ap (length {A = ℕ}) empty) in
+      let found : length seat.reserve + seat.given ≡ within_reach heap old number = omega (arith, given, ap (length {A = ℕ}) while.own.reserve_stays) in
+      let few : within_reach heap old number < need_of command = omega (arith, is.too_few, ap need_of same, found) in
+      let own = length (seat_at old number).reserve in
+      let full : replies.Full (need seat) (length seat.reserve + seat.given) ≡ replies.Full (need_of command) (own + seat.given) = rw (same, while.own.reserve_stays) refl in
+      let refused : IsRefused heap old after_ number command (replies.Full (need seat) (length seat.reserve + seat.given)) = record {
+        shows = rw (found, same) refl;
+        own_stays = subst (KeepsOwn (seat_at old number)) (sym here) (own_kept (seat_at old number) seat _ while.own refl refl refl refl);
+        table_stays = refusal_restores heap seat.command old.words while.claims.base now.words is.makes.an_object is.makes.in_range machine.table small
+            (subst (λ (n : ℕ). AsksWords heap n old.words while.claims.base) (sym (ap spine_need_of same)) while.claims.asked)
+            (claims_over heap while.claims.base now.words (subst (Claims heap while.claims.base now.words) empty while.claims.claims));
+      } in
+      let claimed = gives_over number own (need_of command) seat.given told (subst (λ (hand : List ℕ). GivesBackAll number seat.given hand told) empty while.gives) (omega (arith, few, given)) in
+      record {
+        reply = replies.Full (need seat) (length seat.reserve + seat.given);
+        before = told;
+        last = ap (λ (c : Command). told ++ Said number c (replies.Full (need seat) (length seat.reserve + seat.given)) ∷ []) same;
+        refused = λ refusal. absurd refusal;
+        comes = λ stays near. subst (λ (reply : Reply). ComesBefore number own (seat_at old number).answered command reply told) (sym full)
+            (comes_of_object number own (seat_at old number).answered command (replies.Full (need_of command) (own + seat.given)) told (subst MakesObject same is.makes.an_object) claimed);
+        answer = λ a_record. record { made = λ enough. absurd (omega (arith, enough, few)); refused = λ lacks. refused };
+        array = λ an_array. record {
+          spine_refused = λ lacks. absurd (while.claims.granted an_array lacks);
+          made = λ granted enough. absurd (omega (arith, enough, few));
+          refused = λ granted lacks. refused;
+        };
+      }
 
-    -- the spine words were asked for: they are too many, or what is gathered goes on
-    stage_granted : SeatIsGranting the_seat → the_seat.command ≡ command → Untouched old now number told the_seat → Leads (grant_move heap number the_seat)
-    stage_granted is same while =
-        let seat = the_seat in
-        let rest = is.0 in
-        let fits = machine.fit number within in
-        let found = at heap now.words Budget in
-        let after_ = state_after_move heap now number (grant_move heap number seat) in
-        let words : found ≡ at heap old.words Budget = ap (λ (w : List ℕ). at heap w Budget) while.words_stay in
-        let need_ : spine_need seat ≡ spine_need_of command = ap spine_need_of same in
-        let asked : AsksWords heap (spine_need_of command) old.words after_.words =
-        subst (λ (n : ℕ). AsksWords heap n old.words after_.words) need_ (subst (λ (w : List ℕ). AsksWords heap (spine_need seat) w after_.words) while.words_stay (asks_some heap (spine_need seat) now.words machine.table)) in
-        let own = untouched_own old now number told seat while in
-        let none : told ++ [] ≡ [] = append-nil told ∙ while.none_told in
-        budget_cases (λ s. Stage heap old after_ number command (told ++ []) (with_entries s []) s.place) heap seat found
-        (λ lacks. (
-          same,
-          record {
-            own = own_kept (seat_at old number) seat _ own refl refl refl refl;
-            lacks = omega (arith, lacks, words, need_);
-            found = words;
-            asked = asked;
-            none_told = none;
-          },
-        ))
-        (λ grants. stage_goes_on after_ (told ++ []) [] seat same rest.none_given fits.own.cursor_within (record {
-          own = own;
-          free = rw rest.empty_hand (omega (arith, asks_free heap (spine_need_of command) old.words after_.words asked));
-          passed = λ i below. absurd (omega (arith, rest.none_tried));
-          claims = record { base = after_.words; asked = asked; granted = λ an_array lacks. absurd (omega (arith, grants, lacks, words, need_)); claims = rw rest.empty_hand (claims_none heap after_.words) };
-          takes = rw (none, rest.empty_hand) (taken_none number (length (seat_at old number).reserve) (need_of command) (omega (arith, fits.own.small_reserve, ap (length {A = ℕ}) own.reserve_stays)));
-        }))
+  -- a move that tells nothing
+  no_more : WhileMaking heap old number command told the_seat.made → WhileMaking heap old number command (told ++ []) the_seat.made
+  no_more while = subst (λ (t : List Entry). WhileMaking heap old number command t the_seat.made) (sym (append-nil told)) while
 
-    -- they were taken back, and the refusal was told
-    stage_withdrawn : SeatIsWithdrawing heap the_seat → the_seat.command ≡ command → WhileWithdrawing heap old now.words number command told the_seat → Leads (withdraw_move number the_seat)
-    stage_withdrawn is same while =
-        let seat = the_seat in
-        let move = withdraw_move number seat in
-        let after_ = state_after_move heap now number move in
-        let here : seat_at after_ number ≡ seat_after move (found_by heap now move.step) = seat_at-set now.seats number _ within in
-        let an_array : IsArray command = subst IsArray same is.an_array in
-        let few = words_of_array seat.command is.an_array is.makes.in_range in
-        let need_ : spine_need seat ≡ spine_need_of command = ap spine_need_of same in
-        record {
-          reply = replies.SpineFull (spine_need seat) (seat.used % 2 ^ 32);
+  stage_listed : the_seat.command ≡ command → WhileMaking heap old number command told the_seat.made → Leads (listing_move the_seat)
+  stage_listed same while =
+      let seat = the_seat in
+      let after_ = state_after_move heap now number (listing_move seat) in
+      listing_cases (λ m. Stage heap old after_ number command (told ++ []) (with_entries (record (after_listing seat) { place = places.Making m }) []) (places.Making m)) (seat.listed + 1) (spine_need seat)
+      (λ more. (same, no_more while)) (λ all. (same, no_more while))
+
+  stage_stored : the_seat.command ≡ command → WhileMaking heap old number command told the_seat.made → Leads (store_move number the_seat)
+  stage_stored same while =
+      let seat = the_seat in
+      let after_ = state_after_move heap now number (store_move number seat) in
+      elim (eqb_tells (seat.stored + 1) (4 * length seat.body)) as (λ _. Stage heap old after_ number command (told ++ []) (with_entries (after_store seat) []) (places.Making (store_place (seat.stored + 1) seat.body))) [
+        | inl all ↦ rw all.0 (same, no_more while)
+        | inr left ↦ rw left.0 (same, no_more while)
+      ]
+
+  stage_bearing : the_seat.place ≡ places.Making Bearing → HasBody the_seat → the_seat.command ≡ command → WhileMaking heap old number command told the_seat.made → Leads (bearing_move number the_seat)
+  stage_bearing place is same while =
+      let seat = the_seat in
+      elim (bool_tells (is_last_birth seat)) as (λ _. Leads (bearing_move number seat)) [
+        | inl last ↦ rw last (record {
+          reply = replies.Made (next_object_id number seat);
           before = told;
-          last = ap (λ (c : Command). told ++ Said number c (replies.SpineFull (spine_need seat) (seat.used % 2 ^ 32)) ∷ []) same;
+          last = ap (λ (c : Command). told ++ Said number c (replies.Made (next_object_id number seat)) ∷ []) same;
           refused = λ refusal. absurd refusal;
-          comes = λ stays near. comes_of_withdrawal number (length (seat_at old number).reserve) (seat_at old number).answered command (spine_need seat) (seat.used % 2 ^ 32) told an_array while.none_told;
-          answer = λ a_record. absurd (array_no_record command an_array a_record);
-          array = λ an_array_. record {
-            spine_refused = λ lacks. record {
-              shows = rw (while.found, same) refl;
-              own_stays = subst (KeepsOwn (seat_at old number)) (sym here) (own_kept (seat_at old number) seat _ while.own refl refl refl refl);
-              table_stays = taken_back heap (spine_need seat) old.words now.words (subst (λ (n : ℕ). AsksWords heap n old.words now.words) (sym need_) while.asked) now.words machine.table small
-                  (omega (arith, few.1)) (λ a there. refl);
-            };
-            made = λ granted enough. absurd (granted while.lacks);
-            refused = λ granted lacks. absurd (granted while.lacks);
-          };
-        }
-
-    stage_claimed : SeatIsGathering heap the_seat → the_seat.command ≡ command → WhileGathering heap old now.words number command told the_seat → Leads (claim_move heap number the_seat)
-    stage_claimed is same while =
-        let seat = the_seat in
-        let fits = machine.fit number within in
-        let group = next_group_of heap seat in
-        let n = at heap now.words (Control group) in
-        let there : group < heap.groups = omega (arith, fits.own.cursor_within) in
-        let got = clear_in group n in
-        let after_ = put heap now.words (Control group) (bit_or n all_taken) in
-        let freed = free-claimed heap now.words group machine.table there in
-        let lacks : (part_in group seat.hand ≡ []) ⊎ (got ≡ []) = elim (while.claims.claims.controls group there) [ inl untouched ↦ inl untouched.0 | inr claimed ↦ inr claimed.1 ] in
-        stage_goes_on (state_after_move heap now number (claim_move heap number seat)) _ (takes_some number (length got))
-        (record seat { hand = seat.hand ++ got; tried = seat.tried + 1 }) same is.none_given fits.own.cursor_within (record {
-          own = own_kept (seat_at old number) seat _ while.own refl refl refl refl;
-          free = omega (arith, freed, while.free, length-append seat.hand got);
-          passed = λ i below. passed_more heap now.words seat.cursor seat.tried i machine.table there below while.passed;
-          claims = record {
-            base = while.claims.base;
-            asked = while.claims.asked;
-            granted = while.claims.granted;
-            claims = claims_more heap while.claims.base now.words seat.hand group machine.table there (asks_small heap (spine_need_of command) old.words while.claims.base while.claims.asked small) while.claims.claims;
-          };
-          takes = taken_more number (length (seat_at old number).reserve) (need_of command) seat.hand told group n while.takes
-              (omega (arith, is.too_few, ap need_of same, ap (length {A = ℕ}) while.own.reserve_stays)) lacks;
-        })
-
-    stage_given_back : SeatIsRefusing heap the_seat → 0 < length the_seat.hand → the_seat.command ≡ command → WhileReturning heap old now.words number command told the_seat
-        → Leads (give_back_move number the_seat)
-    stage_given_back is some same while =
-        let seat = the_seat in
-        let fits = machine.fit number within in
-        let group = first_group_of seat.hand in
-        let there : group < heap.groups = group_within heap seat.hand 0 some fits.hand.hand_within in
-        let both = length-filter_both (in_group group) (out_of_group group) (λ f. refl) seat.hand in
-        let fewer = out_shorter group seat.hand 0 some refl in
-        let less = claims_less heap while.claims.base now.words seat.hand group machine.table there (omega arith) while.claims.claims in
-        let entry = GivesBack number (length (part_in group seat.hand)) in
-        let after_ = state_after_move heap now number (give_back_move number seat) in
-        let next : (m : Making) → WhileReturning heap old after_.words number command (told ++ entry ∷ []) (with_entries (record (after_give_back seat) { place = places.Making m }) (entry ∷ [])) = λ m. record {
-          own = own_kept (seat_at old number) seat _ while.own refl refl refl refl;
-          all = omega (arith, while.all);
-          claims = record { base = while.claims.base; asked = while.claims.asked; granted = while.claims.granted; claims = less };
-          gives = gives_more number seat.given seat.hand told while.gives some;
-        } in
-        returning_cases (λ m. Stage heap old after_ number command (told ++ entry ∷ []) (with_entries (record (after_give_back seat) { place = places.Making m }) (entry ∷ [])) (places.Making m))
-        (part_out group seat.hand) (λ empty. (same, next Refusing)) (λ left. (same, next Returning))
-
-    stage_refused : SeatIsRefusing heap the_seat → the_seat.hand ≡ [] → the_seat.command ≡ command → WhileReturning heap old now.words number command told the_seat
-        → Leads (refusal_move number the_seat)
-    stage_refused is empty same while =
-        let seat = the_seat in
-        let after_ = state_after_move heap now number (refusal_move number seat) in
-        let here : seat_at after_ number ≡ seat_after (refusal_move number seat) (found_by heap now (refusal_move number seat).step) = seat_at-set now.seats number _ within in
-        let given : seat.given ≡ free_count heap old.words = omega (arith, while.all, ap (length {A = ℕ}) empty) in
-        let found : length seat.reserve + seat.given ≡ within_reach heap old number = omega (arith, given, ap (length {A = ℕ}) while.own.reserve_stays) in
-        let few : within_reach heap old number < need_of command = omega (arith, is.too_few, ap need_of same, found) in
-        let own = length (seat_at old number).reserve in
-        let full : replies.Full (need seat) (length seat.reserve + seat.given) ≡ replies.Full (need_of command) (own + seat.given) = rw (same, while.own.reserve_stays) refl in
-        let refused : IsRefused heap old after_ number command (replies.Full (need seat) (length seat.reserve + seat.given)) = record {
-          shows = rw (found, same) refl;
-          own_stays = subst (KeepsOwn (seat_at old number)) (sym here) (own_kept (seat_at old number) seat _ while.own refl refl refl refl);
-          table_stays = refusal_restores heap seat.command old.words while.claims.base now.words is.makes.an_object is.makes.in_range machine.table small
-              (subst (λ (n : ℕ). AsksWords heap n old.words while.claims.base) (sym (ap spine_need_of same)) while.claims.asked)
-              (claims_over heap while.claims.base now.words (subst (Claims heap while.claims.base now.words) empty while.claims.claims));
-        } in
-        let claimed = gives_over number own (need_of command) seat.given told (subst (λ (hand : List ℕ). GivesBackAll number seat.given hand told) empty while.gives) (omega (arith, few, given)) in
-        record {
-          reply = replies.Full (need seat) (length seat.reserve + seat.given);
-          before = told;
-          last = ap (λ (c : Command). told ++ Said number c (replies.Full (need seat) (length seat.reserve + seat.given)) ∷ []) same;
-          refused = λ refusal. absurd refusal;
-          comes = λ stays near. subst (λ (reply : Reply). ComesBefore number own (seat_at old number).answered command reply told) (sym full)
-              (comes_of_object number own (seat_at old number).answered command (replies.Full (need_of command) (own + seat.given)) told (subst MakesObject same is.makes.an_object) claimed);
-          answer = λ a_record. record { made = λ enough. absurd (omega (arith, enough, few)); refused = λ lacks. refused };
+          comes = λ stays near. comes_of_object number (length (seat_at old number).reserve) (seat_at old number).answered command (replies.Made (next_object_id number seat)) told (subst MakesObject same is.makes.an_object) while.claimed;
+          answer = λ a_record. record { made = λ enough. rw while.made_stays refl; refused = λ lacks. absurd (omega (arith, lacks, while.enough)) };
           array = λ an_array. record {
-            spine_refused = λ lacks. absurd (while.claims.granted an_array lacks);
-            made = λ granted enough. absurd (omega (arith, enough, few));
-            refused = λ granted lacks. refused;
+            spine_refused = λ lacks. absurd (while.granted an_array lacks);
+            made = λ granted enough. rw while.made_stays refl;
+            refused = λ granted lacks. absurd (omega (arith, lacks, while.enough));
           };
-        }
+        })
+        | inr more ↦ rw (more, place) (same, no_more while)
+      ]
 
-    -- a move that tells nothing
-    no_more : WhileMaking heap old number command told the_seat.made → WhileMaking heap old number command (told ++ []) the_seat.made
-    no_more while = subst (λ (t : List Entry). WhileMaking heap old number command t the_seat.made) (sym (append-nil told)) while
-
-    stage_listed : the_seat.command ≡ command → WhileMaking heap old number command told the_seat.made → Leads (listing_move the_seat)
-    stage_listed same while =
-        let seat = the_seat in
-        let after_ = state_after_move heap now number (listing_move seat) in
-        listing_cases (λ m. Stage heap old after_ number command (told ++ []) (with_entries (record (after_listing seat) { place = places.Making m }) []) (places.Making m)) (seat.listed + 1) (spine_need seat)
-        (λ more. (same, no_more while)) (λ all. (same, no_more while))
-
-    stage_stored : the_seat.command ≡ command → WhileMaking heap old number command told the_seat.made → Leads (store_move number the_seat)
-    stage_stored same while =
-        let seat = the_seat in
-        let after_ = state_after_move heap now number (store_move number seat) in
-        elim (eqb_tells (seat.stored + 1) (4 * length seat.body)) as (λ _. Stage heap old after_ number command (told ++ []) (with_entries (after_store seat) []) (places.Making (store_place (seat.stored + 1) seat.body))) [
-          | inl all ↦ rw all.0 (same, no_more while)
-          | inr left ↦ rw left.0 (same, no_more while)
-        ]
-
-    stage_bearing : the_seat.place ≡ places.Making Bearing → HasBody the_seat → the_seat.command ≡ command → WhileMaking heap old number command told the_seat.made → Leads (bearing_move number the_seat)
-    stage_bearing place is same while =
-        let seat = the_seat in
-        elim (bool_tells (is_last_birth seat)) as (λ _. Leads (bearing_move number seat)) [
-          | inl last ↦ rw last (record {
-            reply = replies.Made (next_object_id number seat);
-            before = told;
-            last = ap (λ (c : Command). told ++ Said number c (replies.Made (next_object_id number seat)) ∷ []) same;
-            refused = λ refusal. absurd refusal;
-            comes = λ stays near. comes_of_object number (length (seat_at old number).reserve) (seat_at old number).answered command (replies.Made (next_object_id number seat)) told (subst MakesObject same is.makes.an_object) while.claimed;
-            answer = λ a_record. record { made = λ enough. rw while.made_stays refl; refused = λ lacks. absurd (omega (arith, lacks, while.enough)) };
-            array = λ an_array. record {
-              spine_refused = λ lacks. absurd (while.granted an_array lacks);
-              made = λ granted enough. rw while.made_stays refl;
-              refused = λ granted lacks. absurd (omega (arith, lacks, while.enough));
-            };
-          })
-          | inr more ↦ rw (more, place) (same, no_more while)
-        ]
-
-    pub stage_making : (place : Making) → the_seat.place ≡ places.Making place → FitsMaking heap the_seat place → (the_seat.command ≡ command) × StageOf heap old now number command told the_seat place
-        → Leads (making_move heap number the_seat place)
-    stage_making Granting here fits stage = stage_granted fits stage.0 stage.1
-    stage_making Withdrawing here fits stage = stage_withdrawn fits stage.0 stage.1
-    stage_making Gathering here fits stage = stage_claimed fits stage.0 stage.1
-    stage_making Returning here fits stage = stage_given_back fits.0 fits.1 stage.0 stage.1
-    stage_making Refusing here fits stage = stage_refused fits.0 fits.1 stage.0 stage.1
-    stage_making Placing here fits stage = (stage.0, no_more stage.1)
-    stage_making Listing here fits stage = stage_listed stage.0 stage.1
-    stage_making Storing here fits stage = stage_stored stage.0 stage.1
-    stage_making Bearing here fits stage = stage_bearing here fits.0 stage.0 stage.1
+  pub stage_making : (place : Making) → the_seat.place ≡ places.Making place → FitsMaking heap the_seat place → (the_seat.command ≡ command) × StageOf heap old now number command told the_seat place
+      → Leads (making_move heap number the_seat place)
+  stage_making Granting here fits stage = stage_granted heap old number command now told machine within small fits stage.0 stage.1
+  stage_making Withdrawing here fits stage = stage_withdrawn heap old number command now told machine within small fits stage.0 stage.1
+  stage_making Gathering here fits stage = stage_claimed fits stage.0 stage.1
+  stage_making Returning here fits stage = stage_given_back fits.0 fits.1 stage.0 stage.1
+  stage_making Refusing here fits stage = stage_refused fits.0 fits.1 stage.0 stage.1
+  stage_making Placing here fits stage = (stage.0, no_more stage.1)
+  stage_making Listing here fits stage = stage_listed stage.0 stage.1
+  stage_making Storing here fits stage = stage_stored stage.0 stage.1
+  stage_making Bearing here fits stage = stage_bearing here fits.0 stage.0 stage.1

@@ -14,7 +14,7 @@ use Rattle.core_machine.specs.seat.Access.{access_start}
 use Rattle.core_machine.specs.seat.Seat.{Seat}
 use Rattle.core_machine.specs.machine.Machine.{State, seat_at, after_begin}
 use Rattle.core_machine.specs.seat.Fits.{Fits}
-use Rattle.core_machine.proofs.call_lemmas.Playing.{stage_begun_new}
+use Rattle.core_machine.proofs.call_lemmas.GoingOn.{stage_begun_new}
 use Rattle.core_machine.proofs.seat_lemmas.Aside.{over_forgets}
 use Rattle.core_machine.proofs.call_lemmas.Stages.{Untouched, Stage}
 

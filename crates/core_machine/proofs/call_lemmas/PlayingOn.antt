@@ -47,7 +47,7 @@ use Rattle.core_machine.proofs.table_lemmas.Bits.{bool_tells}
 use Rattle.core_machine.proofs.seat_lemmas.FieldPlaces.{field_cases}
 use Rattle.core_machine.proofs.seat_lemmas.Fitting.{array_makes, record_makes}
 use Rattle.core_machine.proofs.call_lemmas.Playing.{stage_making}
-use Rattle.core_machine.proofs.call_lemmas.Stages.{ComesDue, Answered, Untouched, Prepares, AccessStage, PollingStage, Stage}
+use Rattle.core_machine.proofs.call_lemmas.Stages.{ComesDue, Answered, Untouched, Prepares, AccessStage, PollingStage, Stage, StageAfter}
 use Rattle.core_machine.proofs.machine_lemmas.Runs.{seat_at-set}
 use Rattle.core_machine.proofs.call_lemmas.RepliesAlone.{RepliesAlone, local_alone, object_alone, get_alone, set_alone, alone_makes_none, alone_comes, local_refused}
 
@@ -61,9 +61,7 @@ module _ (heap : Heap) (old : State) (number : ℕ) (command : Command) (now : S
   the_seat = seat_at now number
 
   abbrev Leads : Move → Type 0
-  Leads move =
-      let found = found_by heap now move.step in
-      Stage heap old (state_after_move heap now number move) number command (told_ ++ move.shows now.words found) (seat_after move found) (seat_after move found).place
+  Leads = StageAfter heap old number command now told_
 
   -- the reply of a call that makes no object was told
   ended : (new : State) (seat : Seat) (reply : Reply) → seat.command ≡ command → (MakesObject seat.command → ⊥) → (IsPlaceRefusal reply → LeavesAll old new number)

@@ -20,7 +20,8 @@ use Rattle.core_machine.specs.table.Layout.{at}
 use Rattle.core_machine.specs.seat.Making.{next_object_id}
 use Rattle.core_machine.specs.seat.Looks.{forgotten}
 use Rattle.core_machine.specs.seat.Seat.{Seat, after_call}
-use Rattle.core_machine.specs.machine.Machine.{State, seat_at}
+use Rattle.core_machine.specs.Moves.{Move, seat_after}
+use Rattle.core_machine.specs.machine.Machine.{State, seat_at, found_by, state_after_move}
 use Rattle.heap_model.specs.declared.id.Value.{Value}
 use Rattle.core_machine.specs.declared.place.Access.{Access}
 use Rattle.core_machine.specs.declared.place.Access.TheVariants.{LoadingMeta, Naming}
@@ -126,3 +127,9 @@ Stage heap old now number command told seat (places.Access place) = (seat.comman
 Stage heap old now number command told seat (places.Polling place) = (seat.command ≡ command) × (command ≡ Poll) × PollingStage heap old now number told seat place
 Stage heap old now number command told seat (places.Collecting place) = ⊥
 Stage heap old now number command told seat (places.Leaving place) = seat.command ≡ command
+
+-- what a move of the seat leads to
+abbrev pub StageAfter : Heap → State → ℕ → Command → State → List Entry → Move → Type 0
+StageAfter heap old number command now told move =
+    let found = found_by heap now move.step in
+    Stage heap old (state_after_move heap now number move) number command (told ++ move.shows now.words found) (seat_after move found) (seat_after move found).place

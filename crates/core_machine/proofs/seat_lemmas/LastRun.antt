@@ -15,8 +15,8 @@ module _ (fragments : List ℕ) where
   last_run-le = suffix_len-le-length (in_group (last_group_of fragments)) fragments
 
   -- they and those before them are all
-  pub before-run : before_run fragments ++ run_of fragments ≡ fragments
-  before-run = take-append-drop (length fragments - last_run fragments) fragments
+  pub before_run-append-run_of : before_run fragments ++ run_of fragments ≡ fragments
+  before_run-append-run_of = take-append-drop (length fragments - last_run fragments) fragments
 
   -- one of them, by its place among all
   of_run : (i : ℕ) → length fragments - last_run fragments ≤ i → i < length fragments → in_group (last_group_of fragments) (get_or fragments i 0) ≡ true

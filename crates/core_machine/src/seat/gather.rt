@@ -11,7 +11,9 @@ ghost use Rattle.core_machine.specs.machine.Value.{KeepsRoom};
 use crate::place::{Making, Place};
 use crate::seat::SeatParty;
 use crate::step::MakingStep;
-use crate::table::fragments::{add_clear, copied, count_in, first_group, joined, leave_out, mask_in};
+use crate::table::fragments::{
+    add_clear, copied, count_in, first_group, joined, leave_out, mask_in,
+};
 use heap_model::{Command, Entry, Heap, Reply};
 
 /// Where a refusal stands while these fragments are to be given back.
