@@ -1,45 +1,31 @@
 -- Where a call that makes an object, by itself, goes on with what is gathered.
-use Rattle.std.proofs.Common.{◌≡◌, ℕ, ◌+◌, ◌-◌, ◌*◌, ◌%◌, ◌^◌, ◌<◌, ◌≤◌, ◌⊎◌, List, [], ◌∷◌, ◌++◌, length, refl, sym, ap, subst, ◌∙◌, inl, inr, length-append, append-nil, bit_or, arith}
-use Rattle.std.proofs.lemmas.Bool.Decides.{eqb_tells, leb_tells}
-use Rattle.std.proofs.lemmas.List.Filters.{length-filter_both}
+use Rattle.std.proofs.Common.{◌≡◌, ℕ, ◌+◌, ◌-◌, ◌%◌, ◌^◌, ◌<◌, ◌≤◌, List, [], length, refl, sym, ap, subst, ◌∙◌, inl, inr, length-append, append-nil, arith}
+use Rattle.std.proofs.lemmas.Bool.Decides.{leb_tells}
 use Rattle.std.proofs.Math.Nat.{mod-eq_of_lt, add-mod_right}
 use Rattle.heap_model.specs.declared.heap.Heap.{Heap}
 use Rattle.heap_model.specs.declared.command.Command.{Command}
 use Rattle.heap_model.specs.declared.command.Command.TheVariants.{New, Array}
 use Rattle.heap_model.specs.Needs.{spine_need_of}
 use Rattle.heap_model.specs.declared.entry.Entry.{Entry}
-use Rattle.heap_model.specs.declared.entry.Entry.TheVariants.{Said, GivesBack}
-use Rattle.heap_model.specs.declared.reply.Reply.{Reply}
-use Rattle.heap_model.specs.declared.reply.Reply.TheVariants as replies
-use Rattle.heap_model.specs.calls.SeatCalls.{ComesBefore}
 use Rattle.heap_model.specs.account.Space.{need_of}
-use Rattle.core_machine.specs.seat.Commands.{MakesObject, IsRecord, IsArray}
-use Rattle.core_machine.specs.declared.table.address.Address.{Address}
+use Rattle.core_machine.specs.seat.Commands.{IsRecord, IsArray}
 use Rattle.core_machine.specs.declared.table.address.Address.TheVariants.{Budget, Control}
 use Rattle.core_machine.specs.declared.place.Place.TheVariants as places
 use Rattle.core_machine.specs.declared.place.Making.{Making}
-use Rattle.core_machine.specs.declared.place.Making.TheVariants.{Granting, Withdrawing, Gathering, Returning, Refusing, Placing, Listing, Storing, Bearing}
-use Rattle.core_machine.specs.table.Fragments.{clear_in, part_in, part_out, in_group, out_of_group}
-use Rattle.core_machine.specs.table.Layout.{at, put, InTable, table_length}
-use Rattle.core_machine.specs.table.Operation.{all_taken}
-use Rattle.core_machine.specs.seat.Seat.{Seat, need, spine_need, with_entries}
-use Rattle.core_machine.specs.seat.Making.{gather_next, after_gather, next_group_of, first_group_of, after_give_back, after_listing, after_store, store_place, next_object_id}
-use Rattle.core_machine.specs.Moves.{Move, seat_after, grant_move, withdraw_move, listing_move, claim_move, give_back_move, refusal_move, store_move, bearing_move, is_last_birth, takes_some, making_move}
-use Rattle.core_machine.specs.machine.Machine.{State, seat_at, found_by, state_after_move}
-use Rattle.core_machine.specs.seat.Fits.{IsAtRest, SeatIsGranting, SeatIsWithdrawing, SeatIsGathering, SeatIsRefusing, HasBody, FitsPlace, Fits, FitsMaking}
-use Rattle.core_machine.specs.machine.Calls.{free_count, within_reach, KeepsOwn, IsRefused}
-use Rattle.core_machine.specs.machine.Value.{IsMachine}
-use Rattle.core_machine.proofs.call_lemmas.Claiming.{GivesBackAll, taken_none, taken_more, taken_enough, gives_none, gives_more, gives_over, comes_of_object, comes_of_withdrawal}
-use Rattle.core_machine.proofs.table_lemmas.Addresses.{at-put_other, at-put_same}
-use Rattle.core_machine.proofs.table_lemmas.Bits.{bool_tells}
-use Rattle.core_machine.proofs.table_lemmas.Free.{sum_zero, free-claimed, clear_in-claimed}
-use Rattle.core_machine.proofs.seat_lemmas.Fitting.{goes_on_cases, returning_cases, budget_cases, settled_cases, listing_cases, words_of_array}
-use Rattle.core_machine.proofs.table_lemmas.Owned.{group_within}
-use Rattle.core_machine.proofs.table_lemmas.Filters.{out_shorter}
-use Rattle.core_machine.proofs.call_lemmas.Asking.{AsksWords, asks_none, asks_some, asks_free, asks_small, taken_back, refusal_restores}
-use Rattle.core_machine.proofs.call_lemmas.Restoring.{Claims, claims_none, claims_more, claims_less, claims_over}
-use Rattle.core_machine.proofs.machine_lemmas.Runs.{seat_at-set}
-use Rattle.core_machine.proofs.call_lemmas.Stages.{WhileWithdrawing, WhileGathering, WhileReturning, WhileMaking, Untouched, Stage}
+use Rattle.core_machine.specs.declared.place.Making.TheVariants.{Returning, Refusing}
+use Rattle.core_machine.specs.table.Fragments.{clear_in}
+use Rattle.core_machine.specs.table.Layout.{at}
+use Rattle.core_machine.specs.seat.Seat.{Seat, with_entries}
+use Rattle.core_machine.specs.seat.Making.{gather_next, after_gather, next_object_id}
+use Rattle.core_machine.specs.machine.Machine.{State, seat_at}
+use Rattle.core_machine.specs.seat.Fits.{IsAtRest, FitsPlace, Fits}
+use Rattle.core_machine.specs.machine.Calls.{free_count, KeepsOwn}
+use Rattle.core_machine.proofs.call_lemmas.Claiming.{GivesBackAll, taken_none, taken_enough, gives_none}
+use Rattle.core_machine.proofs.table_lemmas.Free.{sum_zero}
+use Rattle.core_machine.proofs.seat_lemmas.Fitting.{goes_on_cases, returning_cases, settled_cases}
+use Rattle.core_machine.proofs.call_lemmas.Asking.{AsksWords, asks_none}
+use Rattle.core_machine.proofs.call_lemmas.Restoring.{claims_none}
+use Rattle.core_machine.proofs.call_lemmas.Stages.{WhileGathering, WhileReturning, WhileMaking, Untouched, Stage}
 
 -- each group is passed when as many were claimed as there are
 every_group : (groups cursor tried g : ℕ) (P : ℕ → Type 0) → cursor < groups → groups ≤ tried → g < groups

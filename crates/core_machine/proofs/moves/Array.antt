@@ -1,22 +1,21 @@
 -- How an array asks for its spine words, and how its spine is made.
-use Rattle.std.proofs.Common.{◌≡◌, ℕ, ◌+◌, ◌-◌, ◌*◌, ◌<◌, ◌≤◌, [], ◌++◌, length, refl, ap, arith}
+use Rattle.std.proofs.Common.{◌≡◌, ℕ, ◌+◌, ◌<◌, [], ◌++◌, length, refl, ap, arith}
 use Rattle.heap_words.specs.Spot.{spot_in}
-use Rattle.heap_model.specs.Limits.{group_fragments}
 use Rattle.heap_model.specs.declared.command.Command.TheVariants.{Array}
 use Rattle.heap_model.specs.declared.heap.Heap.{Heap}
-use Rattle.core_machine.specs.Moves.{seat_after, grant_move, withdraw_move, placing_move, listing_move}
+use Rattle.core_machine.specs.Moves.{grant_move, withdraw_move, placing_move, listing_move}
 use Rattle.core_machine.specs.declared.place.Making.TheVariants.{Granting, Withdrawing, Placing, Listing}
 use Rattle.core_machine.specs.declared.place.Place.TheVariants as places
 use Rattle.core_machine.specs.machine.Machine.{found_by}
 use Rattle.core_machine.specs.seat.Awaiting.{entries_awaited}
-use Rattle.core_machine.specs.seat.Fits.{Fits, FitsMaking, HasArrayBody, HasNoSpine, SeatIsGranting}
-use Rattle.core_machine.specs.seat.Making.{after_budget, after_placing, after_listing, list_place}
-use Rattle.core_machine.specs.seat.Seat.{Seat, need, spine_need, with_entries}
+use Rattle.core_machine.specs.seat.Fits.{Fits, FitsMaking, HasArrayBody, SeatIsGranting}
+use Rattle.core_machine.specs.seat.Making.{after_budget, after_listing, list_place}
+use Rattle.core_machine.specs.seat.Seat.{Seat, spine_need, with_entries}
 use Rattle.core_machine.proofs.call_lemmas.Awaits.{plain, after_words, goes_on_mine}
 use Rattle.core_machine.proofs.call_lemmas.Owes.{owes_making, making_steps, Nears}
 use Rattle.core_machine.proofs.call_lemmas.Saying.{Says, on, ends}
 use Rattle.core_machine.proofs.moves.Gather.{nears_gathered, goes_on_awaits, goes_on_says}
-use Rattle.core_machine.proofs.moves.Standing.{IsAt, PlaceStands, CommandStands, present_at, aside_at, aside_ready, going_ready, rest_ready, resting_begins}
+use Rattle.core_machine.proofs.moves.Standing.{PlaceStands, CommandStands, present_at, aside_at, aside_ready, going_ready, rest_ready, resting_begins}
 use Rattle.core_machine.proofs.seat_lemmas.Aside.{IsAside, gone_aside, fits_over, fits_spine}
 use Rattle.core_machine.proofs.seat_lemmas.Fitting.{need_of_object, words_of_array, listed_all, budget_cases, listing_cases, fits_goes_on, gathers_at_rest}
 use Rattle.core_machine.proofs.table_lemmas.StepStands.{add_stands, take_back_stands, spot_stands, spine_store_stands}

@@ -1,5 +1,5 @@
 -- Every step leaves words that lead within the heap.
-use Rattle.std.proofs.Common.{suc, ◌≡◌, ℕ, ◌+◌, ◌*◌, ◌^◌, ◌<◌, ◌≤◌, true, false, cond, eqb, ltb, List, length, get_or, Option, Some, None, le-ltb, inl, inr, subst, sym, ap, arith}
+use Rattle.std.proofs.Common.{suc, ◌≡◌, ℕ, ◌+◌, ◌*◌, ◌^◌, ◌<◌, ◌≤◌, true, cond, eqb, ltb, List, length, get_or, Option, Some, None, le-ltb, inl, inr, subst, sym, ap, arith}
 use Rattle.std.proofs.lemmas.Bool.Decides.{eqb_tells, leb_tells}
 use Rattle.std.proofs.lemmas.List.{get_or_past}
 use Rattle.heap_words.specs.declared.cell.Cell.{Cell}

@@ -14,7 +14,7 @@ use Rattle.core_machine.specs.declared.place.Making.{Making}
 use Rattle.core_machine.specs.declared.place.Making.TheVariants.{Withdrawing, Gathering, Returning, Refusing, Placing, Listing, Storing, Bearing}
 use Rattle.core_machine.specs.declared.place.Place.TheVariants as places
 use Rattle.core_machine.specs.declared.seat.register.Register.TheVariants.{Object}
-use Rattle.core_machine.specs.seat.Commands.{target_of, fields_of, cells_of}
+use Rattle.core_machine.specs.seat.Commands.{target_of, fields_of}
 use Rattle.core_machine.specs.table.Fragments.{in_group, part_in, part_out, clear_in}
 use Rattle.core_machine.specs.table.Newborn.{record_word_of, array_word_of}
 use Rattle.core_machine.specs.seat.Seat.{Seat, need, spine_need, after_call}
