@@ -10,7 +10,7 @@ use Rattle.heap_model.specs.graph.Graph.{Graph}
 use Rattle.core_machine.specs.declared.table.address.Address.TheVariants.{Word}
 use Rattle.core_machine.specs.declared.place.Place.TheVariants as places
 use Rattle.core_machine.specs.declared.place.Access.{Access}
-use Rattle.core_machine.specs.declared.place.Access.TheVariants.{Indexing, ShadingNew, Swapping}
+use Rattle.core_machine.specs.declared.place.Access.TheVariants.{ShadingNew, Swapping}
 use Rattle.core_machine.specs.seat.Commands.{target_of}
 use Rattle.core_machine.specs.machine.Machine.{State, seat_at}
 use Rattle.core_machine.specs.seat.Access.{has_barrier_of, new_place_of}
@@ -26,7 +26,6 @@ use Rattle.core_rule.specs.Objects.{node_at}
 use Rattle.core_rule.specs.Registers.{IsAwaited, HoldsValue}
 use Rattle.core_rule.specs.Roots.{IsInMarking, AtCall, OfRoots}
 use Rattle.core_rule.specs.Rule.{Rule}
-use Rattle.core_rule.specs.Owners.{Owner, SpineOwner}
 use Rattle.core_rule.specs.Spines.{WordStandsAhead}
 use Rattle.core_rule.specs.Ways.{AccessStands}
 use Rattle.core_rule.proofs.steps.Assemble.{Keeps}
@@ -42,18 +41,7 @@ use Rattle.core_rule.proofs.marking.CallRoots.{IsReachedNow, roots_on_way}
 use Rattle.core_rule.proofs.steps.Loads.{went, loaded_state, load_goes}
 use Rattle.core_rule.proofs.entries.SeatLists.{list_more}
 use Rattle.core_rule.proofs.colours.ShadeColours.{with_mark}
-use Rattle.core_rule.proofs.spines.NoneMade.{MakesNone}
 use Rattle.core_rule.proofs.steps.ShadeStep.{shading, words_shaded, shade_keeps, shade_within, answer_shaded, borne_unshaded}
-
--- no spine word is loaded at the place
-abbrev pub IsPastSpine : Access → Type 0
-IsPastSpine Indexing = ⊥
-IsPastSpine _ = Unit {0}
-
--- so none is ahead
-pub past_spine : (owner : ℕ → Owner) (spine_owner : ℕ → ℕ → SpineOwner) (seat : Seat) (place : Access) → IsPastSpine place → WordStandsAhead owner spine_owner seat (places.Access place)
-past_spine owner spine_owner seat Indexing past = absurd past
-past_spine owner spine_owner seat _ past = tt
 
 -- where the new value goes next
 pub new_cases : (P : Access → Type 0) (head : Option ℕ) → (head ≡ None → P Swapping) → ((f : ℕ) → head ≡ Some f → P ShadingNew) → P (new_place_of head)
@@ -89,22 +77,25 @@ module _ (heap : Heap) (state : State) (book : Book) (number : ℕ) (rule : Rule
   abbrev Unnamed : Access → Type 0
   Unnamed next = (seat_now : Seat) → Awaits g book.made book.owner book.fragments number seat_now (places.Access next) []
 
+  -- no spine word is loaded next
+  abbrev NoWordAhead : Access → Type 0
+  NoWordAhead next = (seat_now : Seat) → WordStandsAhead book.owner book.spine_owner seat_now (places.Access next)
+
   -- a load that leads on
-  pub loads_on : (loaded : ℕ) (next : Access) → Unnamed next
-      → AccessStands (node_at g book.made) book.made book.owner book.fragments (went seat seat.registers seat.reached seat.links seat.part loaded (places.Access next) seat.looks []) next
-      → IsPastSpine next
-      → (IsBetween 2 5 p → FieldStands heap state.words book.colour (went seat seat.registers seat.reached seat.links seat.part loaded (places.Access next) seat.looks []) next)
-      → ShadedStands book.colour (went seat seat.registers seat.reached seat.links seat.part loaded (places.Access next) seat.looks []) next
-      → CallGoesOn (went seat seat.registers seat.reached seat.links seat.part loaded (places.Access next) seat.looks []) next
-      → IsMachine heap (loaded_state heap state number (Word seat.reached seat.part) (went seat seat.registers seat.reached seat.links seat.part loaded (places.Access next) seat.looks []))
-      → Keeps heap state (loaded_state heap state number (Word seat.reached seat.part) (went seat seat.registers seat.reached seat.links seat.part loaded (places.Access next) seat.looks [])) book book.begun []
-  loads_on loaded next names way past field shaded comes machine =
+  pub loads_on : (loaded : ℕ) (next : Access) → Unnamed next → NoWordAhead next
+      → AccessStands (node_at g book.made) book.made book.owner book.fragments (went seat seat.registers seat.reached seat.links seat.part seat.address loaded (places.Access next) seat.looks []) next
+      → (IsBetween 2 5 p → FieldStands heap state.words book.colour (went seat seat.registers seat.reached seat.links seat.part seat.address loaded (places.Access next) seat.looks []) next)
+      → ShadedStands book.colour (went seat seat.registers seat.reached seat.links seat.part seat.address loaded (places.Access next) seat.looks []) next
+      → CallGoesOn (went seat seat.registers seat.reached seat.links seat.part seat.address loaded (places.Access next) seat.looks []) next
+      → IsMachine heap (loaded_state heap state number (Word seat.reached seat.part) (went seat seat.registers seat.reached seat.links seat.part seat.address loaded (places.Access next) seat.looks []))
+      → Keeps heap state (loaded_state heap state number (Word seat.reached seat.part) (went seat seat.registers seat.reached seat.links seat.part seat.address loaded (places.Access next) seat.looks [])) book book.begun []
+  loads_on loaded next names ahead way field shaded comes machine =
       let stands = rule.seats_stand number here in
-      let new : Seat = went seat seat.registers seat.reached seat.links seat.part loaded (places.Access next) seat.looks [] in
-      load_goes heap state book number rule here (Word seat.reached seat.part) seat.registers seat.reached seat.links seat.part loaded (places.Access next) seat.looks [] machine
+      let new : Seat = went seat seat.registers seat.reached seat.links seat.part seat.address loaded (places.Access next) seat.looks [] in
+      load_goes heap state book number rule here (Word seat.reached seat.part) seat.registers seat.reached seat.links seat.part seat.address loaded (places.Access next) seat.looks [] machine (rw place tt) tt
       (λ r unawaited. holds_all r)
       (list_more g book.made book.owner book.fragments number seat book.history busy stands.told.list g book.history new [] [] [] refl refl (sym (append-nil (filter (is_of number) book.history))) (names new))
-      way
+      way (ahead new)
       (began_on book.history number (book.begun number) seat.place (places.Access next) busy stands.told.began)
       (cycle_by_flight heap state.words state.words book.owner book.owner book.colour book.colour p (last_answer number book.history) (has_left number book.history) number seat new
       record { answered = refl; left = refl; asked = refl } refl tt
@@ -125,9 +116,8 @@ module _ (heap : Heap) (state : State) (book : Book) (number : ℕ) (rule : Rule
     leads_back x leads = leads_control heap state.words (f / 16) _ (omega (arith, shade_within heap state book number rule here f head.index head.kept head.is)) _ _ x leads
 
     -- a shade that leads on
-    pub shades_on : (next : Access) → Unnamed next
+    pub shades_on : (next : Access) → Unnamed next → NoWordAhead next
         → AccessStands (node_at g book.made) book.made book.owner book.fragments (shading seat seat.shaded (places.Access next)) next
-        → IsPastSpine next
         → (IsBetween 2 5 p → IsBetween 2 5 seat.answered → FieldStands heap (words_shaded heap state book number rule here f head.index head.kept head.is) coloured (shading seat seat.shaded (places.Access next)) next)
         → (IsBetween 1 5 p → ShadedStands coloured (shading seat seat.shaded (places.Access next)) next)
         → (IsInMarking state.collector → seat.answered ≡ state.collector.phase → IsReachedNow heap state book f)
@@ -135,13 +125,13 @@ module _ (heap : Heap) (state : State) (book : Book) (number : ℕ) (rule : Rule
         → IsNamed heap state book f
         → IsMachine heap (shaded_state (shading seat seat.shaded (places.Access next)))
         → Keeps heap state (shaded_state (shading seat seat.shaded (places.Access next))) book book.begun []
-    shades_on next names way past field shaded marked comes named machine =
+    shades_on next names ahead way field shaded marked comes named machine =
         let stands = rule.seats_stand number here in
         let new : Seat = shading seat seat.shaded (places.Access next) in
         shade_keeps heap state book number rule here f head.index head.kept head.is seat.shaded (places.Access next) (barrier_runs p seat.answered (is_near heap state book number rule here from place) (barrier_window seat on)) machine
         (λ r unawaited. holds_all r)
         (list_more g book.made book.owner book.fragments number seat book.history busy stands.told.list g book.history new [] [] [] refl refl (sym (append-nil (filter (is_of number) book.history))) (names new))
-        way (subst MakesNone (sym place) tt) tt (past_spine book.owner book.spine_owner new next past) busy
+        way (rw place tt) tt (ahead new) busy
         (cycle_by_flight heap state.words (words_shaded heap state book number rule here f head.index head.kept head.is) book.owner book.owner book.colour coloured p
         (last_answer number book.history) (has_left number book.history) number seat new
         record { answered = refl; left = refl; asked = refl } (answer_shaded heap state book number rule here f head.index head.kept head.is number here) tt
