@@ -4,3 +4,4 @@ pub mod NoneMade
 pub mod SpineFrames
 pub mod BudgetFrames
 pub mod UsedWords
+pub mod DyingWords
