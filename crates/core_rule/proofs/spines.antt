@@ -5,3 +5,5 @@ pub mod SpineFrames
 pub mod BudgetFrames
 pub mod UsedWords
 pub mod DyingWords
+pub mod WeightSums
+pub mod BudgetSteps
