@@ -27,6 +27,7 @@ pub use Rattle.core_rule.proofs.entries.AtRest.{seat_fits, in_flight}
 use Rattle.core_rule.proofs.entries.Begins.{begins, book_begun, heap_begins, other_begins}
 use Rattle.core_rule.proofs.entries.PhaseEntries.{seats_phase, answers_grow, was_present}
 use Rattle.core_rule.proofs.footprint.BookGoing.{BookGoesOn, book_stays}
+use Rattle.core_rule.proofs.colours.SpineStays.{same_sources}
 use Rattle.core_rule.proofs.marking.Marks.{MarksGoOn, RootsGoOn, roots_more, leaves_words, marks_go_on}
 use Rattle.core_rule.proofs.spines.BudgetFrames.{stepped, SameGrants, budgets_stay}
 use Rattle.core_rule.proofs.spines.NoneMade.{SameWeights}
@@ -138,6 +139,6 @@ seat_begins heap state book number seat rule here machine self same weights root
     let begun : Book = book_begun heap state.words book number in
     seat_steps heap state book number state.words seat begun [] rule here machine (sym (append-nil book.history)) refl
     (heap_begins heap state.words book number rule.heap_stands) self (λ r below apart other. other_begins heap state.words book number r (seat_at state r) apart other)
-    (marks_go_on heap state book rule number here state.words begun seat (leaves_words heap state book rule state.words (λ f part g leads. leads) (λ f part g leads. leads)) same roots)
+    (marks_go_on heap state book rule number here state.words begun seat (leaves_words heap state book rule state.words (same_sources heap state.words)) same roots)
     (step_budgets heap state book number rule here state.words seat begun (spines_left_none heap state.words) weights record { told = refl; returned = refl; kept = refl; gone = refl })
     (book_stays heap state book book.history (begins number (length book.history) book.begun))
