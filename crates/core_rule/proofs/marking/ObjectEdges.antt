@@ -154,13 +154,6 @@ module _ (heap : Heap) (words : List ℕ) (g : Graph) (made : List Id) (owner : 
         by_row kind zero inside to = inl (spine_refers kind (source - 4) x to)
         by_row kind (suc n) inside to = absurd (no_spine_leads heap words (fragment_at (fragments i) (suc n)) (object_no_spine (suc n) inside (λ array. omega arith)) (source - 4) x to)
 
-    pub object_leads : (k source x : ℕ) → k < length (fragments i) → WordPointsTo heap words (fragment_at (fragments i) k) source x
-        → IsPartOf (fragments i) x ⊎ KeptHead made owner fragments x
-    object_leads k source x within leads = elim (object_refers k source x within leads) [
-      | inl part ↦ inl part
-      | inr cell ↦ inr (refers_kept made owner fragments cell.cell.value x cell.refers)
-    ]
-
 module _ (heap : Heap) (state : State) (book : Book) (rule : Rule heap state book) (f i k : ℕ) (owned : book.owner f ≡ Kept i k) where
   there : (i < length book.made) × IsKept book.owner book.fragments i × (k < length (book.fragments i)) × (f ≡ fragment_at (book.fragments i) k)
   there = rule.heap_stands.objects.back f i k owned
@@ -178,5 +171,12 @@ module _ (heap : Heap) (state : State) (book : Book) (rule : Rule heap state boo
       object_refers heap state.words (graph_of heap book.history) book.made book.owner book.fragments rule.machine.limits rule.heap_stands.control_words rule.heap_stands.ids
       rule.heap_stands.objects i there.0 there.1 (spine_placed rule i there.0 there.1) k source x there.2 (subst (λ y. WordPointsTo heap state.words y source x) there.3 leads)
 
+  pub kept_leads : (source x : ℕ) → WordPointsTo heap state.words f source x → IsPartOf (book.fragments i) x ⊎ KeptHead book.made book.owner book.fragments x
+  kept_leads source x leads = elim (kept_refers source x leads) [
+    | inl part ↦ inl part
+    | inr cell ↦ inr (refers_kept book.made book.owner book.fragments cell.cell.value x cell.refers)
+  ]
+
+  -- whose part that is
   pub part_owned : (x : ℕ) (part : IsPartOf (book.fragments i) x) → book.owner x ≡ Kept i part.place
   part_owned x part = ap book.owner part.is ∙ (rule.heap_stands.objects.kept i there.0 there.1).owned part.place part.within
