@@ -1,5 +1,5 @@
 -- What the words of a kept object tell, and those on the way to a field of it.
-use Rattle.std.proofs.Common.{◌≡◌, ℕ, zero, suc, ◌+◌, ◌*◌, ◌^◌, ◌<◌, ◌≤◌, Bool, true, false, inl, inr, List, length, slice_get, Option, Some, None, refl, sym, ap, ◌∙◌, subst, arith}
+use Rattle.std.proofs.Common.{◌≡◌, ℕ, zero, suc, ◌+◌, ◌*◌, ◌/◌, ◌^◌, ◌<◌, ◌≤◌, Bool, true, false, inl, inr, List, length, slice_get, Option, Some, None, refl, sym, ap, ◌∙◌, subst, arith}
 use Rattle.std.specs.Prelude.{if◌then◌else◌}
 use Rattle.std.proofs.lemmas.Bool.{cases_lt}
 use Rattle.std.proofs.lemmas.List.{get_or_past}
@@ -166,6 +166,13 @@ module _ (heap : Heap) (words : List ℕ) (g : Graph) (made : List Id) (owner : 
     -- where links lead on it is a record, and the first of them leads to the next row
     pub a_record : 0 < seat.links → (node_at g made finds.index).array ≡ false
     a_record more = by_kind ids objects finds.index finds.way.below finds.way.kept _ (λ kind. absurd (omega (arith, more, finds.field.linked kind))) (λ kind. kind)
+
+    -- in an array the way has come to a fragment behind the first
+    pub behind_first : (node_at g made finds.index).array ≡ true → 1 ≤ finds.row
+    behind_first kind =
+        let field = field_of seat.command in
+        let row : row_in (node_at g made finds.index) field ≡ field / 4 + 1 = rw kind refl in
+        let there : finds.row + seat.links ≡ field / 4 + 1 = finds.field.leads ∙ row in omega (arith, there, finds.field.linked kind)
 
     pub link_ahead : 0 < seat.links → link_of (at heap words (Word seat.reached 0)) ≡ fragment_at (fragments finds.index) (finds.row + 1)
     link_ahead more = ap (λ f. link_of (at heap words (Word f 0))) finds.way.here
