@@ -33,7 +33,7 @@ module _ (heap : Heap) (words now : List ℕ) (owner : ℕ → Owner) (colour : 
   back : (f source g : ℕ) → WordPointsTo heap now f source g → WordPointsTo heap words f source g
   back f source g leads = leads_same heap words now f (same f) source g leads
 
-  seen_on : (f part : ℕ) → IsSeen heap words colour f part → IsSeen heap now shaded f part
+  pub seen_on : (f part : ℕ) → IsSeen heap words colour f part → IsSeen heap now shaded f part
   seen_on f part seen = record {
     grey = grey_on colour m f seen.grey;
     seen = λ p g below leads. mark_keeps colour m g (seen.seen p g below (back f p g leads));
