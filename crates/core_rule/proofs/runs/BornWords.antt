@@ -176,6 +176,7 @@ module _ (heap : Heap) (state : State) (book : Book) (rule : Rule heap state boo
   turn_bears_none stages.Advancing born = word_bears_none _ (at-put_apart heap words Phase (Control (f / 16)) _ (λ e. omega (arith, e))) born
   turn_bears_none (stages.Ending kept) born = word_bears_none _ (at-put_apart heap words Phase (Control (f / 16)) _ (λ e. omega (arith, e))) born
   turn_bears_none (stages.Shading scan target next) born = bit_bears_none _ _ (bit_born _ 32 _ f (omega arith)) born
+  turn_bears_none (stages.Spreading s target) born = bit_bears_none _ _ (bit_born _ 32 _ f (omega arith)) born
   turn_bears_none (stages.Freeing group dead) born = masked_bears_none _ _ _ refl born
   turn_bears_none (stages.Clearing group kept) born = masked_bears_none _ _ _ refl born
   turn_bears_none (stages.Blackening scan) born = bit_bears_none _ _ (bit_born _ 48 _ f (omega arith)) born
