@@ -19,8 +19,8 @@ use Rattle.core_rule.specs.Rule.{Rule}
 use Rattle.core_rule.proofs.footprint.OwnersGo.{settled_go}
 use Rattle.core_rule.proofs.marking.Marks.{marks_at, none_dead}
 use Rattle.core_rule.proofs.marking.GreyPlaces.{lowest_is_grey, pass_further, nothing_grey, pass_anew, scan_anew}
-use Rattle.core_rule.proofs.marking.Settled.{settled_book}
 use Rattle.core_rule.proofs.marking.SettledBook.{heap_settles, seat_settles, marking_settles}
+use Rattle.core_rule.proofs.spines.DyingWords.{settled_book, budgets_settle}
 use Rattle.core_rule.proofs.steps.Assemble.{Keeps}
 use Rattle.core_rule.proofs.steps.TurnSteps.{StageKeeps, after_turn, quiet, load_turns, load_turns_with}
 
@@ -59,9 +59,10 @@ module _ (heap : Heap) (state : State) (book : Book) (rule : Rule heap state boo
 
   -- it ends where nothing is grey
   ends : ((f : ℕ) → book.colour f ≢ Grey) → KeepsAt stages.Advancing
-  ends none machine = load_turns_with heap state book (Control group) (goes_to stages.Advancing) (settled_book book) rule machine refl
+  ends none machine = load_turns_with heap state book (Control group) (goes_to stages.Advancing) (settled_book heap book) rule machine refl
       (heap_settles heap state book rule passes.marks goes_on none) (seat_settles heap state book rule passes.marks goes_on none) (collector_at stages.Advancing)
       record { heap_marks = marking_settles heap state book rule passes.marks goes_on none; roots = λ r below is. absurd (is.goes_on refl) }
+      (budgets_settle heap state book (goes_to stages.Advancing) rule.budgets)
       record { made = λ i below. refl; owners = settled_go (length book.made) book.owner book.colour; marked = λ f i k owned below marked. inl marked }
 
   module _ (none : lowest_grey_of word ≡ None) where
