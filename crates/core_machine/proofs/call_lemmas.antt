@@ -1,9 +1,12 @@
 -- A whole call, place by place, to its reply.
+pub mod Asking
 pub mod Awaits
 pub mod CallEnd
 pub mod CallRoom
 pub mod Calling
 pub mod Claiming
+pub mod GoingOn
+pub mod Granting
 pub mod InnerCalls
 pub mod Owes
 pub mod Playing

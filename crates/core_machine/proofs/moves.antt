@@ -1,4 +1,5 @@
 -- What is asked of each move of a seat, a file for each call.
+pub mod Array
 pub mod Birth
 pub mod Collect
 pub mod Gather
@@ -8,6 +9,7 @@ pub mod Open
 pub mod Standing
 pub mod Poll
 pub mod Set
+pub mod Spine
 pub mod Local
 pub mod Walk
 use Rattle.std.proofs.Common.{ℕ, ◌<◌, refl}
@@ -16,11 +18,11 @@ use Rattle.heap_model.specs.declared.heap.Heap.{Heap}
 use Rattle.heap_model.specs.Heap.{IsHeap}
 use Rattle.core_machine.specs.declared.place.Collecting.TheVariants.{Looking, Asking as AskingBehind, Comparing, Noting}
 use Rattle.core_machine.specs.declared.place.Leaving.TheVariants.{Emptying, Parting}
-use Rattle.core_machine.specs.declared.place.Making.TheVariants.{Gathering, Returning, Refusing, Storing, Bearing}
+use Rattle.core_machine.specs.declared.place.Making.TheVariants.{Granting, Withdrawing, Gathering, Returning, Refusing, Placing, Listing, Storing, Bearing}
 use Rattle.core_machine.specs.declared.place.Place.{Place}
 use Rattle.core_machine.specs.declared.place.Place.TheVariants as places
 use Rattle.core_machine.specs.declared.place.Polling.TheVariants.{Asking, Shading, Answering}
-use Rattle.core_machine.specs.declared.place.Access.TheVariants.{LoadingMeta, Walking, Getting, Naming, LoadingOld, ShadingOld, ShadingNew, Swapping}
+use Rattle.core_machine.specs.declared.place.Access.TheVariants.{LoadingMeta, Walking, Locating, Indexing, Getting, Naming, LoadingOld, ShadingOld, ShadingNew, Swapping}
 use Rattle.core_machine.specs.Moves.{next_move}
 use Rattle.core_machine.specs.seat.Fits.{Fits}
 use Rattle.core_machine.specs.seat.Seat.{Seat}
@@ -32,14 +34,20 @@ use Rattle.core_machine.proofs.moves.Standing.{MoveStands, PlaceStands, BeginSta
 -- each move stands, by the place
 stands_at : (place : Place) → PlaceStands place
 stands_at places.Idle = λ heap number seat here. tt
+stands_at (places.Making Granting) = Array.grant_stands
+stands_at (places.Making Withdrawing) = Array.withdraw_stands
 stands_at (places.Making Gathering) = Gather.claim_stands
 stands_at (places.Making Returning) = Gather.give_back_stands
 stands_at (places.Making Refusing) = Gather.refusal_stands
+stands_at (places.Making Placing) = Array.placing_stands
+stands_at (places.Making Listing) = Array.listing_stands
 stands_at (places.Making Storing) = Birth.store_stands
 stands_at (places.Making Bearing) = Birth.bearing_stands
 stands_at places.Local = Local.telling_stands
 stands_at (places.Access LoadingMeta) = Open.open_stands
 stands_at (places.Access Walking) = Walk.walk_stands
+stands_at (places.Access Locating) = Spine.locate_stands
+stands_at (places.Access Indexing) = Spine.index_stands
 stands_at (places.Access Getting) = Get.get_stands
 stands_at (places.Access Naming) = Get.name_stands
 stands_at (places.Access LoadingOld) = Set.old_stands
@@ -64,7 +72,7 @@ move_stands heap number seat limits few fits = stands_at seat.place heap number 
 -- each begin stands, by the command
 begin_at : (command : Command) → CommandStands command
 begin_at (commands.New d fields) = Gather.gather_begins d fields
-begin_at (commands.Array d cells) = λ heap number seat ready. absurd ready.may.served
+begin_at (commands.Array d cells) = Array.array_begins d cells
 begin_at (commands.Get d r i) = Open.open_begins (commands.Get d r i) (λ e. cc) tt
 begin_at (commands.Set r i v) = Open.open_begins (commands.Set r i v) (λ e. cc) tt
 begin_at (commands.Num d n) = λ heap number seat ready. Local.tell_begins (commands.Num d n) (λ e. cc) heap number seat ready tt

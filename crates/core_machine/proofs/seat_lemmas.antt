@@ -4,4 +4,5 @@ pub mod FieldPlaces
 pub mod Fitting
 pub mod FittingEntries
 pub mod FittingAccess
+pub mod LastRun
 pub mod PollingOver

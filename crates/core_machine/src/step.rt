@@ -64,17 +64,32 @@ pub enum AccessStep {
 #[derive(Clone, Copy)]
 pub enum SpineStep {
     /// So many more words are granted, or asked for.
-    BudgetAdd { words: u16 },
+    BudgetAdd {
+        words: u16,
+    },
     /// So many are granted no longer, or asked for.
-    BudgetTakeBack { words: u16 },
+    BudgetTakeBack {
+        words: u16,
+    },
     /// The next free spine words are taken, so many.
-    SpotClaim { words: u16 },
+    SpotClaim {
+        words: u16,
+    },
     /// A spine word of an array that isn't born yet names a fragment.
-    SpineStore { half: u8, offset: u32, fragment: u16 },
+    SpineStore {
+        half: u8,
+        offset: u32,
+        fragment: u16,
+    },
     /// The place of an array's spine is loaded from its first fragment.
-    AddressLoad { sentinel: u16 },
+    AddressLoad {
+        sentinel: u16,
+    },
     /// A spine word is loaded.
-    WordLoad { half: u8, offset: u32 },
+    WordLoad {
+        half: u8,
+        offset: u32,
+    },
 }
 
 /// A step by which a seat tells in its own word what it has answered.

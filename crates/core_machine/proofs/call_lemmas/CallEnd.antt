@@ -19,12 +19,12 @@ use Rattle.core_machine.specs.seat.Seat.{Seat}
 use Rattle.core_machine.specs.Moves.{Move, move_at, next_move, due_step}
 use Rattle.core_machine.specs.machine.Machine.{State, seat_at}
 use Rattle.heap_model.specs.declared.command.Command.TheVariants.{Leave}
-use Rattle.core_machine.specs.machine.Calls.{IsBeside, PlaysCall, CountsCall, TellsLeave, AnswersNew, reply_of, last_reply_of, IsPlaceRefusal, LeavesAll}
+use Rattle.core_machine.specs.machine.Calls.{IsBeside, PlaysCall, CountsCall, TellsLeave, AnswersNew, AnswersArray, reply_of, last_reply_of, IsPlaceRefusal, LeavesAll}
 use Rattle.core_machine.specs.machine.Value.{MachineValue, log_of}
 use Rattle.core_machine.proofs.call_lemmas.Saying.{Says, IsOver}
 use Rattle.core_machine.proofs.call_lemmas.Stages.{ComesDue, Answered, Stage}
 use Rattle.core_machine.specs.seat.Awaiting.{entries_awaited_at}
-use Rattle.core_machine.specs.seat.Commands.{IsRecord}
+use Rattle.core_machine.specs.seat.Commands.{IsRecord, IsArray}
 use Rattle.core_machine.proofs.call_lemmas.Calling.{Playing}
 use Rattle.core_machine.proofs.call_lemmas.CallRoom.{log_of_seat}
 
@@ -141,6 +141,7 @@ pub record CallOver (heap : Heap) (old now : State) (number : ℕ) (command : Co
   pub counts : CountsCall (seat_at old number) (seat_at now number) command
   pub leave : command ≡ Leave → TellsLeave old now number
   pub answer : IsRecord command → AnswersNew heap old now number command reply
+  pub array : IsArray command → AnswersArray heap old now number command reply
   pub refused : IsPlaceRefusal reply → LeavesAll old now number
 
 pub call_over : {heap : Heap} {old : State} (now : MachineValue) {number : ℕ} {command : Command} {reply : Reply} → Playing heap old now.state number command
@@ -155,6 +156,7 @@ call_over {heap} {old} now {number} {command} {reply} playing none last =
       counts = ended.counts;
       leave = λ a_leave. all_mine heap old now.state number command playing none ∙ ap (λ (l : List Entry). (seat_at old number).mine ++ l) (ended.leave a_leave);
       answer = λ a_record. subst (AnswersNew heap old now.state number command) same (answer.answer a_record);
+      array = λ an_array. subst (AnswersArray heap old now.state number command) same (answer.array an_array);
       refused = λ refusal. answer.refused (subst IsPlaceRefusal (sym same) refusal);
     }
   where

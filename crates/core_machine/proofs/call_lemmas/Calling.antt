@@ -6,12 +6,14 @@ use Rattle.heap_model.specs.declared.heap.Heap.{Heap}
 use Rattle.heap_model.specs.declared.command.Command.{Command}
 use Rattle.heap_model.specs.declared.entry.Entry.{Entry}
 use Rattle.core_machine.specs.declared.table.address.Address.{Address}
+use Rattle.core_machine.specs.declared.table.address.Address.TheVariants.{Budget}
 use Rattle.core_machine.specs.table.Layout.{at, InTable}
 use Rattle.core_machine.specs.seat.Seat.{Seat}
 use Rattle.core_machine.specs.Moves.{Move, next_move, seat_after}
 use Rattle.core_machine.specs.machine.Machine.{State, seat_at, found_by, state_after_move, after_begin, Begins, Steps, Can, state_after, state_after_due, entries_shown, entries, Run, state_after_all, history}
 use Rattle.core_machine.specs.machine.Calls.{call_events}
 use Rattle.core_machine.specs.machine.Value.{IsMachine}
+use Rattle.core_machine.proofs.table_lemmas.Addresses.{at-lt}
 use Rattle.core_machine.proofs.call_lemmas.Stages.{Stage}
 use Rattle.core_machine.proofs.call_lemmas.PlayingOn.{stage_moved}
 use Rattle.core_machine.proofs.call_lemmas.PlayingBegins.{stage_begun}
@@ -51,7 +53,7 @@ playing_begun heap old number command machine can =
       told = [];
       shows = refl;
       mine = subst (λ (s : Seat). s.mine ++ entries_awaited heap now.words number s ≡ seat.mine ++ []) (sym here) (rw (stands.kept, stands.awaits now.words) refl);
-      stage = subst (λ (s : Seat). Stage heap old now number command [] s s.place) (sym here) (stage_begun heap old number now (machine.fit number can.0) can.1.idle refl command can.1.served);
+      stage = subst (λ (s : Seat). Stage heap old now number command [] s s.place) (sym here) (stage_begun heap old number now (machine.fit number can.0) can.1.idle refl (at-lt heap old.words Budget machine.wide) command can.1.served);
       says = subst (λ (s : Seat). Says seat number command s [] s.place) (sym here) stands.says;
     }
 

@@ -17,19 +17,19 @@ use Rattle.core_machine.specs.declared.table.address.Address.TheVariants.{Phase,
 use Rattle.core_machine.specs.declared.place.Place.{Place}
 use Rattle.core_machine.specs.declared.place.Place.TheVariants as places
 use Rattle.core_machine.specs.declared.place.Access.{Access}
-use Rattle.core_machine.specs.declared.place.Access.TheVariants.{LoadingMeta, Walking, Getting, Naming, LoadingOld, ShadingOld, ShadingNew, Swapping}
+use Rattle.core_machine.specs.declared.place.Access.TheVariants.{LoadingMeta, Walking, Locating, Indexing, Getting, Naming, LoadingOld, ShadingOld, ShadingNew, Swapping}
 use Rattle.core_machine.specs.declared.place.Polling.{Polling}
 use Rattle.core_machine.specs.declared.place.Polling.TheVariants.{Asking, Shading, Answering}
 use Rattle.core_machine.specs.declared.place.Leaving.{Leaving}
 use Rattle.core_machine.specs.declared.place.Leaving.TheVariants.{Emptying, Parting}
 use Rattle.core_machine.specs.declared.seat.register.Register.{Register}
 use Rattle.core_machine.specs.machine.Calls.{IsPhaseNear, IsPlaceRefusal, LeavesAll}
-use Rattle.core_machine.specs.seat.Commands.{IsRecord, source_of}
+use Rattle.core_machine.specs.seat.Commands.{MakesObject, IsRecord, IsArray, source_of}
 use Rattle.core_machine.specs.table.Layout.{at, put, InTable}
 use Rattle.core_machine.specs.table.Operation.{address_of, word_after}
-use Rattle.core_machine.specs.table.Decode.{head_of, id_of, stamp_of}
+use Rattle.core_machine.specs.table.Decode.{head_of, array_length_of, id_of, stamp_of}
 use Rattle.core_machine.specs.seat.Registers.{register_in, register_head}
-use Rattle.core_machine.specs.seat.Access.{at_access, with_field_place, field_place_of, way_place_of, after_link, after_walk, meta_reply_of, after_meta, after_get, new_place_of, after_old, after_old_load}
+use Rattle.core_machine.specs.seat.Access.{at_access, with_field_place, field_place_of, way_place_of, after_link, after_walk, after_length, after_index, meta_reply_of, after_meta, after_get, new_place_of, after_old, after_old_load}
 use Rattle.core_machine.specs.seat.AccessMoves.{reply_entries_if, got_adds, got_shows}
 use Rattle.core_machine.specs.seat.HandshakeMoves.{poll_move, phase_told}
 use Rattle.core_machine.specs.seat.Local.{local_reply_of, local_registers}
@@ -45,8 +45,9 @@ use Rattle.core_machine.specs.machine.Value.{IsMachine}
 use Rattle.core_machine.proofs.table_lemmas.Addresses.{put-at}
 use Rattle.core_machine.proofs.table_lemmas.Bits.{bool_tells}
 use Rattle.core_machine.proofs.seat_lemmas.FieldPlaces.{field_cases}
+use Rattle.core_machine.proofs.seat_lemmas.Fitting.{array_makes, record_makes}
 use Rattle.core_machine.proofs.call_lemmas.Playing.{stage_making}
-use Rattle.core_machine.proofs.call_lemmas.Stages.{ComesDue, Answered, Untouched, Prepares, AccessStage, PollingStage, Stage}
+use Rattle.core_machine.proofs.call_lemmas.Stages.{ComesDue, Answered, Untouched, Prepares, AccessStage, PollingStage, Stage, StageAfter}
 use Rattle.core_machine.proofs.machine_lemmas.Runs.{seat_at-set}
 use Rattle.core_machine.proofs.call_lemmas.RepliesAlone.{RepliesAlone, local_alone, object_alone, get_alone, set_alone, alone_makes_none, alone_comes, local_refused}
 
@@ -60,18 +61,17 @@ module _ (heap : Heap) (old : State) (number : ℕ) (command : Command) (now : S
   the_seat = seat_at now number
 
   abbrev Leads : Move → Type 0
-  Leads move =
-      let found = found_by heap now move.step in
-      Stage heap old (state_after_move heap now number move) number command (told_ ++ move.shows now.words found) (seat_after move found) (seat_after move found).place
+  Leads = StageAfter heap old number command now told_
 
-  -- the reply of a call that makes no record was told
-  ended : (new : State) (seat : Seat) (reply : Reply) → seat.command ≡ command → (IsRecord seat.command → ⊥) → (IsPlaceRefusal reply → LeavesAll old new number)
+  -- the reply of a call that makes no object was told
+  ended : (new : State) (seat : Seat) (reply : Reply) → seat.command ≡ command → (MakesObject seat.command → ⊥) → (IsPlaceRefusal reply → LeavesAll old new number)
       → (command ≢ commands.Leave → ComesDue heap old number command reply told_) → Answered heap old new number command (told_ ++ Said number seat.command reply ∷ [])
   ended new seat reply same none refused comes = record {
     reply = reply;
     before = told_;
     last = ap (λ (c : Command). told_ ++ Said number c reply ∷ []) same;
-    answer = λ a_record. absurd (none (subst IsRecord (sym same) a_record));
+    answer = λ a_record. absurd (none (record_makes seat.command (subst IsRecord (sym same) a_record)));
+    array = λ an_array. absurd (none (array_makes seat.command (subst IsArray (sym same) an_array)));
     refused = refused;
     comes = comes;
   }
@@ -146,10 +146,15 @@ module _ (heap : Heap) (old : State) (number : ℕ) (command : Command) (now : S
         | inr some ↦ rw some.0 (same, way_stage now' told (after_link seat found) (with_entries (at_access (after_link seat found) (way_place_of (after_link seat found))) more) empty)
       ]
 
+  length_stage : (new : State) (found : ℕ) (cells : Option ℕ) → the_seat.command ≡ command → told_ ≡ []
+      → Stage heap old new number command (told_ ++ []) (with_entries (after_length the_seat found cells) []) (with_entries (after_length the_seat found cells) []).place
+  length_stage new found None same none = onward_stage new (told_ ++ []) (with_field_place the_seat) found [] same (none_more none)
+  length_stage new found (Some cells) same none = (same, none_more none)
+
   met_stage : (reply : Option Reply) (found : ℕ) → the_seat.command ≡ command → NamesObject the_seat.command
       → (new : State) → (IsPlaceRefusalOf reply → LeavesAll old new number) → told_ ≡ []
       → Stage heap old new number command (told_ ++ reply_entries_if number the_seat reply) (with_entries (after_meta the_seat found reply) (reply_entries_if number the_seat reply)) (with_entries (after_meta the_seat found reply) (reply_entries_if number the_seat reply)).place
-  met_stage None found same names new refused none = onward_stage new (told_ ++ []) (with_field_place the_seat) found [] same (none_more none)
+  met_stage None found same names new refused none = length_stage new found (array_length_of found) same none
   met_stage (Some reply) found same names new refused none = ended_alone new the_seat reply same (object_alone the_seat.command names) refused none
 
   closed_after : (reply : Option Reply) (found : ℕ) → IsPlaceRefusalOf reply → Untouched old now number told_ the_seat
@@ -177,6 +182,11 @@ module _ (heap : Heap) (old : State) (number : ℕ) (command : Command) (now : S
   stage_access Walking is stage =
       let move = access_move heap number the_seat Walking in
       onward_stage (state_after_move heap now number move) (told_ ++ []) the_seat (found_by heap now move.step) [] stage.0 (none_more stage.1)
+  stage_access Locating is stage = (stage.0, none_more stage.1)
+  stage_access Indexing is stage =
+      let move = access_move heap number the_seat Indexing in
+      let found = found_by heap now move.step in
+      (stage.0, field_stage (state_after_move heap now number move) (told_ ++ []) the_seat (with_entries (after_index the_seat found) []) the_seat.command (none_more stage.1))
   stage_access Getting is stage = got_stage (head_of (found_by heap now (access_move heap number the_seat Getting).step))
     where
       move : Move
@@ -199,7 +209,8 @@ module _ (heap : Heap) (old : State) (number : ℕ) (command : Command) (now : S
     reply = replies.Got stage.1.value stage.1.stamp;
     before = [];
     last = append-nil told_ ∙ stage.1.alone;
-    answer = λ a_record. absurd (alone_makes_none command (subst RepliesAlone stage.0 (get_alone the_seat.command is.0.1)) a_record);
+    answer = λ a_record. absurd (alone_makes_none command (subst RepliesAlone stage.0 (get_alone the_seat.command is.0.1)) (record_makes command a_record));
+    array = λ an_array. absurd (alone_makes_none command (subst RepliesAlone stage.0 (get_alone the_seat.command is.0.1)) (array_makes command an_array));
     refused = λ refusal. absurd refusal;
     comes = λ stays near. alone_comes number (length (seat_at old number).reserve) (seat_at old number).answered command (replies.Got stage.1.value stage.1.stamp) [] (subst RepliesAlone stage.0 (get_alone the_seat.command is.0.1)) refl;
   }
@@ -215,14 +226,14 @@ module _ (heap : Heap) (old : State) (number : ℕ) (command : Command) (now : S
       ended_alone (state_after_move heap now number (access_move heap number the_seat Swapping)) the_seat (replies.Was (stamp_of (found_by heap now (access_move heap number the_seat Swapping).step))) stage.0
       (set_alone the_seat.command is.0.1) (λ refusal. absurd refusal) stage.1
 
-  poll_makes_none : the_seat.command ≡ commands.Poll → IsRecord the_seat.command → ⊥
-  poll_makes_none polls a_record = rw polls at a_record
+  poll_makes_none : the_seat.command ≡ commands.Poll → MakesObject the_seat.command → ⊥
+  poll_makes_none polls makes = rw polls at makes
 
   no_collect : the_seat.command ≡ commands.Collect → the_seat.command ≡ commands.Poll → ⊥
   no_collect collects polls = cc
 
-  leave_makes_none : the_seat.command ≡ commands.Leave → IsRecord the_seat.command → ⊥
-  leave_makes_none leaves a_record = rw leaves at a_record
+  leave_makes_none : the_seat.command ≡ commands.Leave → MakesObject the_seat.command → ⊥
+  leave_makes_none leaves makes = rw leaves at makes
 
   -- what comes before the reply to a poll
   poll_comes : (p : ℕ) (before : List Entry) → command ≡ commands.Poll → (IsPhaseNear heap old number → AnswersBefore number (seat_at old number).answered (replies.Phase p) before)
@@ -274,7 +285,8 @@ module _ (heap : Heap) (old : State) (number : ℕ) (command : Command) (now : S
         before = told_ ++ answer ∷ [];
         last = ap (λ (c : Command). told_ ++ answer ∷ Said number c (replies.Phase the_seat.asked) ∷ []) stage.0
             ∙ sym (append_assoc told_ (answer ∷ []) (Said number command (replies.Phase the_seat.asked) ∷ []));
-        answer = λ a_record. absurd (poll_makes_none (stage.0 ∙ stage.1) (subst IsRecord (sym stage.0) a_record));
+        answer = λ a_record. absurd (poll_makes_none (stage.0 ∙ stage.1) (record_makes the_seat.command (subst IsRecord (sym stage.0) a_record)));
+        array = λ an_array. absurd (poll_makes_none (stage.0 ∙ stage.1) (array_makes the_seat.command (subst IsArray (sym stage.0) an_array)));
         refused = λ refusal. absurd refusal;
         comes = λ not_leave. poll_comes the_seat.asked (told_ ++ answer ∷ []) stage.1 (λ near.
             inr (next near, ap (λ (l : List Entry). l ++ answer ∷ []) stage.2.none_told));

@@ -7,7 +7,7 @@ use Rattle.heap_model.specs.declared.reply.Reply.{Reply}
 use Rattle.heap_model.specs.calls.SeatCalls.{ComesBefore}
 use Rattle.core_machine.specs.declared.seat.register.Register.{Register}
 use Rattle.core_machine.specs.machine.Calls.{IsPlaceRefusal}
-use Rattle.core_machine.specs.seat.Commands.{IsRecord}
+use Rattle.core_machine.specs.seat.Commands.{MakesObject}
 use Rattle.core_machine.specs.seat.Local.{local_reply_of, local_registers}
 use Rattle.core_machine.specs.seat.FitsAccess.{IsGet, IsSet, NamesObject}
 use Rattle.core_machine.specs.seat.Fits.{IsLocal}
@@ -43,10 +43,11 @@ pub set_alone : (command : Command) → IsSet command → RepliesAlone command
 set_alone (commands.Set r i v) a_set = tt
 set_alone _ a_set = absurd a_set
 
--- such a command makes no record, and nothing comes before its reply
-pub alone_makes_none : (command : Command) → RepliesAlone command → IsRecord command → ⊥
-alone_makes_none (commands.New d fields) alone a_record = alone
-alone_makes_none _ alone a_record = a_record
+-- such a command makes no object, and nothing comes before its reply
+pub alone_makes_none : (command : Command) → RepliesAlone command → MakesObject command → ⊥
+alone_makes_none (commands.New d fields) alone makes = alone
+alone_makes_none (commands.Array d cells) alone makes = alone
+alone_makes_none _ alone makes = makes
 
 pub alone_comes : (number unborn last : ℕ) (command : Command) (reply : Reply) (before : List Entry) → RepliesAlone command → before ≡ []
     → ComesBefore number unborn last command reply before

@@ -8,45 +8,56 @@ use Rattle.heap_model.specs.declared.entry.Entry.TheVariants.{Said}
 use Rattle.heap_model.specs.declared.reply.Reply.{Reply}
 use Rattle.heap_model.specs.declared.reply.Reply.TheVariants as replies
 use Rattle.heap_model.specs.calls.SeatCalls.{ClaimsBefore, ComesBefore}
+use Rattle.heap_model.specs.Needs.{spine_need_of}
 use Rattle.heap_model.specs.account.Space.{need_of}
-use Rattle.core_machine.specs.declared.table.address.Address.TheVariants.{Phase, Control}
+use Rattle.core_machine.specs.declared.table.address.Address.TheVariants.{Phase, Budget, Control}
 use Rattle.core_machine.specs.declared.place.Place.{Place}
 use Rattle.core_machine.specs.declared.place.Place.TheVariants as places
 use Rattle.core_machine.specs.declared.place.Making.{Making}
-use Rattle.core_machine.specs.declared.place.Making.TheVariants.{Gathering, Returning, Refusing, Storing, Bearing}
+use Rattle.core_machine.specs.declared.place.Making.TheVariants.{Granting, Withdrawing, Gathering, Returning, Refusing, Placing, Listing, Storing, Bearing}
 use Rattle.core_machine.specs.table.Fragments.{clear_in}
 use Rattle.core_machine.specs.table.Layout.{at}
 use Rattle.core_machine.specs.seat.Making.{next_object_id}
 use Rattle.core_machine.specs.seat.Looks.{forgotten}
 use Rattle.core_machine.specs.seat.Seat.{Seat, after_call}
-use Rattle.core_machine.specs.machine.Machine.{State, seat_at}
+use Rattle.core_machine.specs.Moves.{Move, seat_after}
+use Rattle.core_machine.specs.machine.Machine.{State, seat_at, found_by, state_after_move}
 use Rattle.heap_model.specs.declared.id.Value.{Value}
 use Rattle.core_machine.specs.declared.place.Access.{Access}
 use Rattle.core_machine.specs.declared.place.Access.TheVariants.{LoadingMeta, Naming}
 use Rattle.core_machine.specs.declared.place.Polling.{Polling}
 use Rattle.core_machine.specs.declared.place.Polling.TheVariants.{Asking, Shading, Answering}
-use Rattle.core_machine.specs.seat.Commands.{IsRecord}
-use Rattle.core_machine.specs.machine.Calls.{IsPhaseNear, free_count, within_reach, KeepsOwn, AnswersNew, IsPlaceRefusal, LeavesAll}
+use Rattle.core_machine.specs.seat.Commands.{IsRecord, IsArray}
+use Rattle.core_machine.specs.machine.Calls.{IsPhaseNear, free_count, within_reach, KeepsOwn, AnswersNew, LacksWords, AnswersArray, IsPlaceRefusal, LeavesAll}
 use Rattle.core_machine.proofs.call_lemmas.Claiming.{HasTaken, GivesBackAll}
-use Rattle.core_machine.proofs.call_lemmas.Restoring.{Claims}
+use Rattle.core_machine.proofs.call_lemmas.Asking.{AsksWords, HasClaimed}
+
+-- while the spine words are taken back that are too many
+pub record WhileWithdrawing (heap : Heap) (old : State) (words : List ℕ) (number : ℕ) (command : Command) (told : List Entry) (seat : Seat) : Type 0 where
+  pub own : KeepsOwn (seat_at old number) seat
+  pub lacks : LacksWords heap old command
+  pub found : seat.used ≡ at heap old.words Budget
+  pub asked : AsksWords heap (spine_need_of command) old.words words
+  pub none_told : told ≡ []
 
 -- while groups are claimed: what is free now and what is in the hand was free at the begin, and the groups passed have nothing free
 pub record WhileGathering (heap : Heap) (old : State) (words : List ℕ) (number : ℕ) (command : Command) (told : List Entry) (seat : Seat) : Type 0 where
   pub own : KeepsOwn (seat_at old number) seat
   pub free : free_count heap words + length seat.hand ≡ free_count heap old.words
   pub passed : (i : ℕ) → i < seat.tried → clear_in ((seat.cursor + i) % heap.groups) (at heap words (Control ((seat.cursor + i) % heap.groups))) ≡ []
-  pub claims : Claims heap old.words words seat.hand
+  pub claims : HasClaimed heap old words command seat.hand
   pub takes : HasTaken number (length (seat_at old number).reserve) (need_of command) seat.hand told
 
 -- while what was claimed is given back: it was all that was free
-pub record WhileReturning (heap : Heap) (old : State) (words : List ℕ) (number : ℕ) (told : List Entry) (seat : Seat) : Type 0 where
+pub record WhileReturning (heap : Heap) (old : State) (words : List ℕ) (number : ℕ) (command : Command) (told : List Entry) (seat : Seat) : Type 0 where
   pub own : KeepsOwn (seat_at old number) seat
   pub all : length seat.hand + seat.given ≡ free_count heap old.words
-  pub claims : Claims heap old.words words seat.hand
+  pub claims : HasClaimed heap old words command seat.hand
   pub gives : GivesBackAll number seat.given seat.hand told
 
--- while the object is stored and born: enough was within reach, and no more was claimed than was needed
+-- while the object is stored and born: an array was granted its spine words, enough was within reach, and no more was claimed than was needed
 pub record WhileMaking (heap : Heap) (old : State) (number : ℕ) (command : Command) (told : List Entry) (made : ℕ) : Type 0 where
+  pub granted : IsArray command → LacksWords heap old command → ⊥
   pub enough : need_of command ≤ within_reach heap old number
   pub made_stays : made ≡ (seat_at old number).made
   pub claimed : ClaimsBefore number (length (seat_at old number).reserve) (need_of command) (replies.Made (next_object_id number (seat_at old number))) told
@@ -63,6 +74,7 @@ pub record Answered (heap : Heap) (old new : State) (number : ℕ) (command : Co
   pub before : List Entry
   pub last : told ≡ before ++ Said number command reply ∷ []
   pub answer : IsRecord command → AnswersNew heap old new number command reply
+  pub array : IsArray command → AnswersArray heap old new number command reply
   pub refused : IsPlaceRefusal reply → LeavesAll old new number
   pub comes : command ≢ Leave → ComesDue heap old number command reply before
 
@@ -87,9 +99,13 @@ pub record Prepares (heap : Heap) (old : State) (number : ℕ) (told : List Entr
 
 -- how the state stands to that of the begin, by the place of the call
 abbrev pub StageOf : Heap → State → State → ℕ → Command → List Entry → Seat → Making → Type 0
+StageOf heap old now number command told seat Granting = Untouched old now number told seat
+StageOf heap old now number command told seat Withdrawing = WhileWithdrawing heap old now.words number command told seat
 StageOf heap old now number command told seat Gathering = WhileGathering heap old now.words number command told seat
-StageOf heap old now number command told seat Returning = WhileReturning heap old now.words number told seat
-StageOf heap old now number command told seat Refusing = WhileReturning heap old now.words number told seat
+StageOf heap old now number command told seat Returning = WhileReturning heap old now.words number command told seat
+StageOf heap old now number command told seat Refusing = WhileReturning heap old now.words number command told seat
+StageOf heap old now number command told seat Placing = WhileMaking heap old number command told seat.made
+StageOf heap old now number command told seat Listing = WhileMaking heap old number command told seat.made
 StageOf heap old now number command told seat Storing = WhileMaking heap old number command told seat.made
 StageOf heap old now number command told seat Bearing = WhileMaking heap old number command told seat.made
 
@@ -111,3 +127,9 @@ Stage heap old now number command told seat (places.Access place) = (seat.comman
 Stage heap old now number command told seat (places.Polling place) = (seat.command ≡ command) × (command ≡ Poll) × PollingStage heap old now number told seat place
 Stage heap old now number command told seat (places.Collecting place) = ⊥
 Stage heap old now number command told seat (places.Leaving place) = seat.command ≡ command
+
+-- what a move of the seat leads to
+abbrev pub StageAfter : Heap → State → ℕ → Command → State → List Entry → Move → Type 0
+StageAfter heap old number command now told move =
+    let found = found_by heap now move.step in
+    Stage heap old (state_after_move heap now number move) number command (told ++ move.shows now.words found) (seat_after move found) (seat_after move found).place

@@ -21,7 +21,7 @@ use Rattle.heap_model.specs.declared.id.Id.TheVariants.{Board}
 use Rattle.core_machine.specs.collector.Collector.{Collector, opening_collector}
 use Rattle.core_machine.specs.table.Decode.{pointer_in, IsWithinHeap, FoundPointsWithin}
 use Rattle.core_machine.specs.seat.Fits.{AreFragments, FitsRegister, CollectorFits, Fits}
-use Rattle.core_machine.proofs.seat_lemmas.Aside.{gone_aside}
+use Rattle.core_machine.proofs.seat_lemmas.Aside.{gone_aside, no_spot_fits}
 use Rattle.core_machine.proofs.table_lemmas.Leading.{record_leads, zero_leads}
 use Rattle.core_machine.specs.machine.Value.{IsMachine}
 use Rattle.core_machine.proofs.table_lemmas.Addresses.{length-put, at-put_same, at-put_other}
@@ -175,14 +175,16 @@ fits_open heap number limits = record {
   hand = record {
     hand_within = All-nil (λ fragment. fragment < 16 * heap.groups);
     body_within = All-nil (λ fragment. fragment < 16 * heap.groups);
+    spine_within = no_spot_fits;
   };
   way = record {
     reached_within = omega (arith, limits.some_group);
+    address_within = no_spot_fits;
     loaded_within = tt;
   };
   asked_small = omega arith;
-  at_place = record { empty_hand = refl; no_body = refl; none_stored = refl; none_tried = refl; none_given = refl };
-  way_at_place = record { none_reached = refl; no_links = refl; no_part = refl; none_loaded = refl };
+  at_place = record { empty_hand = refl; no_body = refl; none_stored = refl; none_tried = refl; none_given = refl; no_spine = record { none_used = refl; no_place = refl; none_listed = refl } };
+  way_at_place = record { none_reached = refl; no_links = refl; no_part = refl; no_address = refl; none_loaded = refl };
   answer_at_place = record { none_asked = refl; none_shaded = refl };
   gone = gone_aside refl;
 }

@@ -1,51 +1,50 @@
 -- How a new object gets its words, and is born.
-use Rattle.std.proofs.Common.{◌≡◌, ℕ, ◌+◌, ◌-◌, ◌*◌, ◌/◌, ◌^◌, ◌<◌, ◌≤◌, false, [], length, inl, inr, refl, arith, List, ◌∷◌, ◌++◌, set, get_or, subst, sym, ap, ◌∙◌, ◌%◌, bit_or}
+use Rattle.std.proofs.Common.{◌≡◌, ℕ, ◌+◌, ◌-◌, ◌*◌, ◌/◌, ◌^◌, ◌<◌, ◌≤◌, false, [], length, inl, inr, refl, arith, ◌++◌, set, get_or, subst, sym, ap, ◌∙◌, ◌%◌, bit_or, length-take}
 use Rattle.std.proofs.lemmas.Bool.Decides.{eqb_tells}
 use Rattle.std.proofs.lemmas.List.{length-set}
-use Rattle.std.proofs.lemmas.List.Elements.{All-filter, All-set}
-use Rattle.std.specs.List.{list_all}
+use Rattle.std.proofs.lemmas.List.Elements.{All-take, All-set}
 use Rattle.heap_model.specs.declared.heap.Heap.{Heap}
 use Rattle.heap_model.specs.declared.reply.Reply.TheVariants as replies
 use Rattle.core_machine.specs.Moves.{seat_after, bearing_move, is_last_birth, birth_move, last_birth_move, bears_black_of}
 use Rattle.core_machine.specs.declared.place.Making.TheVariants.{Storing, Bearing}
 use Rattle.core_machine.specs.declared.place.Place.TheVariants as places
 use Rattle.core_machine.specs.declared.seat.register.Register.TheVariants.{Object}
-use Rattle.core_machine.specs.seat.Commands.{target_of, fields_of}
-use Rattle.core_machine.specs.seat.Fits.{HasBody, FitsMaking, Fits, FitsRegister}
-use Rattle.core_machine.specs.seat.Making.{after_store, after_birth, after_last_birth, last_group_of, store_place, next_object_id, next_name}
+use Rattle.core_machine.specs.seat.Commands.{target_of}
+use Rattle.core_machine.specs.seat.Fits.{HasBody, IsListed, FitsMaking, Fits, FitsRegister}
+use Rattle.core_machine.specs.seat.Making.{after_store, after_birth, after_last_birth, last_group_of, last_run, before_run, store_place, next_object_id, next_name}
 use Rattle.core_machine.specs.seat.MakingMoves.{store_move, last_part}
 use Rattle.core_machine.specs.seat.Seat.{Seat, with_entries}
-use Rattle.core_machine.specs.table.Fragments.{part_out, in_group, out_of_group, mask_of}
+use Rattle.core_machine.specs.table.Fragments.{mask_of}
 use Rattle.core_machine.specs.table.Operation.{birth_bits_of}
 use Rattle.core_machine.proofs.call_lemmas.Awaits.{plain}
 use Rattle.core_machine.proofs.call_lemmas.Owes.{Nears}
 use Rattle.core_machine.proofs.call_lemmas.Saying.{Says, on, ends}
 use Rattle.core_machine.proofs.moves.Standing.{IsAt, MoveStands, PlaceStands, aside_at}
 use Rattle.core_machine.proofs.seat_lemmas.Aside.{IsAside, gone_aside, fits_over, fits_hand}
-use Rattle.core_machine.proofs.seat_lemmas.Fitting.{need_of_record}
+use Rattle.core_machine.proofs.seat_lemmas.Fitting.{need_of_object}
+use Rattle.core_machine.proofs.seat_lemmas.LastRun.{before_shorter, before_some}
 use Rattle.core_machine.proofs.table_lemmas.Bits.{bool_tells}
-use Rattle.core_machine.proofs.table_lemmas.Filters.{length-filter_le, out_shorter}
-use Rattle.core_machine.proofs.table_lemmas.Leading.{record_leads}
+use Rattle.core_machine.proofs.table_lemmas.Leading.{newborn_leads}
 use Rattle.core_machine.proofs.table_lemmas.Masks.{mask-lt}
 use Rattle.core_machine.proofs.table_lemmas.Owned.{group_within}
-use Rattle.core_machine.proofs.table_lemmas.Wide.{fields_few, record_wide, fragment_small, birth_wide}
+use Rattle.core_machine.proofs.table_lemmas.Wide.{newborn_wide, fragment_small, birth_wide}
 
-fits_storing : (heap : Heap) (seat : Seat) → HasBody seat → seat.hand ≡ seat.body → seat.stored ≤ 4 * length seat.body
+fits_storing : (heap : Heap) (seat : Seat) → HasBody seat → seat.hand ≡ seat.body → seat.stored ≤ 4 * length seat.body → IsListed seat.command seat.spine seat.listed
     → FitsMaking heap seat (store_place seat.stored seat.body)
-fits_storing heap seat is whole within =
-    let some = need_of_record seat.command is.makes.a_record is.makes.in_range in
+fits_storing heap seat is whole within listed =
+    let some = need_of_object seat.command is.makes.an_object is.makes.in_range in
     let same = ap length whole in
     elim (eqb_tells seat.stored (4 * length seat.body)) as (λ _. FitsMaking heap seat (store_place seat.stored seat.body)) [
-      | inl all ↦ rw all.0 (is, omega (arith, is.whole), omega arith, all.1)
-      | inr left ↦ rw left.0 (is, whole, omega arith)
+      | inl all ↦ rw all.0 (is, omega (arith, is.whole), omega arith, all.1, listed)
+      | inr left ↦ rw left.0 (is, whole, omega arith, listed)
     ]
 
 -- a word was stored
 fits_stored : (heap : Heap) (seat : Seat) → Fits heap seat → IsAside heap seat → HasBody seat → seat.hand ≡ seat.body → seat.stored < 4 * length seat.body
-    → Fits heap (after_store seat)
-fits_stored heap seat fits aside is whole within =
+    → IsListed seat.command seat.spine seat.listed → Fits heap (after_store seat)
+fits_stored heap seat fits aside is whole within listed =
     fits_hand heap seat seat.hand (seat.stored + 1) seat.tried seat.given (places.Making (store_place (seat.stored + 1) seat.body)) fits aside fits.hand.hand_within
-    (fits_storing heap (after_store seat) (record { makes = is.makes; whole = is.whole; none_tried = is.none_tried; none_given = is.none_given }) whole (omega arith))
+    (fits_storing heap (after_store seat) (record { makes = is.makes; whole = is.whole; none_tried = is.none_tried; none_given = is.none_given; none_used = is.none_used }) whole (omega arith) listed)
     aside.nowhere aside.silent
 
 nears_stored : (heap : Heap) (seat : Seat) → seat.stored < 4 * length seat.body → 0 < length seat.hand
@@ -60,45 +59,34 @@ nears_stored heap seat within some =
 pub store_stands : PlaceStands (places.Making Storing)
 store_stands heap number seat here =
     let makes = here.hand.0.makes in
-    let few : fields_of seat.command < 2 ^ 13 = omega (arith, fields_few seat.command makes.a_record makes.in_range) in
     record {
       step = record {
         in_table = (here.fits.hand.body_within (seat.stored / 4) 0 (omega (arith, here.hand.2)), omega arith);
-        wide = λ found small. record_wide (next_name number seat) (fields_of seat.command) seat.body (seat.stored / 4) (seat.stored % 4) (omega (arith, here.few)) (omega (arith, makes.numbered)) few
-            (λ i. fragment_small heap seat.body i here.limits here.fits.hand.body_within);
-        leads = λ found led. record_leads heap (next_name number seat) (fields_of seat.command) seat.body (seat.stored / 4) (seat.stored % 4) (omega (arith, here.few)) (omega (arith, makes.numbered)) few
-            (omega (arith, here.fits.own.cursor_within)) (omega (arith, here.limits.groups_fit)) here.fits.hand.body_within;
+        wide = λ found small. newborn_wide seat.command (next_name number seat) seat.spine seat.body (seat.stored / 4) (seat.stored % 4) makes.an_object makes.in_range (omega (arith, here.few)) (omega (arith, makes.numbered))
+            here.fits.hand.spine_within (λ i. fragment_small heap seat.body i here.limits here.fits.hand.body_within);
+        leads = λ found led. newborn_leads heap seat.command (next_name number seat) seat.spine seat.body (seat.stored / 4) (seat.stored % 4) makes.an_object makes.in_range (omega (arith, here.few)) (omega (arith, makes.numbered))
+            (omega (arith, here.fits.own.cursor_within)) (omega (arith, here.limits.groups_fit)) here.fits.hand.spine_within here.fits.hand.body_within;
       };
-      fits = λ found small led. fits_stored heap seat here.fits (aside_at heap number seat (places.Making Storing) here (λ e. cc) here.way here.answer) here.hand.0 here.hand.1 here.hand.2;
+      fits = λ found small led. fits_stored heap seat here.fits (aside_at heap number seat (places.Making Storing) here (λ e. cc) here.way here.answer) here.hand.0 here.hand.1 here.hand.2 here.hand.3;
       near = λ found. nears_stored heap seat here.hand.2 (omega (arith, ap length here.hand.1, here.hand.2));
       adds = λ now. plain heap now number seat (store_move number seat) refl (rw here.placed refl) refl refl;
       says = λ old command words told is found. (on old number command seat _ told [] is.0 refl refl refl refl tt, is.1);
     }
 
--- where not all are of a group, some are of others
-some_out : (group : ℕ) (fragments : List ℕ) → list_all (in_group group) fragments ≡ false → 0 < length (part_out group fragments)
-some_out group [] none = cc
-some_out group (fragment ∷ more) some =
-    elim (eqb_tells (fragment / 16) group) as (λ _. 0 < length (part_out group (fragment ∷ more))) [
-      | inl here ↦ rw here.0 (some_out group more (rw here.0 at some))
-      | inr there ↦ rw there.0 (omega arith)
-    ]
-
--- the hand's last group was born, and others are left
+-- the hand's last fragments were born, and others are left
 fits_born : (heap : Heap) (seat : Seat) → Fits heap seat → IsAside heap seat → HasBody seat → length seat.hand ≤ length seat.body → seat.stored ≡ 4 * length seat.body
-    → seat.place ≡ places.Making Bearing → is_last_birth seat ≡ false → Fits heap (after_birth seat)
-fits_born heap seat fits aside is within stored place more =
-    let group = last_group_of seat.hand in
-    let fewer = length-filter_le (out_of_group group) seat.hand in
-    fits_hand heap seat (part_out group seat.hand) seat.stored seat.tried seat.given seat.place fits aside
-    (All-filter (out_of_group group) (λ fragment. fragment < 16 * heap.groups) seat.hand fits.hand.hand_within)
-    (rw place (record { makes = is.makes; whole = is.whole; none_tried = is.none_tried; none_given = is.none_given }, some_out group seat.hand more, omega arith, stored))
+    → IsListed seat.command seat.spine seat.listed → seat.place ≡ places.Making Bearing → is_last_birth seat ≡ false → Fits heap (after_birth seat)
+fits_born heap seat fits aside is within stored listed place more =
+    let fewer = length-take (length seat.hand - last_run seat.hand) seat.hand in
+    fits_hand heap seat (before_run seat.hand) seat.stored seat.tried seat.given seat.place fits aside
+    (All-take (λ fragment. fragment < 16 * heap.groups) (length seat.hand - last_run seat.hand) seat.hand fits.hand.hand_within)
+    (rw place (record { makes = is.makes; whole = is.whole; none_tried = is.none_tried; none_given = is.none_given; none_used = is.none_used }, before_some seat.hand more, omega (arith, fewer, within), stored, listed))
     (rw place aside.nowhere) (rw place aside.silent)
 
 -- the object was made
 fits_made : (heap : Heap) (number : ℕ) (seat : Seat) → Fits heap seat → IsAside heap seat → HasBody seat → Fits heap (after_last_birth number seat)
 fits_made heap number seat fits aside is =
-    let some = need_of_record seat.command is.makes.a_record is.makes.in_range in
+    let some = need_of_object seat.command is.makes.an_object is.makes.in_range in
     let head = fits.hand.body_within 0 0 (omega (arith, is.whole)) in
     fits_over heap (record seat { registers = set seat.registers (target_of seat.command) (Object (get_or seat.body 0 0) (next_object_id number seat)); made = seat.made + 1 })
     (length-set seat.registers _ _ ∙ fits.own.registers_whole)
@@ -116,13 +104,13 @@ module _ (heap : Heap) (number : ℕ) (seat : Seat) (here : IsAt heap number sea
   born_wide : (found : ℕ) → found < 2 ^ 64 → bit_or found (birth_bits_of (bears_black_of seat) (mask_of (last_part seat))) < 2 ^ 64
   born_wide found small = birth_wide (bears_black_of seat) (mask_of (last_part seat)) found (mask-lt (last_part seat)) small
 
-  shorter : length (part_out (last_group_of seat.hand) seat.hand) < length seat.hand
-  shorter = out_shorter (last_group_of seat.hand) seat.hand (length seat.hand - 1) (omega (arith, here.hand.1)) refl
+  shorter : length (before_run seat.hand) < length seat.hand
+  shorter = before_shorter seat.hand here.hand.1
 
   birth_stands : is_last_birth seat ≡ false → MoveStands heap number seat (places.Making Bearing) (birth_move seat)
   birth_stands more = record {
     step = record { in_table = last_within; wide = born_wide; leads = λ found led. tt };
-    fits = λ found small led. fits_born heap seat here.fits aside here.hand.0 here.hand.2 here.hand.3 here.placed more;
+    fits = λ found small led. fits_born heap seat here.fits aside here.hand.0 here.hand.2 here.hand.3 here.hand.4 here.placed more;
     near = λ found. record { fewer = rw here.placed (omega (arith, shorter)); paid = rw here.placed (omega arith) };
     adds = λ now. plain heap now number seat (birth_move seat) refl (rw here.placed refl) (rw here.placed refl) refl;
     says = λ old command words told is found. subst (Says old number command (seat_after (birth_move seat) found) (told ++ [])) (sym here.placed)

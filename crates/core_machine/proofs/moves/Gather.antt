@@ -1,5 +1,5 @@
 -- What a call claims for a new object, gives back, and tells where too little is had.
-use Rattle.std.proofs.Common.{◌≡◌, ℕ, ◌+◌, ◌-◌, ◌*◌, ◌/◌, ◌^◌, ◌<◌, ◌≤◌, false, [], length, inl, inr, refl, arith, eqb, List, ◌∷◌, ◌++◌, drop, subst, sym, length-append, append_assoc, ◌≢◌, length-take, append-nil}
+use Rattle.std.proofs.Common.{◌≡◌, ℕ, ◌+◌, ◌-◌, ◌*◌, ◌/◌, ◌^◌, ◌<◌, ◌≤◌, false, [], length, inl, inr, refl, arith, eqb, List, ◌∷◌, ◌++◌, drop, subst, sym, length-append, append_assoc, ◌≢◌, length-take}
 use Rattle.std.proofs.Math.Seq.{drop-append-add}
 use Rattle.std.proofs.lemmas.Bool.Decides.{eqb_tells}
 use Rattle.std.proofs.lemmas.List.Elements.{All-append, All-drop, All-filter}
@@ -12,29 +12,29 @@ use Rattle.heap_model.specs.declared.command.Command.TheVariants.{New}
 use Rattle.heap_model.specs.declared.command.Command.TheVariants as commands
 use Rattle.heap_model.specs.declared.entry.Entry.{Entry}
 use Rattle.heap_model.specs.declared.heap.Heap.{Heap}
-use Rattle.core_machine.specs.Moves.{takes_some}
+use Rattle.core_machine.specs.Moves.{takes_some, refusal_step}
 use Rattle.core_machine.specs.declared.place.Making.TheVariants.{Gathering, Returning, Refusing}
 use Rattle.core_machine.specs.declared.place.Place.TheVariants as places
 use Rattle.core_machine.specs.declared.step.Step.TheVariants.{PollLoad}
 use Rattle.core_machine.specs.machine.Calls.{IsBeside}
 use Rattle.core_machine.specs.machine.Machine.{found_by, MayBegin, after_begin}
 use Rattle.core_machine.specs.seat.Awaiting.{entries_awaited}
-use Rattle.core_machine.specs.seat.Fits.{Fits, SeatIsGathering, SeatIsRefusing, FitsPlace, IsAtRest}
-use Rattle.core_machine.specs.seat.Making.{after_claim, after_give_back, next_group_of, first_group_of, refusal_place, fragments_gathered, gather_next}
+use Rattle.core_machine.specs.seat.Fits.{Fits, MakesNext, SeatIsGathering, SeatIsRefusing, FitsPlace}
+use Rattle.core_machine.specs.seat.Making.{after_gather, after_claim, after_give_back, next_group_of, first_group_of, refusal_place, fragments_gathered, gather_next}
 use Rattle.core_machine.specs.seat.MakingMoves.{claim_move, first_part, give_back_move, refusal_move}
-use Rattle.core_machine.specs.seat.Seat.{Seat, need, with_entries}
+use Rattle.core_machine.specs.seat.Seat.{Seat, need, spine_need, with_entries}
 use Rattle.core_machine.specs.table.Fragments.{clear_in, part_out, in_group, out_of_group, part_in, mask_of}
 use Rattle.core_machine.specs.table.Operation.{all_taken}
 use Rattle.core_machine.proofs.call_lemmas.Awaits.{plain, after_words, goes_on_mine}
-use Rattle.core_machine.proofs.call_lemmas.Owes.{Nears, owes}
+use Rattle.core_machine.proofs.call_lemmas.Owes.{owes_making, making_steps, Nears, owes}
 use Rattle.core_machine.proofs.call_lemmas.Saying.{IsGoing, Says, on, ends}
 use Rattle.core_machine.proofs.moves.Standing.{PlaceStands, present_at, aside_at, CommandStands, going_ready, rest_ready}
 use Rattle.core_machine.proofs.seat_lemmas.Aside.{IsAside, gone_aside, fits_over, fits_hand, aside_idle}
-use Rattle.core_machine.proofs.seat_lemmas.Fitting.{need_of_record, fits_goes_on, fits_returning, goes_on_cases, returning_cases, next_within}
+use Rattle.core_machine.proofs.seat_lemmas.Fitting.{need_of_object, fits_goes_on, fits_returning, goes_on_cases, returning_cases, settled_cases, gathers_at_rest, next_within}
 use Rattle.core_machine.proofs.table_lemmas.Clear.{length-clear_among}
 use Rattle.core_machine.proofs.table_lemmas.Filters.{out_shorter}
 use Rattle.core_machine.proofs.table_lemmas.Owned.{group_within, clear_in-group, within_group}
-use Rattle.core_machine.proofs.table_lemmas.StepStands.{load_stands}
+use Rattle.core_machine.proofs.table_lemmas.StepStands.{StepStands, load_stands, take_back_stands}
 
 -- what is past the need after a claim is of the group that was claimed
 claimed_rest : (group need : ℕ) (reserve hand more : List ℕ) → length reserve + length hand ≤ need
@@ -62,6 +62,7 @@ fits_claimed heap seat found fits aside is =
       hand_within = All-append (λ fragment. fragment < 16 * heap.groups) seat.hand (clear_in group found) fits.hand.hand_within
           (within_group heap group (clear_in group found) (next_within heap seat fits.own.cursor_within) (clear_in-group group found));
       makes = is.makes;
+      no_spine = is.no_spine;
       no_body = is.no_body;
       none_stored = is.none_stored;
       none_given = is.none_given;
@@ -79,36 +80,45 @@ takes_few number count =
       | inr some ↦ rw some.0 (omega arith, omega arith)
     ]
 
+-- how near its end a call is that goes on with what is gathered
+pub nears_gathered : (heap : Heap) (seat : Seat) (more : List Entry) (owed steps : ℕ) → MakesNext seat.command seat.made → seat.stored ≡ 0
+    → (heap.groups - seat.tried) + 5 * need seat + spine_need seat + 1 < steps → 1 + length more ≤ owed
+    → (length (fragments_gathered seat) < need seat → 2 * need seat - length (fragments_gathered seat) + length more ≤ owed)
+    → Nears heap (with_entries (gather_next heap seat) more) owed steps (length more)
+nears_gathered heap seat more owed steps makes none fewer paid lacking =
+    let some = need_of_object seat.command makes.an_object makes.in_range in
+    let before = length-append seat.reserve seat.hand in
+    let used = length-take (need seat) (fragments_gathered seat) in
+    goes_on_cases (λ s. Nears heap (with_entries s more) owed steps (length more)) heap seat
+    (λ enough. settled_cases (λ m. Nears heap (with_entries (record (after_gather heap seat) { place = places.Making m }) more) owed steps (length more)) seat.command
+    (λ an_array. record { fewer = omega (arith, used, fewer); paid = omega (arith, paid) })
+    (λ other. record { fewer = omega (arith, used, none, fewer); paid = omega (arith, paid) }))
+    (λ lacks left. record { fewer = omega (arith, fewer); paid = omega (arith, lacking lacks) })
+    (λ lacks none_left. returning_cases (λ m. Nears heap (with_entries (record seat { place = places.Making m }) more) owed steps (length more)) seat.hand
+    (λ empty. record { fewer = omega (arith, fewer, some.0); paid = omega (arith, paid) })
+    (λ left. record { fewer = omega (arith, fewer, lacks, before); paid = omega (arith, lacking lacks, lacks, before) }))
+
 nears_claimed : (heap : Heap) (number : ℕ) (seat : Seat) (found : ℕ) → SeatIsGathering heap seat
     → Nears heap (with_entries (after_claim heap seat found) (takes_some number (length (clear_in (next_group_of heap seat) found))))
-    (2 * need seat - length (fragments_gathered seat)) ((heap.groups - seat.tried) + 5 * need seat) (length (takes_some number (length (clear_in (next_group_of heap seat) found))))
+    (owes_making seat Gathering) (making_steps heap seat Gathering) (length (takes_some number (length (clear_in (next_group_of heap seat) found))))
 nears_claimed heap number seat found is =
     let got = clear_in (next_group_of heap seat) found in
     let few = takes_few number (length got) in
-    let some = need_of_record seat.command is.makes.a_record is.makes.in_range in
-    let next = record seat { hand = seat.hand ++ got; tried = seat.tried + 1 } in
+    let some = need_of_object seat.command is.makes.an_object is.makes.in_range in
     let before = length-append seat.reserve seat.hand in
     let all = length-append seat.reserve (seat.hand ++ got) in
     let hand = length-append seat.hand got in
-    goes_on_cases (λ s. Nears heap (with_entries s (takes_some number (length got))) (2 * need seat - length (fragments_gathered seat)) ((heap.groups - seat.tried) + 5 * need seat) (length (takes_some number (length got))))
-    heap next
-    (λ enough. let used = length-take (need seat) (fragments_gathered next) in
-    record { fewer = omega (arith, is.groups_left, is.none_stored, used); paid = omega (arith, is.too_few, few.1, some.0) })
-    (λ lacks left. record { fewer = omega (arith, is.groups_left, lacks); paid = omega (arith, lacks, few.0, is.too_few) })
-    (λ lacks none. returning_cases
-    (λ m. Nears heap (with_entries (record next { place = places.Making m }) (takes_some number (length got))) (2 * need seat - length (fragments_gathered seat)) ((heap.groups - seat.tried) + 5 * need seat) (length (takes_some number (length got))))
-    (seat.hand ++ got)
-    (λ empty. record { fewer = omega (arith, is.groups_left, some.0); paid = omega (arith, is.too_few, few.1, some.0) })
-    (λ left. record { fewer = omega (arith, is.groups_left, lacks); paid = omega (arith, is.too_few, lacks, few.1) }))
+    nears_gathered heap (record seat { hand = seat.hand ++ got; tried = seat.tried + 1 }) (takes_some number (length got)) (owes_making seat Gathering) (making_steps heap seat Gathering) is.makes is.none_stored
+    (omega (arith, is.groups_left)) (omega (arith, before, is.too_few, few.1, some.0)) (λ lacks. omega (arith, before, all, hand, few.0, lacks))
 
-goes_on_awaits : (heap : Heap) (words : List ℕ) (number : ℕ) (seat : Seat) (more : List Entry) → entries_awaited heap words number (with_entries (gather_next heap seat) more) ≡ []
+pub goes_on_awaits : (heap : Heap) (words : List ℕ) (number : ℕ) (seat : Seat) (more : List Entry) → entries_awaited heap words number (with_entries (gather_next heap seat) more) ≡ []
 goes_on_awaits heap words number seat more =
     goes_on_cases (λ s. entries_awaited heap words number (with_entries s more) ≡ []) heap seat (λ enough. refl) (λ few left. refl) (λ few all. refl)
 
 took : (number count : ℕ) → AllByRecursion (IsBeside number) (takes_some number count)
 took number count = elim (eqb_tells count 0) as (λ _. AllByRecursion (IsBeside number) (takes_some number count)) [ inl none ↦ rw none.0 tt | inr some ↦ rw some.0 (refl, tt) ]
 
-goes_on_says : (old : Seat) (number : ℕ) (command : Command) (heap : Heap) (seat next : Seat) (told more : List Entry) → IsGoing old number command seat told × (command ≢ commands.Leave) → next.command ≡ seat.command → next.made ≡ seat.made → next.sets ≡ seat.sets → next.left ≡ seat.left
+pub goes_on_says : (old : Seat) (number : ℕ) (command : Command) (heap : Heap) (seat next : Seat) (told more : List Entry) → IsGoing old number command seat told × (command ≢ commands.Leave) → next.command ≡ seat.command → next.made ≡ seat.made → next.sets ≡ seat.sets → next.left ≡ seat.left
     → AllByRecursion (IsBeside number) more → Says old number command (with_entries (gather_next heap next) more) (told ++ more) (gather_next heap next).place
 goes_on_says old number command heap seat next told more (is, stays) same made sets left beside =
     goes_on_cases (λ s. Says old number command (with_entries s more) (told ++ more) s.place) heap next
@@ -140,7 +150,7 @@ fits_given_back heap seat fits aside is =
     fits_hand heap seat (part_out group seat.hand) seat.stored seat.tried (seat.given + length (part_in group seat.hand)) (places.Making (refusal_place (part_out group seat.hand))) fits aside
     (All-filter (out_of_group group) (λ fragment. fragment < 16 * heap.groups) seat.hand fits.hand.hand_within)
     (fits_returning heap (after_give_back seat) (part_out group seat.hand)
-    (record { makes = is.makes; no_body = is.no_body; none_stored = is.none_stored; all_tried = is.all_tried; too_few = omega (arith, is.too_few) }) refl)
+    (record { makes = is.makes; no_spine = is.no_spine; no_body = is.no_body; none_stored = is.none_stored; all_tried = is.all_tried; too_few = omega (arith, is.too_few) }) refl)
     aside.nowhere aside.silent
 
 nears_given_back : (heap : Heap) (seat : Seat) (entry : Entry) → 0 < length seat.hand
@@ -165,10 +175,15 @@ give_back_stands heap number seat here = record {
   says = λ old command words told is found. (on old number command seat _ told _ is.0 refl refl refl refl (refl, tt), is.1);
 }
 
+-- the step at which a refusal is told
+refusal_step_stands : (heap : Heap) (command : Command) (words : ℕ) → StepStands heap (refusal_step command words)
+refusal_step_stands heap (commands.Array d cells) words = take_back_stands heap words
+refusal_step_stands heap _ words = load_stands heap PollLoad refl tt
+
 -- a refusal is told
 pub refusal_stands : PlaceStands (places.Making Refusing)
 refusal_stands heap number seat here = record {
-  step = load_stands heap PollLoad refl tt;
+  step = refusal_step_stands heap seat.command (spine_need seat);
   fits = λ found small led. fits_over heap seat here.fits.own.registers_whole here.fits.own.registers_fit here.fits.own.cursor_within here.fits.own.small_reserve
       here.fits.own.reserve_of_cursor (gone_aside (present_at heap number seat (places.Making Refusing) here (λ e. cc)));
   near = λ found. record { fewer = omega arith; paid = omega arith };
@@ -179,29 +194,16 @@ refusal_stands heap number seat here = record {
 -- a record is to be made
 fits_gathers : (heap : Heap) (seat : Seat) (d fields : ℕ) → Fits heap seat → MayBegin seat (New d fields) → Fits heap (after_begin heap seat (New d fields))
 fits_gathers heap seat d fields fits may =
-    let rest : IsAtRest seat = subst (FitsPlace heap seat) may.idle fits.at_place in
-    fits_goes_on heap (record seat { command = New d fields }) record {
-      registers_whole = fits.own.registers_whole;
-      cursor_within = fits.own.cursor_within;
-      small_reserve = fits.own.small_reserve;
-      reserve_of_cursor = fits.own.reserve_of_cursor;
-      hand_within = fits.hand.hand_within;
-      makes = record { a_record = tt; in_range = may.in_range; numbered = may.numbered };
-      no_body = rest.no_body;
-      none_stored = rest.none_stored;
-      none_given = rest.none_given;
-      tried_within = omega (arith, rest.none_tried);
-      few = rw rest.empty_hand (omega (arith, fits.own.small_reserve));
-      rest_of_last = rw (rest.none_tried, rest.empty_hand, append-nil seat.reserve) (All-drop (λ fragment. fragment / 16 ≡ seat.cursor) (need_of (New d fields)) seat.reserve fits.own.reserve_of_cursor);
-      aside = aside_idle heap seat fits may.idle may.present;
-    }
+    fits_goes_on heap (record seat { command = New d fields })
+    (gathers_at_rest heap (record seat { command = New d fields }) fits.own (aside_idle heap seat fits may.idle may.present) (subst (FitsPlace heap seat) may.idle fits.at_place)
+    (record { an_object = tt; in_range = may.in_range; numbered = may.numbered }))
 
 -- the making of a record begins
 pub gather_begins : (d fields : ℕ) → CommandStands (New d fields)
 gather_begins d fields heap number seat ready =
     let next = record seat { command = New d fields } in
     let rest = rest_ready heap number seat (New d fields) ready in
-    let some = need_of_record (New d fields) tt ready.may.in_range in
+    let some = need_of_object (New d fields) tt ready.may.in_range in
     let going : (s : Seat) → s.command ≡ New d fields → s.made ≡ seat.made → s.sets ≡ seat.sets → s.left ≡ seat.left → IsGoing seat number (New d fields) s []
     = going_ready heap number seat (New d fields) ready in
     record {

@@ -69,8 +69,8 @@ pub get_stands : PlaceStands (places.Access Getting)
 get_stands heap number seat here =
     let move = get_move heap number seat in
     record {
-      step = load_stands heap move.step refl (here.fits.way.reached_within, here.way.0.2.field_part.below);
-      fits = λ found small led. fits_got heap seat found (head_of found) (rests_at heap number seat Getting here) here.way.0 refl (head_leads heap seat.part found here.way.0.2.field_part led);
+      step = load_stands heap move.step refl (here.fits.way.reached_within, here.way.0.2.part_within);
+      fits = λ found small led. fits_got heap seat found (head_of found) (rests_at heap number seat Getting here) here.way.0 refl (head_leads heap seat.part found led);
       near = λ found. nears_got heap number seat found (head_of found);
       adds = λ now. let found = found_by heap now move.step in
           let same : after_words heap now number seat move ≡ now.words = put-at heap now.words (Word seat.reached seat.part) in

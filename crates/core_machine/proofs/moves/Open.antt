@@ -1,5 +1,5 @@
 -- A call opens an object, by its meta.
-use Rattle.std.proofs.Common.{◌≡◌, ℕ, ◌+◌, [], length, inl, refl, arith, List, ◌++◌, subst, sym, Option, Some, None, ◌≢◌, ap}
+use Rattle.std.proofs.Common.{◌≡◌, ℕ, ◌+◌, ◌%◌, [], length, inl, refl, arith, List, ◌++◌, subst, sym, Option, Some, None, ◌≢◌, ap}
 use Rattle.std.specs.Prelude.{IsSome}
 use Rattle.heap_model.specs.declared.command.Command.{Command}
 use Rattle.heap_model.specs.declared.command.Command.TheVariants.{Get, Set, Len}
@@ -8,7 +8,7 @@ use Rattle.heap_model.specs.declared.entry.Entry.{Entry}
 use Rattle.heap_model.specs.declared.heap.Heap.{Heap}
 use Rattle.heap_model.specs.declared.reply.Reply.{Reply}
 use Rattle.core_machine.specs.declared.place.Place.TheVariants as places
-use Rattle.core_machine.specs.declared.place.Access.TheVariants.{LoadingMeta}
+use Rattle.core_machine.specs.declared.place.Access.TheVariants.{LoadingMeta, Locating}
 use Rattle.core_machine.specs.declared.seat.register.Register.{Register}
 use Rattle.core_machine.specs.declared.seat.register.Register.TheVariants.{Nil, Number, Object}
 use Rattle.core_machine.specs.machine.Machine.{found_by}
@@ -16,19 +16,19 @@ use Rattle.core_machine.specs.seat.Awaiting.{entries_awaited}
 use Rattle.core_machine.specs.seat.Commands.{object_of, field_of}
 use Rattle.core_machine.specs.seat.Fits.{Fits, FitsRegister, IsLocal}
 use Rattle.core_machine.specs.seat.FitsAccess.{NamesObject, NamesField, SeatIsAtHead}
-use Rattle.core_machine.specs.seat.Access.{row_of, part_of, with_field_place, meta_reply_of, after_meta, access_start}
+use Rattle.core_machine.specs.seat.Access.{row_of, part_of, with_field_place, after_length, meta_reply_of, after_meta, access_start}
 use Rattle.core_machine.specs.seat.AccessMoves.{reply_entries_if, open_move}
 use Rattle.core_machine.specs.seat.Registers.{register_head, register_in}
 use Rattle.core_machine.specs.seat.Seat.{Seat, with_entries}
-use Rattle.core_machine.specs.table.Decode.{pointer_in, IsWithinHeap}
+use Rattle.core_machine.specs.table.Decode.{pointer_in, array_length_of, IsWithinHeap}
 use Rattle.core_machine.proofs.call_lemmas.Awaits.{plain, after_words}
 use Rattle.core_machine.proofs.call_lemmas.Owes.{Nears}
-use Rattle.core_machine.proofs.call_lemmas.Saying.{IsGoing, Says, ends}
+use Rattle.core_machine.proofs.call_lemmas.Saying.{IsGoing, Says, on, ends}
 use Rattle.core_machine.proofs.moves.Standing.{PlaceStands, rests_at, BeginStands, IsReady, aside_ready, going_ready, rest_ready}
 use Rattle.core_machine.proofs.moves.Local.{tell_begins}
 use Rattle.core_machine.proofs.moves.Walk.{fits_onward, nears_onward, onward_awaits, onward_mine, onward_says}
 use Rattle.core_machine.proofs.seat_lemmas.Aside.{gone_aside}
-use Rattle.core_machine.proofs.seat_lemmas.FittingAccess.{Rests, fits_closed}
+use Rattle.core_machine.proofs.seat_lemmas.FittingAccess.{Rests, fits_access, fits_closed}
 use Rattle.core_machine.proofs.table_lemmas.StepStands.{load_stands}
 use Rattle.core_machine.proofs.table_lemmas.WithinHeap.{register_fits}
 
@@ -39,30 +39,52 @@ met_names (Set r i v) found names none = tt
 met_names (Len r) found names none = cc
 met_names _ found names none = absurd names
 
+-- the meta of a record was found, or that of an array
+fits_length : (heap : Heap) (seat : Seat) (found : ℕ) (cells : Option ℕ) → Rests heap seat → SeatIsAtHead seat → NamesField seat.command → IsWithinHeap heap (pointer_in 0 found)
+    → Fits heap (after_length seat found cells)
+fits_length heap seat found None rests is names led =
+    fits_onward heap seat (row_of (field_of seat.command)) (part_of (field_of seat.command)) found rests is.works names is.none_loaded (omega arith) (omega arith) led
+fits_length heap seat found (Some cells) rests is names led =
+    fits_access heap seat seat.reached 0 (field_of seat.command % 4) seat.loaded Locating rests rests.fits.way.reached_within rests.fits.way.loaded_within
+    (record { works = is.works; names = names; no_links = refl; part_within = omega arith; none_loaded = is.none_loaded })
+
+nears_length : (heap : Heap) (seat : Seat) (found : ℕ) (cells : Option ℕ) → Nears heap (with_entries (after_length seat found cells) []) 1 (row_of (field_of seat.command) + 7) 0
+nears_length heap seat found None = nears_onward heap (with_field_place seat) found (row_of (field_of seat.command) + 7) (inl (omega arith))
+nears_length heap seat found (Some cells) = record { fewer = omega arith; paid = omega arith }
+
+length_adds : (heap : Heap) (words : List ℕ) (number : ℕ) (seat : Seat) (found : ℕ) (cells : Option ℕ)
+    → ((after_length seat found cells).mine ≡ seat.mine) × (entries_awaited heap words number (with_entries (after_length seat found cells) []) ≡ [])
+length_adds heap words number seat found None = (onward_mine (with_field_place seat) found, onward_awaits heap words number (with_field_place seat) found [])
+length_adds heap words number seat found (Some cells) = (refl, refl)
+
+length_says : (old : Seat) (number : ℕ) (command : Command) (seat : Seat) (told : List Entry) (found : ℕ) (cells : Option ℕ) → IsGoing old number command seat told × (command ≢ commands.Leave)
+    → Says old number command (with_entries (after_length seat found cells) []) (told ++ []) (after_length seat found cells).place
+length_says old number command seat told found None is = onward_says old number command (with_field_place seat) told found
+    (record { same = is.0.same; made_stays = is.0.made_stays; sets_stay = is.0.sets_stay; present_stays = is.0.present_stays; beside = is.0.beside }, is.1)
+length_says old number command seat told found (Some cells) is = (on old number command seat _ told [] is.0 refl refl refl refl tt, is.1)
+
 -- the meta was found
 fits_met : (heap : Heap) (seat : Seat) (found : ℕ) (reply : Option Reply) → Rests heap seat → SeatIsAtHead seat → meta_reply_of seat.command found ≡ reply
     → IsWithinHeap heap (pointer_in 0 found) → Fits heap (after_meta seat found reply)
 fits_met heap seat found None rests is none led =
-    fits_onward heap seat (row_of (field_of seat.command)) (part_of (field_of seat.command)) found rests is.works (met_names seat.command found is.names none) is.none_loaded (omega arith)
-    record { some = omega arith; below = omega arith } led
+    fits_length heap seat found (array_length_of found) rests is (met_names seat.command found is.names none) led
 fits_met heap seat found (Some reply) rests is some led = fits_closed heap seat seat.registers seat.sets rests rests.fits.own.registers_whole rests.fits.own.registers_fit
 
 nears_met : (heap : Heap) (number : ℕ) (seat : Seat) (found : ℕ) (reply : Option Reply)
-    → Nears heap (with_entries (after_meta seat found reply) (reply_entries_if number seat reply)) 1 (row_of (field_of seat.command) + 5) (length (reply_entries_if number seat reply))
-nears_met heap number seat found None = nears_onward heap (with_field_place seat) found (row_of (field_of seat.command) + 5) (inl (omega arith))
+    → Nears heap (with_entries (after_meta seat found reply) (reply_entries_if number seat reply)) 1 (row_of (field_of seat.command) + 7) (length (reply_entries_if number seat reply))
+nears_met heap number seat found None = nears_length heap seat found (array_length_of found)
 nears_met heap number seat found (Some reply) = record { fewer = omega arith; paid = omega arith }
 
 module _ (heap : Heap) (number : ℕ) (seat : Seat) where
   met_adds : (words : List ℕ) (found : ℕ) (reply : Option Reply)
       → ((after_meta seat found reply).mine ≡ seat.mine) × (entries_awaited heap words number (with_entries (after_meta seat found reply) (reply_entries_if number seat reply)) ≡ [])
-  met_adds words found None = (onward_mine (with_field_place seat) found, onward_awaits heap words number (with_field_place seat) found [])
+  met_adds words found None = length_adds heap words number seat found (array_length_of found)
   met_adds words found (Some reply) = (refl, refl)
 
 module _ (old : Seat) (number : ℕ) (command : Command) where
   met_says : (seat : Seat) (told : List Entry) (found : ℕ) (reply : Option Reply) → IsGoing old number command seat told × (command ≢ commands.Leave)
       → Says old number command (with_entries (after_meta seat found reply) (reply_entries_if number seat reply)) (told ++ reply_entries_if number seat reply) (after_meta seat found reply).place
-  met_says seat told found None is = onward_says old number command (with_field_place seat) told found
-      (record { same = is.0.same; made_stays = is.0.made_stays; sets_stay = is.0.sets_stay; present_stays = is.0.present_stays; beside = is.0.beside }, is.1)
+  met_says seat told found None is = length_says old number command seat told found (array_length_of found) is
   met_says seat told found (Some reply) is = ends old number command seat _ told [] reply is (omega arith) (omega arith) refl tt
 
 -- the meta is loaded
@@ -101,6 +123,7 @@ open_begins command stays names heap number seat ready = by (register_in seat.re
           hand = ready.fits.hand;
           way = record {
             reached_within = subst (FitsRegister heap) is (register_fits heap seat.registers (object_of command) ready.fits.own.registers_fit);
+            address_within = ready.fits.way.address_within;
             loaded_within = ready.fits.way.loaded_within;
           };
           asked_small = ready.fits.asked_small;

@@ -16,7 +16,7 @@ use Rattle.core_machine.specs.machine.Machine.{found_by}
 use Rattle.core_machine.specs.seat.HandshakeMoves.{poll_move, poll_adds, root_move, answer_move}
 use Rattle.core_machine.specs.seat.Awaiting.{entries_awaited}
 use Rattle.core_machine.specs.seat.Fits.{FitsPlace, FitsWay, FitsAnswer, IsAtRest, AnswersThePhase, Fits}
-use Rattle.core_machine.specs.seat.FitsAccess.{HasNoWay}
+use Rattle.core_machine.specs.seat.FitsAccess.{IsNowhere}
 use Rattle.core_machine.proofs.seat_lemmas.PollingOver.{over_cases}
 use Rattle.core_machine.specs.seat.Handshake.{polling_over, after_phase_load, after_root_shade, after_answer, roots, answer_next}
 use Rattle.core_machine.specs.seat.Seat.{Seat, after_call, with_entries, seat_after_reply}
@@ -32,7 +32,7 @@ use Rattle.core_machine.proofs.table_lemmas.WithinHeap.{roots_within, few_roots}
 pub record Polls (heap : Heap) (seat : Seat) : Type 0 where
   fits : Fits heap seat
   rest : IsAtRest seat
-  nowhere : HasNoWay seat.reached seat.links seat.part seat.loaded
+  nowhere : IsNowhere seat
   present : seat.left ≡ false
   polls : AnswersThePhase seat.command
 

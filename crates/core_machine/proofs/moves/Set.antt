@@ -27,7 +27,7 @@ use Rattle.core_machine.proofs.seat_lemmas.FittingAccess.{Rests, fits_access, fi
 use Rattle.core_machine.proofs.table_lemmas.Leading.{register_leads}
 use Rattle.core_machine.proofs.table_lemmas.StepStands.{load_stands, shade_stands}
 use Rattle.core_machine.proofs.table_lemmas.Wide.{set_numbered, register_wide}
-use Rattle.core_machine.proofs.table_lemmas.WithinHeap.{head_leads, some_within, head_within, part_some, register_fits}
+use Rattle.core_machine.proofs.table_lemmas.WithinHeap.{head_leads, some_within, head_within, register_fits}
 
 -- a set goes on to its new value
 fits_old_done : (heap : Heap) (seat : Seat) (loaded : ℕ) → Rests heap seat → SeatIsAtSet seat → has_barrier_of seat ≡ true → IsWithinHeap heap (head_of loaded)
@@ -85,8 +85,8 @@ pub old_stands : PlaceStands (places.Access LoadingOld)
 old_stands heap number seat here =
     let move = old_move seat in
     record {
-      step = load_stands heap move.step refl (here.fits.way.reached_within, here.way.0.2.field_part.below);
-      fits = λ found small led. fits_old_found heap seat found (head_of found) (rests_at heap number seat LoadingOld here) here.way.0 here.way.1 refl (head_leads heap seat.part found here.way.0.2.field_part led);
+      step = load_stands heap move.step refl (here.fits.way.reached_within, here.way.0.2.part_within);
+      fits = λ found small led. fits_old_found heap seat found (head_of found) (rests_at heap number seat LoadingOld here) here.way.0 here.way.1 refl (head_leads heap seat.part found led);
       near = λ found. nears_old_found heap seat found (head_of found);
       adds = λ now. let found = found_by heap now move.step in
           let by = old_found_adds heap number seat (after_words heap now number seat move) found (head_of found) in
@@ -126,9 +126,9 @@ swap_stands heap number seat here =
     let groups : 16 * heap.groups ≤ 2 ^ 16 = omega (arith, here.limits.groups_fit) in
     record {
       step = record {
-        in_table = (here.fits.way.reached_within, here.way.0.2.field_part.below);
+        in_table = (here.fits.way.reached_within, here.way.0.2.part_within);
         wide = λ found small. register_wide heap (new_register_of seat) (set_stamp number (seat.sets + 1)) groups fit small_stamp;
-        leads = λ found led. register_leads heap (new_register_of seat) (set_stamp number (seat.sets + 1)) seat.part (part_some seat.part here.way.0.2.field_part) groups fit small_stamp;
+        leads = λ found led. register_leads heap (new_register_of seat) (set_stamp number (seat.sets + 1)) seat.part groups fit small_stamp;
       };
       fits = λ found small led. fits_closed heap seat seat.registers (seat.sets + 1) (rests_at heap number seat Swapping here) here.fits.own.registers_whole here.fits.own.registers_fit;
       near = λ found. record { fewer = omega arith; paid = omega arith };

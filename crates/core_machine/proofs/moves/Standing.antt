@@ -59,6 +59,7 @@ pub aside_at : (heap : Heap) (number : ℕ) (seat : Seat) (place : Place) → Is
 aside_at heap number seat place here busy nowhere silent = record {
   registers_fit = here.fits.own.registers_fit;
   reached_within = here.fits.way.reached_within;
+  address_within = here.fits.way.address_within;
   loaded_within = here.fits.way.loaded_within;
   asked_small = here.fits.asked_small;
   nowhere = nowhere;

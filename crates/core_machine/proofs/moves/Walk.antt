@@ -13,7 +13,7 @@ use Rattle.core_machine.specs.machine.Machine.{found_by}
 use Rattle.core_machine.specs.seat.Awaiting.{entries_awaited_at, entries_awaited}
 use Rattle.core_machine.specs.seat.Commands.{field_of}
 use Rattle.core_machine.specs.seat.Fits.{Fits}
-use Rattle.core_machine.specs.seat.FitsAccess.{FitsAccess, IsAtField, IsFieldPart, IsGet, IsSet, NamesField, WorksOnObject}
+use Rattle.core_machine.specs.seat.FitsAccess.{FitsAccess, IsAtField, IsGet, IsSet, NamesField, WorksOnObject}
 use Rattle.core_machine.specs.seat.Access.{after_walk, at_access, row_of, has_barrier_of, field_place_of, way_place_of, after_link}
 use Rattle.core_machine.specs.seat.AccessMoves.{walk_move}
 use Rattle.core_machine.specs.seat.Seat.{Seat, with_entries}
@@ -33,7 +33,7 @@ unwrap_within heap None some led = omega arith
 unwrap_within heap (Some f) some led = led
 
 -- the field was reached
-field_fits : (seat : Seat) (command : Command) → seat.command ≡ command → WorksOnObject seat → NamesField command → IsAtField seat.links seat.part → seat.loaded ≡ 0
+pub field_fits : (seat : Seat) (command : Command) → seat.command ≡ command → WorksOnObject seat → NamesField command → IsAtField seat.links seat.part → seat.loaded ≡ 0
     → FitsAccess seat (field_place_of seat command)
 field_fits seat (Get d r i) is works names there empty = ((works, subst IsGet (sym is) tt, there), empty)
 field_fits seat (Set r i v) is works names there empty =
@@ -45,19 +45,19 @@ field_fits seat _ is works names there empty = absurd names
 
 -- the way stands at a fragment
 way_fits : (heap : Heap) (seat : Seat) (reached links part : ℕ) → Rests heap seat → WorksOnObject seat → NamesField seat.command → seat.loaded ≡ 0
-    → reached < 16 * heap.groups → links < row_of (field_of seat.command) ⊎ (links ≡ 0) → IsFieldPart part
+    → reached < 16 * heap.groups → links < row_of (field_of seat.command) ⊎ (links ≡ 0) → part < 4
     → Fits heap (at_access (record seat { reached = reached; links = links; part = part }) (way_place_of (record seat { reached = reached; links = links; part = part })))
 way_fits heap seat reached links part rests works names empty within fewer field =
     elim (eqb_tells links 0) as (λ _. Fits heap (at_access (record seat { reached = reached; links = links; part = part }) (way_place_of (record seat { reached = reached; links = links; part = part })))) [
       | inl none ↦ rw none.0 (fits_access heap seat reached links part seat.loaded (field_place_of seat seat.command) rests within rests.fits.way.loaded_within
           (field_fits_there none.1))
       | inr some ↦ rw some.0 (fits_access heap seat reached links part seat.loaded Walking rests within rests.fits.way.loaded_within
-          (record { works = works; names = names; more = omega (arith, some.1); some_done = less some.1 fewer; field_part = field; none_loaded = empty }))
+          (record { works = works; names = names; more = omega (arith, some.1); some_done = less some.1 fewer; part_within = field; none_loaded = empty }))
     ]
   where
     field_fits_there : links ≡ 0 → FitsAccess (record seat { reached = reached; links = links; part = part; place = places.Access (field_place_of seat seat.command) }) (field_place_of seat seat.command)
     field_fits_there none =
-        field_fits (record seat { reached = reached; links = links; part = part; place = places.Access (field_place_of seat seat.command) }) seat.command refl works names (record { arrived = none; field_part = field }) empty
+        field_fits (record seat { reached = reached; links = links; part = part; place = places.Access (field_place_of seat seat.command) }) seat.command refl works names (record { arrived = none; part_within = field }) empty
 
     less : (links ≡ 0 → ⊥) → links < row_of (field_of seat.command) ⊎ (links ≡ 0) → links < row_of (field_of seat.command)
     less some (inl l) = l
@@ -65,7 +65,7 @@ way_fits heap seat reached links part rests works names empty within fewer field
 
 -- the way went on by a link that leads within the heap
 pub fits_onward : (heap : Heap) (seat : Seat) (links part found : ℕ) → Rests heap seat → WorksOnObject seat → NamesField seat.command → seat.loaded ≡ 0
-    → links ≤ row_of (field_of seat.command) → IsFieldPart part → IsWithinHeap heap (pointer_in 0 found) → Fits heap (after_walk (record seat { links = links; part = part }) found)
+    → links ≤ row_of (field_of seat.command) → part < 4 → IsWithinHeap heap (pointer_in 0 found) → Fits heap (after_walk (record seat { links = links; part = part }) found)
 fits_onward heap seat links part found rests works names empty fewer field led =
     elim (eqb_tells links 0) as (λ _. Fits heap (after_walk (record seat { links = links; part = part }) found)) [
       | inl none ↦ let fit = way_fits heap seat seat.reached links part rests works names empty rests.fits.way.reached_within (inr none.1) field in rw none.0 (rw none.0 at fit)
@@ -74,7 +74,7 @@ fits_onward heap seat links part found rests works names empty fewer field led =
     ]
 
 -- few steps are left where the field was reached
-field_few : (rows links : ℕ) (seat : Seat) (command : Command) → access_steps rows links (field_place_of seat command) ≤ 4
+pub field_few : (rows links : ℕ) (seat : Seat) (command : Command) → access_steps rows links (field_place_of seat command) ≤ 4
 field_few rows links seat command = field_cases (λ p. access_steps rows links p ≤ 4) seat command (omega arith) (λ on. omega arith) (λ off. omega arith)
 
 way_few : (rows : ℕ) (seat : Seat) → access_steps rows seat.links (way_place_of seat) ≤ seat.links + 4
@@ -107,7 +107,7 @@ nears_onward heap seat found steps more =
     some_more some few (inr e) = omega (arith, some, e.0, e.1)
 
 -- no way awaits a name
-field_awaits : (heap : Heap) (words : List ℕ) (number : ℕ) (seat s : Seat) (command : Command) → entries_awaited_at heap words number s (places.Access (field_place_of seat command)) ≡ []
+pub field_awaits : (heap : Heap) (words : List ℕ) (number : ℕ) (seat s : Seat) (command : Command) → entries_awaited_at heap words number s (places.Access (field_place_of seat command)) ≡ []
 field_awaits heap words number seat s command = field_cases (λ p. entries_awaited_at heap words number s (places.Access p) ≡ []) seat command refl (λ on. refl) (λ off. refl)
 
 way_awaits : (heap : Heap) (words : List ℕ) (number : ℕ) (seat s : Seat) → entries_awaited_at heap words number s (places.Access (way_place_of seat)) ≡ []
@@ -126,7 +126,7 @@ onward_mine seat found = elim (eqb_tells seat.links 0) as (λ _. (after_walk sea
 
 module _ (old : Seat) (number : ℕ) (command : Command) where
   -- the way goes on
-  field_says : (seat next : Seat) (told : List Entry) (c : Command) → IsGoing old number command next told × (command ≢ commands.Leave) → Says old number command next told (places.Access (field_place_of seat c))
+  pub field_says : (seat next : Seat) (told : List Entry) (c : Command) → IsGoing old number command next told × (command ≢ commands.Leave) → Says old number command next told (places.Access (field_place_of seat c))
   field_says seat next told c is = field_cases (λ p. Says old number command next told (places.Access p)) seat c is (λ on. is) (λ off. is)
 
   way_says : (seat next : Seat) (told : List Entry) → IsGoing old number command next told × (command ≢ commands.Leave) → Says old number command next told (places.Access (way_place_of seat))
@@ -151,7 +151,7 @@ walk_stands heap number seat here =
     let move = walk_move seat in
     record {
       step = load_stands heap move.step refl (here.fits.way.reached_within, omega arith);
-      fits = λ found small led. fits_onward heap seat seat.links seat.part found (rests_at heap number seat Walking here) here.way.works here.way.names here.way.none_loaded (omega (arith, here.way.some_done)) here.way.field_part led;
+      fits = λ found small led. fits_onward heap seat seat.links seat.part found (rests_at heap number seat Walking here) here.way.works here.way.names here.way.none_loaded (omega (arith, here.way.some_done)) here.way.part_within led;
       near = λ found. nears_onward heap seat found (seat.links + 4) (inr (here.way.more, refl));
       adds = λ now. let found = found_by heap now move.step in
           plain heap now number seat move (onward_mine seat found) (rw here.placed refl) (onward_awaits heap (after_words heap now number seat move) number seat found []) refl;

@@ -2,28 +2,31 @@
 use Rattle.std.proofs.Common.{◌≡◌, ℕ, ◌*◌, ◌/◌, ◌^◌, ◌<◌, ◌≤◌, Bool, true, false, List, [], length, refl, subst, sym, ap, ◌∙◌, arith}
 use Rattle.std.specs.List.{All}
 use Rattle.std.proofs.lemmas.List.Elements.{All-nil}
+use Rattle.heap_words.specs.declared.spot.Spot.{Spot}
 use Rattle.heap_model.specs.declared.heap.Heap.{Heap}
 use Rattle.core_machine.specs.declared.place.Place.{Place}
 use Rattle.core_machine.specs.declared.place.Place.TheVariants as places
 use Rattle.core_machine.specs.declared.seat.register.Register.{Register}
 use Rattle.core_machine.specs.table.Decode.{head_of, IsWithinHeap}
-use Rattle.core_machine.specs.seat.Seat.{Seat, call_over, after_call}
+use Rattle.core_machine.specs.table.Layout.{FitsSpot}
+use Rattle.core_machine.specs.seat.Seat.{Seat, no_spot, call_over, after_call}
 use Rattle.core_machine.specs.seat.Looks.{forgotten}
 use Rattle.core_machine.specs.seat.FitsAccess.{HasNoWay, IsNowhere}
 use Rattle.core_machine.specs.seat.Fits.{FitsRegister, FitsWay, FitsAnswer, HasNoAnswer, IsAtRest, IsSilent, Fits, FitsPlace, AreFragments}
 
 -- the registers fit, nothing is reached, loaded or about to be answered, and the seat hasn't left
-pub record StandsAside (heap : Heap) (registers : List Register) (reached links part loaded asked shaded : ℕ) (left : Bool) : Type 0 where
+pub record StandsAside (heap : Heap) (registers : List Register) (reached links part : ℕ) (address : Spot) (loaded asked shaded : ℕ) (left : Bool) : Type 0 where
   pub registers_fit : All (FitsRegister heap) registers
   pub reached_within : reached < 16 * heap.groups
+  pub address_within : FitsSpot address
   pub loaded_within : IsWithinHeap heap (head_of loaded)
   pub asked_small : asked < 2 ^ 64
-  pub nowhere : HasNoWay reached links part loaded
+  pub nowhere : HasNoWay reached links part address loaded
   pub silent : HasNoAnswer asked shaded
   pub present : left ≡ false
 
 abbrev pub IsAside : Heap → Seat → Type 0
-IsAside heap seat = StandsAside heap seat.registers seat.reached seat.links seat.part seat.loaded seat.asked seat.shaded seat.left
+IsAside heap seat = StandsAside heap seat.registers seat.reached seat.links seat.part seat.address seat.loaded seat.asked seat.shaded seat.left
 
 -- who hasn't left isn't gone
 pub gone_aside : {G : Type 0} {left : Bool} → left ≡ false → left ≡ true → G
@@ -44,6 +47,7 @@ pub aside_idle : (heap : Heap) (seat : Seat) → Fits heap seat → seat.place �
 aside_idle heap seat fits here present = record {
   registers_fit = fits.own.registers_fit;
   reached_within = fits.way.reached_within;
+  address_within = fits.way.address_within;
   loaded_within = fits.way.loaded_within;
   asked_small = fits.asked_small;
   nowhere = subst (FitsWay seat) here fits.way_at_place;
@@ -63,6 +67,7 @@ fits_hand heap seat hand stored tried given place fits aside within at_place way
   hand = record {
     hand_within = within;
     body_within = fits.hand.body_within;
+    spine_within = fits.hand.spine_within;
   };
   way = fits.way;
   asked_small = aside.asked_small;
@@ -71,6 +76,32 @@ fits_hand heap seat hand stored tried given place fits aside within at_place way
   answer_at_place = answer;
   gone = gone_aside aside.present;
 }
+
+-- the seat with another place of its spine, and with other counts of spine words
+abbrev pub with_spine : Seat → ℕ → Spot → ℕ → Place → Seat
+with_spine seat used spine listed place = record seat { used = used; spine = spine; listed = listed; place = place }
+
+pub fits_spine : (heap : Heap) (seat : Seat) (used : ℕ) (spine : Spot) (listed : ℕ) (place : Place) → Fits heap seat → IsAside heap seat → FitsSpot spine
+    → FitsPlace heap (with_spine seat used spine listed place) place → FitsWay (with_spine seat used spine listed place) place
+    → FitsAnswer (with_spine seat used spine listed place) place → Fits heap (with_spine seat used spine listed place)
+fits_spine heap seat used spine listed place fits aside within at_place way answer = record {
+  own = fits.own;
+  hand = record {
+    hand_within = fits.hand.hand_within;
+    body_within = fits.hand.body_within;
+    spine_within = within;
+  };
+  way = fits.way;
+  asked_small = aside.asked_small;
+  at_place = at_place;
+  way_at_place = way;
+  answer_at_place = answer;
+  gone = gone_aside aside.present;
+}
+
+-- the spot at no spine is one
+pub no_spot_fits : FitsSpot no_spot
+no_spot_fits = record { half_within = omega arith; offset_within = omega arith }
 
 -- the call is over: of the seat's own data its registers, its reserve and its cursor matter alone
 pub fits_over : (heap : Heap) (seat : Seat) → length seat.registers ≡ 16 → All (FitsRegister heap) seat.registers → seat.cursor < heap.groups → length seat.reserve ≤ 15
@@ -86,14 +117,16 @@ fits_over heap seat whole fit cursor small of_cursor gone = record {
   hand = record {
     hand_within = All-nil (λ fragment. fragment < 16 * heap.groups);
     body_within = All-nil (λ fragment. fragment < 16 * heap.groups);
+    spine_within = no_spot_fits;
   };
   way = record {
     reached_within = omega (arith, cursor);
+    address_within = no_spot_fits;
     loaded_within = tt;
   };
   asked_small = omega arith;
-  at_place = record { empty_hand = refl; no_body = refl; none_stored = refl; none_tried = refl; none_given = refl };
-  way_at_place = record { none_reached = refl; no_links = refl; no_part = refl; none_loaded = refl };
+  at_place = record { empty_hand = refl; no_body = refl; none_stored = refl; none_tried = refl; none_given = refl; no_spine = record { none_used = refl; no_place = refl; none_listed = refl } };
+  way_at_place = record { none_reached = refl; no_links = refl; no_part = refl; no_address = refl; none_loaded = refl };
   answer_at_place = record { none_asked = refl; none_shaded = refl };
   gone = λ left. record { idle = refl; no_reserve = gone left };
 }
@@ -112,9 +145,9 @@ fits_ended heap seat fits = record {
 }
 
 rest_over : (seat : Seat) → seat.place ≡ places.Idle → IsAtRest seat → IsNowhere seat → IsSilent seat
-    → call_over seat ≡ record seat { hand = seat.hand; body = seat.body; stored = seat.stored; tried = seat.tried; given = seat.given; place = seat.place; reached = seat.reached; links = seat.links; part = seat.part; loaded = seat.loaded; asked = seat.asked; shaded = seat.shaded }
+    → call_over seat ≡ record seat { hand = seat.hand; body = seat.body; stored = seat.stored; tried = seat.tried; given = seat.given; used = seat.used; spine = seat.spine; listed = seat.listed; place = seat.place; reached = seat.reached; links = seat.links; part = seat.part; address = seat.address; loaded = seat.loaded; asked = seat.asked; shaded = seat.shaded }
 rest_over seat here rest nowhere silent =
-    rw (here, rest.empty_hand, rest.no_body, rest.none_stored, rest.none_tried, rest.none_given, nowhere.none_reached, nowhere.no_links, nowhere.no_part, nowhere.none_loaded, silent.none_asked, silent.none_shaded) refl
+    rw (here, rest.empty_hand, rest.no_body, rest.none_stored, rest.none_tried, rest.none_given, rest.no_spine.none_used, rest.no_spine.no_place, rest.no_spine.none_listed, nowhere.none_reached, nowhere.no_links, nowhere.no_part, nowhere.no_address, nowhere.none_loaded, silent.none_asked, silent.none_shaded) refl
 
 -- a seat without a call in flight has nothing of one
 pub over_idle : (heap : Heap) (seat : Seat) → Fits heap seat → seat.place ≡ places.Idle → call_over seat ≡ seat
@@ -129,7 +162,7 @@ pub over_forgets : (heap : Heap) (seat : Seat) → Fits heap seat → seat.place
 over_forgets heap seat fits here = ap (λ (s : Seat). record s { looks = forgotten seat.looks }) (over_idle heap seat fits here)
 
 -- a seat that makes nothing and answers no phase has its way alone of a call
-pub over_way : (seat : Seat) → IsAtRest seat → IsSilent seat → after_call seat ≡ record seat { reached = 0; links = 0; part = 0; loaded = 0; place = places.Idle; looks = forgotten seat.looks }
+pub over_way : (seat : Seat) → IsAtRest seat → IsSilent seat → after_call seat ≡ record seat { reached = 0; links = 0; part = 0; address = no_spot; loaded = 0; place = places.Idle; looks = forgotten seat.looks }
 over_way seat rest silent = by where
-  by : after_call seat ≡ record seat { hand = seat.hand; body = seat.body; stored = seat.stored; tried = seat.tried; given = seat.given; reached = 0; links = 0; part = 0; loaded = 0; place = places.Idle; asked = seat.asked; shaded = seat.shaded; looks = forgotten seat.looks }
-  by = rw (rest.empty_hand, rest.no_body, rest.none_stored, rest.none_tried, rest.none_given, silent.none_asked, silent.none_shaded) refl
+  by : after_call seat ≡ record seat { hand = seat.hand; body = seat.body; stored = seat.stored; tried = seat.tried; given = seat.given; used = seat.used; spine = seat.spine; listed = seat.listed; reached = 0; links = 0; part = 0; address = no_spot; loaded = 0; place = places.Idle; asked = seat.asked; shaded = seat.shaded; looks = forgotten seat.looks }
+  by = rw (rest.empty_hand, rest.no_body, rest.none_stored, rest.none_tried, rest.none_given, rest.no_spine.none_used, rest.no_spine.no_place, rest.no_spine.none_listed, silent.none_asked, silent.none_shaded) refl

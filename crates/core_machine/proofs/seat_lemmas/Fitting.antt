@@ -1,27 +1,51 @@
 -- A seat's own data go on fitting together, whatever words it finds.
-use Rattle.std.proofs.Common.{suc, ◌≡◌, ℕ, ◌+◌, ◌*◌, ◌/◌, ◌<◌, ◌≤◌, cond, leb, List, [], ◌∷◌, length, take, drop, inl, inr, refl, length-append, length-take, length-drop, arith}
+use Rattle.std.proofs.Common.{suc, ◌≡◌, ℕ, ◌+◌, ◌*◌, ◌/◌, ◌<◌, ◌≤◌, cond, leb, List, [], ◌∷◌, length, take, drop, inl, inr, refl, subst, sym, append-nil, length-append, length-take, length-drop, arith}
 use Rattle.std.specs.List.{All}
 use Rattle.std.proofs.lemmas.Bool.Decides.{leb_tells, eqb_tells}
-use Rattle.std.proofs.lemmas.List.Elements.{All-append, All-take, All-nil}
+use Rattle.std.proofs.lemmas.List.Elements.{All-append, All-drop, All-take, All-nil}
+use Rattle.heap_words.specs.declared.spot.Spot.{Spot}
 use Rattle.heap_model.specs.declared.heap.Heap.{Heap}
 use Rattle.heap_model.specs.declared.command.Command.{Command}
-use Rattle.heap_model.specs.declared.command.Command.TheVariants.{New}
+use Rattle.heap_model.specs.declared.command.Command.TheVariants.{New, Array}
 use Rattle.heap_model.specs.Command.{IsCommand}
+use Rattle.heap_model.specs.Needs.{spine_need_of}
 use Rattle.heap_model.specs.account.Space.{need_of}
 use Rattle.core_machine.specs.declared.place.Place.TheVariants as places
 use Rattle.core_machine.specs.declared.place.Making.{Making}
-use Rattle.core_machine.specs.declared.place.Making.TheVariants.{Gathering, Returning, Refusing}
-use Rattle.core_machine.specs.seat.Commands.{IsRecord}
-use Rattle.core_machine.specs.seat.Seat.{Seat, need}
-use Rattle.core_machine.specs.seat.Making.{fragments_gathered, after_gather, after_shortage, refusal_place, gather_next, last_claimed, next_group_of}
-use Rattle.core_machine.specs.seat.Fits.{AreFragments, MakesRecord, SeatIsRefusing, FitsMaking, Fits}
-use Rattle.core_machine.proofs.seat_lemmas.Aside.{IsAside, gone_aside}
+use Rattle.core_machine.specs.declared.place.Making.TheVariants.{Withdrawing, Gathering, Returning, Refusing, Placing, Listing, Storing}
+use Rattle.core_machine.specs.seat.Commands.{MakesObject, IsRecord, IsArray}
+use Rattle.core_machine.specs.table.Layout.{FitsSpot}
+use Rattle.core_machine.specs.seat.Seat.{Seat, need, spine_need}
+use Rattle.core_machine.specs.seat.Making.{fragments_gathered, settled_place, after_gather, after_shortage, refusal_place, gather_next, after_budget, list_place, last_claimed, next_group_of}
+use Rattle.core_machine.specs.seat.Fits.{AreFragments, HasNoSpine, IsAtRest, MakesNext, SeatIsRefusing, HasBody, IsUnstored, IsListed, FitsMaking, OwnFits, Fits}
+use Rattle.core_machine.proofs.seat_lemmas.Aside.{IsAside, gone_aside, no_spot_fits}
 use Rattle.core_machine.proofs.table_lemmas.Owned.{within_group}
 
--- a record has at least one fragment and at most sixteen
-pub need_of_record : (command : Command) → IsRecord command → IsCommand command → (1 ≤ need_of command) × (need_of command ≤ 16)
-need_of_record (New d fields) record_ range = (omega arith, omega arith)
-need_of_record _ record_ range = absurd record_
+-- an object has at least one fragment, and at most one and 1024
+pub need_of_object : (command : Command) → MakesObject command → IsCommand command → (1 ≤ need_of command) × (need_of command ≤ 1025)
+need_of_object (New d fields) makes range = (omega arith, omega (arith, range.1.1))
+need_of_object (Array d cells) makes range = (omega arith, omega (arith, range.1.1))
+need_of_object _ makes range = absurd makes
+
+-- an array has at least one spine word and at most 1024, and one fragment more than spine words
+pub words_of_array : (command : Command) → IsArray command → IsCommand command
+    → (1 ≤ spine_need_of command) × (spine_need_of command ≤ 1024) × (need_of command ≡ 1 + spine_need_of command)
+words_of_array (Array d cells) an_array range = (omega (arith, range.1.0), omega (arith, range.1.1), refl)
+words_of_array _ an_array range = absurd an_array
+
+-- an array is an object, and so is a record
+pub array_makes : (command : Command) → IsArray command → MakesObject command
+array_makes (Array d cells) an_array = tt
+array_makes _ an_array = absurd an_array
+
+pub record_makes : (command : Command) → IsRecord command → MakesObject command
+record_makes (New d fields) a_record = tt
+record_makes _ a_record = absurd a_record
+
+-- all words of an array's spine are stored when as many were stored as it needs
+pub listed_all : (command : Command) (spine : Spot) (listed : ℕ) → IsArray command → listed ≡ spine_need_of command → IsListed command spine listed
+listed_all (Array d cells) spine listed an_array all = all
+listed_all _ spine listed an_array all = absurd an_array
 
 -- a seat goes on in one of three ways
 pub goes_on_cases : (P : Seat → Type 0) (heap : Heap) (seat : Seat) → (need seat ≤ length (fragments_gathered seat) → P (after_gather heap seat))
@@ -41,6 +65,21 @@ pub returning_cases : (P : Making → Type 0) (hand : List ℕ) → (hand ≡ []
 returning_cases P [] none some = none refl
 returning_cases P (fragment ∷ more) none some = some (omega arith)
 
+-- the spine words that were asked for are too many, or the gathering begins
+pub budget_cases : (P : Seat → Type 0) (heap : Heap) (seat : Seat) (found : ℕ) → (heap.spine < found + spine_need seat → P (record seat { used = found; place = places.Making Withdrawing }))
+    → (found + spine_need seat ≤ heap.spine → P (gather_next heap seat)) → P (after_budget heap seat found)
+budget_cases P heap seat found lacks grants =
+    elim (leb_tells (suc heap.spine) (found + spine_need seat)) as (λ _. P (after_budget heap seat found)) [ inl many ↦ rw many.0 (lacks many.1) | inr few ↦ rw few.0 (grants (omega (arith, few.1))) ]
+
+-- what comes once an object has its fragments
+pub settled_cases : (P : Making → Type 0) (command : Command) → (IsArray command → P Placing) → ((IsArray command → ⊥) → P Storing) → P (settled_place command)
+settled_cases P (Array d cells) array other = array tt
+settled_cases P _ array other = other (λ e. e)
+
+-- what comes once a word of the spine is stored
+pub listing_cases : (P : Making → Type 0) (listed words : ℕ) → (listed < words → P Listing) → (words ≤ listed → P Storing) → P (list_place listed words)
+listing_cases P listed words more all = elim (leb_tells (suc listed) words) as (λ _. P (list_place listed words)) [ inl left ↦ rw left.0 (more left.1) | inr none ↦ rw none.0 (all (omega (arith, none.1))) ]
+
 -- what is true of a seat before it goes on: some fragments are gathered, and those past the need are of the last group
 pub record IsGathered (heap : Heap) (seat : Seat) : Type 0 where
   pub registers_whole : length seat.registers ≡ 16
@@ -48,7 +87,8 @@ pub record IsGathered (heap : Heap) (seat : Seat) : Type 0 where
   pub small_reserve : length seat.reserve ≤ 15
   pub reserve_of_cursor : All (λ fragment. fragment / 16 ≡ seat.cursor) seat.reserve
   pub hand_within : AreFragments heap seat.hand
-  pub makes : MakesRecord seat.command seat.made
+  pub makes : MakesNext seat.command seat.made
+  pub no_spine : HasNoSpine seat.used seat.spine seat.listed
   pub no_body : seat.body ≡ []
   pub none_stored : seat.stored ≡ 0
   pub none_given : seat.given ≡ 0
@@ -61,9 +101,26 @@ pub last_claimed_within : (heap : Heap) (seat : Seat) → seat.cursor < heap.gro
 last_claimed_within heap seat within =
     elim (eqb_tells seat.tried 0) as (λ _. last_claimed heap seat < heap.groups) [ inl e ↦ rw e.0 within | inr e ↦ rw e.0 (omega arith) ]
 
+-- where no spine has its place yet, its place is some spot
+no_spine_fits : (used : ℕ) (spine : Spot) (listed : ℕ) → HasNoSpine used spine listed → FitsSpot spine
+no_spine_fits used spine listed none = subst FitsSpot (sym none.no_place) no_spot_fits
+
+-- a record has no spine
+listed_none : (command : Command) (used : ℕ) (spine : Spot) (listed : ℕ) → MakesObject command → (IsArray command → ⊥) → HasNoSpine used spine listed → IsListed command spine listed
+listed_none (New d fields) used spine listed makes other none = (none.no_place, none.none_listed)
+listed_none (Array d cells) used spine listed makes other none = absurd (other tt)
+listed_none _ used spine listed makes other none = absurd makes
+
+-- an object that has its fragments stands at its next place
+fits_settled_place : (heap : Heap) (seat : Seat) → HasBody seat → IsUnstored seat.hand seat.body seat.stored → 1 ≤ length seat.body → HasNoSpine seat.used seat.spine seat.listed
+    → FitsMaking heap seat (settled_place seat.command)
+fits_settled_place heap seat body unstored some none =
+    settled_cases (FitsMaking heap seat) seat.command (λ an_array. ((body, an_array, unstored), none))
+    (λ other. (body, unstored.all_unborn, omega (arith, unstored.none_stored), listed_none seat.command seat.used seat.spine seat.listed body.makes.an_object other none))
+
 fits_settled : (heap : Heap) (seat : Seat) → IsGathered heap seat → need seat ≤ length (fragments_gathered seat) → Fits heap (after_gather heap seat)
 fits_settled heap seat is enough =
-    let some = need_of_record seat.command is.makes.a_record is.makes.in_range in
+    let some = need_of_object seat.command is.makes.an_object is.makes.in_range in
     let all : AreFragments heap (fragments_gathered seat) =
     All-append (λ fragment. fragment < 16 * heap.groups) seat.reserve seat.hand
     (within_group heap seat.cursor seat.reserve is.cursor_within is.reserve_of_cursor) is.hand_within in
@@ -82,16 +139,20 @@ fits_settled heap seat is enough =
       hand = record {
         hand_within = used;
         body_within = used;
+        spine_within = no_spine_fits seat.used seat.spine seat.listed is.no_spine;
       };
       way = record {
         reached_within = is.aside.reached_within;
+        address_within = is.aside.address_within;
         loaded_within = is.aside.loaded_within;
       };
       asked_small = is.aside.asked_small;
       way_at_place = is.aside.nowhere;
       answer_at_place = is.aside.silent;
       gone = gone_aside is.aside.present;
-      at_place = (record { makes = is.makes; whole = whole; none_tried = refl; none_given = is.none_given }, refl, omega (arith, is.none_stored));
+      at_place = fits_settled_place heap (after_gather heap seat)
+          (record { makes = is.makes; whole = whole; none_tried = refl; none_given = is.none_given; none_used = is.no_spine.none_used })
+          (record { all_unborn = refl; none_stored = is.none_stored }) (omega (arith, some.0, whole)) is.no_spine;
     }
 
 -- the place of a refusal tells whether anything is to be given back
@@ -114,9 +175,11 @@ fits_gathered heap seat place is at_place = record {
   hand = record {
     hand_within = is.hand_within;
     body_within = rw is.no_body (All-nil (λ fragment. fragment < 16 * heap.groups));
+    spine_within = no_spine_fits seat.used seat.spine seat.listed is.no_spine;
   };
   way = record {
     reached_within = is.aside.reached_within;
+    address_within = is.aside.address_within;
     loaded_within = is.aside.loaded_within;
   };
   asked_small = is.aside.asked_small;
@@ -129,19 +192,38 @@ fits_gathered heap seat place is at_place = record {
 fits_gathering : (heap : Heap) (seat : Seat) → IsGathered heap seat → seat.tried < heap.groups
     → length seat.reserve + length seat.hand < need seat → Fits heap (record seat { place = places.Making Gathering })
 fits_gathering heap seat is left few = fits_gathered heap seat Gathering is
-    record { makes = is.makes; no_body = is.no_body; none_stored = is.none_stored; none_given = is.none_given; groups_left = left; too_few = few }
+    record { makes = is.makes; no_spine = is.no_spine; no_body = is.no_body; none_stored = is.none_stored; none_given = is.none_given; groups_left = left; too_few = few }
 
 fits_refused : (heap : Heap) (seat : Seat) → IsGathered heap seat → seat.tried ≡ heap.groups
     → length seat.reserve + length seat.hand < need seat → Fits heap (after_shortage seat)
 fits_refused heap seat is all few = fits_gathered heap seat (refusal_place seat.hand) is
     (fits_returning heap (after_shortage seat) seat.hand
-    (record { makes = is.makes; no_body = is.no_body; none_stored = is.none_stored; all_tried = all; too_few = omega (arith, is.none_given) }) refl)
+    (record { makes = is.makes; no_spine = is.no_spine; no_body = is.no_body; none_stored = is.none_stored; all_tried = all; too_few = omega (arith, is.none_given) }) refl)
 
 pub fits_goes_on : (heap : Heap) (seat : Seat) → IsGathered heap seat → Fits heap (gather_next heap seat)
 fits_goes_on heap seat is =
     let long = length-append seat.reserve seat.hand in
     goes_on_cases (Fits heap) heap seat (λ enough. fits_settled heap seat is enough) (λ few left. fits_gathering heap seat is left (omega arith))
     (λ few all. fits_refused heap seat is (omega (arith, is.tried_within)) (omega arith))
+
+-- a seat with nothing in its hand that makes an object
+pub gathers_at_rest : (heap : Heap) (seat : Seat) → OwnFits heap seat.registers seat.reserve seat.cursor → IsAside heap seat → IsAtRest seat → MakesNext seat.command seat.made → IsGathered heap seat
+gathers_at_rest heap seat own aside rest makes = record {
+  registers_whole = own.registers_whole;
+  cursor_within = own.cursor_within;
+  small_reserve = own.small_reserve;
+  reserve_of_cursor = own.reserve_of_cursor;
+  hand_within = rw rest.empty_hand (All-nil (λ fragment. fragment < 16 * heap.groups));
+  makes = makes;
+  no_spine = rest.no_spine;
+  no_body = rest.no_body;
+  none_stored = rest.none_stored;
+  none_given = rest.none_given;
+  tried_within = omega (arith, rest.none_tried);
+  few = rw rest.empty_hand (omega (arith, own.small_reserve));
+  rest_of_last = rw (rest.none_tried, rest.empty_hand, append-nil seat.reserve) (All-drop (λ fragment. fragment / 16 ≡ seat.cursor) (need seat) seat.reserve own.reserve_of_cursor);
+  aside = aside;
+}
 
 -- the group that is claimed next
 pub next_within : (heap : Heap) (seat : Seat) → seat.cursor < heap.groups → next_group_of heap seat < heap.groups

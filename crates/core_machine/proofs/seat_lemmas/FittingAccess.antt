@@ -3,12 +3,14 @@ use Rattle.std.proofs.Common.{◌≡◌, ℕ, ◌*◌, ◌<◌, false, List, len
 use Rattle.std.specs.List.{All}
 use Rattle.std.proofs.lemmas.List.{length-set}
 use Rattle.std.proofs.lemmas.List.Elements.{All-set}
+use Rattle.heap_words.specs.declared.spot.Spot.{Spot}
 use Rattle.heap_model.specs.declared.heap.Heap.{Heap}
 use Rattle.core_machine.specs.declared.place.Place.TheVariants as places
 use Rattle.core_machine.specs.declared.place.Access.{Access}
 use Rattle.core_machine.specs.declared.seat.register.Register.{Register}
 use Rattle.core_machine.specs.seat.Commands.{target_of}
 use Rattle.core_machine.specs.table.Decode.{head_of, IsWithinHeap}
+use Rattle.core_machine.specs.table.Layout.{FitsSpot}
 use Rattle.core_machine.specs.seat.Seat.{Seat, after_call}
 use Rattle.core_machine.specs.seat.Access.{with_register_filled}
 use Rattle.core_machine.specs.seat.FitsAccess.{FitsAccess}
@@ -34,7 +36,28 @@ fits_access heap seat reached links part loaded place rests within led way =
       hand = fits.hand;
       way = record {
         reached_within = within;
+        address_within = fits.way.address_within;
         loaded_within = led;
+      };
+      asked_small = fits.asked_small;
+      at_place = rests.rest;
+      way_at_place = way;
+      answer_at_place = rests.silent;
+      gone = gone_aside rests.present;
+    }
+
+-- the seat knows where the spine stands of the array that its way is in
+pub fits_addressed : (heap : Heap) (seat : Seat) (address : Spot) (place : Access) → Rests heap seat → FitsSpot address → FitsAccess (record seat { address = address; place = places.Access place }) place
+    → Fits heap (record seat { address = address; place = places.Access place })
+fits_addressed heap seat address place rests within way =
+    let fits = rests.fits in
+    record {
+      own = fits.own;
+      hand = fits.hand;
+      way = record {
+        reached_within = fits.way.reached_within;
+        address_within = within;
+        loaded_within = fits.way.loaded_within;
       };
       asked_small = fits.asked_small;
       at_place = rests.rest;

@@ -1,8 +1,11 @@
 -- A cell's word is read as the cell.
-use Rattle.std.proofs.Common.{◌≡◌, ℕ, ◌+◌, ◌*◌, ◌/◌, ◌%◌, ◌^◌, ◌<◌, refl, arith}
+use Rattle.std.proofs.Common.{ap, ◌≡◌, ℕ, ◌+◌, ◌*◌, ◌/◌, ◌%◌, ◌^◌, ◌<◌, refl, arith}
 use Rattle.heap_words.specs.declared.kind.Kind.{Kind}
 use Rattle.heap_words.specs.declared.kind.Kind.TheVariants as kinds
+use Rattle.heap_words.specs.declared.cell.Cell.{Cell}
 use Rattle.heap_words.specs.Cell.{cell_word, cell_of}
+use Rattle.core_machine.specs.table.Decode.{payload_in}
+use Rattle.core_machine.specs.table.Newborn.{spine_word}
 
 -- the parts of a word
 parts : (k v s : ℕ) → v < 2 ^ 30 → s < 2 ^ 32
@@ -15,3 +18,7 @@ cell_of-cell_word kinds.Nil value stamp p number = let e = parts 0 value stamp p
 cell_of-cell_word kinds.Number value stamp p number = let e = parts 1 value stamp p number in rw (e.0, e.1, e.2) refl
 cell_of-cell_word kinds.Reference value stamp p number = let e = parts 2 value stamp p number in rw (e.0, e.1, e.2) refl
 cell_of-cell_word kinds.Fixed value stamp p number = let e = parts 3 value stamp p number in rw (e.0, e.1, e.2) refl
+
+-- a spine word names its fragment
+pub payload_in-spine_word : (fragment : ℕ) → fragment < 2 ^ 30 → payload_in (spine_word fragment) ≡ fragment
+payload_in-spine_word fragment small = ap (λ (c : Cell). c.value) (cell_of-cell_word kinds.Fixed fragment 0 small (omega arith))

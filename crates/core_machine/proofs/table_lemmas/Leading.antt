@@ -1,20 +1,27 @@
 -- Every step leaves words that lead within the heap.
-use Rattle.std.proofs.Common.{suc, ◌≡◌, ℕ, ◌+◌, ◌*◌, ◌^◌, ◌<◌, ◌≤◌, true, false, cond, eqb, ltb, List, length, get_or, Some, None, inl, inr, subst, sym, ap, arith}
+use Rattle.std.proofs.Common.{suc, ◌≡◌, ℕ, ◌+◌, ◌*◌, ◌^◌, ◌<◌, ◌≤◌, true, cond, eqb, ltb, List, length, get_or, Option, Some, None, le-ltb, inl, inr, subst, sym, ap, arith}
 use Rattle.std.proofs.lemmas.Bool.Decides.{eqb_tells, leb_tells}
 use Rattle.std.proofs.lemmas.List.{get_or_past}
 use Rattle.heap_words.specs.declared.cell.Cell.{Cell}
 use Rattle.heap_words.specs.declared.name.Name.{Name}
+use Rattle.heap_words.specs.declared.spot.Spot.{Spot}
 use Rattle.heap_words.specs.declared.kind.Kind.{Kind}
 use Rattle.heap_words.specs.declared.kind.Kind.TheVariants as kinds
 use Rattle.heap_words.specs.Cell.{cell_word}
 use Rattle.heap_words.specs.Name.{name_word}
+use Rattle.heap_words.specs.Spot.{spot_word}
+use Rattle.heap_model.specs.Command.{IsCommand}
+use Rattle.heap_model.specs.declared.command.Command.{Command}
+use Rattle.heap_model.specs.declared.command.Command.TheVariants.{New, Array}
 use Rattle.heap_model.specs.declared.heap.Heap.{Heap}
 use Rattle.core_machine.specs.declared.table.address.Address.{Address}
 use Rattle.core_machine.specs.declared.seat.register.Register.{Register}
 use Rattle.core_machine.specs.declared.seat.register.Register.TheVariants.{Nil, Number, Object}
-use Rattle.core_machine.specs.table.Layout.{at, put, index_of, InTable}
+use Rattle.core_machine.specs.table.Layout.{at, put, index_of, InTable, FitsSpot}
 use Rattle.core_machine.specs.table.Decode.{pointer_in, first_pointer, reference_of, IsWithinHeap, PointersWithin, FoundPointsWithin}
-use Rattle.core_machine.specs.table.Newborn.{link_after, head_word_of, record_word_of}
+use Rattle.core_machine.specs.table.Newborn.{link_after, head_word_of, record_word_of, array_meta, sentinel_word_of, array_word_of}
+use Rattle.core_machine.specs.seat.Commands.{MakesObject}
+use Rattle.core_machine.specs.seat.Making.{newborn_word}
 use Rattle.core_machine.specs.seat.Registers.{register_word}
 use Rattle.core_machine.specs.seat.Fits.{AreFragments, FitsRegister}
 use Rattle.core_machine.proofs.table_lemmas.Addresses.{at-put_other, index_apart, put-tells}
@@ -39,12 +46,17 @@ pub cell_lead : (part : ℕ) (kind : Kind) (value stamp : ℕ) → value < 2 ^ 3
 cell_lead part kind value stamp small short =
     ap (λ (c : Cell). cond (eqb part 0) (first_pointer c.kind c) (reference_of c.kind c.value)) (cell_of-cell_word kind value stamp small short)
 
+-- where the first word leads within the heap, and each other one
+first_or_later : (heap : Heap) (part : ℕ) (first later : Option ℕ) → IsWithinHeap heap first → IsWithinHeap heap later → IsWithinHeap heap (cond (eqb part 0) first later)
+first_or_later heap part first later led also = elim (eqb_tells part 0) as (λ _. IsWithinHeap heap (cond (eqb part 0) first later)) [ inl e ↦ rw e.0 led | inr e ↦ rw e.0 also ]
+
 -- a register's word leads to its object
-pub register_leads : (heap : Heap) (register : Register) (stamp part : ℕ) → eqb part 0 ≡ false → 16 * heap.groups ≤ 2 ^ 16 → FitsRegister heap register → stamp < 2 ^ 32
+pub register_leads : (heap : Heap) (register : Register) (stamp part : ℕ) → 16 * heap.groups ≤ 2 ^ 16 → FitsRegister heap register → stamp < 2 ^ 32
     → IsWithinHeap heap (pointer_in part (register_word register stamp))
-register_leads heap Nil stamp part some few fit small = subst (IsWithinHeap heap) (sym (cell_lead part kinds.Nil 0 stamp (omega arith) small)) (rw some tt)
-register_leads heap (Number n) stamp part some few fit small = subst (IsWithinHeap heap) (sym (cell_lead part kinds.Number n stamp fit small)) (rw some tt)
-register_leads heap (Object head id) stamp part some few fit small = subst (IsWithinHeap heap) (sym (cell_lead part kinds.Reference head stamp (omega (arith, fit)) small)) (rw some fit)
+register_leads heap Nil stamp part few fit small = subst (IsWithinHeap heap) (sym (cell_lead part kinds.Nil 0 stamp (omega arith) small)) (first_or_later heap part None None tt tt)
+register_leads heap (Number n) stamp part few fit small = subst (IsWithinHeap heap) (sym (cell_lead part kinds.Number n stamp fit small)) (first_or_later heap part None None tt tt)
+register_leads heap (Object head id) stamp part few fit small =
+    subst (IsWithinHeap heap) (sym (cell_lead part kinds.Reference head stamp (omega (arith, fit)) small)) (first_or_later heap part (Some head) (Some head) fit fit)
 
 -- one of the fragments, or 0 past their end
 fragment_within : (heap : Heap) (fragments : List ℕ) (i : ℕ) → 0 < heap.groups → AreFragments heap fragments → get_or fragments i 0 < 16 * heap.groups
@@ -94,3 +106,41 @@ record_leads heap name fields fragments k part owner count few some small each =
         | inr cell ↦ rw cell.0 tt
       ])
     ]
+
+-- an array's meta leads nowhere, and neither do the place of its spine and the fixed word after it
+array_meta_leads : (heap : Heap) (cells : ℕ) → cells < 2 ^ 13 → IsWithinHeap heap (pointer_in 0 (array_meta cells))
+array_meta_leads heap cells few = subst (IsWithinHeap heap) (sym (cell_lead 0 kinds.Fixed (2 ^ 29 + cells) 0 (omega arith) (omega arith))) (rw (le-ltb (2 ^ 29 + cells) (2 ^ 29) (omega arith)) tt)
+
+spot_leads : (heap : Heap) (spot : Spot) → FitsSpot spot → IsWithinHeap heap (pointer_in 2 (spot_word spot))
+spot_leads heap spot fits = subst (IsWithinHeap heap) (sym (cell_lead 2 kinds.Fixed spot.half spot.offset (omega (arith, fits.half_within)) (omega (arith, fits.offset_within)))) tt
+
+-- the words of an array whose cells were never set lead nowhere
+pub array_leads : (heap : Heap) (name : Name) (cells : ℕ) (spine : Spot) (k part : ℕ) → name.owner < 2 ^ 30 → name.count < 2 ^ 32 → cells < 2 ^ 13 → FitsSpot spine
+    → IsWithinHeap heap (pointer_in part (array_word_of name cells spine k part))
+array_leads heap name cells spine k part owner count few fits =
+    elim (eqb_tells k 0) as (λ _. IsWithinHeap heap (pointer_in part (array_word_of name cells spine k part))) [
+      | inl head ↦ rw head.0 (elim (eqb_tells part 0) as (λ _. Leads part) [
+        | inl meta ↦ subst Leads (sym meta.1) (array_meta_leads heap cells few)
+        | inr other ↦ elim (eqb_tells part 1) as (λ _. Leads part) [
+          | inl named ↦ subst Leads (sym named.1) (name_leads heap name owner count)
+          | inr unnamed ↦ elim (eqb_tells part 2) as (λ _. Leads part) [
+            | inl placed ↦ subst Leads (sym placed.1) (spot_leads heap spine fits)
+            | inr fixed ↦ rw (other.0, unnamed.0, fixed.0) tt
+          ]
+        ]
+      ])
+      | inr payload ↦ rw payload.0 (zero_leads heap part)
+    ]
+  where
+    Leads : ℕ → Type 0
+    Leads p = IsWithinHeap heap (pointer_in p (sentinel_word_of name cells spine p))
+
+-- the words of a new object lead within the heap
+pub newborn_leads : (heap : Heap) (command : Command) (name : Name) (spine : Spot) (fragments : List ℕ) (k part : ℕ) → MakesObject command → IsCommand command → name.owner < 2 ^ 30
+    → name.count < 2 ^ 32 → 0 < heap.groups → 16 * heap.groups ≤ 2 ^ 16 → FitsSpot spine → AreFragments heap fragments
+    → IsWithinHeap heap (pointer_in part (newborn_word command name spine fragments k part))
+newborn_leads heap (New d fields) name spine fragments k part makes range owner count some small fits each =
+    record_leads heap name fields fragments k part owner count (omega (arith, range.1.1)) some small each
+newborn_leads heap (Array d cells) name spine fragments k part makes range owner count some small fits each =
+    array_leads heap name cells spine k part owner count (omega (arith, range.1.1)) fits
+newborn_leads heap _ name spine fragments k part makes range owner count some small fits each = absurd makes

@@ -1,14 +1,16 @@
 -- What is asked of each step, a seat's or the collector's.
-use Rattle.std.proofs.Common.{◌≡◌, ℕ, ◌<◌, ◌^◌, sym, subst, arith, ◌*◌}
+use Rattle.std.proofs.Common.{◌≡◌, ℕ, ◌<◌, ◌^◌, sym, subst, arith, ◌*◌, ◌≤◌}
 use Rattle.heap_model.specs.declared.heap.Heap.{Heap}
 use Rattle.core_machine.specs.declared.step.Step.{Step}
 use Rattle.core_machine.specs.declared.step.operation.Operation.{Operation}
 use Rattle.core_machine.specs.declared.step.operation.Operation.TheVariants.{Load}
 use Rattle.core_machine.specs.declared.step.AccessStep.TheVariants.{Shade}
-use Rattle.core_machine.specs.declared.step.Step.TheVariants.{Access}
+use Rattle.core_machine.specs.declared.step.SpineStep.TheVariants.{BudgetAdd, BudgetTakeBack, SpotClaim, SpineStore}
+use Rattle.core_machine.specs.declared.step.Step.TheVariants.{Access, Spine}
 use Rattle.core_machine.specs.table.Layout.{InTable}
 use Rattle.core_machine.specs.table.Decode.{FoundPointsWithin}
 use Rattle.core_machine.specs.table.Operation.{address_of, operation_of, operation_result, word_after}
+use Rattle.core_machine.proofs.table_lemmas.CellWords.{payload_in-spine_word}
 use Rattle.core_machine.proofs.table_lemmas.Wide.{shade_wide}
 
 pub record StepStands (heap : Heap) (step : Step) : Type 0 where
@@ -30,3 +32,21 @@ load_stands heap step loads there = record {
 -- a shade of a fragment of the heap
 pub shade_stands : (heap : Heap) (fragment : ℕ) → fragment < 16 * heap.groups → StepStands heap (Access (Shade fragment))
 shade_stands heap fragment within = record { in_table = omega (arith, within); wide = λ found small. shade_wide fragment found small; leads = λ found led. tt }
+
+-- a word that grows or falls modulo 2^64 has 64 bits, and leads nowhere
+pub add_stands : (heap : Heap) (words : ℕ) → StepStands heap (Spine (BudgetAdd words))
+add_stands heap words = record { in_table = tt; wide = λ found small. omega arith; leads = λ found led. tt }
+
+pub take_back_stands : (heap : Heap) (words : ℕ) → StepStands heap (Spine (BudgetTakeBack words))
+take_back_stands heap words = record { in_table = tt; wide = λ found small. omega arith; leads = λ found led. tt }
+
+pub spot_stands : (heap : Heap) (words : ℕ) → StepStands heap (Spine (SpotClaim words))
+spot_stands heap words = record { in_table = tt; wide = λ found small. omega arith; leads = λ found led. tt }
+
+-- a spine word that is stored names a fragment of the heap
+pub spine_store_stands : (heap : Heap) (half offset fragment : ℕ) → half < 2 → 16 * heap.groups ≤ 2 ^ 16 → fragment < 16 * heap.groups → StepStands heap (Spine (SpineStore half offset fragment))
+spine_store_stands heap half offset fragment there few within = record {
+  in_table = there;
+  wide = λ found small. omega (arith, within);
+  leads = λ found led. subst (λ (f : ℕ). f < 16 * heap.groups) (sym (payload_in-spine_word fragment (omega (arith, within)))) within;
+}

@@ -5,27 +5,26 @@ use Rattle.std.proofs.lemmas.List.{get_or_past}
 use Rattle.std.proofs.lemmas.Nat.{and_le_l, or_lt}
 use Rattle.std.proofs.Math.Nat.{pow-le-pow_right}
 use Rattle.heap_words.specs.declared.name.Name.{Name}
+use Rattle.heap_words.specs.declared.spot.Spot.{Spot}
 use Rattle.heap_words.specs.Name.{name_word}
+use Rattle.heap_words.specs.Spot.{spot_word}
 use Rattle.heap_model.specs.declared.heap.Heap.{Heap}
 use Rattle.heap_model.specs.declared.command.Command.{Command}
-use Rattle.heap_model.specs.declared.command.Command.TheVariants.{New, Set}
+use Rattle.heap_model.specs.declared.command.Command.TheVariants.{New, Array, Set}
 use Rattle.heap_model.specs.Heap.{IsHeap}
 use Rattle.heap_model.specs.Command.{IsCommand}
 use Rattle.core_machine.specs.declared.seat.register.Register.{Register}
 use Rattle.core_machine.specs.declared.seat.register.Register.TheVariants.{Nil, Number, Object}
 use Rattle.core_machine.specs.seat.Registers.{register_word}
 use Rattle.core_machine.specs.seat.FitsAccess.{IsSet}
-use Rattle.core_machine.specs.seat.Commands.{IsRecord, fields_of}
-use Rattle.core_machine.specs.table.Newborn.{link_after, head_word_of, record_word_of}
+use Rattle.core_machine.specs.seat.Commands.{MakesObject}
+use Rattle.core_machine.specs.seat.Making.{newborn_word}
+use Rattle.core_machine.specs.table.Layout.{FitsSpot}
+use Rattle.core_machine.specs.table.Newborn.{link_after, head_word_of, record_word_of, spine_word, sentinel_word_of, array_word_of}
 use Rattle.core_machine.specs.table.Operation.{birth_bits_of, shade_bit_of, blacken_bit_of}
 use Rattle.core_machine.specs.seat.Seat.{HasNumberLeft}
 use Rattle.core_machine.specs.seat.Fits.{AreFragments, FitsRegister}
 use Rattle.core_machine.specs.seat.Access.{after_name}
-
--- a record has few fields
-pub fields_few : (command : Command) → IsRecord command → IsCommand command → fields_of command ≤ 47
-fields_few (New d fields) record_ range = range.1.1
-fields_few _ record_ range = absurd record_
 
 -- a fragment of the list, or 0 past its end
 pub fragment_small : (heap : Heap) (fragments : List ℕ) (i : ℕ) → IsHeap heap → AreFragments heap fragments → get_or fragments i 0 < 2 ^ 16
@@ -55,6 +54,31 @@ record_wide name fields fragments k part owner count few small =
       | inl head ↦ rw head.0 (head_wide name fields fragments part owner count few (small 1))
       | inr other ↦ rw other.0 (elim (eqb_tells part 0) as (λ _. cond (eqb part 0) (link_after fragments k) 0 < 2 ^ 64) [ inl link ↦ rw link.0 (link_wide fragments k (small (k + 1))) | inr cell ↦ rw cell.0 (omega arith) ])
     ]
+
+-- so are the words of an array
+pub array_wide : (name : Name) (cells : ℕ) (spine : Spot) (k part : ℕ) → name.owner < 2 ^ 30 → name.count < 2 ^ 32 → cells < 2 ^ 13 → FitsSpot spine
+    → array_word_of name cells spine k part < 2 ^ 64
+array_wide name cells spine k part owner count few fits =
+    elim (eqb_tells k 0) as (λ _. array_word_of name cells spine k part < 2 ^ 64) [
+      | inl head ↦ rw head.0 (elim (eqb_tells part 0) as (λ _. sentinel_word_of name cells spine part < 2 ^ 64) [
+        | inl meta ↦ rw meta.0 (omega arith)
+        | inr other ↦ rw other.0 (elim (eqb_tells part 1) as (λ _. cond (eqb part 1) (name_word name) (cond (eqb part 2) (spot_word spine) (spine_word 0)) < 2 ^ 64) [
+          | inl named ↦ rw named.0 (omega arith)
+          | inr unnamed ↦ rw unnamed.0 (elim (eqb_tells part 2) as (λ _. cond (eqb part 2) (spot_word spine) (spine_word 0) < 2 ^ 64) [
+            | inl placed ↦ rw placed.0 (omega (arith, fits.half_within, fits.offset_within))
+            | inr fixed ↦ rw fixed.0 (omega arith)
+          ])
+        ])
+      ])
+      | inr payload ↦ rw payload.0 (omega arith)
+    ]
+
+-- the words of a new object are words
+pub newborn_wide : (command : Command) (name : Name) (spine : Spot) (fragments : List ℕ) (k part : ℕ) → MakesObject command → IsCommand command → name.owner < 2 ^ 30 → name.count < 2 ^ 32
+    → FitsSpot spine → ((i : ℕ) → get_or fragments i 0 < 2 ^ 16) → newborn_word command name spine fragments k part < 2 ^ 64
+newborn_wide (New d fields) name spine fragments k part makes range owner count fits small = record_wide name fields fragments k part owner count (omega (arith, range.1.1)) small
+newborn_wide (Array d cells) name spine fragments k part makes range owner count fits small = array_wide name cells spine k part owner count (omega (arith, range.1.1)) fits
+newborn_wide _ name spine fragments k part makes range owner count fits small = absurd makes
 
 pub birth_wide : (black : Bool) (bits word : ℕ) → bits < 2 ^ 16 → word < 2 ^ 64 → bit_or word (birth_bits_of black bits) < 2 ^ 64
 birth_wide false bits word small wide = or_lt 64 word (bits * 2 ^ 16) wide (omega arith)

@@ -1,26 +1,36 @@
 -- What leads within the heap, where something leads on.
-use Rattle.std.proofs.Common.{zero, suc, ◌≡◌, ℕ, ◌*◌, ◌%◌, ◌<◌, ◌≤◌, false, eqb, List, [], ◌∷◌, length, get_or, Option, Some, None, inl, inr, arith, subst, sym}
+use Rattle.std.proofs.Common.{zero, suc, ℕ, ◌*◌, ◌%◌, ◌<◌, ◌≤◌, List, [], ◌∷◌, length, get_or, Option, Some, None, inl, inr, arith, subst, sym}
 use Rattle.std.specs.Prelude.{IsSome, unwrap_or}
 use Rattle.std.specs.List.{All}
 use Rattle.std.proofs.lemmas.Bool.Decides.{eqb_tells, leb_tells}
+use Rattle.heap_words.specs.Cell.{cell_of}
+use Rattle.heap_words.specs.declared.cell.Cell.{Cell}
+use Rattle.heap_words.specs.declared.kind.Kind.{Kind}
+use Rattle.heap_words.specs.declared.kind.Kind.TheVariants as kinds
 use Rattle.heap_model.specs.declared.heap.Heap.{Heap}
 use Rattle.core_machine.specs.declared.seat.register.Register.{Register}
 use Rattle.core_machine.specs.declared.seat.register.Register.TheVariants.{Nil, Number, Object}
-use Rattle.core_machine.specs.table.Decode.{head_of, pointer_in, IsWithinHeap}
+use Rattle.core_machine.specs.table.Decode.{head_of, pointer_in, first_pointer, reference_of, IsWithinHeap}
 use Rattle.core_machine.specs.seat.Registers.{register_head, heads_of, register_in}
 use Rattle.core_machine.specs.seat.Handshake.{roots}
 use Rattle.core_machine.specs.seat.Seat.{Seat}
 use Rattle.core_machine.specs.seat.Fits.{FitsRegister, Fits}
-use Rattle.core_machine.specs.seat.FitsAccess.{IsFieldPart}
 use Rattle.std.proofs.lemmas.List.{get_or_past}
 
--- a field doesn't stand in a fragment's first word
-pub part_some : (part : ℕ) → IsFieldPart part → eqb part 0 ≡ false
-part_some part is = grind (arith, is.some)
+-- so does a cell that is a fragment's first word
+first_leads : (heap : Heap) (kind : Kind) (cell : Cell) → IsWithinHeap heap (first_pointer kind cell) → IsWithinHeap heap (reference_of kind cell.value)
+first_leads heap kinds.Nil cell led = tt
+first_leads heap kinds.Number cell led = tt
+first_leads heap kinds.Reference cell led = led
+first_leads heap kinds.Fixed cell led = tt
 
--- a field leads where it refers to
-pub head_leads : (heap : Heap) (part found : ℕ) → IsFieldPart part → IsWithinHeap heap (pointer_in part found) → IsWithinHeap heap (head_of found)
-head_leads heap part found is led = rw (part_some part is) at led
+-- a field leads where it refers to, in whichever word of its fragment it stands
+pub head_leads : (heap : Heap) (part found : ℕ) → IsWithinHeap heap (pointer_in part found) → IsWithinHeap heap (head_of found)
+head_leads heap part found led =
+    elim (eqb_tells part 0) as (λ _. IsWithinHeap heap (head_of found)) [
+      | inl first ↦ first_leads heap (cell_of found).kind (cell_of found) (rw first.0 at led)
+      | inr later ↦ rw later.0 at led
+    ]
 
 -- what is there is within
 pub some_within : (heap : Heap) (fragment : Option ℕ) → IsSome fragment → IsWithinHeap heap fragment → unwrap_or fragment 0 < 16 * heap.groups

@@ -1,6 +1,6 @@
 -- How a seat goes on while it makes an object: gathering, refusing, storing, bearing.
-use Rattle.std.specs.Prelude.{ℕ, ◌+◌, ◌-◌, ◌*◌, ◌/◌, ◌%◌, ◌==◌, nat_lt, nat_le, if◌then◌else◌, List, [], ◌∷◌, ◌++◌, length, take, drop, reverse, slice_index_or, slice_set}
-use Rattle.std.specs.List.{prefix_len}
+use Rattle.std.specs.Prelude.{ℕ, ◌+◌, ◌-◌, ◌*◌, ◌/◌, ◌%◌, ◌==◌, nat_lt, nat_le, if◌then◌else◌, List, [], ◌∷◌, ◌++◌, length, take, drop, slice_index_or, slice_set}
+use Rattle.std.specs.List.{suffix_len}
 use Rattle.heap_words.specs.declared.name.Name.{Name}
 use Rattle.heap_words.specs.declared.spot.Spot.{Spot}
 use Rattle.heap_words.specs.Spot.{spot_in}
@@ -14,7 +14,7 @@ use Rattle.core_machine.specs.declared.place.Making.{Making}
 use Rattle.core_machine.specs.declared.place.Making.TheVariants.{Withdrawing, Gathering, Returning, Refusing, Placing, Listing, Storing, Bearing}
 use Rattle.core_machine.specs.declared.place.Place.TheVariants as places
 use Rattle.core_machine.specs.declared.seat.register.Register.TheVariants.{Object}
-use Rattle.core_machine.specs.seat.Commands.{target_of, fields_of, cells_of}
+use Rattle.core_machine.specs.seat.Commands.{target_of, fields_of}
 use Rattle.core_machine.specs.table.Fragments.{in_group, part_in, part_out, clear_in}
 use Rattle.core_machine.specs.table.Newborn.{record_word_of, array_word_of}
 use Rattle.core_machine.specs.seat.Seat.{Seat, need, spine_need, after_call}
@@ -83,7 +83,7 @@ last_group_of fragments = slice_index_or fragments (length fragments - 1) 0 / gr
 
 -- how many of the last fragments are of the last one's group
 abbrev pub last_run : List ℕ → ℕ
-last_run fragments = prefix_len (in_group (last_group_of fragments)) (reverse fragments)
+last_run fragments = suffix_len (in_group (last_group_of fragments)) fragments
 
 -- the fragments before those
 abbrev pub before_run : List ℕ → List ℕ

@@ -5,6 +5,7 @@ ghost use Rattle.core_machine.specs.seat.Commands.{fields_of, cells_of, target_o
 ghost use Rattle.core_machine.specs.seat.Fits.{HasBody};
 ghost use Rattle.core_machine.specs.seat.Making.{after_store, newborn_word_of};
 ghost use Rattle.core_machine.specs.Moves.{due_store, bearing_move, last_birth_move, bears_black_of, seat_after};
+ghost use Rattle.core_machine.specs.table.Layout.{FitsSpot};
 ghost use Rattle.core_machine.specs.machine.Value.{KeepsRoom};
 
 use crate::place::{Making, Place};
@@ -54,6 +55,7 @@ impl SeatParty {
     pub(crate) fn store(&self, number: u8) -> MakingStep
         requires number { number < most_seats }
         requires body { HasBody self.now.seat }
+        requires spine { FitsSpot self.now.seat.spine }
         requires within { self.now.seat.stored < 4 * length self.now.seat.body }
         ensures { result ≡ due_store number self.now.seat }
     {

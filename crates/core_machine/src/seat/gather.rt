@@ -11,7 +11,9 @@ ghost use Rattle.core_machine.specs.machine.Value.{KeepsRoom};
 use crate::place::{Making, Place};
 use crate::seat::SeatParty;
 use crate::step::MakingStep;
-use crate::table::fragments::{add_clear, copied, count_in, first_group, joined, mask_in, rest_of};
+use crate::table::fragments::{
+    add_clear, copied, count_in, first_group, joined, leave_out, mask_in,
+};
 use heap_model::{Command, Entry, Heap, Reply};
 
 /// Where a refusal stands while these fragments are to be given back.
@@ -130,7 +132,7 @@ impl SeatParty {
     {
         let group = first_group(self.hand.as_slice());
         let count = count_in(self.hand.as_slice(), group);
-        self.hand = rest_of(self.hand.as_slice(), group);
+        leave_out(&mut self.hand, group);
         self.given += count as u16;
         self.place = Place::Making(returning(self.hand.as_slice()));
         self.note(Entry::GivesBack {

@@ -64,18 +64,19 @@ pub fn all_in(fragments: &[u16], group: u16) -> bool
         .all(|fragment| *fragment / GROUP_FRAGMENTS == group)
 }
 
-/// The fragments that aren't of this group.
-pub fn rest_of(fragments: &[u16], group: u16) -> Hand
-    requires { length fragments.now ≤ MOST_HELD }
-    ensures { result.items ≡ part_out group fragments.now }
+/// Leaves out the fragments of this group.
+pub fn leave_out(hand: &mut Hand, group: u16)
+    ensures { hand.new.items ≡ part_out group hand.old.items }
 {
-    let mut rest = Hand::new();
-    for fragment in fragments {
-        if *fragment / GROUP_FRAGMENTS != group {
-            rest.push(*fragment);
+    let mut kept = 0;
+    for place in 0..hand.len() {
+        let fragment = hand[place];
+        if fragment / GROUP_FRAGMENTS != group {
+            hand[kept] = fragment;
+            kept += 1;
         }
     }
-    rest
+    hand.truncate(kept);
 }
 
 /// Adds the fragments of the group whose taken bit isn't set in its control word.

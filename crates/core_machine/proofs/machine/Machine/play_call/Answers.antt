@@ -65,6 +65,11 @@ returns-clause-answer c =
     (call_over c.loop-step.self c.loop-step.invariant.playing (none_left c.loop-step.self c.args.seat c.loop-step.invariant.heap c.due_of_seat.ensures c.in_default.not-Some)
     (ap last_reply_of (sym c.log.ensures) ∙ sym c.last_reply.ensures ∙ c.in-Some-last_reply.is)).answer
 
+pub returns-clause-array : goal.returns-clause-array
+returns-clause-array c =
+    (call_over c.loop-step.self c.loop-step.invariant.playing (none_left c.loop-step.self c.args.seat c.loop-step.invariant.heap c.due_of_seat.ensures c.in_default.not-Some)
+    (ap last_reply_of (sym c.log.ensures) ∙ sym c.last_reply.ensures ∙ c.in-Some-last_reply.is)).array
+
 pub returns-clause-refused : goal.returns-clause-refused
 returns-clause-refused c =
     (call_over c.loop-step.self c.loop-step.invariant.playing (none_left c.loop-step.self c.args.seat c.loop-step.invariant.heap c.due_of_seat.ensures c.in_default.not-Some)

@@ -1,0 +1,136 @@
+-- How an array asks for its spine words, and how its spine is made.
+use Rattle.std.proofs.Common.{◌≡◌, ℕ, ◌+◌, ◌<◌, [], ◌++◌, length, refl, ap, arith}
+use Rattle.heap_words.specs.Spot.{spot_in}
+use Rattle.heap_model.specs.declared.command.Command.TheVariants.{Array}
+use Rattle.heap_model.specs.declared.heap.Heap.{Heap}
+use Rattle.core_machine.specs.Moves.{grant_move, withdraw_move, placing_move, listing_move}
+use Rattle.core_machine.specs.declared.place.Making.TheVariants.{Granting, Withdrawing, Placing, Listing}
+use Rattle.core_machine.specs.declared.place.Place.TheVariants as places
+use Rattle.core_machine.specs.machine.Machine.{found_by}
+use Rattle.core_machine.specs.seat.Awaiting.{entries_awaited}
+use Rattle.core_machine.specs.seat.Fits.{Fits, FitsMaking, HasArrayBody, SeatIsGranting}
+use Rattle.core_machine.specs.seat.Making.{after_budget, after_listing, list_place}
+use Rattle.core_machine.specs.seat.Seat.{Seat, spine_need, with_entries}
+use Rattle.core_machine.proofs.call_lemmas.Awaits.{plain, after_words, goes_on_mine}
+use Rattle.core_machine.proofs.call_lemmas.Owes.{owes_making, making_steps, Nears}
+use Rattle.core_machine.proofs.call_lemmas.Saying.{Says, on, ends}
+use Rattle.core_machine.proofs.moves.Gather.{nears_gathered, goes_on_awaits, goes_on_says}
+use Rattle.core_machine.proofs.moves.Standing.{PlaceStands, CommandStands, present_at, aside_at, aside_ready, going_ready, rest_ready, resting_begins}
+use Rattle.core_machine.proofs.seat_lemmas.Aside.{IsAside, gone_aside, fits_over, fits_spine}
+use Rattle.core_machine.proofs.seat_lemmas.Fitting.{need_of_object, words_of_array, listed_all, budget_cases, listing_cases, fits_goes_on, gathers_at_rest}
+use Rattle.core_machine.proofs.table_lemmas.StepStands.{add_stands, take_back_stands, spot_stands, spine_store_stands}
+
+-- the spine words were asked for
+fits_granted : (heap : Heap) (seat : Seat) (found : ℕ) → Fits heap seat → IsAside heap seat → SeatIsGranting seat → Fits heap (after_budget heap seat found)
+fits_granted heap seat found fits aside is =
+    let rest = is.0 in
+    budget_cases (Fits heap) heap seat found
+    (λ lacks. fits_spine heap seat found seat.spine seat.listed (places.Making Withdrawing) fits aside fits.hand.spine_within
+    (record {
+      makes = is.1;
+      an_array = is.2;
+      rests = record {
+        empty_hand = rest.empty_hand;
+        no_body = rest.no_body;
+        none_stored = rest.none_stored;
+        none_tried = rest.none_tried;
+        none_given = rest.none_given;
+        no_spine = record { none_used = refl; no_place = rest.no_spine.no_place; none_listed = rest.no_spine.none_listed };
+      };
+      too_many = lacks;
+    }) aside.nowhere aside.silent)
+    (λ grants. fits_goes_on heap seat (gathers_at_rest heap seat fits.own aside rest is.1))
+
+nears_granted : (heap : Heap) (seat : Seat) (found : ℕ) → SeatIsGranting seat
+    → Nears heap (with_entries (after_budget heap seat found) []) (owes_making seat Granting) (making_steps heap seat Granting) 0
+nears_granted heap seat found is =
+    let some = need_of_object seat.command is.1.an_object is.1.in_range in
+    budget_cases (λ s. Nears heap (with_entries s []) (owes_making seat Granting) (making_steps heap seat Granting) 0) heap seat found
+    (λ lacks. record { fewer = omega (arith, some.0); paid = omega (arith, some.0) })
+    (λ grants. nears_gathered heap seat [] (owes_making seat Granting) (making_steps heap seat Granting) is.1 is.0.none_stored (omega arith) (omega (arith, some.0)) (λ lacks. omega arith))
+
+-- they are asked for
+pub grant_stands : PlaceStands (places.Making Granting)
+grant_stands heap number seat here =
+    let move = grant_move heap number seat in
+    record {
+      step = add_stands heap (spine_need seat);
+      fits = λ found small led. fits_granted heap seat found here.fits (aside_at heap number seat (places.Making Granting) here (λ e. cc) here.way here.answer) here.hand;
+      near = λ found. nears_granted heap seat found here.hand;
+      adds = λ now. let found = found_by heap now move.step in
+          let words = after_words heap now number seat move in
+          plain heap now number seat move (budget_cases (λ s. s.mine ≡ seat.mine) heap seat found (λ lacks. refl) (λ grants. goes_on_mine heap seat)) (rw here.placed refl)
+          (budget_cases (λ s. entries_awaited heap words number (with_entries s []) ≡ []) heap seat found (λ lacks. refl) (λ grants. goes_on_awaits heap words number seat [])) refl;
+      says = λ old command words told is found. budget_cases (λ s. Says old number command (with_entries s []) (told ++ []) s.place) heap seat found
+          (λ lacks. (on old number command seat _ told [] is.0 refl refl refl refl tt, is.1))
+          (λ grants. goes_on_says old number command heap seat seat told [] is refl refl refl refl tt);
+    }
+
+-- they are taken back, and the refusal is told
+pub withdraw_stands : PlaceStands (places.Making Withdrawing)
+withdraw_stands heap number seat here = record {
+  step = take_back_stands heap (spine_need seat);
+  fits = λ found small led. fits_over heap seat here.fits.own.registers_whole here.fits.own.registers_fit here.fits.own.cursor_within here.fits.own.small_reserve
+      here.fits.own.reserve_of_cursor (gone_aside (present_at heap number seat (places.Making Withdrawing) here (λ e. cc)));
+  near = λ found. record { fewer = omega arith; paid = omega arith };
+  adds = λ now. plain heap now number seat (withdraw_move number seat) refl (rw here.placed refl) refl refl;
+  says = λ old command words told is found. ends old number command seat _ told [] _ is (omega arith) (omega arith) refl tt;
+}
+
+-- the spine gets its place
+pub placing_stands : PlaceStands (places.Making Placing)
+placing_stands heap number seat here =
+    let body = here.hand.0 in
+    let words = words_of_array seat.command body.1 body.0.makes.in_range in
+    let aside : IsAside heap seat = aside_at heap number seat (places.Making Placing) here (λ e. cc) here.way here.answer in
+    record {
+      step = spot_stands heap (spine_need seat);
+      fits = λ found small led. fits_spine heap seat seat.used (spot_in found) seat.listed (places.Making Listing) here.fits aside (record { half_within = omega arith; offset_within = omega arith })
+          (body, omega (arith, here.hand.1.none_listed, words.0)) aside.nowhere aside.silent;
+      near = λ found. record { fewer = omega arith; paid = omega arith };
+      adds = λ now. plain heap now number seat (placing_move seat) refl (rw here.placed refl) refl refl;
+      says = λ old command words_ told is found. (on old number command seat _ told [] is.0 refl refl refl refl tt, is.1);
+    }
+
+module _ (heap : Heap) (seat : Seat) (body : HasArrayBody seat) (within : seat.listed < spine_need seat) where
+  -- the spine word names one of the object's fragments
+  named_within : seat.listed + 1 < length seat.body
+  named_within = let words = words_of_array seat.command body.1 body.0.makes.in_range in omega (arith, within, words.2, body.0.whole)
+
+  -- a word of the spine was stored
+  fits_listed : Fits heap seat → IsAside heap seat → Fits heap (after_listing seat)
+  fits_listed fits aside =
+      fits_spine heap seat seat.used seat.spine (seat.listed + 1) (places.Making (list_place (seat.listed + 1) (spine_need seat))) fits aside fits.hand.spine_within
+      (listing_cases (FitsMaking heap (after_listing seat)) (seat.listed + 1) (spine_need seat) (λ more. (body, more))
+      (λ all. (body.0, body.2.all_unborn, omega (arith, named_within, body.2.none_stored), listed_all seat.command seat.spine (seat.listed + 1) body.1 (omega (arith, all, within)))))
+      aside.nowhere aside.silent
+
+  nears_listed : Nears heap (with_entries (after_listing seat) []) 1 (making_steps heap seat Listing) 0
+  nears_listed =
+      let same = ap length body.2.all_unborn in
+      listing_cases (λ m. Nears heap (with_entries (record (after_listing seat) { place = places.Making m }) []) 1 (making_steps heap seat Listing) 0) (seat.listed + 1) (spine_need seat)
+      (λ more. record { fewer = omega (arith, within); paid = omega arith }) (λ all. record { fewer = omega (arith, within, same, body.2.none_stored); paid = omega arith })
+
+-- the spine's next word is stored
+pub listing_stands : PlaceStands (places.Making Listing)
+listing_stands heap number seat here =
+    let body = here.hand.0 in
+    let within = here.hand.1 in
+    record {
+      step = spine_store_stands heap seat.spine.half (seat.spine.offset + seat.listed) _ here.fits.hand.spine_within.half_within (omega (arith, here.limits.groups_fit))
+          (here.fits.hand.body_within (seat.listed + 1) 0 (named_within heap seat body within));
+      fits = λ found small led. fits_listed heap seat body within here.fits (aside_at heap number seat (places.Making Listing) here (λ e. cc) here.way here.answer);
+      near = λ found. nears_listed heap seat body within;
+      adds = λ now. plain heap now number seat (listing_move seat) refl (rw here.placed refl) refl refl;
+      says = λ old command words told is found.
+          listing_cases (λ m. Says old number command (with_entries (record (after_listing seat) { place = places.Making m }) []) (told ++ []) (places.Making m)) (seat.listed + 1) (spine_need seat)
+          (λ more. (on old number command seat _ told [] is.0 refl refl refl refl tt, is.1)) (λ all. (on old number command seat _ told [] is.0 refl refl refl refl tt, is.1));
+    }
+
+-- the making of an array begins
+pub array_begins : (d cells : ℕ) → CommandStands (Array d cells)
+array_begins d cells heap number seat ready =
+    let aside = aside_ready heap number seat (Array d cells) ready in
+    resting_begins heap number seat (Array d cells) ready (places.Making Granting)
+    (rest_ready heap number seat (Array d cells) ready, record { an_object = tt; in_range = ready.may.in_range; numbered = ready.may.numbered }, tt) aside.nowhere aside.silent (λ words. refl)
+    (going_ready heap number seat (Array d cells) ready _ refl refl refl refl, λ e. cc) (omega arith)

@@ -1,0 +1,60 @@
+-- The way to a cell of an array, by its spine.
+use Rattle.std.proofs.Common.{ℕ, ◌*◌, ◌<◌, [], ◌++◌, refl, arith}
+use Rattle.heap_model.specs.declared.heap.Heap.{Heap}
+use Rattle.core_machine.specs.declared.place.Access.TheVariants.{Locating, Indexing}
+use Rattle.core_machine.specs.declared.place.Place.TheVariants as places
+use Rattle.core_machine.specs.machine.Machine.{found_by}
+use Rattle.heap_words.specs.Spot.{spot_in}
+use Rattle.core_machine.specs.seat.Access.{after_index, field_place_of}
+use Rattle.core_machine.specs.seat.AccessMoves.{locate_move, index_move}
+use Rattle.core_machine.specs.seat.Commands.{field_of}
+use Rattle.core_machine.specs.seat.Access.{row_of}
+use Rattle.core_machine.specs.seat.Fits.{Fits}
+use Rattle.core_machine.specs.seat.FitsAccess.{SeatIsAtSentinel}
+use Rattle.core_machine.specs.seat.Seat.{Seat, with_entries}
+use Rattle.core_machine.specs.table.Decode.{payload_in}
+use Rattle.core_machine.proofs.call_lemmas.Awaits.{plain, after_words}
+use Rattle.core_machine.proofs.call_lemmas.Owes.{Nears}
+use Rattle.core_machine.proofs.call_lemmas.Saying.{on}
+use Rattle.core_machine.proofs.moves.Standing.{PlaceStands, rests_at}
+use Rattle.core_machine.proofs.moves.Walk.{field_fits, field_few, field_awaits, field_says}
+use Rattle.core_machine.proofs.seat_lemmas.FittingAccess.{Rests, fits_access, fits_addressed}
+use Rattle.core_machine.proofs.table_lemmas.StepStands.{load_stands}
+
+-- the place of the spine is loaded
+pub locate_stands : PlaceStands (places.Access Locating)
+locate_stands heap number seat here =
+    let move = locate_move seat in
+    record {
+      step = load_stands heap move.step refl (here.fits.way.reached_within, omega arith);
+      fits = λ found small led. fits_addressed heap seat (spot_in found) Indexing (rests_at heap number seat Locating here) (record { half_within = omega arith; offset_within = omega arith }) here.way;
+      near = λ found. record { fewer = omega arith; paid = omega arith };
+      adds = λ now. plain heap now number seat move refl (rw here.placed refl) refl refl;
+      says = λ old command words told is found. (on old number command seat _ told [] is.0 refl refl refl refl tt, is.1);
+    }
+
+-- the cell's fragment was reached, which the spine word names
+fits_indexed : (heap : Heap) (seat : Seat) (found : ℕ) → Rests heap seat → SeatIsAtSentinel seat → payload_in found < 16 * heap.groups → Fits heap (after_index seat found)
+fits_indexed heap seat found rests is within =
+    let place = field_place_of seat seat.command in
+    let there = record seat { reached = payload_in found; place = places.Access place } in
+    fits_access heap seat (payload_in found) seat.links seat.part seat.loaded place rests within rests.fits.way.loaded_within
+    (field_fits there seat.command refl is.works is.names (record { arrived = is.no_links; part_within = is.part_within }) is.none_loaded)
+
+nears_indexed : (heap : Heap) (seat : Seat) (found : ℕ) → Nears heap (with_entries (after_index seat found) []) 1 5 0
+nears_indexed heap seat found = let few = field_few (row_of (field_of seat.command)) seat.links seat seat.command in record { fewer = omega (arith, few); paid = omega arith }
+
+-- the spine word is loaded that names the cell's fragment
+pub index_stands : PlaceStands (places.Access Indexing)
+index_stands heap number seat here =
+    let move = index_move seat in
+    record {
+      step = load_stands heap move.step refl here.fits.way.address_within.half_within;
+      fits = λ found small led. fits_indexed heap seat found (rests_at heap number seat Indexing here) here.way led;
+      near = λ found. nears_indexed heap seat found;
+      adds = λ now. let found = found_by heap now move.step in
+          plain heap now number seat move refl (rw here.placed refl)
+          (field_awaits heap (after_words heap now number seat move) number seat (with_entries (after_index seat found) []) seat.command) refl;
+      says = λ old command words told is found. let next = with_entries (after_index seat found) [] in
+          field_says old number command seat next (told ++ []) seat.command (on old number command seat next told [] is.0 refl refl refl refl tt, is.1);
+    }

@@ -1,0 +1,6 @@
+use Rattle.std.proofs.lemmas.List.Filters.{FiltersInPlace}
+use Rattle.core_machine.specs.table.Fragments.{out_of_group}
+use Rattle.core_machine.proofs.table.fragments.leave_out.Given as goal
+
+abbrev pub invariant-loop-place : goal.invariant-loop-place
+invariant-loop-place l = FiltersInPlace (out_of_group l.group) l.fn.hand.items l.hand.items l.kept l.place
