@@ -1,6 +1,8 @@
--- The colours of fragments, and where words lead.
+-- The colours of fragments, and where their sources lead.
 pub mod MarkWords
+pub mod SourceCases
 pub mod LeadsFrames
+pub mod NoSpines
 pub mod NewbornLeads
 pub mod Births
 pub mod BirthColours

@@ -3,12 +3,10 @@ use Rattle.std.specs.Prelude.{◌≡◌, ◌≢◌, ℕ, ◌+◌, ◌*◌, ◌%�
 use Rattle.std.specs.Int.{bit_at}
 use Rattle.heap_model.specs.declared.heap.Heap.{Heap}
 use Rattle.heap_model.specs.PhasePlan.{cycle_phases, rest as resting, barriers, black_births, sweep}
-use Rattle.core_machine.specs.declared.table.address.Address.TheVariants.{Word}
-use Rattle.core_machine.specs.table.Layout.{at}
-use Rattle.core_machine.specs.table.Decode.{pointer_in}
 use Rattle.core_rule.specs.Owners.{Owner, Borne, Kept, born_bit}
 use Rattle.core_rule.specs.Book.{Colour, White, Grey, Black, fragment_at}
 use Rattle.core_rule.specs.ControlWords.{control_of}
+use Rattle.core_rule.specs.Sources.{source_pointer}
 
 -- whether a fragment of the colour is marked
 abbrev pub marked_bit : Colour → ℕ
@@ -32,11 +30,10 @@ pub record Marks (heap : Heap) (words : List ℕ) (colour : ℕ → Colour) : Ty
   pub scanned : (f : ℕ) → f < 16 * heap.groups → bit_at (control_of heap words f) (48 + f % 16) ≡ scanned_bit (colour f)
   pub outside : (f : ℕ) → 16 * heap.groups ≤ f → colour f ≡ White
 
--- word `part` of the fragment leads to the fragment g, by a link or a reference
-pub record WordPointsTo (heap : Heap) (words : List ℕ) (f part g : ℕ) : Type 0 where
+-- a source of the fragment leads to the fragment g
+pub record WordPointsTo (heap : Heap) (words : List ℕ) (f source g : ℕ) : Type 0 where
   pub within : f < 16 * heap.groups
-  pub below : part < 4
-  pub to : pointer_in part (at heap words (Word f part)) ≡ Some g
+  pub to : source_pointer heap words f source ≡ Some g
 
 -- the phase is one of its cycle's phases from the one to the other
 pub record IsBetween (low high phase : ℕ) : Type 0 where
@@ -49,7 +46,7 @@ pub record Coloured (heap : Heap) (words : List ℕ) (owner : ℕ → Owner) (co
   pub rest : phase % cycle_phases ≡ resting → (f : ℕ) → colour f ≡ White
   pub early : phase % cycle_phases ≡ barriers → (f : ℕ) → colour f ≢ Black
   pub born : (f : ℕ) → IsMarked colour f → born_bit (owner f) ≡ 1
-  pub black : IsBetween black_births sweep phase → (f part g : ℕ) → colour f ≡ Black → WordPointsTo heap words f part g → IsMarked colour g
+  pub black : IsBetween black_births sweep phase → (f source g : ℕ) → colour f ≡ Black → WordPointsTo heap words f source g → IsMarked colour g
   pub first : IsBetween barriers sweep phase → (f i k : ℕ) → owner f ≡ Kept i k → IsMarked colour f → IsMarked colour (fragment_at (fragments i) 0)
 
 -- what the seat has borne of the object that it makes is black while its last answer is to a phase from black births up to the sweep, and else white

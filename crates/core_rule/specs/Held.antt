@@ -39,7 +39,7 @@ CallHolds seat _ f = ⊥
 abbrev pub SeatHolds : Seat → ℕ → Type 0
 SeatHolds seat f = OwnsFragment seat f ⊎ (IsInRegister seat f ⊎ CallHolds seat seat.place f)
 
--- a fragment is held where one of the heap's seats holds it, or where a word of a held and born fragment leads to it
+-- a fragment is held where one of the heap's seats holds it, or where a source of a held and born fragment leads to it
 pub data IsHeld (heap : Heap) (state : State) : ℕ → Type 0 where
   by_seat : (number f : ℕ) → number < heap.seats → SeatHolds (seat_at state number) f → IsHeld heap state f
   by_word : (f g : ℕ) → IsHeld heap state f → IsBorn heap state.words f → Edge heap state.words f g → IsHeld heap state g

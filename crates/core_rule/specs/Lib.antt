@@ -7,6 +7,7 @@ pub mod Holding
 pub mod Counts
 pub mod Gathers
 pub mod Ways
+pub mod Sources
 pub mod Colours
 pub mod Paths
 pub mod Phases

@@ -22,10 +22,15 @@ pub record MayMark (owner : ℕ → Owner) (colour : ℕ → Colour) (fragments 
   pub part : IsPart owner f
   pub first : (part.place ≡ 0) ⊎ IsMarked colour (fragment_at (fragments part.index) 0)
 
--- the fragment is grey, and its words before this one lead to marked ones alone
-pub record IsSeen (heap : Heap) (words : List ℕ) (colour : ℕ → Colour) (f part : ℕ) : Type 0 where
+-- the fragment is grey, and its sources before this one lead to marked ones alone
+pub record IsSeen (heap : Heap) (words : List ℕ) (colour : ℕ → Colour) (f source : ℕ) : Type 0 where
   pub grey : colour f ≡ Grey
-  pub seen : (p g : ℕ) → p < part → WordPointsTo heap words f p g → IsMarked colour g
+  pub seen : (s g : ℕ) → s < source → WordPointsTo heap words f s g → IsMarked colour g
+
+-- the fragment is grey, and all its sources lead to marked ones
+pub record IsSeenWhole (heap : Heap) (words : List ℕ) (colour : ℕ → Colour) (f : ℕ) : Type 0 where
+  pub grey : colour f ≡ Grey
+  pub seen : (source g : ℕ) → WordPointsTo heap words f source g → IsMarked colour g
 
 -- this word comes after that one; or between them stands an object's name, which leads nowhere
 abbrev pub ComesAfter : (ℕ → Owner) → ℕ → ℕ → ℕ → Type 0
@@ -37,7 +42,7 @@ ScanStands heap words owner colour fragments (stages.Scanning scan) = IsSeen hea
 ScanStands heap words owner colour fragments (stages.Shading scan target next) =
     IsSeen heap words colour scan.fragment scan.part × DeletionBarrier heap words colour scan.fragment scan.part (Some target)
     × MayMark owner colour fragments target × ComesAfter owner scan.fragment scan.part next
-ScanStands heap words owner colour fragments (stages.Blackening scan) = IsSeen heap words colour scan.fragment 4
+ScanStands heap words owner colour fragments (stages.Blackening scan) = IsSeenWhole heap words colour scan.fragment
 ScanStands heap words owner colour fragments _ = Unit {0}
 
 -- while a pass has found nothing, some grey fragment stands in its group or behind it, if there is one at all

@@ -10,10 +10,10 @@ pub record IsWhite (owner : ℕ → Owner) (colour : ℕ → Colour) (f : ℕ) :
   pub unmarked : colour f ≡ White
   pub born : born_bit (owner f) ≡ 1
 
--- one of the fragment's words leads to g
+-- one of the fragment's sources leads to g
 pub record Edge (heap : Heap) (words : List ℕ) (f g : ℕ) : Type 0 where
-  pub part : ℕ
-  pub points : WordPointsTo heap words f part g
+  pub source : ℕ
+  pub points : WordPointsTo heap words f source g
 
 -- at the end of a path along these edges whose first one leaves a grey fragment, and all of whose fragments behind that are white
 pub data Guarded (edge : ℕ → ℕ → Type 0) (white grey : ℕ → Type 0) : ℕ → Type 0 where

@@ -83,18 +83,18 @@ module _ (heap : Heap) (words now : List ℕ) (owner later : ℕ → Owner) (col
   module _ (fragments now_fragments : ℕ → List ℕ) (phase : ℕ)
       (late : phase % 7 ≤ 1 → black ≡ false)
       (bears : (f : ℕ) → born_bit (later f) ≡ born_bit (owner f) + tally f fs)
-      (leads : (f part g : ℕ) → WordPointsTo heap now f part g → WordPointsTo heap words f part g)
-      (ahead : black ≡ true → (f part g : ℕ) → 1 ≤ tally f fs → WordPointsTo heap words f part g → (1 ≤ tally g fs) ⊎ IsMarked colour g) where
+      (leads : (f source g : ℕ) → WordPointsTo heap now f source g → WordPointsTo heap words f source g)
+      (ahead : black ≡ true → (f source g : ℕ) → 1 ≤ tally f fs → WordPointsTo heap words f source g → (1 ≤ tally g fs) ⊎ IsMarked colour g) where
     white_birth : phase % 7 ≤ 1 → birth_colour black ≡ White
     white_birth early = ap birth_colour (late early)
 
     -- a black fragment was born black now, or was black
-    black_birth : (b : Bool) → b ≡ black → (f part g : ℕ) → 1 ≤ tally f fs → birth_colour b ≡ Black → WordPointsTo heap words f part g → IsMarked borne g
-    black_birth true is f part g there black_now to = elim (ahead (sym is) f part g there to) [
+    black_birth : (b : Bool) → b ≡ black → (f source g : ℕ) → 1 ≤ tally f fs → birth_colour b ≡ Black → WordPointsTo heap words f source g → IsMarked borne g
+    black_birth true is f source g there black_now to = elim (ahead (sym is) f source g there to) [
       | inl among ↦ λ white. black_apart (ap birth_colour is ∙ sym (painted_in (birth_colour black) colour fs g among) ∙ white)
       | inr before ↦ marks_stay g before
     ]
-    black_birth false is f part g there black_now to = absurd (black_apart (sym black_now))
+    black_birth false is f source g there black_now to = absurd (black_apart (sym black_now))
 
     -- so the colours are right
     pub birth_coloured : (IsBetween 1 5 phase → (f i k : ℕ) → later f ≡ Kept i k → IsMarked borne f → IsMarked borne (fragment_at (now_fragments i) 0))
@@ -106,9 +106,9 @@ module _ (heap : Heap) (words now : List ℕ) (owner later : ℕ → Owner) (col
       born = λ f. painted_cases (λ c. c ≢ White → born_bit (later f) ≡ 1) (birth_colour black) colour fs f
           (λ there marked. omega (arith, bears f, unborn f there, there, born_once (later f)))
           (λ away marked. omega (arith, bears f, stands.born f marked, away));
-      black = λ marking f part g is to. painted_cases (λ c. c ≡ Black → IsMarked borne g) (birth_colour black) colour fs f
-          (λ there now_black. black_birth black refl f part g there now_black (leads f part g to))
-          (λ away was_black. marks_stay g (stands.black marking f part g was_black (leads f part g to))) is;
+      black = λ marking f source g is to. painted_cases (λ c. c ≡ Black → IsMarked borne g) (birth_colour black) colour fs f
+          (λ there now_black. black_birth black refl f source g there now_black (leads f source g to))
+          (λ away was_black. marks_stay g (stands.black marking f source g was_black (leads f source g to))) is;
       first = first;
     }
 

@@ -88,15 +88,15 @@ module _ (heap : Heap) (words : List ℕ) (owner : ℕ → Owner) (colour : ℕ 
       (λ x apart. scan_away colour f x (λ e. apart (ap (λ y. y / 16) e)))
 
   -- which are right where it leads to marked fragments alone
-  pub coloured_blacken : (fragments : ℕ → List ℕ) (phase : ℕ) → phase % 7 ≡ 3 → ((part g : ℕ) → WordPointsTo heap words f part g → IsMarked colour g)
+  pub coloured_blacken : (fragments : ℕ → List ℕ) (phase : ℕ) → phase % 7 ≡ 3 → ((source g : ℕ) → WordPointsTo heap words f source g → IsMarked colour g)
       → Coloured heap words owner colour fragments phase → Coloured heap black_words owner (with_scan colour f) fragments phase
   coloured_blacken fragments phase third seen stands = record {
     rest = λ rests. absurd (omega (arith, third, rests));
     early = λ one. absurd (omega (arith, third, one));
     born = λ x now. stands.born x (scan_was colour f grey x now);
-    black = λ making x part g black leads. scan_keeps colour f grey g (elim (scan_black colour f x black) as (λ _. IsMarked colour g) [
-      | inl same ↦ seen part g (subst (λ y. WordPointsTo heap words y part g) same (leads_control heap words (f / 16) _ below x part g leads))
-      | inr was ↦ stands.black making x part g was (leads_control heap words (f / 16) _ below x part g leads)
+    black = λ making x source g black leads. scan_keeps colour f grey g (elim (scan_black colour f x black) as (λ _. IsMarked colour g) [
+      | inl same ↦ seen source g (subst (λ y. WordPointsTo heap words y source g) same (leads_control heap words (f / 16) _ below x source g leads))
+      | inr was ↦ stands.black making x source g was (leads_control heap words (f / 16) _ below x source g leads)
     ]);
     first = λ making x i k keeps now. scan_keeps colour f grey _ (stands.first making x i k keeps (scan_was colour f grey x now));
   }

@@ -1,48 +1,137 @@
--- Where words lead once another one was written.
-use Rattle.std.proofs.Common.{◌≡◌, ◌≢◌, ◌⊎◌, ℕ, ◌*◌, ◌<◌, List, length, inl, inr, ap, ◌∙◌, sym, subst, Some}
+-- Where the sources of fragments lead once a word was written.
+use Rattle.std.specs.Prelude.{if◌then◌else◌}
+use Rattle.std.proofs.Common.{◌≡◌, ◌≢◌, ◌⊎◌, ℕ, suc, ◌+◌, ◌-◌, ◌*◌, ◌<◌, List, length, inl, inr, refl, ap, ◌∙◌, sym, subst, Option, Some, None, nat_lt, arith}
 use Rattle.std.proofs.lemmas.Bool.{cases_eq}
+use Rattle.std.proofs.lemmas.Bool.Decides.{leb_tells}
+use Rattle.heap_words.specs.Spot.{spot_in}
 use Rattle.heap_model.specs.declared.heap.Heap.{Heap}
 use Rattle.core_machine.specs.declared.table.address.Address.{Address}
 use Rattle.core_machine.specs.declared.table.address.Address.TheVariants.{Control, Word}
-use Rattle.core_machine.specs.table.Layout.{at, put, index_of, table_length}
-use Rattle.core_machine.specs.table.Decode.{pointer_in}
+use Rattle.core_machine.specs.table.Layout.{at, put, index_of, table_length, spine_place}
+use Rattle.core_machine.specs.table.Decode.{pointer_in, payload_in, spine_words_in}
 use Rattle.core_rule.specs.Colours.{WordPointsTo}
-use Rattle.core_rule.proofs.words.Addresses.{at-put_apart, word_after_control, word_same, fragment_other, part_other}
+use Rattle.core_rule.specs.Sources.{spine_pointer, source_pointer}
+use Rattle.core_rule.proofs.colours.SourceCases.{HasNoSpine, source_cases, word_source, word_leads, lead_of_word, word_alone}
+use Rattle.core_rule.proofs.words.Addresses.{at-put_apart, word_same, fragment_other, part_other}
 
--- a word that reads as before leads where it led
-pub leads_same : (heap : Heap) (words now : List ℕ) (f part g : ℕ) → at heap now (Word f part) ≡ at heap words (Word f part) → WordPointsTo heap now f part g → WordPointsTo heap words f part g
-leads_same heap words now f part g same leads = record { within = leads.within; below = leads.below; to = ap (pointer_in part) (sym same) ∙ leads.to }
+-- the four words of the fragment are the same, and so are the words of its spine
+pub record SameSources (heap : Heap) (words now : List ℕ) (f : ℕ) : Type 0 where
+  pub parts : (part : ℕ) → part < 4 → at heap now (Word f part) ≡ at heap words (Word f part)
+  pub spine : (k : ℕ) → k < spine_words_in (at heap words (Word f 0))
+      → at heap now (spine_place (spot_in (at heap words (Word f 2))) k) ≡ at heap words (spine_place (spot_in (at heap words (Word f 2))) k)
 
--- a word elsewhere was written
-pub leads_apart : (heap : Heap) (words : List ℕ) (a : Address) (n : ℕ) (f part g : ℕ) → index_of heap (Word f part) ≢ index_of heap a
-    → WordPointsTo heap (put heap words a n) f part g → WordPointsTo heap words f part g
-leads_apart heap words a n f part g apart leads = leads_same heap words (put heap words a n) f part g (at-put_apart heap words a (Word f part) n apart) leads
+-- where word k of a spine leads, by the fragment's first word and its spine's place
+abbrev spine_by : Heap → List ℕ → ℕ → ℕ → ℕ → Option ℕ
+spine_by heap words first place k = if nat_lt k (spine_words_in first) then Some (payload_in (at heap words (spine_place (spot_in place) k))) else None
+
+module _ (heap : Heap) (words now : List ℕ) (f : ℕ) (same : SameSources heap words now f) where
+  spine_same : (k : ℕ) → spine_pointer heap now f k ≡ spine_pointer heap words f k
+  spine_same k =
+      ap (λ first. spine_by heap now first (at heap now (Word f 2)) k) (same.parts 0 (omega arith))
+      ∙ ap (λ place. spine_by heap now (at heap words (Word f 0)) place k) (same.parts 2 (omega arith)) ∙ by
+    where
+      by : spine_by heap now (at heap words (Word f 0)) (at heap words (Word f 2)) k ≡ spine_pointer heap words f k
+      by = elim (leb_tells (suc k) (spine_words_in (at heap words (Word f 0)))) as (λ _. spine_by heap now (at heap words (Word f 0)) (at heap words (Word f 2)) k ≡ spine_pointer heap words f k) [
+        | inl within ↦ rw within.0 (ap (λ w. Some (payload_in w)) (same.spine k within.1))
+        | inr past ↦ rw past.0 refl
+      ]
+
+  -- then each source leads where it led
+  pub sources_same : (source : ℕ) → source_pointer heap now f source ≡ source_pointer heap words f source
+  sources_same source = source_cases heap words f (λ o. source_pointer heap now f source ≡ o) source
+      (λ first. word_source heap now f source first ∙ ap (pointer_in source) (same.parts source first))
+      (λ behind. source_cases heap now f (λ o. o ≡ spine_pointer heap words f (source - 4)) source (λ first. absurd (omega (arith, first, behind))) (λ late. spine_same (source - 4)))
+
+  pub leads_same : (source g : ℕ) → WordPointsTo heap now f source g → WordPointsTo heap words f source g
+  leads_same source g leads = record { within = leads.within; to = sym (sources_same source) ∙ leads.to }
+
+  pub same_leads : (source g : ℕ) → WordPointsTo heap words f source g → WordPointsTo heap now f source g
+  same_leads source g leads = record { within = leads.within; to = sources_same source ∙ leads.to }
+
+  -- and there is no spine where there was none
+  pub still_no_spine : HasNoSpine heap words f → HasNoSpine heap now f
+  still_no_spine none = ap spine_words_in (same.parts 0 (omega arith)) ∙ none
+
+-- the sources of all fragments stay where a word before the fragments' was written: the phase, an answer, the budget, the spot or a control word
+pub same_ahead : (heap : Heap) (words : List ℕ) (a : Address) (n : ℕ) → index_of heap a < 19 + heap.groups → (f : ℕ) → SameSources heap words (put heap words a n) f
+same_ahead heap words a n ahead f = record {
+  parts = λ part below. at-put_apart heap words a (Word f part) n (λ e. omega (arith, e, ahead));
+  spine = λ k within. at-put_apart heap words a (spine_place (spot_in (at heap words (Word f 2))) k) n (λ e. omega (arith, e, ahead));
+}
+
+-- those of other fragments stay where a word of a fragment was
+pub same_beside : (heap : Heap) (words : List ℕ) (a b n : ℕ) → a < 16 * heap.groups → b < 4 → (f : ℕ) → f ≢ a → SameSources heap words (put heap words (Word a b) n) f
+same_beside heap words a b n within below f apart = record {
+  parts = λ part fits. fragment_other heap words n a b f part below fits apart;
+  spine = λ k inside. at-put_apart heap words (Word a b) (spine_place (spot_in (at heap words (Word f 2))) k) n (λ e. omega (arith, e, within, below));
+}
+
+-- a word ahead of the fragments' was written
+pub leads_ahead : (heap : Heap) (words : List ℕ) (a : Address) (n : ℕ) → index_of heap a < 19 + heap.groups → (f source g : ℕ)
+    → WordPointsTo heap (put heap words a n) f source g → WordPointsTo heap words f source g
+leads_ahead heap words a n ahead f = leads_same heap words (put heap words a n) f (same_ahead heap words a n ahead f)
+
+pub ahead_leads : (heap : Heap) (words : List ℕ) (a : Address) (n : ℕ) → index_of heap a < 19 + heap.groups → (f source g : ℕ)
+    → WordPointsTo heap words f source g → WordPointsTo heap (put heap words a n) f source g
+ahead_leads heap words a n ahead f = same_leads heap words (put heap words a n) f (same_ahead heap words a n ahead f)
 
 -- a control word was
-pub leads_control : (heap : Heap) (words : List ℕ) (group n : ℕ) → group < heap.groups → (f part g : ℕ) → WordPointsTo heap (put heap words (Control group) n) f part g → WordPointsTo heap words f part g
-leads_control heap words group n below f part g leads = leads_same heap words (put heap words (Control group) n) f part g (word_after_control heap words n group f part below) leads
+pub leads_control : (heap : Heap) (words : List ℕ) (group n : ℕ) → group < heap.groups → (f source g : ℕ) → WordPointsTo heap (put heap words (Control group) n) f source g → WordPointsTo heap words f source g
+leads_control heap words group n below = leads_ahead heap words (Control group) n (omega (arith, below))
 
--- after a fragment's word was written, each lead is an old one or the new word's
-pub leads_put : (heap : Heap) (words : List ℕ) (a b n : ℕ) → length words ≡ table_length heap → b < 4 → (f part g : ℕ) → WordPointsTo heap (put heap words (Word a b) n) f part g
-    → WordPointsTo heap words f part g ⊎ ((f ≡ a) × (part ≡ b) × (pointer_in b n ≡ Some g))
-leads_put heap words a b n whole below f part g leads = elim (cases_eq f a) [
-  | inr apart ↦ inl (leads_same heap words (put heap words (Word a b) n) f part g (fragment_other heap words n a b f part below leads.below apart) leads)
-  | inl same ↦ elim (cases_eq part b) [
-    | inr apart ↦ inl (leads_same heap words (put heap words (Word a b) n) f part g (part_other heap words n a b f part apart same) leads)
-    | inl here ↦ inr (
-      same,
-      here,
-      ap (pointer_in b) (sym (word_same heap words n a b whole (subst (λ x. x < 16 * heap.groups) same leads.within) below))
-          ∙ subst (λ x. pointer_in b (at heap (put heap words (Word a b) n) (Word x b)) ≡ Some g) same (subst (λ p. pointer_in p (at heap (put heap words (Word a b) n) (Word f p)) ≡ Some g) here leads.to),
-    )
-  ]
+pub control_leads : (heap : Heap) (words : List ℕ) (group n : ℕ) → group < heap.groups → (f source g : ℕ) → WordPointsTo heap words f source g → WordPointsTo heap (put heap words (Control group) n) f source g
+control_leads heap words group n below = ahead_leads heap words (Control group) n (omega (arith, below))
+
+-- a fragment without a spine has none once one of its words was written by a word that is no array's meta
+pub put_no_spine : (heap : Heap) (words : List ℕ) (a b n : ℕ) → length words ≡ table_length heap → a < 16 * heap.groups → spine_words_in n ≡ 0
+    → HasNoSpine heap words a → HasNoSpine heap (put heap words (Word a b) n) a
+put_no_spine heap words a b n whole within plain none = elim (cases_eq b 0) as (λ _. HasNoSpine heap (put heap words (Word a b) n) a) [
+  | inl first ↦ subst (λ p. HasNoSpine heap (put heap words (Word a p) n) a) (sym first) (ap spine_words_in (word_same heap words n a 0 whole within (omega arith)) ∙ plain)
+  | inr behind ↦ ap spine_words_in (part_other heap words n a b a 0 (λ e. behind (sym e)) refl) ∙ none
 ]
 
--- and what led leads on, where another word was written
-pub apart_leads : (heap : Heap) (words : List ℕ) (a : Address) (n : ℕ) (f part g : ℕ) → index_of heap (Word f part) ≢ index_of heap a
-    → WordPointsTo heap words f part g → WordPointsTo heap (put heap words a n) f part g
-apart_leads heap words a n f part g apart leads = leads_same heap (put heap words a n) words f part g (sym (at-put_apart heap words a (Word f part) n apart)) leads
+-- a word of a fragment was written that had no spine before, and has none after it
+module _ (heap : Heap) (words : List ℕ) (a b n : ℕ) (within : a < 16 * heap.groups) (below : b < 4) (before : HasNoSpine heap words a) (after : HasNoSpine heap (put heap words (Word a b) n) a) where
+  abbrev now : List ℕ
+  now = put heap words (Word a b) n
 
--- or a control word
-pub control_leads : (heap : Heap) (words : List ℕ) (group n : ℕ) → group < heap.groups → (f part g : ℕ) → WordPointsTo heap words f part g → WordPointsTo heap (put heap words (Control group) n) f part g
-control_leads heap words group n below f part g leads = leads_same heap (put heap words (Control group) n) words f part g (sym (word_after_control heap words n group f part below)) leads
+  -- each source leads where it led, but for the one that was written
+  pub leads_but : (f source g : ℕ) → WordPointsTo heap now f source g → WordPointsTo heap words f source g ⊎ ((f ≡ a) × (source ≡ b))
+  leads_but f source g leads = elim (cases_eq f a) as (λ _. WordPointsTo heap words f source g ⊎ ((f ≡ a) × (source ≡ b))) [
+    | inr apart ↦ inl (leads_same heap words now f (same_beside heap words a b n within below f apart) source g leads)
+    | inl same ↦ elim (cases_eq source b) as (λ _. WordPointsTo heap words f source g ⊎ ((f ≡ a) × (source ≡ b))) [
+      | inl here ↦ inr (same, here)
+      | inr other ↦ inl (other_word source g other same leads)
+    ]
+  ]
+    where
+      other_word : (source g : ℕ) → source ≢ b → f ≡ a → WordPointsTo heap now f source g → WordPointsTo heap words f source g
+      other_word source g other same leads =
+          let first = word_alone heap now f (subst (HasNoSpine heap now) (sym same) after) source g leads in
+          word_leads heap words f source g leads.within first (ap (pointer_in source) (sym (part_other heap words n a b f source other same)) ∙ lead_of_word heap now f source g first leads)
+
+  pub but_leads : (f source g : ℕ) → WordPointsTo heap words f source g → WordPointsTo heap now f source g ⊎ ((f ≡ a) × (source ≡ b))
+  but_leads f source g leads = elim (cases_eq f a) as (λ _. WordPointsTo heap now f source g ⊎ ((f ≡ a) × (source ≡ b))) [
+    | inr apart ↦ inl (same_leads heap words now f (same_beside heap words a b n within below f apart) source g leads)
+    | inl same ↦ elim (cases_eq source b) as (λ _. WordPointsTo heap now f source g ⊎ ((f ≡ a) × (source ≡ b))) [
+      | inl here ↦ inr (same, here)
+      | inr other ↦ inl (other_word source g other same leads)
+    ]
+  ]
+    where
+      other_word : (source g : ℕ) → source ≢ b → f ≡ a → WordPointsTo heap words f source g → WordPointsTo heap now f source g
+      other_word source g other same leads =
+          let first = word_alone heap words f (subst (HasNoSpine heap words) (sym same) before) source g leads in
+          word_leads heap now f source g leads.within first (ap (pointer_in source) (part_other heap words n a b f source other same) ∙ lead_of_word heap words f source g first leads)
+
+  -- so each lead is an old one or the new word's
+  pub leads_put : length words ≡ table_length heap → (f source g : ℕ) → WordPointsTo heap now f source g → WordPointsTo heap words f source g ⊎ ((f ≡ a) × (source ≡ b) × (pointer_in b n ≡ Some g))
+  leads_put whole f source g leads = elim (leads_but f source g leads) as (λ _. WordPointsTo heap words f source g ⊎ ((f ≡ a) × (source ≡ b) × (pointer_in b n ≡ Some g))) [
+    | inl before ↦ inl before
+    | inr new ↦ inr (new.0, new.1, written new.0 new.1)
+  ]
+    where
+      written : f ≡ a → source ≡ b → pointer_in b n ≡ Some g
+      written same here =
+          let there : WordPointsTo heap now a b g = subst (λ x. WordPointsTo heap now x b g) same (subst (λ s. WordPointsTo heap now f s g) here leads) in
+          ap (pointer_in b) (sym (word_same heap words n a b whole within below)) ∙ lead_of_word heap now a b g below there

@@ -117,8 +117,8 @@ module _ (heap : Heap) (words : List ℕ) (owner : ℕ → Owner) (colour : ℕ 
       | inl same ↦ ap (λ y. born_bit (owner y)) same ∙ ap born_bit kept
       | inr was ↦ stands.born x was
     ];
-    black = λ making x part g black leads. mark_keeps colour f g
-        (stands.black making x part g (mark_black colour f x black) (leads_control heap words (f / 16) _ below x part g leads));
+    black = λ making x source g black leads. mark_keeps colour f g
+        (stands.black making x source g (mark_black colour f x black) (leads_control heap words (f / 16) _ below x source g leads));
     first = λ making x j n keeps now. elim (mark_was colour f x now) [
       | inl same ↦
           let both : Kept j n ≡ Kept i k = sym keeps ∙ ap owner same ∙ kept in

@@ -9,7 +9,7 @@ use Rattle.core_rule.specs.Owners.{Owner}
 use Rattle.core_rule.proofs.words.Addresses.{at-put_apart}
 use Rattle.core_rule.proofs.cycle.CycleFrames.{LeavesCycle, coloured_stays}
 use Rattle.core_rule.proofs.frames.EntryFrames.{SameFragments}
-use Rattle.core_rule.proofs.colours.LeadsFrames.{leads_same}
+use Rattle.core_rule.proofs.colours.LeadsFrames.{leads_ahead}
 use Rattle.core_rule.proofs.colours.MarkWords.{marks_same}
 
 module _ (heap : Heap) (words : List ℕ) (number n : ℕ) (small : number < 16) where
@@ -28,13 +28,13 @@ module _ (heap : Heap) (words : List ℕ) (number n : ℕ) (small : number < 16)
     word = at-put_apart heap words (Answer number) Phase n (λ e. omega (arith, e)) ∙ cycle.word;
     marks = marks_same heap words now colour fragments_answer.controls cycle.marks;
     coloured = coloured_stays heap words now owner owner colour fragments phase
-        (λ marking f part x born leads. inl (leads_same heap words now f part x (fragments_answer.parts f part) leads)) (λ f marked born. born) (λ f i k keeps. keeps) cycle.coloured;
+        (λ marking f source x born leads. inl (leads_ahead heap words (Answer number) n (omega (arith, small)) f source x leads)) (λ f marked born. born) (λ f i k keeps. keeps) cycle.coloured;
   }
 
   pub leaves_answer : (owner : ℕ → Owner) (colour : ℕ → Colour) (phase r : ℕ) → r ≢ number → LeavesCycle heap words now owner owner colour colour phase r
   leaves_answer owner colour phase r apart = record {
     answer = at-put_apart heap words (Answer number) (Answer r) n (λ e. apart (omega (arith, e)));
-    leads = λ marking f part x born leads. inl (leads_same heap words now f part x (fragments_answer.parts f part) leads);
+    leads = λ marking f source x born leads. inl (leads_ahead heap words (Answer number) n (omega (arith, small)) f source x leads);
     marks = λ f marked. marked;
     births = λ f bears. (bears, refl);
   }

@@ -49,10 +49,10 @@ access_at : (P Q : Access → Type 0) (place : Place) → ((reaching : Access) �
 access_at P Q (places.Access reaching) more holds = more reaching refl holds
 access_at P Q _ more holds = tt
 
--- while black fragments are made, the words of born ones lead where they led, or to what is marked
+-- while black fragments are made, the sources of born ones lead where they led, or to what is marked
 abbrev pub LeadsStay : Heap → List ℕ → List ℕ → (ℕ → Owner) → (ℕ → Colour) → ℕ → Type 0
 LeadsStay heap words now owner coloured phase =
-    IsBetween 2 5 phase → (f part g : ℕ) → born_bit (owner f) ≡ 1 → WordPointsTo heap now f part g → WordPointsTo heap words f part g ⊎ IsMarked coloured g
+    IsBetween 2 5 phase → (f source g : ℕ) → born_bit (owner f) ≡ 1 → WordPointsTo heap now f source g → WordPointsTo heap words f source g ⊎ IsMarked coloured g
 
 -- more is marked, and what is watched leads to no more than it did but for what is marked
 pub watches_stay : (heap : Heap) (words now : List ℕ) (colour coloured : ℕ → Colour) → ((f : ℕ) → IsMarked colour f → IsMarked coloured f)
@@ -80,7 +80,7 @@ module _ (heap : Heap) (words now : List ℕ) (colour coloured : ℕ → Colour)
   shaded_stays Swapping shaded = λ on. (if_some (IsMarked colour) (IsMarked coloured) marks _ (shaded on).0, if_some (IsMarked colour) (IsMarked coloured) marks _ (shaded on).1)
   shaded_stays _ shaded = tt
 
--- what a step of another party leaves of what a seat needs: its answer, where the heap's words lead, what is marked, and what it bears
+-- what a step of another party leaves of what a seat needs: its answer, where the heap's fragments lead, what is marked, and what it bears
 pub record LeavesCycle (heap : Heap) (words now : List ℕ) (owner later : ℕ → Owner) (colour coloured : ℕ → Colour) (phase number : ℕ) : Type 0 where
   pub answer : at heap now (Answer number) ≡ at heap words (Answer number)
   pub leads : LeadsStay heap words now owner coloured phase
@@ -92,7 +92,7 @@ pub leaves_same : (heap : Heap) (words : List ℕ) (owner : ℕ → Owner) (colo
     → LeavesCycle heap words words owner owner colour colour phase number
 leaves_same heap words owner colour phase number = record {
   answer = refl;
-  leads = λ marking f part g born leads. inl leads;
+  leads = λ marking f source g born leads. inl leads;
   marks = λ f marked. marked;
   births = λ f borne. (borne, refl);
 }
@@ -160,7 +160,7 @@ pub cycle_told : (heap : Heap) (words : List ℕ) (phase later_phase answers lat
     → SeatInCycle heap words phase answers gone owner colour number seat → SeatInCycle heap words later_phase later_answers later_gone owner colour number seat
 cycle_told heap words phase later_phase answers later_answers gone later_gone owner colour number seat a b c cycle = rw (a, b, c) cycle
 
--- the colours stay right where so the heap's words lead, what is marked stays born, and what is kept was kept
+-- the colours stay right where so the heap's fragments lead, what is marked stays born, and what is kept was kept
 pub coloured_stays : (heap : Heap) (words now : List ℕ) (owner later : ℕ → Owner) (colour : ℕ → Colour) (fragments : ℕ → List ℕ) (phase : ℕ)
     → LeadsStay heap words now owner colour phase
     → ((f : ℕ) → IsMarked colour f → born_bit (owner f) ≡ 1 → born_bit (later f) ≡ 1)
@@ -170,8 +170,8 @@ coloured_stays heap words now owner later colour fragments phase leads born kept
   rest = stands.rest;
   early = stands.early;
   born = λ f marked. born f marked (stands.born f marked);
-  black = λ marking f part g black later_leads. elim (leads marking f part g (stands.born f (λ white. dark (sym black ∙ white))) later_leads) [
-    | inl before ↦ stands.black marking f part g black before
+  black = λ marking f source g black later_leads. elim (leads marking f source g (stands.born f (λ white. dark (sym black ∙ white))) later_leads) [
+    | inl before ↦ stands.black marking f source g black before
     | inr marked ↦ marked
   ];
   first = λ marking f i k keeps marked. stands.first marking f i k (kept f i k keeps) marked;

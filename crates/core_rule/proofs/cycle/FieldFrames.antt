@@ -1,5 +1,5 @@
 -- The fields at which sets stand are born; so a store into a seat's new object leaves them, and the colours.
-use Rattle.std.proofs.Common.{◌≡◌, ℕ, ◌<◌, List, refl, ap, ◌∙◌, subst, arith, inl}
+use Rattle.std.proofs.Common.{◌≡◌, ℕ, ◌*◌, ◌<◌, List, refl, ap, ◌∙◌, subst, arith, inl}
 use Rattle.heap_model.specs.declared.graph.cell.Cell.{Cell}
 use Rattle.heap_model.specs.declared.heap.Heap.{Heap}
 use Rattle.heap_model.specs.declared.id.Id.{Id}
@@ -15,13 +15,14 @@ use Rattle.core_machine.specs.table.Layout.{put}
 use Rattle.core_machine.specs.seat.Seat.{Seat}
 use Rattle.core_rule.specs.Book.{Book, Colour}
 use Rattle.core_rule.specs.Cycle.{HeapInCycle}
+use Rattle.core_rule.specs.Marking.{IsPart}
 use Rattle.core_rule.specs.Objects.{cells_at}
 use Rattle.core_rule.specs.Owners.{Owner, born_bit}
 use Rattle.core_rule.specs.Ways.{Finds, WayStands}
-use Rattle.core_rule.proofs.words.Addresses.{at-put_apart, control_after_word, fragment_other}
+use Rattle.core_rule.proofs.words.Addresses.{at-put_apart, control_after_word}
 use Rattle.core_rule.proofs.cycle.CycleFrames.{IsWatching, LeadsStay, LeavesCycle, WatchesBorn, coloured_stays}
 use Rattle.core_rule.proofs.ways.KeptWords.{row_ahead}
-use Rattle.core_rule.proofs.colours.LeadsFrames.{leads_same}
+use Rattle.core_rule.proofs.colours.LeadsFrames.{same_beside, leads_same}
 use Rattle.core_rule.proofs.colours.MarkWords.{marks_same}
 
 module _ (cells : ℕ → List Cell) (made : List Id) (owner : ℕ → Owner) (fragments : ℕ → List ℕ) (seat : Seat) where
@@ -32,8 +33,9 @@ module _ (cells : ℕ → List Cell) (made : List Id) (owner : ℕ → Owner) (f
   way_found _ watches way = absurd watches
 
 -- the fragment whose old value a set has loaded is an object's
-pub watched_born : (heap : Heap) (state : State) (book : Book) (rule : Rule heap state book) (r : ℕ) → r < heap.seats → WatchesBorn book.owner (seat_at state r)
-watched_born heap state book rule r below reaching is watches =
+pub watched_part : (heap : Heap) (state : State) (book : Book) (rule : Rule heap state book) (r : ℕ) → r < heap.seats → (reaching : Access)
+    → (seat_at state r).place ≡ places.Access reaching → IsWatching reaching → IsPart book.owner (seat_at state r).reached
+watched_part heap state book rule r below reaching is watches =
     let seat : Seat = seat_at state r in
     let g : Graph = graph_of heap book.history in
     let stands = rule.heap_stands in
@@ -41,14 +43,17 @@ watched_born heap state book rule r below reaching is watches =
     (subst (WayStands (cells_at g book.made) book.made book.owner book.fragments seat) is (rule.seats_stand r below).names.way) in
     let i : ℕ = finds.index in
     let row = row_ahead heap state.words g book.made book.owner book.fragments rule.machine.limits stands.control_words stands.ids stands.objects seat finds in
-    ap born_bit (ap book.owner finds.way.here ∙ (stands.objects.kept i finds.way.below finds.way.kept).owned finds.row (omega (arith, row)))
+    record { index = i; place = finds.row; kept = ap book.owner finds.way.here ∙ (stands.objects.kept i finds.way.below finds.way.kept).owned finds.row (omega (arith, row)) }
 
-module _ (heap : Heap) (words : List ℕ) (owner : ℕ → Owner) (colour : ℕ → Colour) (now f part word : ℕ) (fits : part < 4) (unborn : born_bit (owner f) ≡ 0) where
+-- so it is born
+pub watched_born : (heap : Heap) (state : State) (book : Book) (rule : Rule heap state book) (r : ℕ) → r < heap.seats → WatchesBorn book.owner (seat_at state r)
+watched_born heap state book rule r below reaching is watches = ap born_bit (watched_part heap state book rule r below reaching is watches).kept
+
+module _ (heap : Heap) (words : List ℕ) (owner : ℕ → Owner) (colour : ℕ → Colour) (now f part word : ℕ) (within : f < 16 * heap.groups) (fits : part < 4) (unborn : born_bit (owner f) ≡ 0) where
   -- a word of a fragment that isn't born is written
   leads_store : LeadsStay heap words (put heap words (Word f part) word) owner colour now
-  leads_store making x k g born leads = inl (leads_same heap words (put heap words (Word f part) word) x k g
-      (fragment_other heap words word f part x k fits leads.below
-      (λ same. let bit : born_bit (owner x) ≡ born_bit (owner f) = ap (λ y. born_bit (owner y)) same in omega (arith, bit, born, unborn))) leads)
+  leads_store making x k g born leads = inl (leads_same heap words (put heap words (Word f part) word) x (same_beside heap words f part word within fits x
+      (λ same. let bit : born_bit (owner x) ≡ born_bit (owner f) = ap (λ y. born_bit (owner y)) same in omega (arith, bit, born, unborn))) k g leads)
 
   -- that leaves what another seat needs
   pub leaves_store : (r : ℕ) → r < 16 → LeavesCycle heap words (put heap words (Word f part) word) owner owner colour colour now r

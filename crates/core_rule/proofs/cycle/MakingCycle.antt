@@ -34,7 +34,7 @@ cycle_control heap words owner later colour coloured now answers gone r seat g w
     cycle_stays heap words (put heap words (Control g) word) owner later colour coloured now answers gone r seat
     record {
       answer = answer_after_control heap words word g r few;
-      leads = λ marking f part x born leads. inl (leads_control heap words g word below f part x leads);
+      leads = λ marking f source x born leads. inl (leads_control heap words g word below f source x leads);
       marks = marks;
       births = births;
     }
@@ -60,7 +60,7 @@ heap_hands heap words owner colour fragments now g word o fs below unborn none s
   word = phase_after_control heap words word g ∙ cycle.word;
   marks = marks;
   coloured = coloured_stays heap words (put heap words (Control g) word) owner (owner_after o owner fs) colour fragments now
-      (λ marking f part x born leads. inl (leads_control heap words g word below f part x leads))
+      (λ marking f source x born leads. inl (leads_control heap words g word below f source x leads))
       (λ f marked born. stays born_bit o owner fs (λ x there. none x there ∙ sym unborn) f ∙ born)
       same.was cycle.coloured;
 }

@@ -21,15 +21,15 @@ use Rattle.core_rule.proofs.cycle.CycleFrames.{while_access, field_stays}
 
 -- no fragment is black in the first phase, and none is marked before it
 pub coloured_next : (heap : Heap) (words now : List ℕ) (owner : ℕ → Owner) (colour : ℕ → Colour) (fragments : ℕ → List ℕ) (phase : ℕ) → phase % 7 ≢ 6
-    → ((f part g : ℕ) → WordPointsTo heap now f part g → WordPointsTo heap words f part g)
+    → ((f source g : ℕ) → WordPointsTo heap now f source g → WordPointsTo heap words f source g)
     → Coloured heap words owner colour fragments phase → Coloured heap now owner colour fragments (phase + 1)
 coloured_next heap words now owner colour fragments phase within leads stands = record {
   rest = λ ended f. absurd (omega (arith, ended, within));
   early = λ first f black. absurd (cc (black, stands.rest (omega (arith, first)) f));
   born = stands.born;
-  black = λ marking f part g black later. elim (eqb_tells (phase % 7) 1) [
+  black = λ marking f source g black later. elim (eqb_tells (phase % 7) 1) [
     | inl first ↦ absurd (stands.early first.1 f black)
-    | inr other ↦ stands.black (record { from = omega (arith, marking.from, marking.upto, other.1, within); upto = omega (arith, marking.from, marking.upto, within) }) f part g black (leads f part g later)
+    | inr other ↦ stands.black (record { from = omega (arith, marking.from, marking.upto, other.1, within); upto = omega (arith, marking.from, marking.upto, within) }) f source g black (leads f source g later)
   ];
   first = λ marking f i k keeps marked. elim (eqb_tells (phase % 7) 0) [
     | inl none ↦ absurd (marked (stands.rest none.1 f))
@@ -44,7 +44,7 @@ coloured_rest heap words now owner colour fragments phase last white stands = re
   rest = λ ended. white;
   early = λ first f black. absurd (cc (black, white f));
   born = stands.born;
-  black = λ marking f part g black later. absurd (cc (black, white f));
+  black = λ marking f source g black later. absurd (cc (black, white f));
   first = λ marking f i k keeps marked. absurd (marked (white f));
 }
 
@@ -78,7 +78,7 @@ module _ (seat : Seat) (phase : ℕ) where
 
 -- where every seat that is there has answered the phase, each seat's part stands when the next one begins
 pub cycle_next : (heap : Heap) (words now : List ℕ) (owner : ℕ → Owner) (colour : ℕ → Colour) (phase answers : ℕ) (gone : Bool) (number : ℕ) (seat : Seat)
-    → at heap now (Answer number) ≡ at heap words (Answer number) → ((f part g : ℕ) → WordPointsTo heap now f part g → WordPointsTo heap words f part g)
+    → at heap now (Answer number) ≡ at heap words (Answer number) → ((f source g : ℕ) → WordPointsTo heap now f source g → WordPointsTo heap words f source g)
     → Fits heap seat → (gone ≡ false → answers ≡ phase)
     → SeatInCycle heap words phase answers gone owner colour number seat → SeatInCycle heap now (phase + 1) answers gone owner colour number seat
 cycle_next heap words now owner colour phase answers gone number seat word leads fits done cycle =

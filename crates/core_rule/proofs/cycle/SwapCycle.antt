@@ -1,5 +1,5 @@
 -- What a swap puts into a field is marked while black fragments are made; so the colours and the other seats' sets stand.
-use Rattle.std.proofs.Common.{◌≡◌, ◌≢◌, ℕ, ◌^◌, ◌<◌, List, Some, inl, inr, refl, sym, ap, ◌∙◌, subst, arith}
+use Rattle.std.proofs.Common.{◌≡◌, ◌≢◌, ℕ, ◌*◌, ◌^◌, ◌<◌, List, Some, inl, inr, refl, sym, ap, ◌∙◌, subst, arith}
 use Rattle.heap_model.specs.declared.heap.Heap.{Heap}
 use Rattle.heap_model.specs.declared.id.Value.{Value}
 use Rattle.heap_model.specs.account.Cycles.{graph_of}
@@ -9,7 +9,7 @@ use Rattle.core_machine.specs.declared.place.Place.TheVariants as places
 use Rattle.core_machine.specs.declared.place.Access.TheVariants.{Swapping}
 use Rattle.core_machine.specs.seat.FitsAccess.{FitsAccess, IsFieldPart}
 use Rattle.core_machine.specs.table.Layout.{at, put}
-use Rattle.core_machine.specs.table.Decode.{head_of, pointer_in}
+use Rattle.core_machine.specs.table.Decode.{head_of, pointer_in, spine_words_in}
 use Rattle.core_machine.specs.machine.Machine.{State, seat_at}
 use Rattle.core_machine.specs.seat.AccessMoves.{new_register_of}
 use Rattle.core_machine.specs.seat.Registers.{register_head as head_of_register}
@@ -27,16 +27,30 @@ use Rattle.core_rule.proofs.ways.AtObject.{is_near}
 use Rattle.core_rule.proofs.cycle.Barriers.{barrier_making, later_lead}
 use Rattle.core_rule.proofs.cycle.CycleFrames.{LeadsStay, LeavesCycle, coloured_stays}
 use Rattle.core_rule.proofs.ways.KeptWords.{has_room}
-use Rattle.core_rule.proofs.colours.LeadsFrames.{leads_put}
+use Rattle.core_rule.proofs.colours.LeadsFrames.{put_no_spine, leads_put}
+use Rattle.core_rule.proofs.colours.NoSpines.{value_no_spine}
+use Rattle.core_rule.proofs.colours.SourceCases.{HasNoSpine}
+use Rattle.core_rule.proofs.cycle.FieldFrames.{watched_part}
+use Rattle.core_rule.proofs.marking.ObjectEdges.{kept_no_spine}
 use Rattle.core_rule.proofs.ways.LoadedObjects.{held_head}
 use Rattle.core_rule.proofs.colours.MarkWords.{marks_same}
 use Rattle.core_rule.proofs.lists.Options.{of_some}
-use Rattle.core_rule.proofs.ways.Told.{head_in-value}
+use Rattle.core_rule.proofs.ways.Told.{HasRoom, head_in-value}
 
 -- a swap's word is none of its fragment's first
 pub swap_part : (heap : Heap) (state : State) (book : Book) (number : ℕ) → Rule heap state book → number < heap.seats → (seat_at state number).place ≡ places.Access Swapping
     → IsFieldPart (seat_at state number).part
 swap_part heap state book number rule here place = let fits : FitsAccess (seat_at state number) Swapping = rw place at (seat_fits rule number here).way_at_place in fits.0.2.field_part
+
+-- its fragment is one of the heap's, and since it is a kept object's it has no spine
+pub swap_within : (heap : Heap) (state : State) (book : Book) (number : ℕ) → Rule heap state book → number < heap.seats → (seat_at state number).reached < 16 * heap.groups
+swap_within heap state book number rule here = (seat_fits rule number here).way.reached_within
+
+pub swap_no_spine : (heap : Heap) (state : State) (book : Book) (number : ℕ) → Rule heap state book → number < heap.seats → (seat_at state number).place ≡ places.Access Swapping
+    → HasNoSpine heap state.words (seat_at state number).reached
+swap_no_spine heap state book number rule here place =
+    let part = watched_part heap state book rule number here Swapping place tt in
+    kept_no_spine heap state book rule (seat_at state number).reached part.index part.place part.kept
 
 module _ (heap : Heap) (state : State) (book : Book) (number : ℕ) (rule : Rule heap state book) (here : number < heap.seats)
     (place : (seat_at state number).place ≡ places.Access Swapping)
@@ -51,12 +65,19 @@ module _ (heap : Heap) (state : State) (book : Book) (number : ℕ) (rule : Rule
   abbrev pub words_swapped : List ℕ
   words_swapped = put heap state.words (Word seat.reached seat.part) word
 
+  room : HasRoom (object_head book.made book.fragments) value
+  room = has_room heap state.words (graph_of heap book.history) book.made book.owner book.fragments rule.machine.limits rule.heap_stands.control_words value names
+
+  -- the new word is a cell's, so the fragment has no spine after it either
+  pub swapped_no_spine : HasNoSpine heap words_swapped seat.reached
+  swapped_no_spine = put_no_spine heap state.words seat.reached seat.part word rule.machine.table (swap_within heap state book number rule here)
+      (ap spine_words_in is_word ∙ value_no_spine (object_head book.made book.fragments) value stamp room small) (swap_no_spine heap state book number rule here place)
+
   -- the new word leads to the register's object
   new_leads : pointer_in seat.part word ≡ head_of_register (new_register_of seat)
   new_leads =
       later_lead seat.part word (swap_part heap state book number rule here place).some ∙ ap head_of is_word
-      ∙ head_in-value (object_head book.made book.fragments) value stamp
-      (has_room heap state.words (graph_of heap book.history) book.made book.owner book.fragments rule.machine.limits rule.heap_stands.control_words value names) small
+      ∙ head_in-value (object_head book.made book.fragments) value stamp room small
       ∙ sym (held_head book.made book.owner book.fragments (new_register_of seat) value holds)
 
   -- which is marked while black fragments are made
@@ -69,10 +90,11 @@ module _ (heap : Heap) (state : State) (book : Book) (number : ℕ) (rule : Rule
       of_some (IsMarked book.colour) (head_of_register (new_register_of seat)) x (sym new_leads ∙ leads) (shaded on).1
 
   pub leads_now : LeadsStay heap state.words words_swapped book.owner book.colour p
-  leads_now making f part x born leads = elim (leads_put heap state.words seat.reached seat.part word rule.machine.table (swap_part heap state book number rule here place).below f part x leads) [
-    | inl before ↦ inl before
-    | inr new ↦ inr (new_marked making x new.2)
-  ]
+  leads_now making f source x born leads = elim (leads_put heap state.words seat.reached seat.part word (swap_within heap state book number rule here) (swap_part heap state book number rule here place).below
+      (swap_no_spine heap state book number rule here place) swapped_no_spine rule.machine.table f source x leads) [
+        | inl before ↦ inl before
+        | inr new ↦ inr (new_marked making x new.2)
+      ]
 
   -- the heap stands
   pub heap_swapped : HeapInCycle heap words_swapped p book.owner book.colour book.fragments

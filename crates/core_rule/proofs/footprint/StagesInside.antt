@@ -26,6 +26,7 @@ use Rattle.core_rule.specs.Footprint.{Footprint, StageStandsInside, ClearedWithi
 use Rattle.core_rule.specs.Marking.{IsSeen, IsPart}
 use Rattle.core_rule.specs.Owners.{Kept}
 use Rattle.core_rule.specs.Rule.{Rule}
+use Rattle.core_rule.proofs.colours.SourceCases.{word_leads}
 use Rattle.core_rule.proofs.footprint.Clears.{clears_on, clears_begin}
 use Rattle.core_rule.proofs.footprint.Named.{cell_inside}
 use Rattle.core_rule.proofs.marking.Marks.{settled_phase}
@@ -107,7 +108,7 @@ module _ (heap : Heap) (state : State) (book : Book) (rule : Rule heap state boo
       let holder = foot.kept scan.fragment part.index part.place part.kept (inl (λ white. absurd (let grey = seen.grey in cc (grey, white)))) in
       elim (object_refers heap state.words g book.made book.owner book.fragments rule.machine.limits rule.heap_stands.control_words rule.heap_stands.ids rule.heap_stands.objects
       part.index back.0 back.1 part.place scan.part target back.2
-      (subst (λ x. WordPointsTo heap state.words x scan.part target) back.3 record { within = fits.fragment_within; below = fits.part_within; to = leads })) as (λ _. inside (id_at book.made i) ≡ true) [
+      (subst (λ x. WordPointsTo heap state.words x scan.part target) back.3 (word_leads heap state.words scan.fragment scan.part target fits.fragment_within fits.part_within leads))) as (λ _. inside (id_at book.made i) ≡ true) [
         | inl next ↦
             let same : Kept part.index (part.place + 1) ≡ Kept i k
             = sym (ap book.owner next.1 ∙ (rule.heap_stands.objects.kept part.index back.0 back.1).owned (part.place + 1) next.0) ∙ owned in

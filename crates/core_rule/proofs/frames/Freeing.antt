@@ -109,7 +109,7 @@ module _ (heap : Heap) (state : State) (book : Book) (rule : Rule heap state boo
       word = phase_after_control heap state.words word g ∙ old.word;
       marks = freed_marks heap state.words g rule.machine.table below book.colour old.marks dead small;
       coloured = coloured_stays heap state.words words_freed book.owner owner book.colour book.fragments (phase book.history)
-          (λ making f part x born leads. inl (leads_control heap state.words g word below f part x leads)) marked_born same.was old.coloured;
+          (λ making f source x born leads. inl (leads_control heap state.words g word below f source x leads)) marked_born same.was old.coloured;
     }
 
     -- the heap stands

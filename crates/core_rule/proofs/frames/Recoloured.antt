@@ -55,7 +55,7 @@ module _ (heap : Heap) (state : State) (book : Book) (rule : Rule heap state boo
   pub leaves_recoloured : (r : ℕ) → r < heap.seats → LeavesCycle heap state.words words book.owner book.owner book.colour coloured (phase book.history) r
   leaves_recoloured r less = record {
     answer = at-put_apart heap state.words (Control g) (Answer r) n (λ e. omega (arith, e, less, rule.machine.limits.seats_fit));
-    leads = λ making x part y born leads. inl (leads_control heap state.words g n below x part y leads);
+    leads = λ making x source y born leads. inl (leads_control heap state.words g n below x source y leads);
     marks = new.keeps;
     births = λ f borne. (borne, new.births r f borne);
   }

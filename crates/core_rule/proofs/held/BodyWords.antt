@@ -1,4 +1,4 @@
--- Where the words of what a seat has borne lead: to its own new object.
+-- Where the sources of what a seat has borne lead: to its own new object.
 use Rattle.std.proofs.Common.{◌≡◌, ◌≢◌, ℕ, ◌+◌, ◌*◌, ◌<◌, ◌≤◌, [], length, sym, subst, arith}
 use Rattle.heap_model.specs.declared.heap.Heap.{Heap}
 use Rattle.core_machine.specs.declared.place.Making.TheVariants.{Gathering, Returning, Refusing, Storing, Bearing}
@@ -61,15 +61,15 @@ module _ (heap : Heap) (state : State) (book : Book) (rule : Rule heap state boo
   bearing (places.Collecting place) fits = absurd (some_body fits.0.no_body)
   bearing (places.Leaving place) fits = absurd (some_body fits.0.no_body)
 
-  -- a word of the fragment leads to one of the seat's
-  pub borne_leads : (part x : ℕ) → WordPointsTo heap state.words f part x → IsAlive (book.owner x)
-  borne_leads part x leads =
+  -- a source of the fragment leads to one of the seat's
+  pub borne_leads : (source x : ℕ) → WordPointsTo heap state.words f source x → IsAlive (book.owner x)
+  borne_leads source x leads =
       let fits = seat_fits rule number here in
       let has = bearing seat.place fits.at_place in
       let place = place_within f seat.body in_body in
       let k : ℕ = place_of f seat.body in
       let next = body_leads heap state.words book.owner number seat rule.machine.limits here has.0.makes.numbered (few_fields seat has.0) (omega (arith, place.0)) fits.hand.body_within stands.own.holding
       (all_stored heap state.words seat.body (newborn_word_of number seat) seat.stored has.1 stands.own.stored)
-      k part x place.0 (subst (λ y. WordPointsTo heap state.words y part x) (sym place.1) leads) in
+      k source x place.0 (subst (λ y. WordPointsTo heap state.words y source x) (sym place.1) leads) in
       let own = body_at-own book.owner number seat.reserve seat.hand seat.body stands.own.holding (k + 1) next.0 in
       own_alive number (book.owner x) (subst (λ y. IsOwn number (book.owner y)) (sym next.1) own)

@@ -21,32 +21,32 @@ module _ (heap : Heap) (state : State) (book : Book) (rule : Rule heap state boo
   born_owner : (f : ℕ) → f < 16 * heap.groups → IsBorn heap state.words f → born_bit (book.owner f) ≡ 1
   born_owner f within born = sym (rule.heap_stands.control_words.born f within) ∙ born
 
-  -- the words of a kept object lead to what is alive
-  kept_leads : (f i k part x : ℕ) → book.owner f ≡ Kept i k → WordPointsTo heap state.words f part x → IsAlive (book.owner x)
-  kept_leads f i k part x is leads =
+  -- the sources of a kept object lead to what is alive
+  kept_leads : (f i k source x : ℕ) → book.owner f ≡ Kept i k → WordPointsTo heap state.words f source x → IsAlive (book.owner x)
+  kept_leads f i k source x is leads =
       let stands = rule.heap_stands in
       let back = stands.objects.back f i k is in
       let object = stands.objects.kept i back.0 back.1 in
       elim (object_leads heap state.words (graph_of heap book.history) book.made book.owner book.fragments rule.machine.limits stands.control_words stands.ids stands.objects
-      i back.0 back.1 k part x back.2 (subst (λ y. WordPointsTo heap state.words y part x) back.3 leads)) as (λ _. IsAlive (book.owner x)) [
+      i back.0 back.1 k source x back.2 (subst (λ y. WordPointsTo heap state.words y source x) back.3 leads)) as (λ _. IsAlive (book.owner x)) [
         | inl next ↦ kept_alive (book.owner x) i (k + 1) (ap book.owner next.1 ∙ object.owned (k + 1) next.0)
         | inr head ↦ head_alive book.made book.owner book.fragments x head
       ]
 
   -- so do those of all that is alive and born
-  word_alive : (f part x : ℕ) → IsAlive (book.owner f) → IsBorn heap state.words f → WordPointsTo heap state.words f part x → IsAlive (book.owner x)
-  word_alive f part x alive born leads = by (book.owner f) refl alive
+  word_alive : (f source x : ℕ) → IsAlive (book.owner f) → IsBorn heap state.words f → WordPointsTo heap state.words f source x → IsAlive (book.owner x)
+  word_alive f source x alive born leads = by (book.owner f) refl alive
     where
       by : (o : Owner) → book.owner f ≡ o → IsAlive o → IsAlive (book.owner x)
       by Free is alive = absurd alive
       by (Taken number) is alive = absurd (omega (arith, born_owner f leads.within born, ap born_bit is))
-      by (Borne number) is alive = borne_leads heap state book rule number f is part x leads
-      by (Kept i k) is alive = kept_leads f i k part x is leads
+      by (Borne number) is alive = borne_leads heap state book rule number f is source x leads
+      by (Kept i k) is alive = kept_leads f i k source x is leads
       by (Dead i k) is alive = absurd alive
 
   pub held_alive : (f : ℕ) → IsHeld heap state f → IsAlive (book.owner f)
   held_alive f (by_seat number _ here holds) = holds_alive heap state book rule number here f holds
-  held_alive g (by_word f _ held born edge) = word_alive f edge.part g (held_alive f held) born edge.points
+  held_alive g (by_word f _ held born edge) = word_alive f edge.source g (held_alive f held) born edge.points
 
   held_within_heap : (f : ℕ) → IsHeld heap state f → f < 16 * heap.groups
   held_within_heap f held = alive_within heap state.words book.owner f rule.heap_stands.control_words (held_alive f held)

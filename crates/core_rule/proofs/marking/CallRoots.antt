@@ -29,6 +29,7 @@ use Rattle.core_rule.specs.Owners.{born_bit}
 use Rattle.core_rule.specs.Paths.{IsReached}
 use Rattle.core_rule.specs.Rule.{Rule}
 use Rattle.core_rule.specs.Ways.{Finds}
+use Rattle.core_rule.proofs.colours.SourceCases.{word_leads}
 use Rattle.core_rule.proofs.cycle.Barriers.{later_lead}
 use Rattle.core_rule.proofs.entries.AtRest.{seat_fits}
 use Rattle.core_rule.proofs.marking.Marks.{IsOffWay, comes_further, roots_off_way}
@@ -104,4 +105,4 @@ module _ (heap : Heap) (state : State) (book : Book) (number : ℕ) (rule : Rule
     pub field_comes : IsFieldPart seat.part → (f : ℕ) → KeptHead book.made book.owner book.fragments f → head_of (at heap state.words (Word seat.reached seat.part)) ≡ Some f → IsReachedNow heap state book f
     field_comes field f head leads =
         comes_further heap state book rule marks seat.reached seat.part f (ap born_bit (ap book.owner head.is ∙ head.kept)) comes
-        record { within = (seat_fits rule number here).way.reached_within; below = field.below; to = later_lead seat.part (at heap state.words (Word seat.reached seat.part)) field.some ∙ leads }
+        (word_leads heap state.words seat.reached seat.part f (seat_fits rule number here).way.reached_within field.below (later_lead seat.part (at heap state.words (Word seat.reached seat.part)) field.some ∙ leads))

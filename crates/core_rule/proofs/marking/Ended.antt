@@ -32,9 +32,9 @@ module _ (heap : Heap) (state : State) (book : Book) (rule : Rule heap state boo
   ]
 
   -- and leads to what is marked
-  pub leads_marked : (f part g : ℕ) → IsMarked book.colour f → WordPointsTo heap state.words f part g → IsMarked book.colour g
-  leads_marked f part g marked leads =
-      rule.heap_stands.cycle.coloured.black (record { from = omega (arith, third); upto = omega (arith, third) }) f part g (is_black f marked) leads
+  pub leads_marked : (f source g : ℕ) → IsMarked book.colour f → WordPointsTo heap state.words f source g → IsMarked book.colour g
+  leads_marked f source g marked leads =
+      rule.heap_stands.cycle.coloured.black (record { from = omega (arith, third); upto = omega (arith, third) }) f source g (is_black f marked) leads
 
   -- a kept object with a marked fragment is marked by its first
   pub first_marked : (f i k : ℕ) → book.owner f ≡ Kept i k → IsMarked book.colour f → IsMarked book.colour (fragment_at (book.fragments i) 0)

@@ -1,5 +1,5 @@
 -- What the making of an object leaves of marking: fragments that no object has come and go, and are born black while it goes on.
-use Rattle.std.proofs.Common.{◌⊎◌, ◌≡◌, ◌≢◌, ℕ, ◌+◌, ◌%◌, ◌<◌, ◌≤◌, Bool, true, false, List, inl, inr, refl, sym, ap, ◌∙◌, subst, arith}
+use Rattle.std.proofs.Common.{◌⊎◌, ◌≡◌, ◌≢◌, ℕ, ◌*◌, ◌+◌, ◌%◌, ◌<◌, ◌≤◌, Bool, true, false, List, inl, inr, refl, ap, ◌∙◌, subst, arith}
 use Rattle.heap_model.specs.declared.heap.Heap.{Heap}
 use Rattle.heap_model.specs.account.PhaseCounts.{phase}
 use Rattle.core_machine.specs.declared.table.address.Address.TheVariants.{Control, Word}
@@ -7,7 +7,7 @@ use Rattle.core_machine.specs.machine.Machine.{State, seat_at}
 use Rattle.core_machine.specs.Moves.{bears_black_of}
 use Rattle.core_machine.specs.seat.Seat.{Seat}
 use Rattle.core_machine.specs.table.Fragments.{tally}
-use Rattle.core_machine.specs.table.Layout.{at, put}
+use Rattle.core_machine.specs.table.Layout.{put}
 use Rattle.core_rule.specs.Book.{Book, Grey, Black, White}
 use Rattle.core_rule.specs.Colours.{IsBetween}
 use Rattle.core_rule.specs.Owners.{Owner, Kept, Dead, born_bit, owner_after}
@@ -15,14 +15,13 @@ use Rattle.core_rule.specs.Phases.{IsNear}
 use Rattle.core_rule.specs.Rule.{Rule}
 use Rattle.core_rule.proofs.colours.BirthColours.{painted, painted_in, painted_cases}
 use Rattle.core_rule.proofs.colours.Births.{birth_colour}
-use Rattle.core_rule.proofs.colours.LeadsFrames.{leads_same, leads_control, control_leads}
+use Rattle.core_rule.proofs.colours.LeadsFrames.{SameSources, same_beside, leads_same, same_leads, leads_control, control_leads}
 use Rattle.core_rule.proofs.cycle.Barriers.{window_black, black_window}
 use Rattle.core_rule.proofs.marking.MarkingFrames.{LeavesMarking}
 use Rattle.core_rule.proofs.marking.Marks.{IsLastAnswered, all_answered}
 use Rattle.core_rule.proofs.owners.Handed.{handed_cases, handed_out, none_or_some}
 use Rattle.core_rule.proofs.owners.OwnerLemmas.{born_once}
 use Rattle.core_rule.proofs.owners.Keeping.{kept_by, with_object, object_old, kept_cases, kept_stays}
-use Rattle.core_rule.proofs.words.Addresses.{fragment_other}
 
 -- what is kept, or is to be freed, is born
 kept_born : (o : Owner) (i k : ℕ) → o ≡ Kept i k → born_bit o ≡ 1
@@ -94,8 +93,8 @@ module _ (heap : Heap) (state : State) (book : Book) (rule : Rule heap state boo
       fresh = unborn_grey;
       dark = λ known f fresh. handed_cases (λ x. born_bit x ≡ 1 → book.colour f ≡ Black) o book.owner fs f (λ there born. absurd (omega (arith, born, none))) (λ away born. absurd (omega (arith, born, fresh)));
       light = λ clear f white. white;
-      back = λ marks f part x born leads. inl (leads_control heap state.words g n below f part x leads);
-      on = λ marks f part x born leads. inl (control_leads heap state.words g n below f part x leads);
+      back = λ marks f source x born leads. inl (leads_control heap state.words g n below f source x leads);
+      on = λ marks f source x born leads. inl (control_leads heap state.words g n below f source x leads);
     }
 
     -- they are born, and not yet an object's
@@ -112,8 +111,8 @@ module _ (heap : Heap) (state : State) (book : Book) (rule : Rule heap state boo
         | inr away ↦ absurd (omega (arith, fresh, subst (λ x. born_bit x ≡ 1) (kept_out f away) born))
       ];
       light = λ clear f white. painted_cases (λ c. c ≡ White) (birth_colour black) book.colour fs f (λ there. ap birth_colour (pale clear)) (λ away. white);
-      back = λ marks f part x born leads. inl (leads_control heap state.words g n below f part x leads);
-      on = λ marks f part x born leads. inl (control_leads heap state.words g n below f part x leads);
+      back = λ marks f source x born leads. inl (leads_control heap state.words g n below f source x leads);
+      on = λ marks f source x born leads. inl (control_leads heap state.words g n below f source x leads);
     }
       where
         in_or_out : (f : ℕ) → (1 ≤ tally f fs) ⊎ (tally f fs ≡ 0)
@@ -123,9 +122,9 @@ module _ (heap : Heap) (state : State) (book : Book) (rule : Rule heap state boo
         kept_out f away = handed_out o book.owner fs f away
 
   -- a word of a fragment that isn't born is written
-  pub leaves_stored : (f part word : ℕ) → part < 4 → born_bit (book.owner f) ≡ 0
+  pub leaves_stored : (f part word : ℕ) → f < 16 * heap.groups → part < 4 → born_bit (book.owner f) ≡ 0
       → LeavesMarking heap state.words (put heap state.words (Word f part) word) book.owner book.owner book.colour book.colour book.fragments book.fragments marks settles clears
-  leaves_stored f part word fits unborn = record {
+  leaves_stored f part word within fits unborn = record {
     born = λ x born. (born, refl);
     kept = λ x i k is. (is, refl);
     dead = λ x i k is. is;
@@ -133,12 +132,12 @@ module _ (heap : Heap) (state : State) (book : Book) (rule : Rule heap state boo
     fresh = unborn_grey;
     dark = λ known x fresh born. absurd (omega (arith, fresh, born));
     light = λ clear x white. white;
-    back = λ marks x p g born leads. inl (leads_same heap state.words (put heap state.words (Word f part) word) x p g (elsewhere x p born leads.below) leads);
-    on = λ marks x p g born leads. inl (leads_same heap (put heap state.words (Word f part) word) state.words x p g (sym (elsewhere x p born leads.below)) leads);
+    back = λ marks x p g born leads. inl (leads_same heap state.words (put heap state.words (Word f part) word) x (beside x born) p g leads);
+    on = λ marks x p g born leads. inl (same_leads heap state.words (put heap state.words (Word f part) word) x (beside x born) p g leads);
   }
     where
-      elsewhere : (x p : ℕ) → born_bit (book.owner x) ≡ 1 → p < 4 → at heap (put heap state.words (Word f part) word) (Word x p) ≡ at heap state.words (Word x p)
-      elsewhere x p born below = fragment_other heap state.words word f part x p fits below
+      beside : (x : ℕ) → born_bit (book.owner x) ≡ 1 → SameSources heap state.words (put heap state.words (Word f part) word) x
+      beside x born = same_beside heap state.words f part word within fits x
           (λ same. let bit : born_bit (book.owner x) ≡ born_bit (book.owner f) = ap (λ y. born_bit (book.owner y)) same in omega (arith, bit, born, unborn))
 
   -- a seat's object is born, and keeps its fragments
@@ -158,8 +157,8 @@ module _ (heap : Heap) (state : State) (book : Book) (rule : Rule heap state boo
     fresh = λ f fresh. painted_cases (λ c. c ≢ Grey) (birth_colour black) book.colour fs f (λ there. never_grey black) (λ away. unborn_grey f fresh);
     dark = λ known f fresh born. painted_in (birth_colour black) book.colour fs f (omega (arith, bears f, fresh, born)) ∙ ap birth_colour (dark known);
     light = λ clear f white. painted_cases (λ c. c ≡ White) (birth_colour black) book.colour fs f (λ there. ap birth_colour (pale clear)) (λ away. white);
-    back = λ marks f part x born leads. inl (leads_control heap state.words g n below f part x leads);
-    on = λ marks f part x born leads. inl (control_leads heap state.words g n below f part x leads);
+    back = λ marks f source x born leads. inl (leads_control heap state.words g n below f source x leads);
+    on = λ marks f source x born leads. inl (control_leads heap state.words g n below f source x leads);
   }
     where
       no_dead : {j m i k : ℕ} (f : ℕ) → Kept j m ≢ Dead i k

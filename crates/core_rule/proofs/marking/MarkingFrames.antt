@@ -6,7 +6,7 @@ use Rattle.core_machine.specs.declared.collector.stage.Stage.TheVariants as stag
 use Rattle.core_rule.specs.Book.{Colour, White, Grey, Black, fragment_at}
 use Rattle.core_rule.specs.Colours.{IsMarked, WordPointsTo}
 use Rattle.core_rule.specs.Flight.{DeletionBarrier}
-use Rattle.core_rule.specs.Marking.{IsPart, MayMark, IsSeen, ComesAfter, ScanStands, PassStands, AfterMarking, MarkingStands}
+use Rattle.core_rule.specs.Marking.{IsPart, MayMark, IsSeen, IsSeenWhole, ComesAfter, ScanStands, PassStands, AfterMarking, MarkingStands}
 use Rattle.core_rule.specs.Sweep.{IsSettled, AreFreed, AreDead, AreCleared, SweepStands}
 use Rattle.core_rule.specs.Owners.{Owner, Kept, Dead, born_bit, dead_bit}
 use Rattle.core_rule.specs.Paths.{IsWhite, Edge, IsReached}
@@ -14,7 +14,7 @@ use Rattle.core_rule.proofs.marking.Paths.{path_stays}
 use Rattle.core_rule.proofs.owners.OwnerLemmas.{born_once, dead_once, is_dead, bits_same}
 
 -- the born fragments have their colours, and stay born; what is kept stays so, and nothing more is to be freed; none that wasn't born is grey; in the
--- phase of marking the words of born fragments lead where they led but for what is marked; from then to the end of the sweep what is born now is black;
+-- phase of marking the sources of born fragments lead where they led but for what is marked; from then to the end of the sweep what is born now is black;
 -- and while marks are cleared what is white stays so
 pub record LeavesMarking (heap : Heap) (words now : List ℕ) (owner later : ℕ → Owner) (colour coloured : ℕ → Colour) (fragments bodies : ℕ → List ℕ) (marks settles clears : Type 0) : Type 0 where
   pub born : (f : ℕ) → born_bit (owner f) ≡ 1 → (born_bit (later f) ≡ 1) × (coloured f ≡ colour f)
@@ -24,8 +24,8 @@ pub record LeavesMarking (heap : Heap) (words now : List ℕ) (owner later : ℕ
   pub fresh : (f : ℕ) → born_bit (owner f) ≡ 0 → coloured f ≢ Grey
   pub dark : settles → (f : ℕ) → born_bit (owner f) ≡ 0 → born_bit (later f) ≡ 1 → coloured f ≡ Black
   pub light : clears → (f : ℕ) → colour f ≡ White → coloured f ≡ White
-  pub back : marks → (f part g : ℕ) → born_bit (owner f) ≡ 1 → WordPointsTo heap now f part g → WordPointsTo heap words f part g ⊎ IsMarked coloured g
-  pub on : marks → (f part g : ℕ) → born_bit (owner f) ≡ 1 → WordPointsTo heap words f part g → WordPointsTo heap now f part g ⊎ IsMarked colour g
+  pub back : marks → (f source g : ℕ) → born_bit (owner f) ≡ 1 → WordPointsTo heap now f source g → WordPointsTo heap words f source g ⊎ IsMarked coloured g
+  pub on : marks → (f source g : ℕ) → born_bit (owner f) ≡ 1 → WordPointsTo heap words f source g → WordPointsTo heap now f source g ⊎ IsMarked colour g
 
 -- this is so at each stage of marking
 abbrev pub OnlyMarks : Type 0 → Stage → Type 0
@@ -96,6 +96,15 @@ module _ (heap : Heap) (words now : List ℕ) (owner later : ℕ → Owner) (col
       ];
     }
 
+    whole_on : (f : ℕ) → IsSeenWhole heap words colour f → IsSeenWhole heap now coloured f
+    whole_on f seen = record {
+      grey = grey_on f seen.grey;
+      seen = λ source g leads. elim (leaves.back is_marking f source g (grey_born f seen.grey) leads) as (λ _. IsMarked coloured g) [
+        | inl before ↦ marks_on g (seen.seen source g before)
+        | inr marked ↦ marked
+      ];
+    }
+
     finds_on : (f part : ℕ) (old : Option ℕ) → colour f ≡ Grey → DeletionBarrier heap words colour f part old → DeletionBarrier heap now coloured f part old
     finds_on f part old grey finds g leads = elim (leaves.back is_marking f part g (grey_born f grey) leads) as (λ _. (old ≡ Some g) ⊎ IsMarked coloured g) [
       | inl before ↦ elim (finds g before) as (λ _. (old ≡ Some g) ⊎ IsMarked coloured g) [
@@ -117,8 +126,8 @@ module _ (heap : Heap) (words now : List ℕ) (owner later : ℕ → Owner) (col
     edge_on : (f g : ℕ) → IsWhite owner colour f ⊎ (colour f ≡ Grey) → Edge heap words f g → IsWhite owner colour g → Edge heap now f g
     edge_on f g from leads white =
         let born : born_bit (owner f) ≡ 1 = elim from as (λ _. born_bit (owner f) ≡ 1) [ inl w ↦ w.born | inr grey ↦ grey_born f grey ] in
-        elim (leaves.on is_marking f leads.part g born leads.points) as (λ _. Edge heap now f g) [
-          | inl points ↦ record { part = leads.part; points = points }
+        elim (leaves.on is_marking f leads.source g born leads.points) as (λ _. Edge heap now f g) [
+          | inl points ↦ record { source = leads.source; points = points }
           | inr marked ↦ absurd (marked white.unmarked)
         ]
 
@@ -145,7 +154,7 @@ module _ (heap : Heap) (words now : List ℕ) (owner later : ℕ → Owner) (col
   scan_stays (stages.Scanning scan) is stands = seen_on is scan.fragment scan.part stands
   scan_stays (stages.Shading scan target next) is stands =
       (seen_on is scan.fragment scan.part stands.0, finds_on is scan.fragment scan.part (Some target) stands.0.grey stands.1, may_on target stands.2, after_on is scan.fragment scan.part next stands.3)
-  scan_stays (stages.Blackening scan) is stands = seen_on is scan.fragment 4 stands
+  scan_stays (stages.Blackening scan) is stands = whole_on is scan.fragment stands
   scan_stays _ is stands = tt
 
   pass_stays : (stage : Stage) → PassStands colour stage → PassStands coloured stage

@@ -131,11 +131,11 @@ module _ (heap : Heap) (state : State) (book : Book) (rule : Rule heap state boo
       by _ last = tt
 
   -- marking comes to what a fragment leads to that it comes to
-  pub comes_further : IsInMarking state.collector → (f part g : ℕ) → born_bit (book.owner g) ≡ 1 → IsReached heap state.words book.owner book.colour f
-      → WordPointsTo heap state.words f part g → IsReached heap state.words book.owner book.colour g
-  comes_further marks f part g born reached leads =
+  pub comes_further : IsInMarking state.collector → (f source g : ℕ) → born_bit (book.owner g) ≡ 1 → IsReached heap state.words book.owner book.colour f
+      → WordPointsTo heap state.words f source g → IsReached heap state.words book.owner book.colour g
+  comes_further marks f source g born reached leads =
       reached_on heap state.words book.owner book.colour
-      (λ x p y dark points. rule.heap_stands.cycle.coloured.black (between marks) x p y dark points) f part g born reached leads
+      (λ x p y dark points. rule.heap_stands.cycle.coloured.black (between marks) x p y dark points) f source g born reached leads
     where
       between : IsInMarking state.collector → IsBetween 2 5 (phase book.history)
       between marks = let same = rule.collector_stands.phase_told in let third = marks.phase in record { from = omega (arith, same, third); upto = omega (arith, same, third) }
@@ -152,9 +152,9 @@ module _ (heap : Heap) (state : State) (book : Book) (rule : Rule heap state boo
   Leaves words now = LeavesMarking heap state.words words book.owner now.owner book.colour now.colour book.fragments now.fragments (state.collector.phase % 7 ≡ 3)
       (IsBetween 3 5 state.collector.phase) (IsLastAnswered heap state.collector)
 
-  -- all that is born is as it was, and each word leads where it led
-  pub leaves_words : (words : List ℕ) → ((f part g : ℕ) → WordPointsTo heap words f part g → WordPointsTo heap state.words f part g)
-      → ((f part g : ℕ) → WordPointsTo heap state.words f part g → WordPointsTo heap words f part g) → Leaves words book
+  -- all that is born is as it was, and each source leads where it led
+  pub leaves_words : (words : List ℕ) → ((f source g : ℕ) → WordPointsTo heap words f source g → WordPointsTo heap state.words f source g)
+      → ((f source g : ℕ) → WordPointsTo heap state.words f source g → WordPointsTo heap words f source g) → Leaves words book
   leaves_words words back on = record {
     born = λ f born. (born, refl);
     kept = λ f i k kept. (kept, refl);
@@ -163,8 +163,8 @@ module _ (heap : Heap) (state : State) (book : Book) (rule : Rule heap state boo
     fresh = λ f unborn grey. unborn_grey f unborn grey;
     dark = λ known f unborn born. absurd (omega (arith, unborn, born));
     light = λ clears f white. white;
-    back = λ marks f part g born leads. inl (back f part g leads);
-    on = λ marks f part g born leads. inl (on f part g leads);
+    back = λ marks f source g born leads. inl (back f source g leads);
+    on = λ marks f source g born leads. inl (on f source g leads);
   }
     where
       unborn_grey : (f : ℕ) → born_bit (book.owner f) ≡ 0 → book.colour f ≢ Grey

@@ -41,19 +41,19 @@ grey_or_black colour f marked = by (colour f) refl
     by Black is = inr is
 
 module _ (heap : Heap) (words : List ℕ) (owner : ℕ → Owner) (colour : ℕ → Colour)
-    (black : (f part g : ℕ) → colour f ≡ Black → WordPointsTo heap words f part g → IsMarked colour g) where
+    (black : (f source g : ℕ) → colour f ≡ Black → WordPointsTo heap words f source g → IsMarked colour g) where
   -- marking comes to what a fragment leads to that it comes to
-  pub reached_on : (f part g : ℕ) → born_bit (owner g) ≡ 1 → IsReached heap words owner colour f → WordPointsTo heap words f part g → IsReached heap words owner colour g
-  reached_on f part g born reached leads = elim (white_or_marked colour g) as (λ _. IsReached heap words owner colour g) [
+  pub reached_on : (f source g : ℕ) → born_bit (owner g) ≡ 1 → IsReached heap words owner colour f → WordPointsTo heap words f source g → IsReached heap words owner colour g
+  reached_on f source g born reached leads = elim (white_or_marked colour g) as (λ _. IsReached heap words owner colour g) [
     | inr marked ↦ inl marked
     | inl white ↦ on record { unmarked = white; born = born } reached
   ]
     where
       on : IsWhite owner colour g → IsReached heap words owner colour f → IsReached heap words owner colour g
-      on whites (inr path) = inr (from_white f g path (record { part = part; points = leads }) whites)
+      on whites (inr path) = inr (from_white f g path (record { source = source; points = leads }) whites)
       on whites (inl marked) = elim (grey_or_black colour f marked) as (λ _. IsReached heap words owner colour g) [
-        | inl grey ↦ inr (from_grey f g grey (record { part = part; points = leads }) whites)
-        | inr dark ↦ inl (black f part g dark leads)
+        | inl grey ↦ inr (from_grey f g grey (record { source = source; points = leads }) whites)
+        | inr dark ↦ inl (black f source g dark leads)
       ]
 
 module _ (colour : ℕ → Colour) (m : ℕ) where
@@ -74,12 +74,12 @@ module _ (colour : ℕ → Colour) (m : ℕ) where
   grey_on f grey = same_marked f (λ white. absurd (cc (grey, white))) ∙ grey
 
 module _ (heap : Heap) (words now : List ℕ) (owner : ℕ → Owner) (colour : ℕ → Colour) (m : ℕ)
-    (leads_on : (f part g : ℕ) → WordPointsTo heap words f part g → WordPointsTo heap now f part g) where
+    (leads_on : (f source g : ℕ) → WordPointsTo heap words f source g → WordPointsTo heap now f source g) where
   abbrev shaded : ℕ → Colour
   shaded = with_mark colour m
 
   edge_on : (f g : ℕ) → Edge heap words f g → Edge heap now f g
-  edge_on f g leads = record { part = leads.part; points = leads_on f leads.part g leads.points }
+  edge_on f g leads = record { source = leads.source; points = leads_on f leads.source g leads.points }
 
   -- what gets marked is the fragment, which is grey then
   newly_grey : (f : ℕ) → colour f ≡ White → (f ≡ m) → shaded m ≡ Grey

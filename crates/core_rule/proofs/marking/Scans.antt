@@ -20,12 +20,13 @@ use Rattle.core_machine.specs.table.Layout.{at}
 use Rattle.core_machine.specs.table.Newborn.{link_after}
 use Rattle.core_rule.specs.Book.{Book, Colour, Grey, fragment_at, id_at, object_head}
 use Rattle.core_rule.specs.Colours.{IsMarked, WordPointsTo, IsBetween}
-use Rattle.core_rule.specs.Marking.{IsPart, MayMark, IsSeen, ComesAfter, ScanStands, PassStands}
+use Rattle.core_rule.specs.Marking.{IsPart, MayMark, IsSeen, IsSeenWhole, ComesAfter, ScanStands, PassStands}
 use Rattle.core_rule.specs.Sweep.{SweepStands}
 use Rattle.core_rule.specs.Objects.{IsKept, KeptObject, name_of, is_cell, cells_at}
 use Rattle.core_rule.specs.Owners.{Owner, Kept}
 use Rattle.core_rule.specs.Rule.{Rule}
 use Rattle.core_rule.proofs.colours.NewbornLeads.{name_leads, link_word_at}
+use Rattle.core_rule.proofs.colours.SourceCases.{HasNoSpine, word_alone}
 use Rattle.core_rule.proofs.marking.ObjectEdges.{word_cases, name_small, small, object_leads}
 use Rattle.core_machine.proofs.table_lemmas.CellWords.{cell_of-cell_word}
 
@@ -36,11 +37,18 @@ scan_cases P scan part before behind = elim (leb_tells (suc part) 4) as (λ _. P
   | inr done ↦ rw done.0 (behind (omega (arith, done.1)))
 ]
 
+-- a fragment without a spine is seen whole behind its four words
+seen_whole : (heap : Heap) (words : List ℕ) (colour : ℕ → Colour) (f part : ℕ) → HasNoSpine heap words f → 4 ≤ part → IsSeen heap words colour f part → IsSeenWhole heap words colour f
+seen_whole heap words colour f part none behind seen = record {
+  grey = seen.grey;
+  seen = λ source g leads. seen.seen source g (omega (arith, behind, word_alone heap words f none source g leads)) leads;
+}
+
 -- so what it has seen is right, of a pass nothing is asked, and marking hasn't ended
-pub scan_stands : (heap : Heap) (words : List ℕ) (owner : ℕ → Owner) (colour : ℕ → Colour) (fragments : ℕ → List ℕ) (scan : Scan) (part : ℕ) → IsSeen heap words colour scan.fragment part
-    → ScanStands heap words owner colour fragments (scan_at scan part)
-scan_stands heap words owner colour fragments scan part seen = scan_cases (ScanStands heap words owner colour fragments) scan part seen
-    (λ behind. record { grey = seen.grey; seen = λ p g below leads. seen.seen p g (omega (arith, below, behind)) leads })
+pub scan_stands : (heap : Heap) (words : List ℕ) (owner : ℕ → Owner) (colour : ℕ → Colour) (fragments : ℕ → List ℕ) (scan : Scan) (part : ℕ) → HasNoSpine heap words scan.fragment
+    → IsSeen heap words colour scan.fragment part → ScanStands heap words owner colour fragments (scan_at scan part)
+scan_stands heap words owner colour fragments scan part none seen = scan_cases (ScanStands heap words owner colour fragments) scan part seen
+    (λ behind. seen_whole heap words colour scan.fragment part none behind seen)
 
 pub scan_passes : (colour : ℕ → Colour) (scan : Scan) (part : ℕ) → PassStands colour (scan_at scan part)
 scan_passes colour scan part = scan_cases (PassStands colour) scan part tt (λ behind. tt)
@@ -76,9 +84,9 @@ module _ (heap : Heap) (state : State) (book : Book) (rule : Rule heap state boo
   the_object = rule.heap_stands.objects.kept i there.0 there.1
 
   -- where a fragment of a kept object is grey, what it leads to may be marked
-  pub may_mark : IsBetween 1 5 (phase book.history) → book.colour f ≡ Grey → (part m : ℕ) → WordPointsTo heap state.words f part m → MayMark book.owner book.colour book.fragments m
-  may_mark cycle grey part m leads = elim (object_leads heap state.words (graph_of heap book.history) book.made book.owner book.fragments rule.machine.limits rule.heap_stands.control_words
-      rule.heap_stands.ids rule.heap_stands.objects i there.0 there.1 k part m there.2 (subst (λ x. WordPointsTo heap state.words x part m) there.3 leads)) as (λ _. MayMark book.owner book.colour book.fragments m) [
+  pub may_mark : IsBetween 1 5 (phase book.history) → book.colour f ≡ Grey → (source m : ℕ) → WordPointsTo heap state.words f source m → MayMark book.owner book.colour book.fragments m
+  may_mark cycle grey source m leads = elim (object_leads heap state.words (graph_of heap book.history) book.made book.owner book.fragments rule.machine.limits rule.heap_stands.control_words
+      rule.heap_stands.ids rule.heap_stands.objects i there.0 there.1 k source m there.2 (subst (λ x. WordPointsTo heap state.words x source m) there.3 leads)) as (λ _. MayMark book.owner book.colour book.fragments m) [
         | inl next ↦ record {
           part = record { index = i; place = k + 1; kept = ap book.owner next.1 ∙ the_object.owned (k + 1) next.0 };
           first = inr (rule.heap_stands.cycle.coloured.first cycle f i k part_of.kept (λ white. absurd (cc (grey, white))));

@@ -29,11 +29,11 @@ module _ (heap : Heap) (state : State) (book : Book) (rule : Rule heap state boo
   group_below : f / 16 < heap.groups
   group_below = omega (arith, within)
 
-  pub leads_back : (x part g : ℕ) → WordPointsTo heap words_marked x part g → WordPointsTo heap state.words x part g
-  leads_back x part g leads = leads_control heap state.words (f / 16) _ group_below x part g leads
+  pub leads_back : (x source g : ℕ) → WordPointsTo heap words_marked x source g → WordPointsTo heap state.words x source g
+  leads_back x source g leads = leads_control heap state.words (f / 16) _ group_below x source g leads
 
-  pub leads_on : (x part g : ℕ) → WordPointsTo heap state.words x part g → WordPointsTo heap words_marked x part g
-  leads_on x part g leads = control_leads heap state.words (f / 16) _ group_below x part g leads
+  pub leads_on : (x source g : ℕ) → WordPointsTo heap state.words x source g → WordPointsTo heap words_marked x source g
+  leads_on x source g leads = control_leads heap state.words (f / 16) _ group_below x source g leads
 
   -- marking comes to all that it came to
   pub comes_shaded : (x : ℕ) → IsReached heap state.words book.owner book.colour x → IsReached heap words_marked book.owner (with_mark book.colour f) x

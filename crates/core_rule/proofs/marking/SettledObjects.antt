@@ -18,6 +18,7 @@ use Rattle.core_rule.specs.Colours.{IsMarked, WordPointsTo}
 use Rattle.core_rule.specs.Objects.{Objects, KeptObject, NamesKept, IsKept, cells_at}
 use Rattle.core_rule.specs.Owners.{Owner}
 use Rattle.core_rule.specs.Rule.{Rule}
+use Rattle.core_rule.proofs.colours.SourceCases.{word_leads}
 use Rattle.core_rule.proofs.cycle.Barriers.{later_lead}
 use Rattle.core_rule.proofs.lists.Options.{each_some}
 use Rattle.core_rule.proofs.marking.Ended.{leads_marked, first_marked, whole_marked}
@@ -59,14 +60,13 @@ module _ (heap : Heap) (state : State) (book : Book) (rule : Rule heap state boo
         let named = stands.objects.named i j below kept cell there in
         let within = slice_get_within (cells i) j cell there in
         let row = row_there heap state.words (graph_of heap book.history) book.made book.owner book.fragments rule.machine.limits stands.control_words stands.ids stands.objects i below kept j within in
-        record {
-          within = kept_within heap state.words book.owner (fragment_at (book.fragments i) (row_of j)) i (row_of j) stands.control_words ((stands.objects.kept i below kept).owned (row_of j) row);
-          below = part_within j;
-          to = later_lead (part_of j) (at heap state.words (Word (fragment_at (book.fragments i) (row_of j)) (part_of j))) (omega arith)
-              ∙ ap head_of (field_found heap state.words (graph_of heap book.history) book.made book.owner book.fragments rule.machine.limits stands.control_words stands.ids stands.objects i below kept j cell there)
-              ∙ head_in-value head cell.value cell.stamp (has_room heap state.words (graph_of heap book.history) book.made book.owner book.fragments rule.machine.limits stands.control_words cell.value named.0) named.1
-              ∙ names;
-        }
+        word_leads heap state.words (fragment_at (book.fragments i) (row_of j)) (part_of j) f
+        (kept_within heap state.words book.owner (fragment_at (book.fragments i) (row_of j)) i (row_of j) stands.control_words ((stands.objects.kept i below kept).owned (row_of j) row))
+        (part_within j)
+        (later_lead (part_of j) (at heap state.words (Word (fragment_at (book.fragments i) (row_of j)) (part_of j))) (omega arith)
+        ∙ ap head_of (field_found heap state.words (graph_of heap book.history) book.made book.owner book.fragments rule.machine.limits stands.control_words stands.ids stands.objects i below kept j cell there)
+        ∙ head_in-value head cell.value cell.stamp (has_room heap state.words (graph_of heap book.history) book.made book.owner book.fragments rule.machine.limits stands.control_words cell.value named.0) named.1
+        ∙ names)
 
     -- so what a marked object's fields name is kept
     named_later : IsMarked book.colour (fragment_at (book.fragments i) 0) → (j : ℕ) (cell : Cell) → slice_get (cells i) j ≡ Some cell → NamesKept book.made now book.fragments cell.value

@@ -6,7 +6,7 @@ use Rattle.core_machine.specs.declared.collector.stage.Stage.{Stage}
 use Rattle.core_machine.specs.declared.collector.stage.Stage.TheVariants as stages
 use Rattle.core_rule.specs.Book.{Colour, White, Grey, fragment_at}
 use Rattle.core_rule.specs.Colours.{IsMarked, WordPointsTo}
-use Rattle.core_rule.specs.Marking.{IsPart, MayMark, IsSeen, ScanStands, PassStands, AfterMarking, MarkingStands}
+use Rattle.core_rule.specs.Marking.{IsPart, MayMark, IsSeen, IsSeenWhole, ScanStands, PassStands, AfterMarking, MarkingStands}
 use Rattle.core_rule.specs.Sweep.{SweepStands}
 use Rattle.core_rule.specs.Owners.{Owner, Kept, Dead, born_bit}
 use Rattle.core_rule.specs.Paths.{Guarded, from_grey, from_white, IsReached}
@@ -21,7 +21,7 @@ path_grey edge white grey x (from_grey f _ is leads whites) = (f, is)
 path_grey edge white grey x (from_white f _ path leads whites) = path_grey edge white grey f path
 
 module _ (heap : Heap) (words now : List ℕ) (owner : ℕ → Owner) (colour : ℕ → Colour) (fragments : ℕ → List ℕ) (m : ℕ) (kept : IsPart owner m)
-    (back : (f part g : ℕ) → WordPointsTo heap now f part g → WordPointsTo heap words f part g) where
+    (back : (f source g : ℕ) → WordPointsTo heap now f source g → WordPointsTo heap words f source g) where
   abbrev shaded : ℕ → Colour
   shaded = with_mark colour m
 
@@ -29,6 +29,12 @@ module _ (heap : Heap) (words now : List ℕ) (owner : ℕ → Owner) (colour : 
   seen_on f part seen = record {
     grey = grey_on colour m f seen.grey;
     seen = λ p g below leads. mark_keeps colour m g (seen.seen p g below (back f p g leads));
+  }
+
+  whole_on : (f : ℕ) → IsSeenWhole heap words colour f → IsSeenWhole heap now shaded f
+  whole_on f seen = record {
+    grey = grey_on colour m f seen.grey;
+    seen = λ source g leads. mark_keeps colour m g (seen.seen source g (back f source g leads));
   }
 
   may_on : (f : ℕ) → MayMark owner colour fragments f → MayMark owner shaded fragments f
@@ -65,7 +71,7 @@ module _ (heap : Heap) (words now : List ℕ) (owner : ℕ → Owner) (colour : 
     may_on target stands.2,
     stands.3,
   )
-  scan_shaded (stages.Blackening scan) stands = seen_on scan.fragment 4 stands
+  scan_shaded (stages.Blackening scan) stands = whole_on scan.fragment stands
   scan_shaded _ stands = tt
 
   -- a pass has its grey fragment, where marking comes to the one that is marked

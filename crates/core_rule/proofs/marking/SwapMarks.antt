@@ -1,6 +1,5 @@
 -- What a swap takes out of a field and what it puts in is marked, so marking comes to all that it came to.
-use Rattle.std.proofs.Common.{◌≡◌, ℕ, ◌%◌, ◌^◌, ◌<◌, ◌⊎◌, None, inl, inr, sym, subst, arith, List}
-use Rattle.std.proofs.lemmas.Bool.{cases_eq}
+use Rattle.std.proofs.Common.{◌≡◌, ℕ, ◌%◌, ◌^◌, ◌<◌, ◌⊎◌, None, inl, inr, subst, arith, List}
 use Rattle.heap_model.specs.declared.heap.Heap.{Heap}
 use Rattle.heap_model.specs.declared.id.Value.{Value}
 use Rattle.heap_model.specs.account.PhaseCounts.{phase}
@@ -15,10 +14,9 @@ use Rattle.core_rule.specs.Flight.{DeletionBarrier, FieldStands, WhileAccess}
 use Rattle.core_rule.specs.Objects.{NamesKept, value_word}
 use Rattle.core_rule.specs.Registers.{HoldsValue}
 use Rattle.core_rule.specs.Rule.{Rule}
-use Rattle.core_rule.proofs.words.Addresses.{fragment_other, part_other}
 use Rattle.core_rule.proofs.ways.AtObject.{is_near}
-use Rattle.core_rule.proofs.colours.LeadsFrames.{leads_same}
-use Rattle.core_rule.proofs.cycle.SwapCycle.{swap_part, words_swapped, leads_now}
+use Rattle.core_rule.proofs.colours.LeadsFrames.{but_leads}
+use Rattle.core_rule.proofs.cycle.SwapCycle.{swap_part, swap_within, swap_no_spine, words_swapped, swapped_no_spine, leads_now}
 use Rattle.core_rule.proofs.marking.Marks.{Leaves, leaves_words}
 
 module _ (heap : Heap) (state : State) (book : Book) (number : ℕ) (rule : Rule heap state book) (here : number < heap.seats)
@@ -47,19 +45,19 @@ module _ (heap : Heap) (state : State) (book : Book) (number : ℕ) (rule : Rule
     abbrev now : List ℕ
     now = words_swapped heap state book number rule here place value stamp holds names small word is_word
 
-    -- each other word leads where it led
-    leads_later : state.collector.phase % 7 ≡ 3 → (f part g : ℕ) → WordPointsTo heap state.words f part g → WordPointsTo heap now f part g ⊎ IsMarked book.colour g
-    leads_later marking f part g leads = elim (cases_eq f seat.reached) as (λ _. WordPointsTo heap now f part g ⊎ IsMarked book.colour g) [
-      | inr apart ↦ inl (leads_same heap now state.words f part g (sym (fragment_other heap state.words word seat.reached seat.part f part (swap_part heap state book number rule here place).below leads.below apart)) leads)
-      | inl same ↦ elim (cases_eq part seat.part) as (λ _. WordPointsTo heap now f part g ⊎ IsMarked book.colour g) [
-        | inr apart ↦ inl (leads_same heap now state.words f part g (sym (part_other heap state.words word seat.reached seat.part f part apart same)) leads)
-        | inl there ↦ inr (taken_marked marking g (subst (λ p. WordPointsTo heap state.words seat.reached p g) there (subst (λ x. WordPointsTo heap state.words x part g) same leads)))
-      ]
-    ]
+    -- each other source leads where it led
+    leads_later : state.collector.phase % 7 ≡ 3 → (f source g : ℕ) → WordPointsTo heap state.words f source g → WordPointsTo heap now f source g ⊎ IsMarked book.colour g
+    leads_later marking f source g leads =
+        elim (but_leads heap state.words seat.reached seat.part word (swap_within heap state book number rule here) (swap_part heap state book number rule here place).below
+        (swap_no_spine heap state book number rule here place) (swapped_no_spine heap state book number rule here place value stamp holds names small word is_word) f source g leads)
+        as (λ _. WordPointsTo heap now f source g ⊎ IsMarked book.colour g) [
+          | inl still ↦ inl still
+          | inr there ↦ inr (taken_marked marking g (subst (λ p. WordPointsTo heap state.words seat.reached p g) there.1 (subst (λ x. WordPointsTo heap state.words x source g) there.0 leads)))
+        ]
 
     pub leaves_swap : Leaves heap state book rule now book
     leaves_swap =
-        let before = leaves_words heap state book rule state.words (λ f part g leads. leads) (λ f part g leads. leads) in
+        let before = leaves_words heap state book rule state.words (λ f source g leads. leads) (λ f source g leads. leads) in
         let same : state.collector.phase ≡ phase book.history = rule.collector_stands.phase_told in
         record {
           born = before.born;
@@ -69,7 +67,7 @@ module _ (heap : Heap) (state : State) (book : Book) (number : ℕ) (rule : Rule
           fresh = before.fresh;
           dark = before.dark;
           light = before.light;
-          back = λ marking f part g born leads. leads_now heap state book number rule here place value stamp holds names small word is_word
-              record { from = omega (arith, same, marking); upto = omega (arith, same, marking) } f part g born leads;
-          on = λ marking f part g born leads. leads_later marking f part g leads;
+          back = λ marking f source g born leads. leads_now heap state book number rule here place value stamp holds names small word is_word
+              record { from = omega (arith, same, marking); upto = omega (arith, same, marking) } f source g born leads;
+          on = λ marking f source g born leads. leads_later marking f source g leads;
         }

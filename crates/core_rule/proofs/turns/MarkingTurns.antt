@@ -16,7 +16,7 @@ use Rattle.core_machine.proofs.table_lemmas.Addresses.{put-at}
 use Rattle.core_machine.proofs.table_lemmas.Grey.{grey_within}
 use Rattle.core_rule.specs.Book.{Book, Grey}
 use Rattle.core_rule.specs.Colours.{Marks}
-use Rattle.core_rule.specs.Marking.{IsSeen}
+use Rattle.core_rule.specs.Marking.{IsSeenWhole}
 use Rattle.core_rule.specs.Rule.{Rule}
 use Rattle.core_rule.specs.TurnsLeft.{scanned_count, next_pass, marking_left, scanning_left, stage_left}
 use Rattle.core_rule.proofs.colours.BlackenColours.{with_scan, marks_blacken}
@@ -148,7 +148,7 @@ shade_leaves scan target next heap state book rule shading stepped =
 pub blacken_leaves : (scan : Scan) → StageLeavesFewer (stages.Blackening scan)
 blacken_leaves scan heap state book rule blackening stepped =
     let fits : IsBlackening heap state.collector.phase state.collector.looked scan = rw blackening at rule.machine.collector_fit.at_stage in
-    let seen : IsSeen heap state.words book.colour scan.fragment 4 = rw blackening at rule.marks_stand.heap_marks.scan in
+    let seen : IsSeenWhole heap state.words book.colour scan.fragment = rw blackening at rule.marks_stand.heap_marks.scan in
     let now : List ℕ = put heap state.words (Control (scan.fragment / 16)) (bit_or (at heap state.words (Control (scan.fragment / 16))) (blacken_bit_of scan.fragment)) in
     fewer_at heap state (stages.Blackening scan) now state.collector.looked (stages.Passing (scan.fragment / 16) true) blackening
     (rw (blackened_count heap state book rule scan.fragment fits.fragment_within seen.grey)

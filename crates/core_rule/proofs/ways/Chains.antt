@@ -13,6 +13,7 @@ use Rattle.core_rule.specs.Colours.{WordPointsTo}
 use Rattle.core_rule.specs.ControlWords.{Bits}
 use Rattle.core_rule.specs.Objects.{AreMade, Objects, IsKept}
 use Rattle.core_rule.specs.Owners.{Owner, OwnersStand}
+use Rattle.core_rule.proofs.colours.SourceCases.{word_leads}
 use Rattle.core_rule.proofs.objects.BoardFragment.{chain_not_zero}
 use Rattle.core_rule.proofs.ways.KeptWords.{kept_within, link_found}
 
@@ -26,10 +27,9 @@ pub chain_leads : (heap : Heap) (words : List ℕ) (g : Graph) (made : List Id) 
     → IsHeap heap → Bits heap words owner → AreMade g made → OwnersStand heap.seats owner → Objects heap words g made owner fragments
     → (i k : ℕ) → i < length made → IsKept owner fragments i → k + 1 < length (fragments i)
     → WordPointsTo heap words (fragment_at (fragments i) k) 0 (fragment_at (fragments i) (k + 1))
-chain_leads heap words g made owner fragments limits bits ids owners objects i k below kept more = record {
-  within = kept_within heap words owner (fragment_at (fragments i) k) i k bits ((objects.kept i below kept).owned k (omega (arith, more)));
-  below = omega arith;
-  to = some_lead (pointer_in 0 (at heap words (Word (fragment_at (fragments i) k) 0))) (fragment_at (fragments i) (k + 1))
-      (link_found heap words g made owner fragments limits bits ids objects i below kept k more)
-      (chain_not_zero heap.seats owner owners heap words g made fragments objects i (k + 1) below kept more (omega arith));
-}
+chain_leads heap words g made owner fragments limits bits ids owners objects i k below kept more =
+    word_leads heap words (fragment_at (fragments i) k) 0 (fragment_at (fragments i) (k + 1))
+    (kept_within heap words owner (fragment_at (fragments i) k) i k bits ((objects.kept i below kept).owned k (omega (arith, more)))) (omega arith)
+    (some_lead (pointer_in 0 (at heap words (Word (fragment_at (fragments i) k) 0))) (fragment_at (fragments i) (k + 1))
+    (link_found heap words g made owner fragments limits bits ids objects i below kept k more)
+    (chain_not_zero heap.seats owner owners heap words g made fragments objects i (k + 1) below kept more (omega arith)))

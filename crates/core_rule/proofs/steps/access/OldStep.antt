@@ -20,6 +20,7 @@ use Rattle.core_rule.specs.Roots.{IsInMarking, OfRoots}
 use Rattle.core_rule.specs.Objects.{cells_at}
 use Rattle.core_rule.specs.Ways.{Finds}
 use Rattle.core_rule.proofs.steps.Assemble.{Keeps, StepKeeps, seat_fits}
+use Rattle.core_rule.proofs.colours.SourceCases.{lead_of_word}
 use Rattle.core_rule.proofs.cycle.Barriers.{later_lead}
 use Rattle.core_rule.proofs.steps.BarrierSteps.{new_cases, loads_on}
 use Rattle.core_rule.proofs.ways.LoadedObjects.{loaded_kept}
@@ -40,7 +41,7 @@ old_keeps heap state book number rule here place machine =
     let new_head : Option ℕ = register_head (new_register_of seat) in
     let on = loads_on heap state book number rule here LoadingOld place (λ answered. answered) (λ d r awaited. awaited) found in
     let at_next = λ (next : Access). finds_at (cells_at g book.made) book.made book.owner book.fragments seat found next (seat.mine ++ []) finds in
-    let leads : (x : ℕ) → WordPointsTo heap state.words seat.reached seat.part x → head_of found ≡ Some x = λ x leads. sym (later_lead seat.part found fits.0.2.field_part.some) ∙ leads.to in
+    let leads : (x : ℕ) → WordPointsTo heap state.words seat.reached seat.part x → head_of found ≡ Some x = λ x leads. sym (later_lead seat.part found fits.0.2.field_part.some) ∙ lead_of_word heap state.words seat.reached seat.part x fits.0.2.field_part.below leads in
     let unloaded = λ (next : Access). none_old book.made book.owner book.fragments (went seat seat.registers seat.reached seat.links seat.part found (places.Access next) seat.looks []) in
     let reached = λ (marks : IsInMarking state.collector) (roots : OfRoots (IsReachedNow heap state book) seat). at_call (IsReachedNow heap state book) seat LoadingOld place roots in
     let goal = λ (o : Option ℕ). IsMachine heap (loaded_state heap state number (Word seat.reached seat.part) (with_entries (after_old_load (record seat { loaded = found }) o) []))

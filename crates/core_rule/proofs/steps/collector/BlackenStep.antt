@@ -12,8 +12,8 @@ use Rattle.core_machine.specs.declared.table.address.Address.TheVariants.{Contro
 use Rattle.core_machine.specs.machine.Machine.{State}
 use Rattle.core_machine.specs.table.Layout.{at, put}
 use Rattle.core_rule.specs.Book.{Book, Colour, White, Grey}
-use Rattle.core_rule.specs.Colours.{IsMarked, WordPointsTo}
-use Rattle.core_rule.specs.Marking.{IsSeen, MarkingStands}
+use Rattle.core_rule.specs.Colours.{WordPointsTo}
+use Rattle.core_rule.specs.Marking.{IsSeenWhole, MarkingStands}
 use Rattle.core_rule.specs.Owners.{Borne, Kept}
 use Rattle.core_rule.specs.Paths.{IsWhite, Edge, IsReached}
 use Rattle.core_rule.specs.Rule.{Rule}
@@ -39,7 +39,7 @@ module _ (heap : Heap) (state : State) (book : Book) (rule : Rule heap state boo
   fits : IsBlackening heap state.collector.phase state.collector.looked scan
   fits = rw blackening at rule.machine.collector_fit.at_stage
 
-  seen : IsSeen heap state.words book.colour f 4
+  seen : IsSeenWhole heap state.words book.colour f
   seen = rw blackening at rule.marks_stand.heap_marks.scan
 
   below : f / 16 < heap.groups
@@ -48,14 +48,11 @@ module _ (heap : Heap) (state : State) (book : Book) (rule : Rule heap state boo
   third : phase book.history % 7 ≡ 3
   third = ap (λ p. p % 7) (sym rule.collector_stands.phase_told) ∙ fits.marks.for_marking
 
-  seen_all : (part g : ℕ) → WordPointsTo heap state.words f part g → IsMarked book.colour g
-  seen_all part g leads = seen.seen part g leads.below leads
-
   new : Recolours heap words book coloured
   new = record {
     bits = bits_marked heap state.words book.owner 48 f rule.machine.table fits.fragment_within (omega arith) rule.heap_stands.control_words;
     marks = marks_blacken heap state.words book.owner book.colour f rule.machine.table fits.fragment_within seen.grey rule.heap_stands.cycle.marks;
-    right = coloured_blacken heap state.words book.owner book.colour f rule.machine.table fits.fragment_within seen.grey book.fragments (phase book.history) third seen_all rule.heap_stands.cycle.coloured;
+    right = coloured_blacken heap state.words book.owner book.colour f rule.machine.table fits.fragment_within seen.grey book.fragments (phase book.history) third seen.seen rule.heap_stands.cycle.coloured;
     keeps = scan_keeps book.colour f seen.grey;
     births = λ r x borne. scan_away book.colour f x (λ same. apart r (sym borne ∙ ap book.owner same ∙ (rule.marks_stand.heap_marks.grey f seen.grey).kept));
   }
@@ -69,11 +66,11 @@ module _ (heap : Heap) (state : State) (book : Book) (rule : Rule heap state boo
   comes x (inr path) = inr (path_stays (Edge heap state.words) (Edge heap words) (IsWhite book.owner book.colour) (IsWhite book.owner coloured) (λ y. book.colour y ≡ Grey) (λ y. coloured y ≡ Grey)
       (λ y white. record { unmarked = scan_away book.colour f y (λ same. absurd (let grey = seen.grey in let light = subst (λ z. book.colour z ≡ White) same white.unmarked in cc)) ∙ white.unmarked; born = white.born })
       still
-      (λ y g from leads white. record { part = leads.part; points = control_leads heap state.words (f / 16) _ below y leads.part g leads.points }) x path)
+      (λ y g from leads white. record { source = leads.source; points = control_leads heap state.words (f / 16) _ below y leads.source g leads.points }) x path)
     where
       still : (y g : ℕ) → book.colour y ≡ Grey → Edge heap state.words y g → IsWhite book.owner book.colour g → coloured y ≡ Grey
       still y g grey leads white = elim (eqb_tells y f) as (λ _. coloured y ≡ Grey) [
-        | inl same ↦ absurd (seen_all leads.part g (subst (λ z. WordPointsTo heap state.words z leads.part g) same.1 leads.points) white.unmarked)
+        | inl same ↦ absurd (seen.seen leads.source g (subst (λ z. WordPointsTo heap state.words z leads.source g) same.1 leads.points) white.unmarked)
         | inr other ↦ scan_away book.colour f y other.1 ∙ grey
       ]
 

@@ -6,6 +6,7 @@ use Rattle.core_machine.specs.collector.FitsTurns.{IsShading}
 use Rattle.core_machine.specs.collector.Marking.{scan_step, scan_at}
 use Rattle.core_machine.specs.declared.collector.stage.Scan.{Scan}
 use Rattle.core_machine.specs.declared.collector.stage.Stage.TheVariants as stages
+use Rattle.core_machine.specs.declared.table.address.Address.TheVariants.{Control}
 use Rattle.core_machine.specs.machine.Machine.{State}
 use Rattle.core_rule.specs.Book.{Book, Colour, fragment_at}
 use Rattle.core_rule.specs.Colours.{IsMarked}
@@ -13,11 +14,14 @@ use Rattle.core_rule.specs.Flight.{DeletionBarrier}
 use Rattle.core_rule.specs.Marking.{IsSeen, MayMark, ComesAfter, IsPart, MarkingStands}
 use Rattle.core_rule.specs.Owners.{Borne, Kept}
 use Rattle.core_rule.specs.Rule.{Rule}
+use Rattle.core_rule.proofs.colours.LeadsFrames.{same_ahead, still_no_spine}
 use Rattle.core_rule.proofs.colours.OneBit.{bits_marked}
+use Rattle.core_rule.proofs.colours.SourceCases.{HasNoSpine}
 use Rattle.core_rule.proofs.colours.ShadeColours.{with_mark, mark_keeps, mark_marks, mark_away, marks_shade, coloured_shade}
 use Rattle.core_rule.proofs.footprint.BookGoing.{by_scan, mark_goes}
 use Rattle.core_rule.proofs.frames.Recoloured.{Recolours}
 use Rattle.core_rule.proofs.marking.Marks.{marks_at, none_dead}
+use Rattle.core_rule.proofs.marking.ObjectEdges.{kept_no_spine}
 use Rattle.core_rule.proofs.marking.Paths.{grey_on}
 use Rattle.core_rule.proofs.marking.Scans.{scan_stands, scan_passes, scan_sweeps, scan_on_marks, seen_next}
 use Rattle.core_rule.proofs.marking.SeatShades.{words_marked, leads_back, comes_shaded}
@@ -80,10 +84,16 @@ module _ (heap : Heap) (state : State) (book : Book) (rule : Rule heap state boo
         | inr marked ↦ mark_keeps book.colour m g marked
       ]) scanned.3
 
+  -- and has no spine
+  no_spine : HasNoSpine heap words f
+  no_spine =
+      let part = rule.marks_stand.heap_marks.grey f scanned.0.grey in
+      still_no_spine heap state.words words f (same_ahead heap state.words (Control (m / 16)) _ (omega (arith, fits.target_within)) f) (kept_no_spine heap state book rule f part.index part.place part.kept)
+
   marks : MarkingStands heap words book.owner coloured book.fragments state.collector.phase (scan_at (scan_step scan) next)
   marks = marks_at heap words book.owner coloured book.fragments state.collector.phase (scan_at (scan_step scan) next) fits.marks.for_marking (scan_on_marks (scan_step scan) next)
       (grey_part heap state.words words book.owner book.colour book.fragments m part_of (λ x p g leads. leads_back heap state book rule m fits.target_within x p g leads) rule.marks_stand.heap_marks.grey)
-      (scan_stands heap words book.owner coloured book.fragments (scan_step scan) next seen) (scan_passes coloured (scan_step scan) next)
+      (scan_stands heap words book.owner coloured book.fragments (scan_step scan) next no_spine seen) (scan_passes coloured (scan_step scan) next)
       (scan_sweeps heap book.owner coloured state.collector.phase (scan_step scan) next) (none_dead heap state book rule fits.marks.for_marking (λ ended. absurd (cc (shading, ended))))
 
 pub mark_shade_keeps : (scan : Scan) (m next : ℕ) → StageKeeps (stages.Shading scan m next)

@@ -34,7 +34,7 @@ use Rattle.core_rule.proofs.steps.TurnSteps.{after_turn, turn_steps}
 use Rattle.core_rule.proofs.cycle.CycleFrames.{cycle_told}
 use Rattle.core_rule.proofs.footprint.BookGoing.{book_stays}
 use Rattle.core_rule.proofs.frames.EntryFrames.{UsesNothing, fragments_phase, heap_past, seat_past}
-use Rattle.core_rule.proofs.colours.LeadsFrames.{leads_apart}
+use Rattle.core_rule.proofs.colours.LeadsFrames.{leads_ahead}
 use Rattle.core_rule.proofs.colours.MarkWords.{marks_same}
 use Rattle.core_rule.proofs.cycle.NextPhase.{cycle_next}
 use Rattle.core_rule.proofs.entries.PhaseEntries.{phase_rises, answered_stays, left_stays}
@@ -77,8 +77,8 @@ module _ (heap : Heap) (state : State) (book : Book) (rule : Rule heap state boo
   nodes : SameNodes (graph_of heap book.history) (graph_of heap later.history)
   nodes = nodes_same (graph_of heap book.history) (graph_of heap later.history) graph
 
-  pub leads_next : (f part g : ℕ) → WordPointsTo heap words_next f part g → WordPointsTo heap state.words f part g
-  leads_next f part g leads = leads_apart heap state.words Phase next f part g (λ e. omega (arith, e)) leads
+  pub leads_next : (f source g : ℕ) → WordPointsTo heap words_next f source g → WordPointsTo heap state.words f source g
+  leads_next f source g leads = leads_ahead heap state.words Phase next (omega arith) f source g leads
 
   heap_on : IsLegalBy ButSpine heap false later.history → Coloured heap words_next book.owner book.colour book.fragments (phase book.history + 1) → HeapStands heap words_next later
   heap_on legal coloured =

@@ -47,6 +47,7 @@ store_keeps heap state book number rule here place machine =
     let stands = rule.seats_stand number here in
     let at_place : HasBody seat × (seat.hand ≡ seat.body) × (seat.stored < 4 * length seat.body) = rw place at (seat_fits rule number here).at_place in
     let row : seat.stored / 4 < length seat.body = omega (arith, at_place.2) in
+    let within : f < 16 * heap.groups = (seat_fits rule number here).hand.body_within (seat.stored / 4) 0 row in
     let fits_part : part < 4 = omega arith in
     let own : IsOwn number (book.owner f) = body_at-own book.owner number seat.reserve seat.hand seat.body stands.own.holding (seat.stored / 4) row in
     let in_hand : 1 ≤ tally f seat.hand = subst (λ fs. 1 ≤ tally f fs) (sym at_place.1) (tally_at seat.body (seat.stored / 4) row) in
@@ -61,7 +62,7 @@ store_keeps heap state book number rule here place machine =
           (λ i k. own_keeps_none number i k (book.owner f) own) rule.heap_stands.objects;
       used = rule.heap_stands.used;
       legal = rule.heap_stands.legal;
-      cycle = heap_store heap state.words book.owner book.colour (phase book.history) f part word fits_part unborn book.fragments rule.heap_stands.cycle;
+      cycle = heap_store heap state.words book.owner book.colour (phase book.history) f part word within fits_part unborn book.fragments rule.heap_stands.cycle;
     }
     record {
       own = record {
@@ -91,8 +92,8 @@ store_keeps heap state book number rule here place machine =
       names = other.names;
       told = other.told;
       cycle = cycle_stays heap state.words words book.owner book.owner book.colour book.colour (phase book.history) (last_answer r book.history) (has_left r book.history) r (seat_at state r)
-          (leaves_store heap state.words book.owner book.colour (phase book.history) f part word fits_part unborn r (omega (arith, below, rule.machine.limits.seats_fit)))
+          (leaves_store heap state.words book.owner book.colour (phase book.history) f part word within fits_part unborn r (omega (arith, below, rule.machine.limits.seats_fit)))
           (watched_born heap state book rule r below) other.cycle;
     })
-    (marks_off_way heap state book rule number here words book (seat_after (store_move number seat) found) (leaves_stored heap state book rule f part word fits_part unborn) refl refl tt)
+    (marks_off_way heap state book rule number here words book (seat_after (store_move number seat) found) (leaves_stored heap state book rule f part word within fits_part unborn) refl refl tt)
     (book_stays heap state book book.history book.begun)

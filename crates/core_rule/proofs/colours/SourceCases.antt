@@ -1,0 +1,52 @@
+-- A source of a fragment is one of its four words, or a word of its spine; and a fragment whose first word is no array's meta has no spine.
+use Rattle.std.proofs.Common.{◌≡◌, ◌≢◌, ℕ, ◌-◌, ◌*◌, ◌<◌, ◌≤◌, suc, List, Option, Some, None, inl, inr, nat_lt, refl, sym, ◌∙◌, arith}
+use Rattle.std.specs.Prelude.{if◌then◌else◌}
+use Rattle.std.proofs.lemmas.Bool.Decides.{leb_tells}
+use Rattle.heap_model.specs.declared.heap.Heap.{Heap}
+use Rattle.core_machine.specs.declared.table.address.Address.TheVariants.{Word}
+use Rattle.core_machine.specs.table.Layout.{at}
+use Rattle.core_machine.specs.table.Decode.{pointer_in, spine_words_in}
+use Rattle.core_rule.specs.Colours.{WordPointsTo}
+use Rattle.core_rule.specs.Sources.{spine_pointer, source_pointer}
+
+-- the fragment's first word is no array's meta
+abbrev pub HasNoSpine : Heap → List ℕ → ℕ → Type 0
+HasNoSpine heap words f = spine_words_in (at heap words (Word f 0)) ≡ 0
+
+none_below : (n k : ℕ) (o : Option ℕ) → n ≡ 0 → (if nat_lt k n then o else None) ≡ None
+none_below n k o none = elim (leb_tells (suc k) n) as (λ _. (if nat_lt k n then o else None) ≡ None) [
+  | inl below ↦ absurd (omega (arith, below.1, none))
+  | inr past ↦ rw past.0 refl
+]
+
+module _ (heap : Heap) (words : List ℕ) (f : ℕ) where
+  -- what is true of where a word leads and of where the spine's words lead is true of each source
+  pub source_cases : (P : Option ℕ → Type 0) (source : ℕ) → (source < 4 → P (pointer_in source (at heap words (Word f source))))
+      → (4 ≤ source → P (spine_pointer heap words f (source - 4))) → P (source_pointer heap words f source)
+  source_cases P source word spine = elim (leb_tells (suc source) 4) as (λ _. P (source_pointer heap words f source)) [
+    | inl first ↦ rw first.0 (word first.1)
+    | inr behind ↦ rw behind.0 (spine (omega (arith, behind.1)))
+  ]
+
+  -- one of the four words leads as a source where it leads as a word
+  pub word_source : (part : ℕ) → part < 4 → source_pointer heap words f part ≡ pointer_in part (at heap words (Word f part))
+  word_source part below = source_cases (λ o. o ≡ pointer_in part (at heap words (Word f part))) part (λ first. refl) (λ behind. absurd (omega (arith, below, behind)))
+
+  pub word_leads : (part g : ℕ) → f < 16 * heap.groups → part < 4 → pointer_in part (at heap words (Word f part)) ≡ Some g → WordPointsTo heap words f part g
+  word_leads part g within below to = record { within = within; to = word_source part below ∙ to }
+
+  pub lead_of_word : (part g : ℕ) → part < 4 → WordPointsTo heap words f part g → pointer_in part (at heap words (Word f part)) ≡ Some g
+  lead_of_word part g below leads = sym (word_source part below) ∙ leads.to
+
+  -- what leads is one of the four words, or one of the spine's
+  pub lead_cases : (P : Type 0) (source g : ℕ) → (source < 4 → pointer_in source (at heap words (Word f source)) ≡ Some g → P)
+      → (4 ≤ source → spine_pointer heap words f (source - 4) ≡ Some g → P) → WordPointsTo heap words f source g → P
+  lead_cases P source g word spine leads = source_cases (λ o. o ≡ Some g → P) source word spine leads.to
+
+  -- where there is no spine none of its words leads
+  pub no_spine_leads : HasNoSpine heap words f → (k g : ℕ) → spine_pointer heap words f k ≢ Some g
+  no_spine_leads none k g to = let nowhere : None ≡ Some g = sym (none_below _ k _ none) ∙ to in absurd (cc nowhere)
+
+  -- so what leads is one of the four words
+  pub word_alone : HasNoSpine heap words f → (source g : ℕ) → WordPointsTo heap words f source g → source < 4
+  word_alone none source g = lead_cases (source < 4) source g (λ first to. first) (λ behind to. absurd (no_spine_leads none (source - 4) g to))

@@ -1,0 +1,16 @@
+-- Where a fragment leads: by its four words, and where it is an array's first by its spine's.
+use Rattle.std.specs.Prelude.{ℕ, ◌-◌, nat_lt, if◌then◌else◌, List, Option, Some, None}
+use Rattle.heap_words.specs.Spot.{spot_in}
+use Rattle.heap_model.specs.declared.heap.Heap.{Heap}
+use Rattle.core_machine.specs.declared.table.address.Address.TheVariants.{Word}
+use Rattle.core_machine.specs.table.Layout.{at, spine_place}
+use Rattle.core_machine.specs.table.Decode.{pointer_in, payload_in, spine_words_in}
+
+-- where word k of a fragment's spine leads, where the fragment's first word is the meta of an array with more spine words than that
+abbrev pub spine_pointer : Heap → List ℕ → ℕ → ℕ → Option ℕ
+spine_pointer heap words f k =
+    if nat_lt k (spine_words_in (at heap words (Word f 0))) then Some (payload_in (at heap words (spine_place (spot_in (at heap words (Word f 2))) k))) else None
+
+-- where a source of a fragment leads: each of its four words by a link or a reference, and behind them each word of its spine
+abbrev pub source_pointer : Heap → List ℕ → ℕ → ℕ → Option ℕ
+source_pointer heap words f source = if nat_lt source 4 then pointer_in source (at heap words (Word f source)) else spine_pointer heap words f (source - 4)
