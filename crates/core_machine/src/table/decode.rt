@@ -1,5 +1,5 @@
 ghost use Rattle.std.specs.Prelude.{◌≡◌, ◌<◌, ◌^◌, IfSome};
-ghost use Rattle.core_machine.specs.table.Decode.{head_of, pointer_in, is_meta as is_meta_of, array_length_of, link_of, id_of, stamp_of, plain_of};
+ghost use Rattle.core_machine.specs.table.Decode.{head_of, pointer_in, is_meta as is_meta_of, link_of, id_of, stamp_of, plain_of};
 
 use crate::seat::register::Register;
 use heap_model::Id;
@@ -46,17 +46,6 @@ pub fn is_meta(word: u64) -> bool
     match Cell::read(word).kind {
         Kind::Fixed => true,
         Kind::Nil | Kind::Number | Kind::Reference => false,
-    }
-}
-
-/// The length of the array whose meta the word is, where it is a fragment's first.
-pub fn array_length(word: u64) -> Option<u16>
-    ensures { result ≡ array_length_of word }
-{
-    let cell = Cell::read(word);
-    match cell.kind {
-        Kind::Fixed => Meta::array_length(&cell),
-        Kind::Nil | Kind::Number | Kind::Reference => None,
     }
 }
 
