@@ -15,6 +15,7 @@ pub mod looks
 pub mod objects
 pub mod owners
 pub mod runs
+pub mod spines
 pub mod steps
 pub mod turns
 pub mod ways

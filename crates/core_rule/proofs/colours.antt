@@ -11,3 +11,4 @@ pub mod LastColours
 pub mod OneBit
 pub mod ShadeColours
 pub mod BlackenColours
+pub mod SpineStays

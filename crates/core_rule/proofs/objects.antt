@@ -1,5 +1,7 @@
 -- Kept objects, their words and names.
+pub mod ObjectWords
 pub mod CellWords
+pub mod SpinePlaces
 pub mod ObjectsSet
 pub mod ObjectFrames
 pub mod BoardFragment

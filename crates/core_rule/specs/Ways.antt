@@ -37,10 +37,11 @@ row_in object field = if object.array then field / 4 + 1 else row_of field
 abbrev pub part_in : Node → ℕ → ℕ
 part_in object field = if object.array then field % 4 else part_of field
 
--- the command's field is one of the object's: from this row so many links lead on to the field's row, and it stands in this word there
+-- the command's field is one of the object's: from this row so many links lead on to the field's row, none in an array, and it stands in this word there
 pub record FieldAhead (object : Node) (command : Command) (row links part : ℕ) : Type 0 where
   pub within : field_of command < length object.cells
   pub leads : row + links ≡ row_in object (field_of command)
+  pub linked : object.array ≡ true → links ≡ 0
   pub there : part ≡ part_in object (field_of command)
 
 -- the way of one whose object has the field

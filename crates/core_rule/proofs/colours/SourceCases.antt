@@ -1,11 +1,13 @@
 -- A source of a fragment is one of its four words, or a word of its spine; and a fragment whose first word is no array's meta has no spine.
-use Rattle.std.proofs.Common.{◌≡◌, ◌≢◌, ℕ, ◌-◌, ◌*◌, ◌<◌, ◌≤◌, suc, List, Option, Some, None, inl, inr, nat_lt, refl, sym, ◌∙◌, arith}
+use Rattle.std.proofs.Common.{◌≡◌, ◌≢◌, ℕ, ◌+◌, ◌-◌, ◌*◌, ◌<◌, ◌≤◌, suc, List, Option, Some, None, inl, inr, nat_lt, refl, sym, ap, ◌∙◌, arith}
 use Rattle.std.specs.Prelude.{if◌then◌else◌}
+use Rattle.std.proofs.lemmas.Bool.{lt-ltb}
 use Rattle.std.proofs.lemmas.Bool.Decides.{leb_tells}
+use Rattle.heap_words.specs.Spot.{spot_in}
 use Rattle.heap_model.specs.declared.heap.Heap.{Heap}
 use Rattle.core_machine.specs.declared.table.address.Address.TheVariants.{Word}
-use Rattle.core_machine.specs.table.Layout.{at}
-use Rattle.core_machine.specs.table.Decode.{pointer_in, spine_words_in}
+use Rattle.core_machine.specs.table.Layout.{at, spine_place}
+use Rattle.core_machine.specs.table.Decode.{pointer_in, payload_in, spine_words_in}
 use Rattle.core_rule.specs.Colours.{WordPointsTo}
 use Rattle.core_rule.specs.Sources.{spine_pointer, source_pointer}
 
@@ -50,3 +52,20 @@ module _ (heap : Heap) (words : List ℕ) (f : ℕ) where
   -- so what leads is one of the four words
   pub word_alone : HasNoSpine heap words f → (source g : ℕ) → WordPointsTo heap words f source g → source < 4
   word_alone none source g = lead_cases (source < 4) source g (λ first to. first) (λ behind to. absurd (no_spine_leads none (source - 4) g to))
+
+  -- a word of the spine leads as a source behind the four words, to the fragment that it names
+  pub spine_source : (k : ℕ) → source_pointer heap words f (4 + k) ≡ spine_pointer heap words f k
+  spine_source k = source_cases (λ o. o ≡ spine_pointer heap words f k) (4 + k) (λ first. absurd (omega (arith, first)))
+      (λ behind. let same : 4 + k - 4 ≡ k = omega arith in ap (spine_pointer heap words f) same)
+
+  pub spine_to : (k : ℕ) → k < spine_words_in (at heap words (Word f 0))
+      → spine_pointer heap words f k ≡ Some (payload_in (at heap words (spine_place (spot_in (at heap words (Word f 2))) k)))
+  spine_to k within = rw (lt-ltb k (spine_words_in (at heap words (Word f 0))) within) refl
+
+  -- and no other
+  pub spine_cases : (k g : ℕ) → spine_pointer heap words f k ≡ Some g
+      → (k < spine_words_in (at heap words (Word f 0))) × (g ≡ payload_in (at heap words (spine_place (spot_in (at heap words (Word f 2))) k)))
+  spine_cases k g to = elim (leb_tells (suc k) (spine_words_in (at heap words (Word f 0)))) as (λ _. (k < spine_words_in (at heap words (Word f 0))) × (g ≡ payload_in (at heap words (spine_place (spot_in (at heap words (Word f 2))) k)))) [
+    | inl below ↦ (below.1, let both : Some g ≡ Some (payload_in (at heap words (spine_place (spot_in (at heap words (Word f 2))) k))) = sym to ∙ spine_to k below.1 in cc)
+    | inr past ↦ absurd (let nowhere : None ≡ Some g = sym (rw past.0 refl) ∙ to in cc nowhere)
+  ]

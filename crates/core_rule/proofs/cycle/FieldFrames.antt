@@ -1,10 +1,9 @@
 -- The fields at which sets stand are born; so a store into a seat's new object leaves them, and the colours.
 use Rattle.std.proofs.Common.{◌≡◌, ℕ, ◌*◌, ◌<◌, List, refl, ap, ◌∙◌, subst, arith, inl}
-use Rattle.heap_model.specs.declared.graph.cell.Cell.{Cell}
 use Rattle.heap_model.specs.declared.heap.Heap.{Heap}
 use Rattle.heap_model.specs.declared.id.Id.{Id}
 use Rattle.heap_model.specs.account.Cycles.{graph_of}
-use Rattle.heap_model.specs.graph.Graph.{Graph}
+use Rattle.heap_model.specs.graph.Graph.{Node}
 use Rattle.core_machine.specs.machine.Machine.{State, seat_at}
 use Rattle.core_rule.specs.Rule.{Rule}
 use Rattle.core_machine.specs.declared.table.address.Address.TheVariants.{Phase, Answer, Word}
@@ -16,34 +15,50 @@ use Rattle.core_machine.specs.seat.Seat.{Seat}
 use Rattle.core_rule.specs.Book.{Book, Colour}
 use Rattle.core_rule.specs.Cycle.{HeapInCycle}
 use Rattle.core_rule.specs.Marking.{IsPart}
-use Rattle.core_rule.specs.Objects.{cells_at}
-use Rattle.core_rule.specs.Owners.{Owner, born_bit}
+use Rattle.core_rule.specs.Objects.{node_at}
+use Rattle.core_rule.specs.Owners.{Owner, Kept, born_bit}
 use Rattle.core_rule.specs.Ways.{Finds, WayStands}
 use Rattle.core_rule.proofs.words.Addresses.{at-put_apart, control_after_word}
 use Rattle.core_rule.proofs.cycle.CycleFrames.{IsWatching, LeadsStay, LeavesCycle, WatchesBorn, coloured_stays}
-use Rattle.core_rule.proofs.ways.KeptWords.{row_ahead}
+use Rattle.core_rule.proofs.ways.KeptWords.{row_ahead, behind_first}
+use Rattle.core_rule.proofs.colours.SourceCases.{HasNoSpine}
+use Rattle.core_rule.proofs.marking.ObjectEdges.{kept_no_spine}
 use Rattle.core_rule.proofs.colours.LeadsFrames.{same_beside, leads_same}
 use Rattle.core_rule.proofs.colours.MarkWords.{marks_same}
 
-module _ (cells : ℕ → List Cell) (made : List Id) (owner : ℕ → Owner) (fragments : ℕ → List ℕ) (seat : Seat) where
-  way_found : (reaching : Access) → IsWatching reaching → WayStands cells made owner fragments seat (places.Access reaching) → Finds cells made owner fragments seat
+module _ (nodes : ℕ → Node) (made : List Id) (owner : ℕ → Owner) (fragments : ℕ → List ℕ) (seat : Seat) where
+  way_found : (reaching : Access) → IsWatching reaching → WayStands nodes made owner fragments seat (places.Access reaching) → Finds nodes made owner fragments seat
   way_found ShadingOld watches way = way.0
   way_found ShadingNew watches way = way.0
   way_found Swapping watches way = way.0
   way_found _ watches way = absurd watches
 
--- the fragment whose old value a set has loaded is an object's
-pub watched_part : (heap : Heap) (state : State) (book : Book) (rule : Rule heap state book) (r : ℕ) → r < heap.seats → (reaching : Access)
-    → (seat_at state r).place ≡ places.Access reaching → IsWatching reaching → IsPart book.owner (seat_at state r).reached
-watched_part heap state book rule r below reaching is watches =
-    let seat : Seat = seat_at state r in
-    let g : Graph = graph_of heap book.history in
-    let stands = rule.heap_stands in
-    let finds = way_found (cells_at g book.made) book.made book.owner book.fragments seat reaching watches
-    (subst (WayStands (cells_at g book.made) book.made book.owner book.fragments seat) is (rule.seats_stand r below).names.way) in
-    let i : ℕ = finds.index in
-    let row = row_ahead heap state.words g book.made book.owner book.fragments rule.machine.limits stands.control_words stands.ids stands.objects seat finds in
-    record { index = i; place = finds.row; kept = ap book.owner finds.way.here ∙ (stands.objects.kept i finds.way.below finds.way.kept).owned finds.row (omega (arith, row)) }
+module _ (heap : Heap) (state : State) (book : Book) (rule : Rule heap state book) (r : ℕ) (below : r < heap.seats) (reaching : Access)
+    (is : (seat_at state r).place ≡ places.Access reaching) (watches : IsWatching reaching) where
+  abbrev nodes_now : ℕ → Node
+  nodes_now = node_at (graph_of heap book.history) book.made
+
+  pub watched_finds : Finds nodes_now book.made book.owner book.fragments (seat_at state r)
+  watched_finds = way_found nodes_now book.made book.owner book.fragments (seat_at state r) reaching watches
+      (subst (WayStands nodes_now book.made book.owner book.fragments (seat_at state r)) is (rule.seats_stand r below).names.way)
+
+  -- the fragment whose old value a set has loaded is an object's
+  watched_owned : book.owner (seat_at state r).reached ≡ Kept watched_finds.index watched_finds.row
+  watched_owned =
+      let stands = rule.heap_stands in
+      let finds = watched_finds in
+      let row = row_ahead heap state.words (graph_of heap book.history) book.made book.owner book.fragments rule.machine.limits stands.control_words stands.ids stands.objects (seat_at state r) finds in
+      ap book.owner finds.way.here ∙ (stands.objects.kept finds.index finds.way.below finds.way.kept).owned finds.row (omega (arith, row))
+
+  pub watched_part : IsPart book.owner (seat_at state r).reached
+  watched_part = record { index = watched_finds.index; place = watched_finds.row; kept = watched_owned }
+
+  -- and has no spine, since no cell stands in an array's first one
+  pub watched_no_spine : HasNoSpine heap state.words (seat_at state r).reached
+  watched_no_spine =
+      let stands = rule.heap_stands in
+      kept_no_spine heap state book rule (seat_at state r).reached watched_finds.index watched_finds.row watched_owned
+      (behind_first heap state.words (graph_of heap book.history) book.made book.owner book.fragments rule.machine.limits stands.control_words stands.ids stands.objects (seat_at state r) watched_finds)
 
 -- so it is born
 pub watched_born : (heap : Heap) (state : State) (book : Book) (rule : Rule heap state book) (r : ℕ) → r < heap.seats → WatchesBorn book.owner (seat_at state r)

@@ -7,9 +7,9 @@ use Rattle.heap_model.specs.account.PhaseCounts.{phase}
 use Rattle.core_machine.specs.declared.table.address.Address.TheVariants.{Answer, Phase, Word}
 use Rattle.core_machine.specs.declared.place.Place.TheVariants as places
 use Rattle.core_machine.specs.declared.place.Access.TheVariants.{Swapping}
-use Rattle.core_machine.specs.seat.FitsAccess.{FitsAccess, IsFieldPart}
+use Rattle.core_machine.specs.seat.FitsAccess.{FitsAccess}
 use Rattle.core_machine.specs.table.Layout.{at, put}
-use Rattle.core_machine.specs.table.Decode.{head_of, pointer_in, spine_words_in}
+use Rattle.core_machine.specs.table.Decode.{head_of, pointer_in, is_meta, spine_words_in}
 use Rattle.core_machine.specs.machine.Machine.{State, seat_at}
 use Rattle.core_machine.specs.seat.AccessMoves.{new_register_of}
 use Rattle.core_machine.specs.seat.Registers.{register_head as head_of_register}
@@ -24,33 +24,32 @@ use Rattle.core_rule.specs.Rule.{Rule}
 use Rattle.core_rule.proofs.entries.AtRest.{seat_fits}
 use Rattle.core_rule.proofs.words.Addresses.{at-put_apart, control_after_word}
 use Rattle.core_rule.proofs.ways.AtObject.{is_near}
-use Rattle.core_rule.proofs.cycle.Barriers.{barrier_making, later_lead}
+use Rattle.core_rule.proofs.cycle.Barriers.{barrier_making}
 use Rattle.core_rule.proofs.cycle.CycleFrames.{LeadsStay, LeavesCycle, coloured_stays}
 use Rattle.core_rule.proofs.ways.KeptWords.{has_room}
 use Rattle.core_rule.proofs.colours.LeadsFrames.{put_no_spine, leads_put}
 use Rattle.core_rule.proofs.colours.NoSpines.{value_no_spine}
 use Rattle.core_rule.proofs.colours.SourceCases.{HasNoSpine}
-use Rattle.core_rule.proofs.cycle.FieldFrames.{watched_part}
-use Rattle.core_rule.proofs.marking.ObjectEdges.{kept_no_spine}
+use Rattle.core_rule.proofs.cycle.FieldFrames.{watched_no_spine}
+use Rattle.core_rule.proofs.ways.ArrayWords.{plain_lead, value_plain}
 use Rattle.core_rule.proofs.ways.LoadedObjects.{held_head}
 use Rattle.core_rule.proofs.colours.MarkWords.{marks_same}
 use Rattle.core_rule.proofs.lists.Options.{of_some}
 use Rattle.core_rule.proofs.ways.Told.{HasRoom, head_in-value}
 
--- a swap's word is none of its fragment's first
+-- a swap's word is one of its fragment's four
 pub swap_part : (heap : Heap) (state : State) (book : Book) (number : ℕ) → Rule heap state book → number < heap.seats → (seat_at state number).place ≡ places.Access Swapping
-    → IsFieldPart (seat_at state number).part
-swap_part heap state book number rule here place = let fits : FitsAccess (seat_at state number) Swapping = rw place at (seat_fits rule number here).way_at_place in fits.0.2.field_part
+    → (seat_at state number).part < 4
+swap_part heap state book number rule here place = let fits : FitsAccess (seat_at state number) Swapping = rw place at (seat_fits rule number here).way_at_place in fits.0.2.part_within
 
--- its fragment is one of the heap's, and since it is a kept object's it has no spine
+-- its fragment is one of the heap's, and has no spine, since a cell stands in it
 pub swap_within : (heap : Heap) (state : State) (book : Book) (number : ℕ) → Rule heap state book → number < heap.seats → (seat_at state number).reached < 16 * heap.groups
 swap_within heap state book number rule here = (seat_fits rule number here).way.reached_within
 
 pub swap_no_spine : (heap : Heap) (state : State) (book : Book) (number : ℕ) → Rule heap state book → number < heap.seats → (seat_at state number).place ≡ places.Access Swapping
     → HasNoSpine heap state.words (seat_at state number).reached
 swap_no_spine heap state book number rule here place =
-    let part = watched_part heap state book rule number here Swapping place tt in
-    kept_no_spine heap state book rule (seat_at state number).reached part.index part.place part.kept
+    watched_no_spine heap state book rule number here Swapping place tt
 
 module _ (heap : Heap) (state : State) (book : Book) (number : ℕ) (rule : Rule heap state book) (here : number < heap.seats)
     (place : (seat_at state number).place ≡ places.Access Swapping)
@@ -76,7 +75,7 @@ module _ (heap : Heap) (state : State) (book : Book) (number : ℕ) (rule : Rule
   -- the new word leads to the register's object
   new_leads : pointer_in seat.part word ≡ head_of_register (new_register_of seat)
   new_leads =
-      later_lead seat.part word (swap_part heap state book number rule here place).some ∙ ap head_of is_word
+      plain_lead seat.part word (ap is_meta is_word ∙ value_plain (object_head book.made book.fragments) value stamp room small) ∙ ap head_of is_word
       ∙ head_in-value (object_head book.made book.fragments) value stamp room small
       ∙ sym (held_head book.made book.owner book.fragments (new_register_of seat) value holds)
 
@@ -90,7 +89,7 @@ module _ (heap : Heap) (state : State) (book : Book) (number : ℕ) (rule : Rule
       of_some (IsMarked book.colour) (head_of_register (new_register_of seat)) x (sym new_leads ∙ leads) (shaded on).1
 
   pub leads_now : LeadsStay heap state.words words_swapped book.owner book.colour p
-  leads_now making f source x born leads = elim (leads_put heap state.words seat.reached seat.part word (swap_within heap state book number rule here) (swap_part heap state book number rule here place).below
+  leads_now making f source x born leads = elim (leads_put heap state.words seat.reached seat.part word (swap_within heap state book number rule here) (swap_part heap state book number rule here place)
       (swap_no_spine heap state book number rule here place) swapped_no_spine rule.machine.table f source x leads) [
         | inl before ↦ inl before
         | inr new ↦ inr (new_marked making x new.2)

@@ -44,6 +44,7 @@ module _ (heap : Heap) (words : List ℕ) (book : Book) (number : ℕ) where
     owners = stands.owners;
     ids = stands.ids;
     objects = stands.objects;
+    spines = stands.spines;
     used = stands.used;
     cycle = stands.cycle;
     legal = stands.legal;

@@ -6,7 +6,7 @@ use Rattle.heap_model.specs.declared.heap.Heap.{Heap}
 use Rattle.heap_model.specs.account.Windows.{is_reply_to}
 use Rattle.heap_model.proofs.account_lemmas.Windows.{any-more}
 use Rattle.core_machine.specs.declared.place.Making.{Making}
-use Rattle.core_machine.specs.declared.place.Making.TheVariants.{Gathering, Returning, Refusing, Storing, Bearing}
+use Rattle.core_machine.specs.declared.place.Making.TheVariants.{Granting, Withdrawing, Gathering, Returning, Refusing, Placing, Listing, Storing, Bearing}
 use Rattle.core_machine.specs.declared.place.Place.{Place}
 use Rattle.core_machine.specs.declared.place.Place.TheVariants as places
 use Rattle.core_machine.specs.seat.Fits.{FitsPlace}
@@ -27,9 +27,12 @@ pub tried_within : (heap : Heap) (seat : Seat) (place : Place) → FitsPlace hea
 tried_within heap seat places.Idle fits = omega (arith, fits.none_tried)
 tried_within heap seat (places.Access place) fits = omega (arith, fits.none_tried)
 tried_within heap seat (places.Polling place) fits = omega (arith, fits.none_tried)
+tried_within heap seat (places.Making Withdrawing) fits = omega (arith, fits.rests.none_tried)
 tried_within heap seat (places.Making Gathering) fits = omega (arith, fits.groups_left)
 tried_within heap seat (places.Making Returning) fits = omega (arith, fits.0.all_tried)
 tried_within heap seat (places.Making Refusing) fits = omega (arith, fits.0.all_tried)
+tried_within heap seat (places.Making Placing) fits = omega (arith, fits.0.0.none_tried)
+tried_within heap seat (places.Making Listing) fits = omega (arith, fits.0.0.none_tried)
 tried_within heap seat _ fits = omega (arith, fits.0.none_tried)
 
 -- no more is stored than the object has
@@ -37,6 +40,10 @@ pub stored_within : (heap : Heap) (seat : Seat) (place : Place) → FitsPlace he
 stored_within heap seat places.Local fits = omega (arith, fits.0.none_stored)
 stored_within heap seat (places.Leaving place) fits = omega (arith, fits.0.none_stored)
 stored_within heap seat (places.Collecting place) fits = omega (arith, fits.0.none_stored)
+stored_within heap seat (places.Making Granting) fits = omega (arith, fits.0.none_stored)
+stored_within heap seat (places.Making Withdrawing) fits = omega (arith, fits.rests.none_stored)
+stored_within heap seat (places.Making Placing) fits = omega (arith, fits.0.2.none_stored)
+stored_within heap seat (places.Making Listing) fits = omega (arith, fits.0.2.none_stored)
 stored_within heap seat (places.Making Returning) fits = omega (arith, fits.0.none_stored)
 stored_within heap seat (places.Making Refusing) fits = omega (arith, fits.0.none_stored)
 stored_within heap seat (places.Making Storing) fits = omega (arith, fits.2)

@@ -26,7 +26,7 @@ of_other number r apart = elim (eqb_tells number r) as (λ _. (number == r) ≡ 
 ]
 
 -- another's entry is no reply to the seat
-no_reply : (r : ℕ) (entry : Entry) → is_of r entry ≡ false → is_reply_to r entry ≡ false
+pub no_reply : (r : ℕ) (entry : Entry) → is_of r entry ≡ false → is_reply_to r entry ≡ false
 no_reply r (entries.Said number command reply) other = other
 no_reply r _ other = refl
 

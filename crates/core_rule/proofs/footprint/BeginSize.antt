@@ -2,6 +2,7 @@
 use Rattle.std.specs.Prelude.{is_some}
 use Rattle.std.proofs.Common.{◌≡◌, ℕ, zero, suc, ◌+◌, ◌*◌, ◌<◌, ◌≤◌, inl, inr, true, List, [], ◌∷◌, length, AllPairs, refl, arith}
 use Rattle.std.proofs.lemmas.Bool.{cases_Bool, cases_lt}
+use Rattle.heap_words.specs.declared.spot.Spot.{Spot}
 use Rattle.heap_model.specs.declared.heap.Heap.{Heap}
 use Rattle.heap_model.specs.declared.id.Id.{Id}
 use Rattle.heap_model.specs.graph.Graph.{Graph}
@@ -86,7 +87,7 @@ inside_parts g made begun ids (Borne number) within = refl
 inside_parts g made begun ids (Dead i k) within = refl
 
 -- what is inside where a cycle begins is no more than what the seats have and what is reached
-pub size_begins : (heap : Heap) (words : List ℕ) (g : Graph) (made : List Id) (owner : ℕ → Owner) (fragments : ℕ → List ℕ) → AreMade g made → Objects heap words g made owner fragments
+pub size_begins : (heap : Heap) (words : List ℕ) (g : Graph) (made : List Id) (owner : ℕ → Owner) (fragments : ℕ → List ℕ) {spines : ℕ → Spot} → AreMade g made → Objects heap words g made owner fragments spines
     → ((f : ℕ) → 16 * heap.groups ≤ f → owner f ≡ Free) → OwnersStand heap.seats owner
     → (reserve hand body : ℕ → List ℕ) → ((number : ℕ) → number < heap.seats → Holding owner number (reserve number) (hand number) (body number))
     → (begun : List Id) → AllPairs IsBefore begun

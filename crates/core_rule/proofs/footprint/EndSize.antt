@@ -3,6 +3,7 @@ use Rattle.std.proofs.Common.{◌≡◌, ◌≢◌, ℕ, ◌+◌, ◌*◌, ◌/�
 use Rattle.std.proofs.lemmas.Bool.{cases_Bool}
 use Rattle.std.proofs.lemmas.Bool.Decides.{nat_tests}
 use Rattle.heap_model.specs.declared.entry.Entry.{Entry}
+use Rattle.heap_words.specs.declared.spot.Spot.{Spot}
 use Rattle.heap_model.specs.declared.heap.Heap.{Heap}
 use Rattle.heap_model.specs.declared.id.Id.{Id}
 use Rattle.heap_model.specs.account.Space.{fragments_gained, fragments_lost}
@@ -44,7 +45,7 @@ module _ (made begun both : List Id) (all : (id : Id) → Contains both id → i
   fewer_kept (Dead i k) = omega arith
 
 -- what is kept of what was reached when the cycle began was counted
-pub kept_least : (heap : Heap) (words : List ℕ) (g : Graph) (made : List Id) (owner : ℕ → Owner) (fragments : ℕ → List ℕ) → AreMade g made → Objects heap words g made owner fragments
+pub kept_least : (heap : Heap) (words : List ℕ) (g : Graph) (made : List Id) (owner : ℕ → Owner) (fragments : ℕ → List ℕ) {spines : ℕ → Spot} → AreMade g made → Objects heap words g made owner fragments spines
     → ((f : ℕ) → 16 * heap.groups ≤ f → owner f ≡ Free) → (begun both : List Id) (most kept : ℕ) → ClearedWithin heap made begun owner most heap.groups kept
     → AllPairs IsBefore both → ((id : Id) → Contains both id → is_among begun id ≡ true)
     → ((id : Id) → Contains both id → (object_number made id < length made) × IsKept owner fragments (object_number made id)) → fragments_of_all g both ≤ kept

@@ -2,6 +2,7 @@
 use Rattle.std.proofs.Common.{◌≡◌, ℕ, suc, ◌*◌, ◌<◌, ◌≤◌, inl, inr, List, [], ◌∷◌, length, get_or, refl, sym, ap, ◌∙◌, subst, arith}
 use Rattle.std.proofs.lemmas.Bool.{cases_lt}
 use Rattle.std.proofs.lemmas.Bool.Decides.{eqb_tells}
+use Rattle.heap_words.specs.declared.spot.Spot.{Spot}
 use Rattle.heap_model.specs.declared.heap.Heap.{Heap}
 use Rattle.heap_model.specs.declared.id.Id.{Id}
 use Rattle.heap_model.specs.graph.Graph.{Graph}
@@ -10,8 +11,9 @@ use Rattle.core_machine.specs.table.Fragments.{tally}
 use Rattle.core_machine.specs.machine.Sums.{sum_upto}
 use Rattle.core_machine.proofs.table_lemmas.Free.{sum_same, sum_zero}
 use Rattle.core_rule.specs.Book.{id_at}
-use Rattle.core_rule.specs.Objects.{Objects, IsKept}
+use Rattle.core_rule.specs.Objects.{AreMade, Objects, IsKept}
 use Rattle.core_rule.specs.Owners.{Owner, Free, Kept, one_at}
+use Rattle.core_rule.proofs.graph.SameNodes.{made_size}
 use Rattle.core_rule.proofs.lists.Members.{place_of, tally_at, place_within}
 use Rattle.core_rule.proofs.lists.Tallies.{one_at_same, one_at_other, one_at_bit, sum_tally}
 use Rattle.core_rule.proofs.owners.Handed.{none_or_some}
@@ -37,7 +39,7 @@ once_each (x ∷ xs) apart f = elim (none_or_some (tally f xs)) as (λ _. tally 
         let same : 0 ≡ suc (place_of f xs) = apart 0 (suc (place_of f xs)) (omega arith) (omega (arith, place.0)) (e ∙ sym place.1) in
         omega (arith, same)
 
-module _ (heap : Heap) (words : List ℕ) (g : Graph) (made : List Id) (owner : ℕ → Owner) (fragments : ℕ → List ℕ) (objects : Objects heap words g made owner fragments) where
+module _ (heap : Heap) (words : List ℕ) (g : Graph) (made : List Id) (owner : ℕ → Owner) (fragments : ℕ → List ℕ) {spines : ℕ → Spot} (ids : AreMade g made) (objects : Objects heap words g made owner fragments spines) where
   -- what isn't kept has no fragment
   pub parts_none : (n : ℕ) → (n < length made → IsKept owner fragments n → ⊥) → sum_upto (16 * heap.groups) (λ f. part_bit n (owner f)) ≡ 0
   parts_none n gone = sum_zero (16 * heap.groups) (λ f. part_bit n (owner f)) (λ f less. by f (owner f) refl)
@@ -76,7 +78,7 @@ module _ (heap : Heap) (words : List ℕ) (g : Graph) (made : List Id) (owner : 
     pub parts_counted : ((f : ℕ) → 16 * heap.groups ≤ f → owner f ≡ Free) → sum_upto (16 * heap.groups) (λ f. part_bit n (owner f)) ≡ fragments_at g (id_at made n)
     parts_counted outside =
         sum_same (16 * heap.groups) (λ f. part_bit n (owner f)) (λ f. tally f (fragments n)) (λ f less. is_part f) ∙ sum_tally (16 * heap.groups) (fragments n) below
-        ∙ objects.sizes n within kept
+        ∙ (objects.kept n within kept).whole ∙ made_size _ (ids.in_graph n within)
       where
         below : (f : ℕ) → 1 ≤ tally f (fragments n) → f < 16 * heap.groups
         below f there = elim (cases_lt f (16 * heap.groups)) [

@@ -24,7 +24,7 @@ use Rattle.core_machine.specs.seat.Registers.{register_in}
 use Rattle.core_machine.specs.seat.Seat.{Seat}
 use Rattle.core_rule.specs.Book.{Book, id_at, object_number}
 use Rattle.core_rule.specs.Counts.{IsAwaitingName}
-use Rattle.core_rule.specs.Objects.{NamesKept, cells_in}
+use Rattle.core_rule.specs.Objects.{NamesKept, node_in}
 use Rattle.core_rule.specs.Registers.{HoldsValue, IsAwaited}
 use Rattle.core_rule.specs.Rule.{Rule}
 use Rattle.core_rule.proofs.footprint.GoneSeats.{gone_after_all, gone_opens}
@@ -33,7 +33,7 @@ use Rattle.core_rule.proofs.graph.Numbering.{id_at-number_of}
 use Rattle.core_rule.proofs.growth.RegisterIds.{RegisterHolds, holding_register}
 
 -- a cell of an object holds what the object points to
-pointing_cell : (o : Option Node) (id : Id) → IsSomeAnd o (λ object. PointsTo object id) → (j : ℕ) × (cell : Cell) × (slice_get (cells_in o) j ≡ Some cell) × (cell.value ≡ values.Object id)
+pointing_cell : (o : Option Node) (id : Id) → IsSomeAnd o (λ object. PointsTo object id) → (j : ℕ) × (cell : Cell) × (slice_get (node_in o).cells j ≡ Some cell) × (cell.value ≡ values.Object id)
 pointing_cell None id points = absurd points
 pointing_cell (Some object) id points = (points.0, points.1, slice_get-get_or object.cells points.0 points.1 points.2 ∙ ap Some (points.3), points.4)
 

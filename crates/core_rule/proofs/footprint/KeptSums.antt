@@ -3,6 +3,7 @@ use Rattle.std.proofs.Common.{◌≡◌, ◌≢◌, ℕ, ◌+◌, ◌*◌, ◌<�
 use Rattle.std.proofs.lemmas.Bool.{cases_lt}
 use Rattle.std.proofs.lemmas.Bool.Decides.{eqb_tells}
 use Rattle.std.proofs.lemmas.List.Sums.{sum_by-cons}
+use Rattle.heap_words.specs.declared.spot.Spot.{Spot}
 use Rattle.heap_model.specs.declared.heap.Heap.{Heap}
 use Rattle.heap_model.specs.declared.id.Id.{Id}
 use Rattle.heap_model.specs.declared.id.Id.TheVariants.{Board, Made}
@@ -54,7 +55,7 @@ first_tells n (Taken number) = inr (λ e. cc e)
 first_tells n (Borne number) = inr (λ e. cc e)
 first_tells n (Dead i k) = inr (λ e. cc e)
 
-module _ (heap : Heap) (words : List ℕ) (g : Graph) (made : List Id) (owner : ℕ → Owner) (fragments : ℕ → List ℕ) (ids : AreMade g made) (objects : Objects heap words g made owner fragments) where
+module _ (heap : Heap) (words : List ℕ) (g : Graph) (made : List Id) (owner : ℕ → Owner) (fragments : ℕ → List ℕ) {spines : ℕ → Spot} (ids : AreMade g made) (objects : Objects heap words g made owner fragments spines) where
   -- a fragment is of an object among some ids where it is of the first one's or of the others'
   among_parts : (x : Id) (xs : List Id) → is_among xs x ≡ false → (o : Owner) → ((i k : ℕ) → o ≡ Kept i k → i < length made)
       → kept_bit (is_among (x ∷ xs)) made o ≡ part_bit (object_number made x) o + kept_bit (is_among xs) made o
@@ -90,16 +91,16 @@ module _ (heap : Heap) (words : List ℕ) (g : Graph) (made : List Id) (owner : 
         → sum_upto (16 * heap.groups) (λ f. part_bit (object_number made x) (owner f)) ≡ fragments_at g x
     kept_size x within kept =
         let its : id_at made (object_number made x) ≡ x = id_at-number_of made x within in
-        parts_counted heap words g made owner fragments objects (object_number made x) within kept outside ∙ ap (fragments_at g) its
+        parts_counted heap words g made owner fragments ids objects (object_number made x) within kept outside ∙ ap (fragments_at g) its
 
     -- and at most these where it may not be kept
     most_size : (x : Id) → sum_upto (16 * heap.groups) (λ f. part_bit (object_number made x) (owner f)) ≤ fragments_at g x
     most_size x = elim (cases_lt (object_number made x) (length made)) [
       | inl within ↦ elim (first_tells (object_number made x) (owner (fragment_at (fragments (object_number made x)) 0))) [
         | inl kept ↦ omega (arith, kept_size x within kept)
-        | inr gone ↦ omega (arith, parts_none heap words g made owner fragments objects (object_number made x) (λ below kept. gone kept))
+        | inr gone ↦ omega (arith, parts_none heap words g made owner fragments ids objects (object_number made x) (λ below kept. gone kept))
       ]
-      | inr past ↦ omega (arith, parts_none heap words g made owner fragments objects (object_number made x) (λ below kept. omega (arith, below, past)))
+      | inr past ↦ omega (arith, parts_none heap words g made owner fragments ids objects (object_number made x) (λ below kept. omega (arith, below, past)))
     ]
 
     -- what is kept of some ids is no more than their objects have

@@ -15,7 +15,7 @@ use Rattle.heap_model.specs.graph.Reach.{IsReach, PointsTo}
 use Rattle.core_machine.specs.machine.Machine.{State}
 use Rattle.core_rule.specs.Book.{Book, id_at, object_number}
 use Rattle.core_rule.specs.Footprint.{Footprint, StageStandsInside, is_inside}
-use Rattle.core_rule.specs.Objects.{cells_in}
+use Rattle.core_rule.specs.Objects.{node_in}
 use Rattle.core_rule.specs.Owners.{Kept}
 use Rattle.core_rule.specs.Rule.{Rule}
 use Rattle.core_rule.proofs.footprint.BookGoing.{IsNamed, by_register, by_set, by_scan}
@@ -24,7 +24,7 @@ use Rattle.core_rule.proofs.graph.Numbering.{id_at-number_of}
 use Rattle.core_rule.proofs.ways.LoadedObjects.{RefersTo, CellRefers}
 
 -- an object points to what its cell holds
-cell_points : (o : Option Node) (place : ℕ) (cell : Cell) (id : Id) → slice_get (cells_in o) place ≡ Some cell → cell.value ≡ values.Object id → IsSomeAnd o (λ object. PointsTo object id)
+cell_points : (o : Option Node) (place : ℕ) (cell : Cell) (id : Id) → slice_get (node_in o).cells place ≡ Some cell → cell.value ≡ values.Object id → IsSomeAnd o (λ object. PointsTo object id)
 cell_points None place cell id there is = absurd (cc there)
 cell_points (Some object) place cell id there is =
     (place, cell, slice_get_within object.cells place cell there, get_or_from_slice_get object.cells place cell cell there, is)

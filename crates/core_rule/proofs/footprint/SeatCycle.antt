@@ -28,7 +28,7 @@ use Rattle.core_machine.specs.table.Decode.{head_of}
 use Rattle.core_machine.specs.table.Layout.{at}
 use Rattle.core_rule.specs.Book.{Book, id_at}
 use Rattle.core_rule.specs.Footprint.{CycleStands, StageStandsInside, is_inside}
-use Rattle.core_rule.specs.Objects.{cells_at}
+use Rattle.core_rule.specs.Objects.{node_at}
 use Rattle.core_rule.specs.Owners.{Kept}
 use Rattle.core_rule.specs.Registers.{HoldsValue, IsAwaited}
 use Rattle.core_rule.specs.Rule.{Rule}
@@ -115,7 +115,7 @@ module _ (heap : Heap) (state : State) (book : Book) (stands : Stands heap state
       let rule = stands.rule in
       let seat_stands = rule.seats_stand number here in
       let fits : SeatIsAtSet seat × (has_barrier_of seat ≡ true) × (seat.loaded ≡ 0) = rw placed at (seat_fits rule number here).way_at_place in
-      let finds : Finds (cells_at g book.made) book.made book.owner book.fragments seat = rw placed at seat_stands.names.way in
+      let finds : Finds (node_at g book.made) book.made book.owner book.fragments seat = rw placed at seat_stands.names.way in
       let r : ℕ = object_of seat.command in
       let holds : HoldsValue book.made book.owner book.fragments (register_in seat.registers r) (register_value g number r)
       = seat_stands.names.registers r (λ awaited. subst (λ x. IsAwaited x (target_of seat.command) r) placed awaited) in

@@ -30,7 +30,7 @@ use Rattle.core_rule.proofs.colours.SourceCases.{word_leads}
 use Rattle.core_rule.proofs.footprint.Clears.{clears_on, clears_begin}
 use Rattle.core_rule.proofs.footprint.Named.{cell_inside}
 use Rattle.core_rule.proofs.marking.Marks.{settled_phase}
-use Rattle.core_rule.proofs.marking.ObjectEdges.{object_refers}
+use Rattle.core_rule.proofs.marking.ObjectEdges.{kept_refers, part_owned}
 use Rattle.core_rule.proofs.marking.SweepMarks.{after_swept_either, after_cleared_either}
 
 module _ (heap : Heap) (state : State) (book : Book) (rule : Rule heap state book) (begun : List Id) (reach : IsReach (graph_of heap (up_to_cycle book.history)) begun) (most : ℕ)
@@ -104,14 +104,11 @@ module _ (heap : Heap) (state : State) (book : Book) (rule : Rule heap state boo
       let fits : IsScanning heap state.collector.phase state.collector.looked scan = rw scanning at rule.machine.collector_fit.at_stage in
       let seen : IsSeen heap state.words book.colour scan.fragment scan.part = rw scanning at rule.marks_stand.heap_marks.scan in
       let part : IsPart book.owner scan.fragment = rule.marks_stand.heap_marks.grey scan.fragment seen.grey in
-      let back = rule.heap_stands.objects.back scan.fragment part.index part.place part.kept in
       let holder = foot.kept scan.fragment part.index part.place part.kept (inl (λ white. absurd (let grey = seen.grey in cc (grey, white)))) in
-      elim (object_refers heap state.words g book.made book.owner book.fragments rule.machine.limits rule.heap_stands.control_words rule.heap_stands.ids rule.heap_stands.objects
-      part.index back.0 back.1 part.place scan.part target back.2
-      (subst (λ x. WordPointsTo heap state.words x scan.part target) back.3 (word_leads heap state.words scan.fragment scan.part target fits.fragment_within fits.part_within leads))) as (λ _. inside (id_at book.made i) ≡ true) [
-        | inl next ↦
-            let same : Kept part.index (part.place + 1) ≡ Kept i k
-            = sym (ap book.owner next.1 ∙ (rule.heap_stands.objects.kept part.index back.0 back.1).owned (part.place + 1) next.0) ∙ owned in
+      elim (kept_refers heap state book rule scan.fragment part.index part.place part.kept scan.part target
+      (word_leads heap state.words scan.fragment scan.part target fits.fragment_within fits.part_within leads)) as (λ _. inside (id_at book.made i) ≡ true) [
+        | inl its ↦
+            let same : Kept part.index its.place ≡ Kept i k = sym (part_owned heap state book rule scan.fragment part.index part.place part.kept target its) ∙ owned in
             let index : part.index ≡ i = cc in
             subst (λ n. inside (id_at book.made n) ≡ true) index holder
         | inr cell ↦ cell_inside heap state book rule begun reach part.index target i k holder cell owned

@@ -1,6 +1,5 @@
 -- What stands of the heap and of another's seat when an entry is added that changes no object and nothing of what is in use, and no fragment's word changes.
 use Rattle.std.proofs.Common.{◌≡◌, ℕ, ◌<◌, false, List, [], ◌∷◌, ◌++◌, length, refl, ap, ◌∙◌, arith}
-use Rattle.heap_model.specs.declared.graph.cell.Cell.{Cell}
 use Rattle.heap_model.specs.declared.entry.Entry.{Entry}
 use Rattle.heap_model.specs.declared.heap.Heap.{Heap}
 use Rattle.heap_model.specs.account.Account.{IsLegalBy, ButSpine}
@@ -15,27 +14,33 @@ use Rattle.core_machine.specs.table.Layout.{at, put}
 use Rattle.core_machine.specs.seat.Seat.{Seat}
 use Rattle.core_rule.specs.Book.{Book}
 use Rattle.core_rule.specs.Cycle.{HeapInCycle, SeatInCycle}
+use Rattle.core_rule.specs.Objects.{node_at}
 use Rattle.core_rule.specs.Rule.{HeapStands, SeatStands}
 use Rattle.core_rule.proofs.words.Addresses.{at-put_apart}
 use Rattle.core_rule.proofs.words.ControlLemmas.{bits_same}
 use Rattle.core_rule.proofs.objects.ObjectFrames.{objects_words}
-use Rattle.core_rule.proofs.graph.SameNodes.{SameNodes, ids_stay, objects_stay, cells_stay}
+use Rattle.core_rule.proofs.graph.SameNodes.{SameNodes, ids_stay, objects_stay, shapes_stay}
 use Rattle.core_rule.proofs.frames.SeatFrames.{with_entry, seat_stays, same_party}
+use Rattle.core_rule.proofs.spines.BudgetFrames.{SameGrants, none_granted_by, none_returned_by, kept_alike}
+use Rattle.core_rule.proofs.spines.OtherWords.{LeavesSpines, spines_left_none, spines_left_phase}
+use Rattle.core_rule.proofs.spines.SpineFrames.{same_kept, spines_stay}
 
 -- the control words and the fragments' words are as before
 pub record SameFragments (heap : Heap) (words now : List ℕ) : Type 0 where
   pub controls : (group : ℕ) → group < heap.groups → at heap now (Control group) ≡ at heap words (Control group)
   pub parts : (f part : ℕ) → at heap now (Word f part) ≡ at heap words (Word f part)
+  pub spines : LeavesSpines heap words now
 
 -- so they are where no word changes
 pub fragments_same : (heap : Heap) (words : List ℕ) → SameFragments heap words words
-fragments_same heap words = record { controls = λ group below. refl; parts = λ f part. refl }
+fragments_same heap words = record { controls = λ group below. refl; parts = λ f part. refl; spines = spines_left_none heap words }
 
 -- and where the phase is written
 pub fragments_phase : (heap : Heap) (words : List ℕ) (n : ℕ) → SameFragments heap words (put heap words Phase n)
 fragments_phase heap words n = record {
   controls = λ group below. at-put_apart heap words Phase (Control group) n (λ e. omega (arith, e));
   parts = λ f part. at-put_apart heap words Phase (Word f part) n (λ e. omega (arith, e));
+  spines = spines_left_phase heap words n;
 }
 
 -- the entry takes, gives and frees nothing
@@ -62,8 +67,10 @@ module _ (heap : Heap) (words now : List ℕ) (same : SameFragments heap words n
     control_words = bits_same heap words now book.owner same.controls stands.control_words;
     owners = stands.owners;
     ids = ids_stay before after book.made nodes stands.ids;
-    objects = objects_stay before after book.made nodes book.owner book.fragments heap now
-        (objects_words heap words now before book.made book.owner book.fragments (λ f i k part keeps within. same.parts f part) stands.objects);
+    objects = objects_stay before after book.made nodes book.owner book.fragments book.spines heap now
+        (objects_words heap words now before book.made book.owner book.fragments book.spines (λ f i k part keeps within. same.parts f part) (λ i j below is within. same.spines.spines _ _) stands.objects);
+    spines = spines_stay heap words now same.spines heap.seats (length book.made) book.spines book.fragments book.spine_owner (node_at before book.made) (node_at after book.made)
+        book.owner book.owner (same_kept book.owner) (shapes_stay before after book.made nodes) stands.spines;
     used = rw (total-more (λ e. e.given) book.history entry, total-more (λ e. e.freed) book.history entry, total-more (λ e. e.taken) book.history entry)
         (omega (arith, stands.used, uses.taken, uses.given, uses.freed));
     cycle = cycle;
@@ -76,4 +83,13 @@ module _ (heap : Heap) (words now : List ℕ) (same : SameFragments heap words n
       → SeatStands heap words book r seat → SeatStands heap now later r seat
   seat_past r seat other graph_seat cycle stands =
       seat_stays heap words now book entry r seat other (same_party before after r graph_seat)
-      (λ i. ap (λ (cells : List Cell). length cells) (cells_stay before after book.made nodes i)) (λ u less. same.parts _ _ ∙ stands.own.stored u less) cycle stands
+      (shapes_stay before after book.made nodes) (λ u less. same.parts _ _ ∙ stands.own.stored u less) same.spines cycle stands
+
+  -- and as many spine words are granted
+  pub grants_past : (effect_of entry).words ≡ 0 → (effect_of entry).returned ≡ 0 → SameGrants heap book later
+  grants_past none back = record {
+    told = none_granted_by book.history entry none;
+    returned = none_returned_by book.history entry back;
+    kept = kept_alike (length book.made) (node_at before book.made) (node_at after book.made) book.owner book.fragments (shapes_stay before after book.made nodes);
+    gone = refl;
+  }

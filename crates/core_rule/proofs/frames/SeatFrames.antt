@@ -19,7 +19,8 @@ use Rattle.core_rule.specs.Book.{Book}
 use Rattle.core_rule.specs.Cycle.{SeatInCycle}
 use Rattle.core_rule.specs.Holding.{IsStored}
 use Rattle.core_rule.specs.Gathers.{GathersRight, Began}
-use Rattle.core_rule.specs.Objects.{cells_at, IsKept}
+use Rattle.core_rule.specs.Budgets.{UsedStands}
+use Rattle.core_rule.specs.Objects.{node_at, IsKept}
 use Rattle.core_rule.specs.Owners.{Owner}
 use Rattle.core_rule.specs.Registers.{Registers}
 use Rattle.core_rule.specs.Registers as regs
@@ -27,7 +28,11 @@ use Rattle.core_rule.specs.Rule.{SeatStands}
 use Rattle.core_rule.proofs.entries.Others.{own-other, total_of-other, began_stays, gathers_stay}
 use Rattle.core_rule.proofs.entries.SeatLists.{list_stays, NamesStay, holds_stays}
 use Rattle.core_rule.proofs.hand.HandMoves.{SameHand, same_hand, holding_stays}
+use Rattle.core_rule.proofs.graph.SameNodes.{SameShape, shape_same}
 use Rattle.core_rule.proofs.objects.ObjectFrames.{SameKept, names_kept}
+use Rattle.core_rule.proofs.spines.OtherWords.{LeavesSpines}
+use Rattle.core_rule.proofs.spines.SpineFrames.{SpineIsStored, spine_stored, SpinesLeft, spines_left, spine_stays, word_ahead_stays}
+use Rattle.core_rule.proofs.spines.UsedWords.{used_other}
 use Rattle.core_rule.proofs.ways.WayFrames.{ObjectStays, ways_stay}
 
 -- the graph's party has the same registers, and as many objects and sets, and has left where it had
@@ -55,10 +60,11 @@ pub record SameTold (r : ℕ) (history later : List Entry) : Type 0 where
   pub spent : spent_of r later ≡ spent_of r history
   pub taken : taken_of r later ≡ taken_of r history
   pub began : (begun : ℕ) (place : Place) → Began history r begun place → Began later r begun place
+  pub used : (heap : Heap) (seat : Seat) (place : Place) → UsedStands heap history r seat place → UsedStands heap later r seat place
 
 -- so it is where nothing is added
 pub told_nothing : (r : ℕ) (history : List Entry) → SameTold r history history
-told_nothing r history = record { own = refl; spent = refl; taken = refl; began = λ begun place began. began }
+told_nothing r history = record { own = refl; spent = refl; taken = refl; began = λ begun place began. began; used = λ heap seat place used. used }
 
 -- and where an entry of another is
 pub told_other : (r : ℕ) (history : List Entry) (entry : Entry) → is_of r entry ≡ false → SameTold r history (history ++ entry ∷ [])
@@ -67,27 +73,28 @@ told_other r history entry other = record {
   spent = rw (total_of-other r (λ e. e.given) history entry other, total_of-other r (λ e. e.born) history entry other) refl;
   taken = total_of-other r (λ e. e.taken) history entry other;
   began = λ begun place began. began_stays history entry r begun place other began;
+  used = λ heap seat place used. used_other heap r history entry other seat place used;
 }
 
 -- what is kept stays kept, by the same names and in the same fragments
 pub record KeptStays (g now : Graph) (made now_made : List Id) (owner now_owner : ℕ → Owner) (fragments now_fragments : ℕ → List ℕ) : Type 0 where
   pub names : NamesStay made now_made owner now_owner fragments now_fragments
   pub objects : (i : ℕ) → i < length made → IsKept owner fragments i
-      → ObjectStays (cells_at g made) (cells_at now now_made) made now_made owner now_owner fragments now_fragments i
+      → ObjectStays (node_at g made) (node_at now now_made) made now_made owner now_owner fragments now_fragments i
 
 -- so it is where the same fragments are kept
 pub kept_owners : (g : Graph) (made : List Id) (owner now : ℕ → Owner) (fragments : ℕ → List ℕ) → SameKept owner now → KeptStays g g made made owner now fragments fragments
 kept_owners g made owner now fragments same = record {
   names = record { names = λ id kept. names_kept owner now same made fragments (values.Object id) kept; heads = λ id kept. refl };
-  objects = λ i below kept. record { below = below; kept = same.stays _ _ _ kept; id = refl; fragments_stay = refl; cells_stay = refl };
+  objects = λ i below kept. record { below = below; kept = same.stays _ _ _ kept; id = refl; fragments_stay = refl; shape = shape_same (node_at g made i) (node_at g made i) refl };
 }
 
--- and where each object has as many cells
-pub kept_lengths : (g now : Graph) (made : List Id) (owner : ℕ → Owner) (fragments : ℕ → List ℕ) → ((i : ℕ) → length (cells_at now made i) ≡ length (cells_at g made i))
+-- and where each object has its shape
+pub kept_shapes : (g now : Graph) (made : List Id) (owner : ℕ → Owner) (fragments : ℕ → List ℕ) → ((i : ℕ) → SameShape (node_at now made i) (node_at g made i))
     → KeptStays g now made made owner owner fragments fragments
-kept_lengths g now made owner fragments longs = record {
+kept_shapes g now made owner fragments shapes = record {
   names = record { names = λ id kept. kept; heads = λ id kept. refl };
-  objects = λ i below kept. record { below = below; kept = kept; id = refl; fragments_stay = refl; cells_stay = longs i };
+  objects = λ i below kept. record { below = below; kept = kept; id = refl; fragments_stay = refl; shape = shapes i };
 }
 
 -- so registers hold what they held
@@ -104,6 +111,8 @@ pub record LeavesSeat (heap : Heap) (words : List ℕ) (book now : Book) (r : �
   pub kept : KeptStays (graph_of heap book.history) (graph_of heap now.history) book.made now.made book.owner now.owner book.fragments now.fragments
   pub hand : SameHand r book.owner now.owner
   pub stored : IsStored heap words r seat
+  pub spines : SpinesLeft r book.spine_owner now.spine_owner
+  pub spine_stored : SpineIsStored heap words seat
   pub gathers : GathersRight heap now.owner r (drop (book.begun r) now.history) seat.cursor seat.tried seat.given
   pub cycle : SeatInCycle heap words (phase now.history) (last_answer r now.history) (has_left r now.history) now.owner now.colour r seat
 
@@ -119,11 +128,14 @@ seat_left heap words now_words book now r seat leaves old =
         holding = holding_stays book.owner now.owner r seat.reserve seat.hand seat.body leaves.hand old.own.holding;
         stored = leaves.stored;
         together = old.own.together;
+        spine = spine_stays heap words now_words book.spine_owner now.spine_owner r seat leaves.spines leaves.spine_stored old.own.spine;
       };
       names = record {
         registers = λ i awake. subst (regs.HoldsValue now.made now.owner now.fragments (get_or seat.registers i registers.Nil)) (sym (same i))
             (holds_stays book.made now.made book.owner now.owner book.fragments now.fragments leaves.kept.names _ _ (old.names.registers i awake));
-        way = ways_stay (cells_at g book.made) (cells_at after now.made) book.made now.made book.owner now.owner book.fragments now.fragments leaves.kept.objects seat seat.place old.names.way;
+        way = ways_stay (node_at g book.made) (node_at after now.made) book.made now.made book.owner now.owner book.fragments now.fragments leaves.kept.objects seat seat.place old.names.way;
+        ahead = word_ahead_stays (node_at g book.made) (node_at after now.made) book.made now.made book.owner now.owner book.fragments now.fragments book.spine_owner now.spine_owner
+            leaves.spines.arrays leaves.kept.objects seat seat.place old.names.way old.names.ahead;
       };
       told = rw leaves.calls record {
         list = list_stays g after book.made now.made book.owner now.owner book.fragments now.fragments r seat leaves.kept.names same book.history now.history leaves.told.own old.told.list;
@@ -135,6 +147,7 @@ seat_left heap words now_words book now r seat leaves old =
         };
         began = leaves.told.began (book.begun r) seat.place old.told.began;
         gathers = leaves.gathers;
+        used = leaves.told.used heap seat seat.place old.told.used;
       };
       cycle = leaves.cycle;
     }
@@ -146,17 +159,19 @@ with_entry book entry = record book { history = book.history ++ entry ∷ [] }
 -- it stands where an entry of another is added, and the graph has its registers and counts as before
 pub seat_stays : (heap : Heap) (words now : List ℕ) (book : Book) (entry : Entry) (r : ℕ) (seat : Seat) → is_of r entry ≡ false
     → SameParty (graph_of heap book.history) (graph_of heap (book.history ++ entry ∷ [])) r
-    → ((i : ℕ) → length (cells_at (graph_of heap (book.history ++ entry ∷ [])) book.made i) ≡ length (cells_at (graph_of heap book.history) book.made i))
-    → IsStored heap now r seat
+    → ((i : ℕ) → SameShape (node_at (graph_of heap (book.history ++ entry ∷ [])) book.made i) (node_at (graph_of heap book.history) book.made i))
+    → IsStored heap now r seat → LeavesSpines heap words now
     → SeatInCycle heap now (phase (book.history ++ entry ∷ [])) (last_answer r (book.history ++ entry ∷ [])) (has_left r (book.history ++ entry ∷ [])) book.owner book.colour r seat
     → SeatStands heap words book r seat → SeatStands heap now (with_entry book entry) r seat
-seat_stays heap words now book entry r seat other same longs stored cycle old = seat_left heap words now book (with_entry book entry) r seat record {
+seat_stays heap words now book entry r seat other same shapes stored spines cycle old = seat_left heap words now book (with_entry book entry) r seat record {
   calls = refl;
   party = same;
   told = told_other r book.history entry other;
-  kept = kept_lengths (graph_of heap book.history) (graph_of heap (book.history ++ entry ∷ [])) book.made book.owner book.fragments longs;
+  kept = kept_shapes (graph_of heap book.history) (graph_of heap (book.history ++ entry ∷ [])) book.made book.owner book.fragments shapes;
   hand = same_hand r book.owner;
   stored = stored;
+  spines = spines_left r book.spine_owner;
+  spine_stored = spine_stored heap words now seat spines old.own.spine.stored;
   gathers = gathers_stay heap book.owner r book.history (book.begun r) entry seat.cursor seat.tried seat.given old.told.began.earlier old.told.gathers;
   cycle = cycle;
 } old

@@ -30,8 +30,8 @@ module _ (g now : Graph) (made : List Id) (id : Id) (object : Node) (ids : AreMa
   other_id : (i : ℕ) → i < length made → id_at made i ≢ id
   other_id i below e = not_made g id more.none (subst (λ x. IsMade g x) e (ids.in_graph i below))
 
-  pub node_at : (i : ℕ) → i < length made → node now (id_at (made ++ id ∷ []) i) ≡ node g (id_at made i)
-  node_at i below = ap (node now) (id_at-append made id i below) ∙ more.others (id_at made i) (other_id i below)
+  pub node_before : (i : ℕ) → i < length made → node now (id_at (made ++ id ∷ []) i) ≡ node g (id_at made i)
+  node_before i below = ap (node now) (id_at-append made id i below) ∙ more.others (id_at made i) (other_id i below)
 
   length_more : length (made ++ id ∷ []) ≡ length made + 1
   length_more = omega (arith, length-append made (id ∷ []))
@@ -45,7 +45,7 @@ module _ (g now : Graph) (made : List Id) (id : Id) (object : Node) (ids : AreMa
 
   made_in_graph : (i : ℕ) → i < length (made ++ id ∷ []) → IsMade now (id_at (made ++ id ∷ []) i)
   made_in_graph = old_or_new (λ i. IsMade now (id_at (made ++ id ∷ []) i))
-      (λ i below. subst (λ (o : Option Node). IsSome o) (sym (node_at i below)) (ids.in_graph i below))
+      (λ i below. subst (λ (o : Option Node). IsSome o) (sym (node_before i below)) (ids.in_graph i below))
       (subst (λ (o : Option Node). IsSome o) (sym (ap (node now) (id_at-new made id) ∙ more.new)) refl)
 
   made_distinct : (i : ℕ) → i < length (made ++ id ∷ []) → object_number (made ++ id ∷ []) (id_at (made ++ id ∷ []) i) ≡ i

@@ -27,7 +27,7 @@ use Rattle.heap_model.specs.account.Space.{taken_of, spent_of}
 use Rattle.heap_model.specs.graph.Graph.{Graph, Node}
 use Rattle.core_machine.specs.seat.Commands.{target_of, object_of, field_of}
 use Rattle.core_machine.specs.seat.FitsAccess.{NamesField, IsGet}
-use Rattle.core_rule.specs.Objects.{cells_in}
+use Rattle.core_rule.specs.Objects.{node_in}
 use Rattle.core_rule.proofs.entries.Legality.{keeps_said}
 
 -- the command asks for a length
@@ -54,34 +54,34 @@ pub target_within : (command : Command) → IsGet command → IsCommand command 
 target_within command is = get_only (λ c. IsCommand c → target_of c < 16) (λ d r i fits. omega (arith, fits.0)) command is
 
 -- an object that is there has its cells
-cell_there : (object : Option Node) (i : ℕ) → IsSome object → cell_or_refusal object i ≡ or_no_field (slice_get (cells_in object) i)
+cell_there : (object : Option Node) (i : ℕ) → IsSome object → cell_or_refusal object i ≡ or_no_field (slice_get (node_in object).cells i)
 cell_there None i is = absurd (false≢true is)
 cell_there (Some x) i is = refl
 
-length_there : (object : Option Node) → IsSome object → replies.Length (length (cells_in object)) ≡ length_reply object
+length_there : (object : Option Node) → IsSome object → replies.Length (length (node_in object).cells) ≡ length_reply object
 length_there None is = absurd (false≢true is)
 length_there (Some x) is = refl
 
 module _ (g : Graph) (number : ℕ) (id : Id) (command : Command) (ranges : IsCommand command) (present : IsPresent g number)
     (made : IsSome (node g id)) (held : register_value g number (object_of command) ≡ Object id) where
   -- the length is the object's
-  pub accepts_length : IsLen command → Accepts g (Said number command (replies.Length (length (cells_in (node g id)))))
+  pub accepts_length : IsLen command → Accepts g (Said number command (replies.Length (length (node_in (node g id)).cells)))
   accepts_length is =
-      len_only (λ c. IsCommand c → register_value g number (object_of c) ≡ Object id → Accepts g (Said number c (replies.Length (length (cells_in (node g id))))))
+      len_only (λ c. IsCommand c → register_value g number (object_of c) ≡ Object id → Accepts g (Said number c (replies.Length (length (node_in (node g id)).cells))))
       (λ r fits holds. (present, fits, rw holds (length_there (node g id) made))) command is ranges held
 
   -- a field past the end is none of it
-  pub accepts_no_field : NamesField command → length (cells_in (node g id)) ≤ field_of command → Accepts g (Said number command replies.NoField)
+  pub accepts_no_field : NamesField command → length (node_in (node g id)).cells ≤ field_of command → Accepts g (Said number command replies.NoField)
   accepts_no_field is past =
-      field_only (λ c. IsCommand c → register_value g number (object_of c) ≡ Object id → length (cells_in (node g id)) ≤ field_of c → Accepts g (Said number c replies.NoField))
-      (λ d r i fits holds none. (present, fits, rw (holds, cell_there (node g id) i made, slice_get_past (cells_in (node g id)) i none) refl))
-      (λ r i v fits holds none. (present, fits, rw (holds, cell_there (node g id) i made, slice_get_past (cells_in (node g id)) i none) refl))
+      field_only (λ c. IsCommand c → register_value g number (object_of c) ≡ Object id → length (node_in (node g id)).cells ≤ field_of c → Accepts g (Said number c replies.NoField))
+      (λ d r i fits holds none. (present, fits, rw (holds, cell_there (node g id) i made, slice_get_past (node_in (node g id)).cells i none) refl))
+      (λ r i v fits holds none. (present, fits, rw (holds, cell_there (node g id) i made, slice_get_past (node_in (node g id)).cells i none) refl))
       command is ranges held past
 
   -- a get's value and stamp are the cell's
-  pub accepts_got : IsGet command → (cell : Cell) → slice_get (cells_in (node g id)) (field_of command) ≡ Some cell → Accepts g (Said number command (replies.Got cell.value cell.stamp))
+  pub accepts_got : IsGet command → (cell : Cell) → slice_get (node_in (node g id)).cells (field_of command) ≡ Some cell → Accepts g (Said number command (replies.Got cell.value cell.stamp))
   accepts_got is cell there =
-      get_only (λ c. IsCommand c → register_value g number (object_of c) ≡ Object id → slice_get (cells_in (node g id)) (field_of c) ≡ Some cell → Accepts g (Said number c (replies.Got cell.value cell.stamp)))
+      get_only (λ c. IsCommand c → register_value g number (object_of c) ≡ Object id → slice_get (node_in (node g id)).cells (field_of c) ≡ Some cell → Accepts g (Said number c (replies.Got cell.value cell.stamp)))
       (λ d r i fits holds at_field. (present, fits, rw (holds, cell_there (node g id) i made, at_field) refl)) command is ranges held there
 
 -- a length changes nothing of the graph, nor does a field that isn't there

@@ -1,14 +1,53 @@
 -- What stays where the graph's objects do.
-use Rattle.std.proofs.Common.{◌≡◌, ℕ, List, Option, IsSome, slice_get, sym, ap, ◌∙◌, subst}
+use Rattle.std.proofs.Common.{◌≡◌, ℕ, Bool, true, false, List, length, Option, Some, None, IsSome, slice_get, refl, sym, ap, ◌∙◌, subst}
+use Rattle.std.specs.Prelude.{if◌then◌else◌}
 use Rattle.std.specs.Option.{option_map_or}
+use Rattle.heap_words.specs.declared.spot.Spot.{Spot}
+use Rattle.heap_model.specs.declared.graph.cell.Cell.{Cell}
 use Rattle.heap_model.specs.declared.heap.Heap.{Heap}
 use Rattle.heap_model.specs.declared.id.Id.{Id}
+use Rattle.heap_model.specs.Needs.{record_fragments, array_fragments, array_words}
 use Rattle.heap_model.specs.graph.Objects.{node}
 use Rattle.heap_model.specs.graph.Graph.{Graph, Node}
-use Rattle.heap_model.specs.graph.Sizes.{fragments_of}
+use Rattle.heap_model.specs.graph.Sizes.{fragments_of, spine_words_of}
 use Rattle.core_rule.specs.Book.{id_at}
-use Rattle.core_rule.specs.Objects.{AreMade, Objects, cells_in, cells_at}
+use Rattle.core_rule.specs.Objects.{AreMade, Objects, node_in, node_at, cells_at}
 use Rattle.core_rule.specs.Owners.{Owner}
+
+-- an object is an array of some cells or a record of them
+pub node_cases : (P : Node → Type 0) → ((cells : List Cell) → P (record { array = true; cells = cells })) → ((cells : List Cell) → P (record { array = false; cells = cells }))
+    → (object : Node) → P object
+node_cases P an_array a_record object = by object.array
+  where
+    by : (array : Bool) → P (record { array = array; cells = object.cells })
+    by true = an_array object.cells
+    by false = a_record object.cells
+
+-- an object that was made is there
+pub made_node : (o : Option Node) → IsSome o → o ≡ Some (node_in o)
+made_node None some = absurd (cc)
+made_node (Some object) some = refl
+
+-- and has its size
+pub made_size : (o : Option Node) → IsSome o → fragments_of (node_in o) ≡ option_map_or fragments_of o 0
+made_size None some = absurd (cc)
+made_size (Some object) some = refl
+
+-- the object is a record or an array as that one is, with as many cells
+pub record SameShape (now before : Node) : Type 0 where
+  pub kind : now.array ≡ before.array
+  pub cells : length now.cells ≡ length before.cells
+
+-- so it has as many spine words and fragments
+pub shape_words : (now before : Node) → SameShape now before → spine_words_of now ≡ spine_words_of before
+shape_words now before same = ap (λ a. if a then array_words (length now.cells) else 0) same.kind ∙ ap (λ n. if before.array then array_words n else 0) same.cells
+
+pub shape_fragments : (now before : Node) → SameShape now before → fragments_of now ≡ fragments_of before
+shape_fragments now before same = ap (λ a. if a then array_fragments (length now.cells) else record_fragments (length now.cells)) same.kind
+    ∙ ap (λ n. if before.array then array_fragments n else record_fragments n) same.cells
+
+pub shape_same : (now before : Node) → now ≡ before → SameShape now before
+shape_same now before same = record { kind = ap (λ (o : Node). o.array) same; cells = ap (λ (o : Node). length o.cells) same }
 
 -- each object is as it was
 pub record SameNodes (g now : Graph) : Type 0 where
@@ -19,8 +58,14 @@ pub nodes_same : (g now : Graph) → now ≡ g → SameNodes g now
 nodes_same g now same = record { nodes = λ id. ap (λ (x : Graph). node x id) same }
 
 module _ (g now : Graph) (made : List Id) (same : SameNodes g now) where
+  pub objects_alike : (index : ℕ) → node_at now made index ≡ node_at g made index
+  objects_alike index = ap node_in (same.nodes (id_at made index))
+
+  pub shapes_stay : (index : ℕ) → SameShape (node_at now made index) (node_at g made index)
+  shapes_stay index = shape_same _ _ (objects_alike index)
+
   pub cells_stay : (index : ℕ) → cells_at now made index ≡ cells_at g made index
-  cells_stay index = ap cells_in (same.nodes (id_at made index))
+  cells_stay index = ap (λ (o : Node). o.cells) (objects_alike index)
 
   -- the ids are those of the objects
   pub ids_stay : AreMade g made → AreMade now made
@@ -32,12 +77,11 @@ module _ (g now : Graph) (made : List Id) (same : SameNodes g now) where
     fit = ids.fit;
   }
 
-  module _ (owner : ℕ → Owner) (fragments : ℕ → List ℕ) where
+  module _ (owner : ℕ → Owner) (fragments : ℕ → List ℕ) (spines : ℕ → Spot) where
     -- their words are theirs
-    pub objects_stay : (heap : Heap) (words : List ℕ) → Objects heap words g made owner fragments → Objects heap words now made owner fragments
+    pub objects_stay : (heap : Heap) (words : List ℕ) → Objects heap words g made owner fragments spines → Objects heap words now made owner fragments spines
     objects_stay heap words objects = record {
-      kept = λ i below is. rw (cells_stay i) (objects.kept i below is);
-      sizes = λ i below is. objects.sizes i below is ∙ ap (λ (o : Option Node). option_map_or fragments_of o 0) (sym (same.nodes (id_at made i)));
+      kept = λ i below is. rw (objects_alike i) (objects.kept i below is);
       named = λ i j below is cell there. objects.named i j below is cell (sym (ap (λ cells. slice_get cells j) (cells_stay i)) ∙ there);
       back = objects.back;
       board = objects.board;

@@ -13,7 +13,7 @@ use Rattle.core_rule.specs.Rule.{Rule}
 use Rattle.core_rule.proofs.held.Alive.{IsAlive, kept_alive, head_alive, alive_not_dead, alive_taken, alive_within}
 use Rattle.core_rule.proofs.held.BodyWords.{borne_leads}
 use Rattle.core_rule.proofs.held.Holders.{holds_alive}
-use Rattle.core_rule.proofs.marking.ObjectEdges.{object_leads}
+use Rattle.core_rule.proofs.marking.ObjectEdges.{kept_leads, part_owned}
 use Rattle.core_rule.proofs.marking.Paths.{white_or_marked}
 
 module _ (heap : Heap) (state : State) (book : Book) (rule : Rule heap state book) where
@@ -22,16 +22,11 @@ module _ (heap : Heap) (state : State) (book : Book) (rule : Rule heap state boo
   born_owner f within born = sym (rule.heap_stands.control_words.born f within) ∙ born
 
   -- the sources of a kept object lead to what is alive
-  kept_leads : (f i k source x : ℕ) → book.owner f ≡ Kept i k → WordPointsTo heap state.words f source x → IsAlive (book.owner x)
-  kept_leads f i k source x is leads =
-      let stands = rule.heap_stands in
-      let back = stands.objects.back f i k is in
-      let object = stands.objects.kept i back.0 back.1 in
-      elim (object_leads heap state.words (graph_of heap book.history) book.made book.owner book.fragments rule.machine.limits stands.control_words stands.ids stands.objects
-      i back.0 back.1 k source x back.2 (subst (λ y. WordPointsTo heap state.words y source x) back.3 leads)) as (λ _. IsAlive (book.owner x)) [
-        | inl next ↦ kept_alive (book.owner x) i (k + 1) (ap book.owner next.1 ∙ object.owned (k + 1) next.0)
-        | inr head ↦ head_alive book.made book.owner book.fragments x head
-      ]
+  kept_alive_leads : (f i k source x : ℕ) → book.owner f ≡ Kept i k → WordPointsTo heap state.words f source x → IsAlive (book.owner x)
+  kept_alive_leads f i k source x is leads = elim (kept_leads heap state book rule f i k is source x leads) as (λ _. IsAlive (book.owner x)) [
+    | inl part ↦ kept_alive (book.owner x) i part.place (part_owned heap state book rule f i k is x part)
+    | inr head ↦ head_alive book.made book.owner book.fragments x head
+  ]
 
   -- so do those of all that is alive and born
   word_alive : (f source x : ℕ) → IsAlive (book.owner f) → IsBorn heap state.words f → WordPointsTo heap state.words f source x → IsAlive (book.owner x)
@@ -41,7 +36,7 @@ module _ (heap : Heap) (state : State) (book : Book) (rule : Rule heap state boo
       by Free is alive = absurd alive
       by (Taken number) is alive = absurd (omega (arith, born_owner f leads.within born, ap born_bit is))
       by (Borne number) is alive = borne_leads heap state book rule number f is source x leads
-      by (Kept i k) is alive = kept_leads f i k source x is leads
+      by (Kept i k) is alive = kept_alive_leads f i k source x is leads
       by (Dead i k) is alive = absurd alive
 
   pub held_alive : (f : ℕ) → IsHeld heap state f → IsAlive (book.owner f)

@@ -1,15 +1,14 @@
 -- What a seat holds is alive.
 use Rattle.std.specs.Prelude.{IsSome}
 use Rattle.std.proofs.Common.{◌≡◌, ℕ, ◌<◌, ◌⊎◌, inl, inr, List, Some, None, refl, sym, ap, ◌∙◌, subst, arith}
-use Rattle.heap_model.specs.declared.graph.cell.Cell.{Cell}
 use Rattle.heap_model.specs.declared.heap.Heap.{Heap}
 use Rattle.heap_model.specs.account.Cycles.{graph_of}
-use Rattle.heap_model.specs.graph.Graph.{Graph}
+use Rattle.heap_model.specs.graph.Graph.{Graph, Node}
 use Rattle.heap_model.specs.graph.Objects.{register_value}
 use Rattle.core_machine.specs.declared.place.Place.{Place}
 use Rattle.core_machine.specs.declared.place.Place.TheVariants as places
 use Rattle.core_machine.specs.declared.place.Access.{Access}
-use Rattle.core_machine.specs.declared.place.Access.TheVariants.{LoadingMeta, Walking, Getting, Naming, LoadingOld, ShadingOld, ShadingNew, Swapping}
+use Rattle.core_machine.specs.declared.place.Access.TheVariants.{LoadingMeta, Walking, Locating, Indexing, Getting, Naming, LoadingOld, ShadingOld, ShadingNew, Swapping}
 use Rattle.core_machine.specs.machine.Machine.{State, seat_at}
 use Rattle.core_machine.specs.seat.Fits.{FitsWay}
 use Rattle.core_machine.specs.seat.Registers.{register_in}
@@ -20,9 +19,9 @@ use Rattle.core_rule.specs.Book.{Book, fragment_at, object_number, object_head}
 use Rattle.core_rule.specs.Counts.{Awaits}
 use Rattle.core_rule.specs.Held.{OwnsFragment, IsInRegister, AccessHolds, CallHolds, SeatHolds}
 use Rattle.core_rule.specs.Holding.{Holding}
-use Rattle.core_rule.specs.Objects.{cells_at}
+use Rattle.core_rule.specs.Objects.{node_at}
 use Rattle.core_rule.specs.Rule.{Rule, SeatStands}
-use Rattle.core_rule.specs.Ways.{SetsOut, Finds, LoadedKept, OldKept, WayStands}
+use Rattle.core_rule.specs.Ways.{SetsOut, Finds, Locates, LoadedKept, OldKept, WayStands}
 use Rattle.core_rule.proofs.entries.AtRest.{seat_fits}
 use Rattle.core_rule.proofs.hand.Bodies.{body_own}
 use Rattle.core_rule.proofs.held.Alive.{IsAlive, own_alive, kept_alive, head_alive}
@@ -38,8 +37,8 @@ module _ (heap : Heap) (state : State) (book : Book) (rule : Rule heap state boo
   abbrev g : Graph
   g = graph_of heap book.history
 
-  abbrev cells : ℕ → List Cell
-  cells = cells_at g book.made
+  abbrev nodes : ℕ → Node
+  nodes = node_at g book.made
 
   stands : SeatStands heap state.words book number seat
   stands = rule.seats_stand number here
@@ -66,7 +65,10 @@ module _ (heap : Heap) (state : State) (book : Book) (rule : Rule heap state boo
   start_alive : SetsOut book.made book.owner book.fragments seat → AliveNow seat.reached
   start_alive start = kept_alive (book.owner seat.reached) start.index 0 (ap book.owner start.way.here ∙ start.way.kept)
 
-  reached_alive : Finds cells book.made book.owner book.fragments seat → AliveNow seat.reached
+  sentinel_alive : Locates nodes book.made book.owner book.fragments seat → AliveNow seat.reached
+  sentinel_alive locates = kept_alive (book.owner seat.reached) locates.index 0 (ap book.owner locates.way.here ∙ locates.way.kept)
+
+  reached_alive : Finds nodes book.made book.owner book.fragments seat → AliveNow seat.reached
   reached_alive finds =
       let heap_stands = rule.heap_stands in
       let ahead = row_ahead heap state.words g book.made book.owner book.fragments rule.machine.limits heap_stands.control_words heap_stands.ids heap_stands.objects seat finds in
@@ -93,10 +95,12 @@ module _ (heap : Heap) (state : State) (book : Book) (rule : Rule heap state boo
   either f reached loaded (inl is) = rw is reached
   either f reached loaded (inr is) = loaded f is
 
-  access_alive : (f : ℕ) (place : Access) → FitsWay seat (places.Access place) → WayStands cells book.made book.owner book.fragments seat (places.Access place)
+  access_alive : (f : ℕ) (place : Access) → FitsWay seat (places.Access place) → WayStands nodes book.made book.owner book.fragments seat (places.Access place)
       → Awaits g book.made book.owner book.fragments number seat (places.Access place) stands.told.list.awaited → AccessHolds seat place f → AliveNow f
   access_alive f LoadingMeta fits way awaits holds = either f (start_alive way) (nothing_loaded fits.none_loaded) holds
   access_alive f Walking fits way awaits holds = either f (reached_alive way) (nothing_loaded fits.none_loaded) holds
+  access_alive f Locating fits way awaits holds = either f (sentinel_alive way) (nothing_loaded fits.none_loaded) holds
+  access_alive f Indexing fits way awaits holds = either f (sentinel_alive way) (nothing_loaded fits.none_loaded) holds
   access_alive f Getting fits way awaits holds = either f (reached_alive way) (nothing_loaded fits.1) holds
   access_alive f Naming fits way awaits holds = named_alive f awaits holds
   access_alive f LoadingOld fits way awaits holds = either f (reached_alive way) (nothing_loaded fits.2) holds
@@ -104,7 +108,7 @@ module _ (heap : Heap) (state : State) (book : Book) (rule : Rule heap state boo
   access_alive f ShadingNew fits way awaits holds = either f (reached_alive way.0) (old_alive way.1) holds
   access_alive f Swapping fits way awaits holds = either f (reached_alive way.0) (old_alive way.1) holds
 
-  call_alive : (f : ℕ) (place : Place) → FitsWay seat place → WayStands cells book.made book.owner book.fragments seat place
+  call_alive : (f : ℕ) (place : Place) → FitsWay seat place → WayStands nodes book.made book.owner book.fragments seat place
       → Awaits g book.made book.owner book.fragments number seat place stands.told.list.awaited → CallHolds seat place f → AliveNow f
   call_alive f (places.Access place) fits way awaits holds = access_alive f place fits way awaits holds
   call_alive f _ fits way awaits holds = absurd holds

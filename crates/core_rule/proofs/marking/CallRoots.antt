@@ -1,41 +1,42 @@
 -- The roots of a call: what its way and its registers lead to.
-use Rattle.std.proofs.Common.{◌≡◌, ℕ, ◌+◌, ◌<◌, List, length, Some, IfSome, refl, sym, ap, ◌∙◌, subst, arith}
+use Rattle.std.proofs.Common.{◌≡◌, ℕ, ◌+◌, ◌<◌, true, false, List, length, Some, IfSome, refl, sym, ap, ◌∙◌, subst, arith}
 use Rattle.heap_model.specs.declared.command.Command.{Command}
 use Rattle.heap_model.specs.declared.command.Command.TheVariants as commands
 use Rattle.heap_model.specs.declared.heap.Heap.{Heap}
 use Rattle.heap_model.specs.Command.{IsCommand}
 use Rattle.heap_model.specs.account.Cycles.{graph_of}
 use Rattle.heap_model.specs.graph.Graph.{Graph}
+use Rattle.heap_model.specs.graph.Sizes.{spine_words_of}
 use Rattle.core_machine.specs.declared.table.address.Address.TheVariants.{Word}
 use Rattle.core_machine.specs.declared.place.Access.{Access}
 use Rattle.core_machine.specs.declared.place.Place.TheVariants as places
 use Rattle.core_machine.specs.declared.seat.register.Register.{Register}
 use Rattle.core_machine.specs.declared.seat.register.Register.TheVariants as registers
 use Rattle.core_machine.specs.seat.Access.{access_start}
-use Rattle.core_machine.specs.seat.FitsAccess.{IsFieldPart}
 use Rattle.core_machine.specs.seat.Commands.{IsRecord, IsServed}
 use Rattle.core_machine.specs.seat.Fits.{IsLocal}
 use Rattle.core_machine.specs.seat.Local.{local_registers}
 use Rattle.core_machine.specs.seat.Registers.{register_in, register_head}
 use Rattle.core_machine.specs.seat.Seat.{Seat}
-use Rattle.core_machine.specs.table.Decode.{head_of, link_of}
+use Rattle.core_machine.specs.table.Decode.{head_of, link_of, is_meta}
 use Rattle.core_machine.specs.table.Layout.{at}
 use Rattle.core_machine.specs.machine.Machine.{State, seat_at, call_start}
 use Rattle.core_rule.specs.Book.{Book, fragment_at}
 use Rattle.core_rule.specs.Flight.{WhileAccess}
 use Rattle.core_rule.specs.Roots.{IsInMarking, AtCall, OfRoots}
-use Rattle.core_rule.specs.Objects.{cells_at}
+use Rattle.core_rule.specs.Objects.{IsKept, node_at}
 use Rattle.core_rule.specs.Owners.{born_bit}
 use Rattle.core_rule.specs.Paths.{IsReached}
 use Rattle.core_rule.specs.Rule.{Rule}
 use Rattle.core_rule.specs.Ways.{Finds}
 use Rattle.core_rule.proofs.colours.SourceCases.{word_leads}
-use Rattle.core_rule.proofs.cycle.Barriers.{later_lead}
 use Rattle.core_rule.proofs.entries.AtRest.{seat_fits}
 use Rattle.core_rule.proofs.marking.Marks.{IsOffWay, comes_further, roots_off_way}
 use Rattle.core_rule.proofs.marking.RegisterRoots.{OfHeads, heads_put}
-use Rattle.core_rule.proofs.ways.Chains.{chain_leads}
-use Rattle.core_rule.proofs.ways.KeptWords.{link_ahead, row_ahead}
+use Rattle.core_rule.proofs.ways.ArrayWords.{plain_lead}
+use Rattle.core_rule.proofs.ways.Chains.{chain_leads, spine_leads}
+use Rattle.core_rule.proofs.ways.KeptWords.{link_ahead, row_ahead, a_record, payload_found}
+use Rattle.core_rule.proofs.objects.SpinePlaces.{spine_placed}
 use Rattle.core_rule.proofs.ways.LoadedObjects.{KeptHead}
 
 module _ (P : ℕ → Type 0) where
@@ -69,7 +70,6 @@ module _ (P : ℕ → Type 0) where
   begin_roots heap seat (commands.Set r i v) other served heads = start_roots seat (register_in seat.registers r) heads (heads r)
   begin_roots heap seat (commands.Len r) other served heads = start_roots seat (register_in seat.registers r) heads (heads r)
   begin_roots heap seat (commands.New d fields) other served heads = absurd (other tt)
-  begin_roots heap seat (commands.Array d cells) other served heads = absurd served
   begin_roots heap seat commands.Collect other served heads = absurd served
   begin_roots heap seat _ other served heads = record { registers = heads; call = tt }
 
@@ -86,7 +86,7 @@ module _ (heap : Heap) (state : State) (book : Book) (number : ℕ) (rule : Rule
 
   module _ (marks : IsInMarking state.collector) (comes : IsReachedNow heap state book seat.reached) where
     -- so it comes to the next fragment of the way
-    pub link_comes : (links part : ℕ) → 0 < links → Finds (cells_at g book.made) book.made book.owner book.fragments (record seat { links = links; part = part })
+    pub link_comes : (links part : ℕ) → 0 < links → Finds (node_at g book.made) book.made book.owner book.fragments (record seat { links = links; part = part })
         → IsReachedNow heap state book (link_of (at heap state.words (Word seat.reached 0)))
     link_comes links part more finds =
         let stands = rule.heap_stands in
@@ -99,10 +99,22 @@ module _ (heap : Heap) (state : State) (book : Book) (number : ℕ) (rule : Rule
         (sym (link_ahead heap state.words g book.made book.owner book.fragments rule.machine.limits stands.control_words stands.ids stands.objects on finds more))
         (comes_further heap state book rule marks (fragment_at (book.fragments i) k) 0 (fragment_at (book.fragments i) (k + 1))
         (ap born_bit ((stands.objects.kept i finds.way.below finds.way.kept).owned (k + 1) next)) (subst (IsReachedNow heap state book) finds.way.here comes)
-        (chain_leads heap state.words g book.made book.owner book.fragments rule.machine.limits stands.control_words stands.ids stands.owners stands.objects i k finds.way.below finds.way.kept next))
+        (chain_leads heap state.words g book.made book.owner book.fragments rule.machine.limits stands.control_words stands.ids stands.owners stands.objects i finds.way.below finds.way.kept
+        (a_record heap state.words g book.made book.owner book.fragments rule.machine.limits stands.control_words stands.ids stands.objects on finds more) k next))
+
+    -- to the fragment of an array that a word of its spine names
+    pub payload_comes : (i j : ℕ) → i < length book.made → IsKept book.owner book.fragments i → seat.reached ≡ fragment_at (book.fragments i) 0 → (node_at g book.made i).array ≡ true
+        → j < spine_words_of (node_at g book.made i) → IsReachedNow heap state book (fragment_at (book.fragments i) (j + 1))
+    payload_comes i j below kept at_first kind within =
+        let stands = rule.heap_stands in
+        let payload = payload_found heap state.words g book.made book.owner book.fragments rule.machine.limits stands.control_words stands.ids stands.objects i below kept j within in
+        comes_further heap state book rule marks (fragment_at (book.fragments i) 0) (4 + j) (fragment_at (book.fragments i) (j + 1))
+        (ap born_bit ((stands.objects.kept i below kept).owned (j + 1) payload.0)) (subst (IsReachedNow heap state book) at_first comes)
+        (spine_leads heap state.words g book.made book.owner book.fragments rule.machine.limits stands.control_words stands.ids stands.owners stands.objects i below kept kind (spine_placed rule i below kept kind) j within)
 
     -- and to the object that the call's field refers to
-    pub field_comes : IsFieldPart seat.part → (f : ℕ) → KeptHead book.made book.owner book.fragments f → head_of (at heap state.words (Word seat.reached seat.part)) ≡ Some f → IsReachedNow heap state book f
-    field_comes field f head leads =
+    pub field_comes : seat.part < 4 → is_meta (at heap state.words (Word seat.reached seat.part)) ≡ false → (f : ℕ) → KeptHead book.made book.owner book.fragments f
+        → head_of (at heap state.words (Word seat.reached seat.part)) ≡ Some f → IsReachedNow heap state book f
+    field_comes below plain f head leads =
         comes_further heap state book rule marks seat.reached seat.part f (ap born_bit (ap book.owner head.is ∙ head.kept)) comes
-        (word_leads heap state.words seat.reached seat.part f (seat_fits rule number here).way.reached_within field.below (later_lead seat.part (at heap state.words (Word seat.reached seat.part)) field.some ∙ leads))
+        (word_leads heap state.words seat.reached seat.part f (seat_fits rule number here).way.reached_within below (plain_lead seat.part (at heap state.words (Word seat.reached seat.part)) plain ∙ leads))

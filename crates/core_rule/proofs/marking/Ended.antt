@@ -11,7 +11,8 @@ use Rattle.core_rule.specs.Owners.{Owner, Kept}
 use Rattle.core_rule.specs.Paths.{from_grey, from_white, IsGuarded, IsReached}
 use Rattle.core_rule.specs.Rule.{Rule}
 use Rattle.core_rule.proofs.marking.Paths.{grey_or_black}
-use Rattle.core_rule.proofs.ways.Chains.{chain_leads}
+use Rattle.core_rule.proofs.ways.Chains.{parts_follow}
+use Rattle.core_rule.proofs.objects.SpinePlaces.{spine_placed}
 
 module _ (heap : Heap) (words : List ℕ) (owner : ℕ → Owner) (colour : ℕ → Colour) (none : (f : ℕ) → colour f ≢ Grey) where
   -- no path leaves a grey fragment
@@ -43,11 +44,7 @@ module _ (heap : Heap) (state : State) (book : Book) (rule : Rule heap state boo
   -- and then by all of them
   pub whole_marked : (i k : ℕ) → i < length book.made → IsKept book.owner book.fragments i → IsMarked book.colour (fragment_at (book.fragments i) 0)
       → k < length (book.fragments i) → IsMarked book.colour (fragment_at (book.fragments i) k)
-  whole_marked i zero below kept first within = first
-  whole_marked i (suc k) below kept first within =
-      let more : k + 1 < length (book.fragments i) = omega (arith, within) in
-      let next : k + 1 ≡ suc k = omega arith in
+  whole_marked i k below kept first within =
       let stands = rule.heap_stands in
-      subst (λ n. IsMarked book.colour (fragment_at (book.fragments i) n)) next
-      (leads_marked (fragment_at (book.fragments i) k) 0 (fragment_at (book.fragments i) (k + 1)) (whole_marked i k below kept first (omega (arith, within)))
-      (chain_leads heap state.words (graph_of heap book.history) book.made book.owner book.fragments rule.machine.limits stands.control_words stands.ids stands.owners stands.objects i k below kept more))
+      parts_follow heap state.words (graph_of heap book.history) book.made book.owner book.fragments rule.machine.limits stands.control_words stands.ids stands.owners stands.objects i below kept
+      (IsMarked book.colour) (spine_placed rule i below kept) first (λ f source x marked leads. leads_marked f source x marked leads) k within

@@ -15,7 +15,8 @@ use Rattle.core_rule.specs.Phases.{IsNear}
 use Rattle.core_rule.specs.Rule.{Rule}
 use Rattle.core_rule.proofs.colours.BirthColours.{painted, painted_in, painted_cases}
 use Rattle.core_rule.proofs.colours.Births.{birth_colour}
-use Rattle.core_rule.proofs.colours.LeadsFrames.{SameSources, same_beside, leads_same, same_leads, leads_control, control_leads}
+use Rattle.core_rule.proofs.colours.LeadsFrames.{SameSources, same_beside, leads_same, same_leads, leads_control, control_leads, same_ahead}
+use Rattle.core_rule.proofs.colours.SpineStays.{SpineStays, same_spine}
 use Rattle.core_rule.proofs.cycle.Barriers.{window_black, black_window}
 use Rattle.core_rule.proofs.marking.MarkingFrames.{LeavesMarking}
 use Rattle.core_rule.proofs.marking.Marks.{IsLastAnswered, all_answered}
@@ -60,6 +61,10 @@ module _ (heap : Heap) (state : State) (book : Book) (rule : Rule heap state boo
   abbrev clears : Type 0
   clears = IsLastAnswered heap state.collector
 
+  -- spines stay at a step on a control word
+  spine_after_control : (g n : ℕ) → g < heap.groups → (f : ℕ) → SpineStays heap state.words (put heap state.words (Control g) n) f
+  spine_after_control g n below f = same_spine heap state.words (put heap state.words (Control g) n) f (same_ahead heap state.words (Control g) n (omega (arith, below)) f)
+
   -- nothing that isn't born is grey
   unborn_grey : (f : ℕ) → born_bit (book.owner f) ≡ 0 → book.colour f ≢ Grey
   unborn_grey f unborn grey = let born = rule.heap_stands.cycle.coloured.born f (λ white. absurd (cc (grey, white))) in omega (arith, unborn, born)
@@ -95,6 +100,7 @@ module _ (heap : Heap) (state : State) (book : Book) (rule : Rule heap state boo
       light = λ clear f white. white;
       back = λ marks f source x born leads. inl (leads_control heap state.words g n below f source x leads);
       on = λ marks f source x born leads. inl (control_leads heap state.words g n below f source x leads);
+      spine = λ marks f born. spine_after_control g n below f;
     }
 
     -- they are born, and not yet an object's
@@ -113,6 +119,7 @@ module _ (heap : Heap) (state : State) (book : Book) (rule : Rule heap state boo
       light = λ clear f white. painted_cases (λ c. c ≡ White) (birth_colour black) book.colour fs f (λ there. ap birth_colour (pale clear)) (λ away. white);
       back = λ marks f source x born leads. inl (leads_control heap state.words g n below f source x leads);
       on = λ marks f source x born leads. inl (control_leads heap state.words g n below f source x leads);
+      spine = λ marks f born. spine_after_control g n below f;
     }
       where
         in_or_out : (f : ℕ) → (1 ≤ tally f fs) ⊎ (tally f fs ≡ 0)
@@ -134,6 +141,7 @@ module _ (heap : Heap) (state : State) (book : Book) (rule : Rule heap state boo
     light = λ clear x white. white;
     back = λ marks x p g born leads. inl (leads_same heap state.words (put heap state.words (Word f part) word) x (beside x born) p g leads);
     on = λ marks x p g born leads. inl (same_leads heap state.words (put heap state.words (Word f part) word) x (beside x born) p g leads);
+    spine = λ marks x born. same_spine heap state.words (put heap state.words (Word f part) word) x (beside x born);
   }
     where
       beside : (x : ℕ) → born_bit (book.owner x) ≡ 1 → SameSources heap state.words (put heap state.words (Word f part) word) x
@@ -159,6 +167,7 @@ module _ (heap : Heap) (state : State) (book : Book) (rule : Rule heap state boo
     light = λ clear f white. painted_cases (λ c. c ≡ White) (birth_colour black) book.colour fs f (λ there. ap birth_colour (pale clear)) (λ away. white);
     back = λ marks f source x born leads. inl (leads_control heap state.words g n below f source x leads);
     on = λ marks f source x born leads. inl (control_leads heap state.words g n below f source x leads);
+    spine = λ marks f born. spine_after_control g n below f;
   }
     where
       no_dead : {j m i k : ℕ} (f : ℕ) → Kept j m ≢ Dead i k

@@ -1,20 +1,23 @@
 -- What a step leaves of marking that marks no fragment of an object.
-use Rattle.std.proofs.Common.{◌⊎◌, ◌≡◌, ◌≢◌, ℕ, ◌≤◌, List, Option, Some, false, inl, inr, sym, ap, ◌∙◌, subst, arith, ◌*◌, ◌+◌}
+use Rattle.std.proofs.Common.{◌⊎◌, ◌≡◌, ◌≢◌, ℕ, ◌<◌, ◌≤◌, List, Option, Some, false, inl, inr, sym, ap, ◌∙◌, subst, arith, ◌*◌, ◌+◌}
 use Rattle.heap_model.specs.declared.heap.Heap.{Heap}
+use Rattle.heap_words.specs.Spot.{spot_in}
+use Rattle.core_machine.specs.declared.collector.stage.SpineScan.{SpineScan}
 use Rattle.core_machine.specs.declared.collector.stage.Stage.{Stage}
 use Rattle.core_machine.specs.declared.collector.stage.Stage.TheVariants as stages
 use Rattle.core_rule.specs.Book.{Colour, White, Grey, Black, fragment_at}
 use Rattle.core_rule.specs.Colours.{IsMarked, WordPointsTo}
 use Rattle.core_rule.specs.Flight.{DeletionBarrier}
-use Rattle.core_rule.specs.Marking.{IsPart, MayMark, IsSeen, IsSeenWhole, ComesAfter, ScanStands, PassStands, AfterMarking, MarkingStands}
+use Rattle.core_rule.specs.Marking.{IsPart, MayMark, IsSeen, IsSeenWhole, IsSpineOf, ComesAfter, ScanStands, PassStands, AfterMarking, MarkingStands}
 use Rattle.core_rule.specs.Sweep.{IsSettled, AreFreed, AreDead, AreCleared, SweepStands}
 use Rattle.core_rule.specs.Owners.{Owner, Kept, Dead, born_bit, dead_bit}
 use Rattle.core_rule.specs.Paths.{IsWhite, Edge, IsReached}
+use Rattle.core_rule.proofs.colours.SpineStays.{SpineStays}
 use Rattle.core_rule.proofs.marking.Paths.{path_stays}
 use Rattle.core_rule.proofs.owners.OwnerLemmas.{born_once, dead_once, is_dead, bits_same}
 
 -- the born fragments have their colours, and stay born; what is kept stays so, and nothing more is to be freed; none that wasn't born is grey; in the
--- phase of marking the sources of born fragments lead where they led but for what is marked; from then to the end of the sweep what is born now is black;
+-- phase of marking the sources of born fragments lead where they led but for what is marked, and spines stay; from then to the end of the sweep what is born now is black;
 -- and while marks are cleared what is white stays so
 pub record LeavesMarking (heap : Heap) (words now : List ℕ) (owner later : ℕ → Owner) (colour coloured : ℕ → Colour) (fragments bodies : ℕ → List ℕ) (marks settles clears : Type 0) : Type 0 where
   pub born : (f : ℕ) → born_bit (owner f) ≡ 1 → (born_bit (later f) ≡ 1) × (coloured f ≡ colour f)
@@ -26,12 +29,16 @@ pub record LeavesMarking (heap : Heap) (words now : List ℕ) (owner later : ℕ
   pub light : clears → (f : ℕ) → colour f ≡ White → coloured f ≡ White
   pub back : marks → (f source g : ℕ) → born_bit (owner f) ≡ 1 → WordPointsTo heap now f source g → WordPointsTo heap words f source g ⊎ IsMarked coloured g
   pub on : marks → (f source g : ℕ) → born_bit (owner f) ≡ 1 → WordPointsTo heap words f source g → WordPointsTo heap now f source g ⊎ IsMarked colour g
+  pub spine : marks → (f : ℕ) → born_bit (owner f) ≡ 1 → SpineStays heap words now f
 
 -- this is so at each stage of marking
 abbrev pub OnlyMarks : Type 0 → Stage → Type 0
 OnlyMarks marks (stages.Passing group found) = marks
 OnlyMarks marks (stages.Scanning scan) = marks
 OnlyMarks marks (stages.Shading scan target next) = marks
+OnlyMarks marks (stages.Locating scan count) = marks
+OnlyMarks marks (stages.Indexing s) = marks × (s.index < s.words)
+OnlyMarks marks (stages.Spreading s target) = marks × (s.index < s.words)
 OnlyMarks marks (stages.Blackening scan) = marks
 OnlyMarks marks _ = Unit {0}
 
@@ -120,6 +127,11 @@ module _ (heap : Heap) (words now : List ℕ) (owner later : ℕ → Owner) (col
       | inr past ↦ inr (past.0, past.1, (past.2.0, (leaves.kept f past.2.0 0 past.2.1).0))
     ]
 
+    spine_on : (s : SpineScan) → colour s.scan.fragment ≡ Grey → s.index < s.words → IsSpineOf heap words s → IsSpineOf heap now s
+    spine_on s grey within is =
+        let stays = leaves.spine is_marking s.scan.fragment (grey_born s.scan.fragment grey) in
+        record { as_many = is.as_many ∙ sym stays.as_many; there = is.there ∙ ap spot_in (sym (stays.there (omega (arith, within, is.as_many)))) }
+
     white_on : (f : ℕ) → IsWhite owner colour f → IsWhite later coloured f
     white_on f white = record { unmarked = same_colour f white.born ∙ white.unmarked; born = (leaves.born f white.born).0 }
 
@@ -154,6 +166,15 @@ module _ (heap : Heap) (words now : List ℕ) (owner later : ℕ → Owner) (col
   scan_stays (stages.Scanning scan) is stands = seen_on is scan.fragment scan.part stands
   scan_stays (stages.Shading scan target next) is stands =
       (seen_on is scan.fragment scan.part stands.0, finds_on is scan.fragment scan.part (Some target) stands.0.grey stands.1, may_on target stands.2, after_on is scan.fragment scan.part next stands.3)
+  scan_stays (stages.Locating scan count) is stands =
+      (seen_on is scan.fragment 4 stands.0, stands.1 ∙ sym (leaves.spine is scan.fragment (grey_born scan.fragment stands.0.grey)).as_many)
+  scan_stays (stages.Indexing s) is stands = (seen_on is.0 s.scan.fragment (4 + s.index) stands.0, spine_on is.0 s stands.0.grey is.1 stands.1)
+  scan_stays (stages.Spreading s target) is stands = (
+    seen_on is.0 s.scan.fragment (4 + s.index) stands.0,
+    spine_on is.0 s stands.0.grey is.1 stands.1,
+    (leaves.spine is.0 s.scan.fragment (grey_born s.scan.fragment stands.0.grey)).leads s.index target stands.2,
+    may_on target stands.3,
+  )
   scan_stays (stages.Blackening scan) is stands = whole_on is scan.fragment stands
   scan_stays _ is stands = tt
 
@@ -190,6 +211,7 @@ module _ (heap : Heap) (words now : List ℕ) (owner later : ℕ → Owner) (col
   marking_stays phase stage is clear known stands = record {
     grey = λ f grey. part_on f (stands.grey f (grey_was f grey));
     scan = scan_stays stage is stands.scan;
+    few = stands.few;
     pass = pass_stays stage stands.pass;
     sweep_stands = sweep_stays phase stage clear stands.sweep_stands;
     alive = λ goes_on f i k is_dead. stands.alive goes_on f i k (leaves.was_dead f i k is_dead);

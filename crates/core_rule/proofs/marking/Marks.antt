@@ -7,7 +7,7 @@ use Rattle.core_machine.specs.declared.collector.stage.Stage.{Stage}
 use Rattle.core_machine.specs.declared.collector.stage.Stage.TheVariants as stages
 use Rattle.core_machine.specs.collector.FitsTurns.{FitsStage}
 use Rattle.core_machine.specs.declared.place.Access.{Access}
-use Rattle.core_machine.specs.declared.place.Access.TheVariants.{LoadingMeta, Walking, Getting, Naming, LoadingOld, ShadingOld, ShadingNew, Swapping}
+use Rattle.core_machine.specs.declared.place.Access.TheVariants.{LoadingMeta, Walking, Locating, Indexing, Getting, Naming, LoadingOld, ShadingOld, ShadingNew, Swapping}
 use Rattle.core_machine.specs.declared.place.Place.{Place}
 use Rattle.core_machine.specs.declared.place.Place.TheVariants as places
 use Rattle.core_machine.specs.machine.Machine.{State, seat_at}
@@ -17,12 +17,14 @@ use Rattle.core_machine.specs.table.Decode.{head_of}
 use Rattle.core_rule.specs.Book.{Book, Colour, Grey}
 use Rattle.core_rule.specs.Colours.{WordPointsTo, IsBetween}
 use Rattle.core_rule.specs.Flight.{WhileAccess}
-use Rattle.core_rule.specs.Marking.{IsPart, ScanStands, PassStands, MarkingStands}
+use Rattle.core_rule.specs.Marking.{IsPart, ScanStands, IsFewWords, PassStands, MarkingStands}
 use Rattle.core_rule.specs.Roots.{IsInMarking, AtCall, OfRoots, RootsAreReached}
 use Rattle.core_rule.specs.Sweep.{SweepStands, IsSettled}
 use Rattle.core_rule.specs.Owners.{Owner, Dead, born_bit}
 use Rattle.core_rule.specs.Paths.{IsReached}
 use Rattle.core_rule.specs.Rule.{Rule}
+use Rattle.core_rule.proofs.colours.LeadsFrames.{SameSources, leads_same, same_leads}
+use Rattle.core_rule.proofs.colours.SpineStays.{same_spine}
 use Rattle.core_rule.proofs.cycle.CycleFrames.{while_access}
 use Rattle.core_rule.proofs.lists.Options.{if_some}
 use Rattle.core_rule.proofs.marking.Paths.{reached_on}
@@ -38,6 +40,8 @@ roots_more P Q more seat roots = record {
     each : (place : Access) → AtCall P seat place → AtCall Q seat place
     each LoadingMeta holds = more seat.reached holds
     each Walking holds = more seat.reached holds
+    each Locating holds = more seat.reached holds
+    each Indexing holds = more seat.reached holds
     each Getting holds = more seat.reached holds
     each Naming holds = if_some P Q more (head_of seat.loaded) holds
     each LoadingOld holds = more seat.reached holds
@@ -91,11 +95,12 @@ unsettled phase stage third goes (inr (inr sweeps)) = omega (arith, third, sweep
 
 -- what stands at a stage of marking: nothing is to be freed yet
 pub marks_at : (heap : Heap) (words : List ℕ) (owner : ℕ → Owner) (colour : ℕ → Colour) (fragments : ℕ → List ℕ) (phase : ℕ) (stage : Stage) → phase % 7 ≡ 3 → stage ≢ stages.Advancing
-    → ((f : ℕ) → colour f ≡ Grey → IsPart owner f) → ScanStands heap words owner colour fragments stage → PassStands colour stage → SweepStands heap owner colour phase stage
+    → ((f : ℕ) → colour f ≡ Grey → IsPart owner f) → ScanStands heap words owner colour fragments stage → IsFewWords stage → PassStands colour stage → SweepStands heap owner colour phase stage
     → ((f i k : ℕ) → owner f ≢ Dead i k) → MarkingStands heap words owner colour fragments phase stage
-marks_at heap words owner colour fragments phase stage third goes grey scan pass sweep alive = record {
+marks_at heap words owner colour fragments phase stage third goes grey scan few pass sweep alive = record {
   grey = grey;
   scan = scan;
+  few = few;
   pass = pass;
   sweep_stands = sweep;
   alive = λ going. alive;
@@ -112,6 +117,9 @@ module _ (heap : Heap) (state : State) (book : Book) (rule : Rule heap state boo
   only_marks (stages.Passing group found) fits = fits.marks.for_marking
   only_marks (stages.Scanning scan) fits = fits.marks.for_marking
   only_marks (stages.Shading scan target next) fits = fits.marks.for_marking
+  only_marks (stages.Locating scan count) fits = fits.marks.for_marking
+  only_marks (stages.Indexing s) fits = (fits.marks.for_marking, fits.index_within)
+  only_marks (stages.Spreading s target) fits = (fits.marks.for_marking, fits.index_within)
   only_marks (stages.Blackening scan) fits = fits.marks.for_marking
   only_marks _ fits = tt
 
@@ -152,10 +160,9 @@ module _ (heap : Heap) (state : State) (book : Book) (rule : Rule heap state boo
   Leaves words now = LeavesMarking heap state.words words book.owner now.owner book.colour now.colour book.fragments now.fragments (state.collector.phase % 7 ≡ 3)
       (IsBetween 3 5 state.collector.phase) (IsLastAnswered heap state.collector)
 
-  -- all that is born is as it was, and each source leads where it led
-  pub leaves_words : (words : List ℕ) → ((f source g : ℕ) → WordPointsTo heap words f source g → WordPointsTo heap state.words f source g)
-      → ((f source g : ℕ) → WordPointsTo heap state.words f source g → WordPointsTo heap words f source g) → Leaves words book
-  leaves_words words back on = record {
+  -- all that is born is as it was, and the sources are the same
+  pub leaves_words : (words : List ℕ) → ((f : ℕ) → SameSources heap state.words words f) → Leaves words book
+  leaves_words words same = record {
     born = λ f born. (born, refl);
     kept = λ f i k kept. (kept, refl);
     dead = λ f i k dead. dead;
@@ -163,8 +170,9 @@ module _ (heap : Heap) (state : State) (book : Book) (rule : Rule heap state boo
     fresh = λ f unborn grey. unborn_grey f unborn grey;
     dark = λ known f unborn born. absurd (omega (arith, unborn, born));
     light = λ clears f white. white;
-    back = λ marks f source g born leads. inl (back f source g leads);
-    on = λ marks f source g born leads. inl (on f source g leads);
+    back = λ marks f source g born leads. inl (leads_same heap state.words words f (same f) source g leads);
+    on = λ marks f source g born leads. inl (same_leads heap state.words words f (same f) source g leads);
+    spine = λ marks f born. same_spine heap state.words words f (same f);
   }
     where
       unborn_grey : (f : ℕ) → born_bit (book.owner f) ≡ 0 → book.colour f ≢ Grey

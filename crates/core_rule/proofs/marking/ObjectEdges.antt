@@ -1,46 +1,38 @@
--- Where the sources of a kept object lead: to its next fragment, or to a kept object's first.
-use Rattle.std.specs.Prelude.{if◌then◌else◌}
-use Rattle.std.proofs.Common.{◌⊎◌, ◌≡◌, ℕ, zero, suc, ◌+◌, ◌-◌, ◌*◌, ◌<◌, ◌^◌, Bool, true, false, List, length, get_or, slice_get, Option, Some, None, inl, inr, refl, sym, ap, ◌∙◌, subst, arith}
-use Rattle.heap_words.specs.declared.name.Name.{Name}
+-- Where the sources of a kept object lead: to a fragment of it, or to a kept object's first.
+use Rattle.std.proofs.Common.{◌⊎◌, ◌≡◌, ℕ, zero, suc, ◌+◌, ◌-◌, ◌*◌, ◌<◌, ◌≤◌, ◌^◌, true, false, List, length, get_or, slice_get, Option, Some, None, inl, inr, refl, sym, ap, ◌∙◌, subst, arith}
+use Rattle.heap_words.specs.declared.spot.Spot.{Spot}
 use Rattle.heap_model.specs.Heap.{IsHeap}
 use Rattle.heap_model.specs.account.Cycles.{graph_of}
 use Rattle.heap_model.specs.declared.graph.cell.Cell.{Cell}
 use Rattle.heap_model.specs.declared.heap.Heap.{Heap}
 use Rattle.heap_model.specs.declared.id.Id.{Id}
 use Rattle.heap_model.specs.declared.id.Id.TheVariants.{Board, Made}
-use Rattle.heap_model.specs.graph.Graph.{Graph}
+use Rattle.heap_model.specs.graph.Graph.{Graph, Node}
+use Rattle.heap_model.specs.graph.Sizes.{spine_words_of}
 use Rattle.core_machine.specs.declared.table.address.Address.TheVariants.{Word}
 use Rattle.core_machine.specs.machine.Machine.{State}
-use Rattle.core_machine.specs.table.Layout.{at}
-use Rattle.core_machine.specs.table.Decode.{pointer_in, spine_words_in}
-use Rattle.core_machine.specs.table.Newborn.{record_word_of}
+use Rattle.core_machine.specs.table.Layout.{at, spine_place, FitsSpot}
+use Rattle.core_machine.specs.table.Decode.{pointer_in, payload_in, is_meta, spine_words_in}
+use Rattle.core_machine.specs.table.Newborn.{record_word_of, sentinel_word_of}
 use Rattle.core_rule.specs.Book.{Book, fragment_at, id_at, object_head}
 use Rattle.core_rule.specs.Colours.{WordPointsTo}
 use Rattle.core_rule.specs.ControlWords.{Bits}
-use Rattle.core_rule.specs.Objects.{FitsName, AreMade, Objects, KeptObject, IsKept, name_of, value_word, field_word, is_cell, object_word, cells_at}
+use Rattle.core_rule.specs.Objects.{FitsName, AreMade, Objects, KeptObject, IsKept, name_of, value_word, field_word, is_cell, node_at}
 use Rattle.core_rule.specs.Owners.{Owner, Kept}
 use Rattle.core_rule.specs.Rule.{Rule}
-use Rattle.core_rule.proofs.cycle.Barriers.{later_lead}
+use Rattle.core_rule.specs.Sources.{spine_pointer}
 use Rattle.core_rule.proofs.colours.NewbornLeads.{IsNext, newborn_leads, zero_leads}
-use Rattle.core_rule.proofs.colours.NoSpines.{newborn_no_spine}
-use Rattle.core_rule.proofs.colours.SourceCases.{HasNoSpine, lead_cases, no_spine_leads}
+use Rattle.core_rule.proofs.colours.NoSpines.{newborn_no_spine, value_no_spine}
+use Rattle.core_rule.proofs.colours.SourceCases.{HasNoSpine, lead_cases, no_spine_leads, spine_cases}
 use Rattle.std.proofs.lemmas.Bool.Decides.{nat_tests}
+use Rattle.core_rule.proofs.objects.ObjectWords.{word_cases}
+use Rattle.core_rule.proofs.objects.SpinePlaces.{spine_placed}
+use Rattle.core_rule.proofs.ways.ArrayWords.{sentinel_nowhere, plain_lead, value_plain}
 use Rattle.core_rule.proofs.ways.Told.{head_in-value}
-use Rattle.core_rule.proofs.ways.KeptWords.{kept_within, has_room}
+use Rattle.core_rule.proofs.ways.KeptWords.{kept_within, has_room, sized_few, by_kind, words_found, spine_found, payload_found}
 use Rattle.core_rule.proofs.ways.LoadedObjects.{KeptHead, CellRefers, refers_kept, named_refers}
 
--- a word of an object is a cell's, or one of its frame's
-pub word_cases : (P : ℕ → Type 0) (head : Id → ℕ) (name : Name) (cells : List Cell) (fragments : List ℕ) (k part : ℕ)
-    → (is_cell k part ≡ true → P (field_word head (slice_get cells (3 * k + part - 2)))) → (is_cell k part ≡ false → P (record_word_of name (length cells) fragments k part))
-    → P (object_word head name cells fragments k part)
-unfolding object_word
-word_cases P head name cells fragments k part cell other = by (is_cell k part) refl
-  where
-    by : (b : Bool) → is_cell k part ≡ b → P (if b then field_word head (slice_get cells (3 * k + part - 2)) else record_word_of name (length cells) fragments k part)
-    by true is = cell is
-    by false is = other is
-
--- a cell's word is no first one
+-- a cell's word of a record is no first one
 cell_part : (k part : ℕ) → is_cell k part ≡ true → 0 < part
 cell_part zero part is = grind (arith, nat_tests, is)
 cell_part (suc k) part is = grind (arith, nat_tests, is)
@@ -50,66 +42,141 @@ pub name_small : (id : Id) → FitsName id → ((name_of id).owner < 2 ^ 30) × 
 name_small Board fits = (omega arith, omega arith)
 name_small (Made s count) fits = (omega (arith, fits.0), fits.1)
 
-module _ (heap : Heap) (words : List ℕ) (g : Graph) (made : List Id) (owner : ℕ → Owner) (fragments : ℕ → List ℕ)
-    (limits : IsHeap heap) (bits : Bits heap words owner) (ids : AreMade g made) (objects : Objects heap words g made owner fragments)
+-- the fragment is one of these
+pub record IsPartOf (fragments : List ℕ) (x : ℕ) : Type 0 where
+  pub place : ℕ
+  pub within : place < length fragments
+  pub is : x ≡ fragment_at fragments place
+
+module _ (heap : Heap) (words : List ℕ) (g : Graph) (made : List Id) (owner : ℕ → Owner) (fragments : ℕ → List ℕ) {spines : ℕ → Spot}
+    (limits : IsHeap heap) (bits : Bits heap words owner) (ids : AreMade g made) (objects : Objects heap words g made owner fragments spines)
     (i : ℕ) (below : i < length made) (kept : IsKept owner fragments i) where
-  abbrev the_object : KeptObject heap words owner (object_head made fragments) i (id_at made i) (cells_at g made i) (fragments i)
+  abbrev object : Node
+  object = node_at g made i
+
+  abbrev head : Id → ℕ
+  head = object_head made fragments
+
+  abbrev the_object : KeptObject heap words owner head i (id_at made i) object (fragments i) (spines i)
   the_object = objects.kept i below kept
 
   pub small : (k : ℕ) → k < length (fragments i) → get_or (fragments i) k 0 < 2 ^ 30
   small k within = omega (arith, limits.groups_fit, kept_within heap words owner _ _ _ bits (the_object.owned k within))
 
+  few : length object.cells ≤ 4096
+  few = (sized_few object.array (length object.cells) the_object.sized).1
+
+  fits_name : ((name_of (id_at made i)).owner < 2 ^ 30) × ((name_of (id_at made i)).count < 2 ^ 32)
+  fits_name = name_small (id_at made i) (ids.fit i below)
+
   -- a cell leads to the object that it refers to
-  cell_leads : (j part : ℕ) → 0 < part → (o : Option Cell) → slice_get (cells_at g made i) j ≡ o → (x : ℕ) → pointer_in part (field_word (object_head made fragments) o) ≡ Some x
-      → CellRefers g made owner fragments i x
-  cell_leads j part some None none x leads = let nowhere : pointer_in part 0 ≡ None = zero_leads part in absurd (cc (nowhere, leads))
-  cell_leads j part some (Some cell) there x leads =
+  cell_leads : (j part : ℕ) (o : Option Cell) → slice_get object.cells j ≡ o → (x : ℕ) → pointer_in part (field_word head o) ≡ Some x → CellRefers g made owner fragments i x
+  cell_leads j part None none x leads = let nowhere : pointer_in part 0 ≡ None = zero_leads part in absurd (cc (nowhere, leads))
+  cell_leads j part (Some cell) there x leads =
       let named = objects.named i j below kept cell there in
+      let room = has_room heap words g made owner fragments limits bits cell.value named.0 in
       record {
         place = j;
         cell = cell;
         there = there;
         refers = named_refers made owner fragments cell.value named.0 x
-            (sym (head_in-value (object_head made fragments) cell.value cell.stamp (has_room heap words g made owner fragments limits bits cell.value named.0) named.1)
-            ∙ sym (later_lead part (value_word (object_head made fragments) cell.value cell.stamp) some) ∙ leads);
+            (sym (head_in-value head cell.value cell.stamp room named.1) ∙ sym (plain_lead part (value_word head cell.value cell.stamp) (value_plain head cell.value cell.stamp room named.1)) ∙ leads);
       }
 
-  -- a record's fragments have no spine, since they begin with its meta or a link
-  pub object_no_spine : (k : ℕ) → k < length (fragments i) → HasNoSpine heap words (fragment_at (fragments i) k)
-  object_no_spine k within = ap spine_words_in (the_object.stored k 0 within (omega arith))
-      ∙ word_cases (λ w. spine_words_in w ≡ 0) (object_head made fragments) (name_of (id_at made i)) (cells_at g made i) (fragments i) k 0
-      (λ is. let first = cell_part k 0 is in absurd (omega (arith, first)))
-      (λ is. newborn_no_spine (fragments i) small (name_of (id_at made i)) (length (cells_at g made i)) k (omega (arith, the_object.sized.1)))
+  -- and is no array's meta, nor a record's
+  cell_no_spine : (j : ℕ) (o : Option Cell) → slice_get object.cells j ≡ o → spine_words_in (field_word head o) ≡ 0
+  cell_no_spine j None none = refl
+  cell_no_spine j (Some cell) there =
+      let named = objects.named i j below kept cell there in
+      value_no_spine head cell.value cell.stamp (has_room heap words g made owner fragments limits bits cell.value named.0) named.1
 
-  -- where a word leads
-  word_refers : (k part x : ℕ) → k < length (fragments i) → part < 4 → pointer_in part (at heap words (Word (fragment_at (fragments i) k) part)) ≡ Some x
-      → IsNext (fragments i) small k x ⊎ CellRefers g made owner fragments i x
-  word_refers k part x within first leads =
-      word_cases (λ w. pointer_in part w ≡ Some x → IsNext (fragments i) small k x ⊎ CellRefers g made owner fragments i x)
-      (object_head made fragments) (name_of (id_at made i)) (cells_at g made i) (fragments i) k part
-      (λ is to. inr (cell_leads (3 * k + part - 2) part (cell_part k part is) (slice_get (cells_at g made i) (3 * k + part - 2)) refl x to))
-      (λ is to. inl (newborn_leads (fragments i) small (name_of (id_at made i)) (length (cells_at g made i)) k part x
-      (name_small (id_at made i) (ids.fit i below)).0 (name_small (id_at made i) (ids.fit i below)).1 (omega (arith, the_object.sized.1)) to))
-      (ap (pointer_in part) (sym (the_object.stored k part within first)) ∙ leads)
+  pub cell_no_meta : (j : ℕ) (o : Option Cell) → slice_get object.cells j ≡ o → is_meta (field_word head o) ≡ false
+  cell_no_meta j None none = refl
+  cell_no_meta j (Some cell) there =
+      let named = objects.named i j below kept cell there in
+      value_plain head cell.value cell.stamp (has_room heap words g made owner fragments limits bits cell.value named.0) named.1
 
-  -- and where each source does
-  pub object_refers : (k source x : ℕ) → k < length (fragments i) → WordPointsTo heap words (fragment_at (fragments i) k) source x
-      → IsNext (fragments i) small k x ⊎ CellRefers g made owner fragments i x
-  object_refers k source x within = lead_cases heap words (fragment_at (fragments i) k) (IsNext (fragments i) small k x ⊎ CellRefers g made owner fragments i x) source x
-      (λ first to. word_refers k source x within first to)
-      (λ behind to. absurd (no_spine_leads heap words (fragment_at (fragments i) k) (object_no_spine k within) (source - 4) x to))
+  -- what is true of the words of its frame and of its cells is true of each word found
+  pub found_cases : (P : ℕ → Type 0) (k part : ℕ) → k < length (fragments i) → part < 4
+      → (object.array ≡ false → is_cell k part ≡ true → P (field_word head (slice_get object.cells (3 * k + part - 2))))
+      → (object.array ≡ false → is_cell k part ≡ false → P (record_word_of (name_of (id_at made i)) (length object.cells) (fragments i) k part))
+      → (object.array ≡ true → k ≡ 0 → P (sentinel_word_of (name_of (id_at made i)) (length object.cells) (spines i) part))
+      → (object.array ≡ true → 1 ≤ k → P (field_word head (slice_get object.cells (4 * (k - 1) + part))))
+      → P (at heap words (Word (fragment_at (fragments i) k) part))
+  found_cases P k part within first field frame sentinel cell =
+      subst P (sym (the_object.stored k part within first)) (word_cases head (name_of (id_at made i)) (spines i) (fragments i) P object k part field frame sentinel cell)
 
-  pub object_leads : (k source x : ℕ) → k < length (fragments i) → WordPointsTo heap words (fragment_at (fragments i) k) source x
-      → IsNext (fragments i) small k x ⊎ KeptHead made owner fragments x
-  object_leads k source x within leads = elim (object_refers k source x within leads) [
-    | inl next ↦ inl next
-    | inr cell ↦ inr (refers_kept made owner fragments cell.cell.value x cell.refers)
+  -- no fragment has a spine but an array's first one, since it begins with a record's meta, a link or a cell
+  pub object_no_spine : (k : ℕ) → k < length (fragments i) → (object.array ≡ true → 1 ≤ k) → HasNoSpine heap words (fragment_at (fragments i) k)
+  object_no_spine k within behind = found_cases (λ w. spine_words_in w ≡ 0) k 0 within (omega arith)
+      (λ kind is. let later = cell_part k 0 is in absurd (omega (arith, later)))
+      (λ kind is. newborn_no_spine (fragments i) small (name_of (id_at made i)) (length object.cells) k (omega (arith, few)))
+      (λ kind first. absurd (omega (arith, behind kind, first)))
+      (λ kind later. cell_no_spine (4 * (k - 1) + 0) (slice_get object.cells (4 * (k - 1) + 0)) refl)
+
+  module _ (fits : object.array ≡ true → FitsSpot (spines i)) where
+    next_part : (k x : ℕ) → IsNext (fragments i) small k x → IsPartOf (fragments i) x
+    next_part k x next = record { place = k + 1; within = next.0; is = next.1 }
+
+    -- where a word leads
+    word_refers : (k part x : ℕ) → k < length (fragments i) → part < 4 → pointer_in part (at heap words (Word (fragment_at (fragments i) k) part)) ≡ Some x
+        → IsPartOf (fragments i) x ⊎ CellRefers g made owner fragments i x
+    word_refers k part x within first =
+        found_cases (λ w. pointer_in part w ≡ Some x → IsPartOf (fragments i) x ⊎ CellRefers g made owner fragments i x) k part within first
+        (λ kind is to. inr (cell_leads (3 * k + part - 2) part (slice_get object.cells (3 * k + part - 2)) refl x to))
+        (λ kind is to. inl (next_part k x (newborn_leads (fragments i) small (name_of (id_at made i)) (length object.cells) k part x fits_name.0 fits_name.1 (omega (arith, few)) to)))
+        (λ kind is to. absurd (let nowhere = sentinel_nowhere (name_of (id_at made i)) (length object.cells) (spines i) part fits_name.0 fits_name.1 (omega (arith, few)) (fits kind) in cc (nowhere, to)))
+        (λ kind later to. inr (cell_leads (4 * (k - 1) + part) part (slice_get object.cells (4 * (k - 1) + part)) refl x to))
+
+    -- and a word of an array's spine
+    spine_refers : object.array ≡ true → (j x : ℕ) → spine_pointer heap words (fragment_at (fragments i) 0) j ≡ Some x → IsPartOf (fragments i) x
+    spine_refers kind j x to =
+        let its = spine_cases heap words (fragment_at (fragments i) 0) j x to in
+        let within : j < spine_words_of object = subst (λ n. j < n) (words_found heap words g made owner fragments limits bits ids objects i below kept kind) its.0 in
+        let payload = payload_found heap words g made owner fragments limits bits ids objects i below kept j within in
+        record {
+          place = j + 1;
+          within = payload.0;
+          is = its.1 ∙ ap (λ s. payload_in (at heap words (spine_place s j))) (spine_found heap words g made owner fragments limits bits ids objects i below kept kind (fits kind)) ∙ payload.1;
+        }
+
+    -- and where each source does: to a fragment of the object, or to what a cell refers to
+    pub object_refers : (k source x : ℕ) → k < length (fragments i) → WordPointsTo heap words (fragment_at (fragments i) k) source x
+        → IsPartOf (fragments i) x ⊎ CellRefers g made owner fragments i x
+    object_refers k source x within = lead_cases heap words (fragment_at (fragments i) k) (IsPartOf (fragments i) x ⊎ CellRefers g made owner fragments i x) source x
+        (λ first to. word_refers k source x within first to)
+        (λ behind to. by_kind heap words g made owner fragments limits bits ids objects i below kept (IsPartOf (fragments i) x ⊎ CellRefers g made owner fragments i x)
+        (λ kind. by_row kind k within to)
+        (λ kind. absurd (no_spine_leads heap words (fragment_at (fragments i) k) (object_no_spine k within (λ array. absurd (cc (kind, array)))) (source - 4) x to)))
+      where
+        by_row : object.array ≡ true → (n : ℕ) → n < length (fragments i) → spine_pointer heap words (fragment_at (fragments i) n) (source - 4) ≡ Some x
+            → IsPartOf (fragments i) x ⊎ CellRefers g made owner fragments i x
+        by_row kind zero inside to = inl (spine_refers kind (source - 4) x to)
+        by_row kind (suc n) inside to = absurd (no_spine_leads heap words (fragment_at (fragments i) (suc n)) (object_no_spine (suc n) inside (λ array. omega arith)) (source - 4) x to)
+
+module _ (heap : Heap) (state : State) (book : Book) (rule : Rule heap state book) (f i k : ℕ) (owned : book.owner f ≡ Kept i k) where
+  there : (i < length book.made) × IsKept book.owner book.fragments i × (k < length (book.fragments i)) × (f ≡ fragment_at (book.fragments i) k)
+  there = rule.heap_stands.objects.back f i k owned
+
+  -- by the rule, no fragment of a kept object has a spine but an array's first one
+  pub kept_no_spine : ((node_at (graph_of heap book.history) book.made i).array ≡ true → 1 ≤ k) → HasNoSpine heap state.words f
+  kept_no_spine behind = subst (HasNoSpine heap state.words) (sym there.3)
+      (object_no_spine heap state.words (graph_of heap book.history) book.made book.owner book.fragments rule.machine.limits rule.heap_stands.control_words rule.heap_stands.ids
+      rule.heap_stands.objects i there.0 there.1 k there.2 behind)
+
+  -- and each of its sources leads to a fragment of its object, or to what a cell of that refers to
+  pub kept_refers : (source x : ℕ) → WordPointsTo heap state.words f source x
+      → IsPartOf (book.fragments i) x ⊎ CellRefers (graph_of heap book.history) book.made book.owner book.fragments i x
+  kept_refers source x leads =
+      object_refers heap state.words (graph_of heap book.history) book.made book.owner book.fragments rule.machine.limits rule.heap_stands.control_words rule.heap_stands.ids
+      rule.heap_stands.objects i there.0 there.1 (spine_placed rule i there.0 there.1) k source x there.2 (subst (λ y. WordPointsTo heap state.words y source x) there.3 leads)
+
+  pub kept_leads : (source x : ℕ) → WordPointsTo heap state.words f source x → IsPartOf (book.fragments i) x ⊎ KeptHead book.made book.owner book.fragments x
+  kept_leads source x leads = elim (kept_refers source x leads) [
+    | inl part ↦ inl part
+    | inr cell ↦ inr (refers_kept book.made book.owner book.fragments cell.cell.value x cell.refers)
   ]
 
--- by the rule, no fragment of a kept object has a spine: each is a record
-pub kept_no_spine : (heap : Heap) (state : State) (book : Book) → Rule heap state book → (f i k : ℕ) → book.owner f ≡ Kept i k → HasNoSpine heap state.words f
-kept_no_spine heap state book rule f i k owned =
-    let stands = rule.heap_stands in
-    let back = stands.objects.back f i k owned in
-    subst (HasNoSpine heap state.words) (sym back.3)
-    (object_no_spine heap state.words (graph_of heap book.history) book.made book.owner book.fragments rule.machine.limits stands.control_words stands.ids stands.objects i back.0 back.1 k back.2)
+  -- whose part that is
+  pub part_owned : (x : ℕ) (part : IsPartOf (book.fragments i) x) → book.owner x ≡ Kept i part.place
+  part_owned x part = ap book.owner part.is ∙ (rule.heap_stands.objects.kept i there.0 there.1).owned part.place part.within

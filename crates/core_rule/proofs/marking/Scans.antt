@@ -2,13 +2,15 @@
 use Rattle.std.specs.Prelude.{if◌then◌else◌}
 use Rattle.std.proofs.lemmas.Bool.{false≢true}
 use Rattle.std.proofs.lemmas.Bool.Decides.{nat_tests}
-use Rattle.std.proofs.Common.{get_or, ◌≡◌, ◌≢◌, ℕ, zero, suc, ◌+◌, ◌<◌, ◌≤◌, ◌^◌, eqb, Bool, true, false, List, length, None, inl, inr, refl, sym, ap, ◌∙◌, subst, arith}
+use Rattle.std.proofs.Common.{get_or, ◌≡◌, ◌≢◌, ℕ, zero, suc, ◌+◌, ◌-◌, ◌*◌, ◌<◌, ◌≤◌, ◌^◌, eqb, Bool, true, false, List, length, slice_get, None, inl, inr, refl, sym, ap, ◌∙◌, subst, arith}
 use Rattle.std.proofs.lemmas.Bool.Decides.{eqb_tells, leb_tells}
 use Rattle.heap_words.specs.declared.cell.Cell.{Cell}
 use Rattle.heap_words.specs.declared.kind.Kind.TheVariants as kinds
+use Rattle.heap_words.specs.declared.name.Name.{Name}
 use Rattle.heap_model.specs.declared.heap.Heap.{Heap}
 use Rattle.heap_model.specs.account.Cycles.{graph_of}
 use Rattle.heap_model.specs.account.PhaseCounts.{phase}
+use Rattle.heap_model.specs.graph.Graph.{Graph, Node}
 use Rattle.core_machine.specs.collector.Marking.{part_after, scan_at}
 use Rattle.core_machine.specs.declared.collector.stage.Scan.{Scan}
 use Rattle.core_machine.specs.declared.collector.stage.Stage.{Stage}
@@ -22,12 +24,14 @@ use Rattle.core_rule.specs.Book.{Book, Colour, Grey, fragment_at, id_at, object_
 use Rattle.core_rule.specs.Colours.{IsMarked, WordPointsTo, IsBetween}
 use Rattle.core_rule.specs.Marking.{IsPart, MayMark, IsSeen, IsSeenWhole, ComesAfter, ScanStands, PassStands}
 use Rattle.core_rule.specs.Sweep.{SweepStands}
-use Rattle.core_rule.specs.Objects.{IsKept, KeptObject, name_of, is_cell, cells_at}
+use Rattle.core_rule.specs.Objects.{IsKept, KeptObject, name_of, is_cell, node_at}
 use Rattle.core_rule.specs.Owners.{Owner, Kept}
 use Rattle.core_rule.specs.Rule.{Rule}
-use Rattle.core_rule.proofs.colours.NewbornLeads.{name_leads, link_word_at}
+use Rattle.core_rule.proofs.colours.NewbornLeads.{link_word_at}
 use Rattle.core_rule.proofs.colours.SourceCases.{HasNoSpine, word_alone}
-use Rattle.core_rule.proofs.marking.ObjectEdges.{word_cases, name_small, small, object_leads}
+use Rattle.core_rule.proofs.marking.ObjectEdges.{name_small, small, found_cases, cell_no_meta, kept_leads, part_owned}
+use Rattle.core_rule.proofs.objects.ObjectWords.{name_at}
+use Rattle.core_rule.proofs.ways.ArrayWords.{fixed_no_head}
 use Rattle.core_machine.proofs.table_lemmas.CellWords.{cell_of-cell_word}
 
 -- a scan that comes to a word stands before it, or has seen to all four
@@ -80,31 +84,31 @@ module _ (heap : Heap) (state : State) (book : Book) (rule : Rule heap state boo
   there : (i < length book.made) × IsKept book.owner book.fragments i × (k < length (book.fragments i)) × (f ≡ fragment_at (book.fragments i) k)
   there = rule.heap_stands.objects.back f i k part_of.kept
 
-  the_object : KeptObject heap state.words book.owner (object_head book.made book.fragments) i (id_at book.made i) (cells_at (graph_of heap book.history) book.made i) (book.fragments i)
+  abbrev object : Node
+  object = node_at (graph_of heap book.history) book.made i
+
+  the_object : KeptObject heap state.words book.owner (object_head book.made book.fragments) i (id_at book.made i) object (book.fragments i) (book.spines i)
   the_object = rule.heap_stands.objects.kept i there.0 there.1
 
   -- where a fragment of a kept object is grey, what it leads to may be marked
   pub may_mark : IsBetween 1 5 (phase book.history) → book.colour f ≡ Grey → (source m : ℕ) → WordPointsTo heap state.words f source m → MayMark book.owner book.colour book.fragments m
-  may_mark cycle grey source m leads = elim (object_leads heap state.words (graph_of heap book.history) book.made book.owner book.fragments rule.machine.limits rule.heap_stands.control_words
-      rule.heap_stands.ids rule.heap_stands.objects i there.0 there.1 k source m there.2 (subst (λ x. WordPointsTo heap state.words x source m) there.3 leads)) as (λ _. MayMark book.owner book.colour book.fragments m) [
-        | inl next ↦ record {
-          part = record { index = i; place = k + 1; kept = ap book.owner next.1 ∙ the_object.owned (k + 1) next.0 };
-          first = inr (rule.heap_stands.cycle.coloured.first cycle f i k part_of.kept (λ white. absurd (cc (grey, white))));
-        }
-        | inr head ↦ record { part = record { index = head.index; place = 0; kept = ap book.owner head.is ∙ head.kept }; first = inl refl }
-      ]
+  may_mark cycle grey source m leads = elim (kept_leads heap state book rule f i k part_of.kept source m leads) as (λ _. MayMark book.owner book.colour book.fragments m) [
+    | inl part ↦ record {
+      part = record { index = i; place = part.place; kept = part_owned heap state book rule f i k part_of.kept m part };
+      first = inr (rule.heap_stands.cycle.coloured.first cycle f i k part_of.kept (λ white. absurd (cc (grey, white))));
+    }
+    | inr head ↦ record { part = record { index = head.index; place = 0; kept = ap book.owner head.is ∙ head.kept }; first = inl refl }
+  ]
 
   -- an object's name leads nowhere
   name_nowhere : k ≡ 0 → (g : ℕ) → ¬ WordPointsTo heap state.words f 1 g
   name_nowhere first g leads =
       let head : f ≡ fragment_at (book.fragments i) 0 = there.3 ∙ ap (fragment_at (book.fragments i)) first in
       let stored = the_object.stored 0 1 (subst (λ x. x < length (book.fragments i)) first there.2) (omega arith) in
+      let name : Name = name_of (id_at book.made i) in
       let fits = name_small (id_at book.made i) (rule.heap_stands.ids.fit i there.0) in
-      let none : pointer_in 1 (at heap state.words (Word f 1)) ≡ None = ap (λ x. pointer_in 1 (at heap state.words (Word x 1))) head ∙ ap (pointer_in 1) stored
-      ∙ word_cases (λ w. pointer_in 1 w ≡ None) (object_head book.made book.fragments) (name_of (id_at book.made i)) (cells_at (graph_of heap book.history) book.made i) (book.fragments i) 0 1
-      (λ cell. absurd (cc cell))
-      (λ frame. name_leads (book.fragments i) (small heap state.words (graph_of heap book.history) book.made book.owner book.fragments rule.machine.limits rule.heap_stands.control_words
-      rule.heap_stands.ids rule.heap_stands.objects i there.0 there.1) (name_of (id_at book.made i)) fits.0 fits.1) in
+      let none : pointer_in 1 (at heap state.words (Word f 1)) ≡ None = ap (λ x. pointer_in 1 (at heap state.words (Word x 1))) head
+      ∙ ap (pointer_in 1) (stored ∙ name_at (object_head book.made book.fragments) name (book.spines i) (book.fragments i) object) ∙ fixed_no_head name.owner name.count fits.0 fits.1 in
       absurd (cc (none, leads.to))
 
   -- a meta stands in an object's first fragment alone
@@ -112,12 +116,17 @@ module _ (heap : Heap) (state : State) (book : Book) (rule : Rule heap state boo
   meta_first zero is meta = is
   meta_first (suc n) is meta =
       let later : f ≡ fragment_at (book.fragments i) (suc n) = there.3 ∙ ap (fragment_at (book.fragments i)) is in
-      let smalls = small heap state.words (graph_of heap book.history) book.made book.owner book.fragments rule.machine.limits rule.heap_stands.control_words
+      let g : Graph = graph_of heap book.history in
+      let smalls = small heap state.words g book.made book.owner book.fragments rule.machine.limits rule.heap_stands.control_words
       rule.heap_stands.ids rule.heap_stands.objects i there.0 there.1 in
       let within : suc n < length (book.fragments i) = subst (λ x. x < length (book.fragments i)) is there.2 in
-      let no_meta : is_meta (at heap state.words (Word f 0)) ≡ false = ap (λ x. is_meta (at heap state.words (Word x 0))) later ∙ ap is_meta (the_object.stored (suc n) 0 within (omega arith))
-      ∙ word_cases (λ w. is_meta w ≡ false) (object_head book.made book.fragments) (name_of (id_at book.made i)) (cells_at (graph_of heap book.history) book.made i) (book.fragments i) (suc n) 0
-      (λ cell. absurd (no_cell n cell)) (λ frame. ap is_meta (link_word_at (book.fragments i) smalls (name_of (id_at book.made i)) (length (cells_at (graph_of heap book.history) book.made i)) n) ∙ link_no_meta (book.fragments i) (suc n) smalls) in
+      let no_meta : is_meta (at heap state.words (Word f 0)) ≡ false = ap (λ x. is_meta (at heap state.words (Word x 0))) later
+      ∙ found_cases heap state.words g book.made book.owner book.fragments rule.machine.limits rule.heap_stands.control_words rule.heap_stands.ids rule.heap_stands.objects i there.0 there.1
+      (λ w. is_meta w ≡ false) (suc n) 0 within (omega arith)
+      (λ kind cell. absurd (no_cell n cell)) (λ kind frame. ap is_meta (link_word_at (book.fragments i) smalls (name_of (id_at book.made i)) (length object.cells) n) ∙ link_no_meta (book.fragments i) (suc n) smalls)
+      (λ kind first. absurd (omega (arith, first)))
+      (λ kind behind. cell_no_meta heap state.words g book.made book.owner book.fragments rule.machine.limits rule.heap_stands.control_words rule.heap_stands.ids rule.heap_stands.objects i there.0 there.1
+      (4 * (suc n - 1) + 0) (slice_get object.cells (4 * (suc n - 1) + 0)) refl) in
       absurd (false≢true (sym no_meta ∙ meta))
 
   -- which word comes next

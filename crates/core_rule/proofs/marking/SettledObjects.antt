@@ -8,23 +8,23 @@ use Rattle.heap_model.specs.declared.id.Value.{Value}
 use Rattle.heap_model.specs.declared.id.Value.TheVariants as values
 use Rattle.heap_model.specs.account.Cycles.{graph_of}
 use Rattle.heap_model.specs.account.PhaseCounts.{phase}
+use Rattle.heap_model.specs.graph.Graph.{Node}
 use Rattle.core_machine.specs.machine.Machine.{State}
-use Rattle.core_machine.specs.seat.Access.{row_of, part_of}
 use Rattle.core_machine.specs.declared.table.address.Address.TheVariants.{Word}
-use Rattle.core_machine.specs.table.Layout.{at}
-use Rattle.core_machine.specs.table.Decode.{head_of}
+use Rattle.core_machine.specs.table.Decode.{pointer_in}
 use Rattle.core_rule.specs.Book.{Book, Colour, Grey, fragment_at, id_at, object_head, object_number}
 use Rattle.core_rule.specs.Colours.{IsMarked, WordPointsTo}
-use Rattle.core_rule.specs.Objects.{Objects, KeptObject, NamesKept, IsKept, cells_at}
+use Rattle.core_rule.specs.Objects.{Objects, KeptObject, NamesKept, IsKept, node_at, value_word}
 use Rattle.core_rule.specs.Owners.{Owner}
 use Rattle.core_rule.specs.Rule.{Rule}
+use Rattle.core_rule.specs.Ways.{row_in, part_in}
 use Rattle.core_rule.proofs.colours.SourceCases.{word_leads}
-use Rattle.core_rule.proofs.cycle.Barriers.{later_lead}
 use Rattle.core_rule.proofs.lists.Options.{each_some}
 use Rattle.core_rule.proofs.marking.Ended.{leads_marked, first_marked, whole_marked}
 use Rattle.core_rule.proofs.marking.Settled.{settled_owners, settled_book, settled_was, settled_stays}
 use Rattle.core_rule.proofs.ways.KeptWords.{kept_within, has_room, row_there, field_found}
-use Rattle.core_rule.proofs.ways.Rows.{part_within}
+use Rattle.core_rule.proofs.ways.ArrayWords.{plain_lead, value_plain}
+use Rattle.core_rule.proofs.ways.Rows.{part_fits}
 use Rattle.core_rule.proofs.ways.Told.{named_head, head_in-value}
 
 module _ (made : List Id) (owner : ℕ → Owner) (colour : ℕ → Colour) (fragments : ℕ → List ℕ) where
@@ -44,8 +44,11 @@ module _ (heap : Heap) (state : State) (book : Book) (rule : Rule heap state boo
   abbrev head : Id → ℕ
   head = object_head book.made book.fragments
 
+  abbrev object : ℕ → Node
+  object i = node_at (graph_of heap book.history) book.made i
+
   abbrev cells : ℕ → List Cell
-  cells i = cells_at (graph_of heap book.history) book.made i
+  cells i = (object i).cells
 
   -- an object that is kept was, and is marked
   was_kept : (i : ℕ) → IsKept now book.fragments i → IsKept book.owner book.fragments i × IsMarked book.colour (fragment_at (book.fragments i) 0)
@@ -54,18 +57,19 @@ module _ (heap : Heap) (state : State) (book : Book) (rule : Rule heap state boo
   module _ (i : ℕ) (below : i < length book.made) (kept : IsKept book.owner book.fragments i) where
     -- a field that refers to an object leads to its first fragment
     field_leads : (j : ℕ) (cell : Cell) (f : ℕ) → slice_get (cells i) j ≡ Some cell → named_head head cell.value ≡ Some f
-        → WordPointsTo heap state.words (fragment_at (book.fragments i) (row_of j)) (part_of j) f
+        → WordPointsTo heap state.words (fragment_at (book.fragments i) (row_in (object i) j)) (part_in (object i) j) f
     field_leads j cell f there names =
         let stands = rule.heap_stands in
         let named = stands.objects.named i j below kept cell there in
         let within = slice_get_within (cells i) j cell there in
+        let room = has_room heap state.words (graph_of heap book.history) book.made book.owner book.fragments rule.machine.limits stands.control_words cell.value named.0 in
         let row = row_there heap state.words (graph_of heap book.history) book.made book.owner book.fragments rule.machine.limits stands.control_words stands.ids stands.objects i below kept j within in
-        word_leads heap state.words (fragment_at (book.fragments i) (row_of j)) (part_of j) f
-        (kept_within heap state.words book.owner (fragment_at (book.fragments i) (row_of j)) i (row_of j) stands.control_words ((stands.objects.kept i below kept).owned (row_of j) row))
-        (part_within j)
-        (later_lead (part_of j) (at heap state.words (Word (fragment_at (book.fragments i) (row_of j)) (part_of j))) (omega arith)
-        ∙ ap head_of (field_found heap state.words (graph_of heap book.history) book.made book.owner book.fragments rule.machine.limits stands.control_words stands.ids stands.objects i below kept j cell there)
-        ∙ head_in-value head cell.value cell.stamp (has_room heap state.words (graph_of heap book.history) book.made book.owner book.fragments rule.machine.limits stands.control_words cell.value named.0) named.1
+        word_leads heap state.words (fragment_at (book.fragments i) (row_in (object i) j)) (part_in (object i) j) f
+        (kept_within heap state.words book.owner (fragment_at (book.fragments i) (row_in (object i) j)) i (row_in (object i) j) stands.control_words ((stands.objects.kept i below kept).owned (row_in (object i) j) row))
+        (part_fits (object i) j)
+        (ap (pointer_in (part_in (object i) j)) (field_found heap state.words (graph_of heap book.history) book.made book.owner book.fragments rule.machine.limits stands.control_words stands.ids stands.objects i below kept j cell there)
+        ∙ plain_lead (part_in (object i) j) (value_word head cell.value cell.stamp) (value_plain head cell.value cell.stamp room named.1)
+        ∙ head_in-value head cell.value cell.stamp room named.1
         ∙ names)
 
     -- so what a marked object's fields name is kept
@@ -76,12 +80,12 @@ module _ (heap : Heap) (state : State) (book : Book) (rule : Rule heap state boo
         let row = row_there heap state.words (graph_of heap book.history) book.made book.owner book.fragments rule.machine.limits stands.control_words stands.ids stands.objects i below kept j within in
         names_settled book.made book.owner book.colour book.fragments cell.value (stands.objects.named i j below kept cell there).0
         (each_some (IsMarked book.colour) (named_head head cell.value)
-        (λ f names. leads_marked heap state book rule third none (fragment_at (book.fragments i) (row_of j)) (part_of j) f
-        (whole_marked heap state book rule third none i (row_of j) below kept marked row) (field_leads j cell f there names)))
+        (λ f names. leads_marked heap state book rule third none (fragment_at (book.fragments i) (row_in (object i) j)) (part_in (object i) j) f
+        (whole_marked heap state book rule third none i (row_in (object i) j) below kept marked row) (field_leads j cell f there names)))
 
     -- and a marked object is whole
     object_later : IsMarked book.colour (fragment_at (book.fragments i) 0)
-        → KeptObject heap state.words now head i (id_at book.made i) (cells i) (book.fragments i)
+        → KeptObject heap state.words now head i (id_at book.made i) (object i) (book.fragments i) (book.spines i)
     object_later marked =
         let one = rule.heap_stands.objects.kept i below kept in
         record {
@@ -89,13 +93,13 @@ module _ (heap : Heap) (state : State) (book : Book) (rule : Rule heap state boo
           whole = one.whole;
           owned = λ k within. settled_stays _ _ i k (one.owned k within) (whole_marked heap state book rule third none i k below kept marked within);
           stored = one.stored;
+          listed = one.listed;
         }
 
   -- the objects stand
-  pub objects_later : Objects heap state.words (graph_of heap book.history) book.made now book.fragments
+  pub objects_later : Objects heap state.words (graph_of heap book.history) book.made now book.fragments book.spines
   objects_later = record {
     kept = λ i below is. let was = was_kept i is in object_later i below was.0 was.1;
-    sizes = λ i below is. rule.heap_stands.objects.sizes i below (was_kept i is).0;
     named = λ i j below is cell there. let was = was_kept i is in (named_later i below was.0 was.1 j cell there, (rule.heap_stands.objects.named i j below was.0 cell there).1);
     back = λ f i k is.
         let was = settled_was (book.owner f) (book.colour f) i k is in

@@ -1,12 +1,11 @@
 -- A seat once marking has ended: what it names is kept then.
 use Rattle.std.proofs.Common.{ℕ, List, IfSome, ap, subst}
-use Rattle.heap_model.specs.declared.graph.cell.Cell.{Cell}
 use Rattle.heap_model.specs.declared.entry.Entry.{Entry}
 use Rattle.heap_model.specs.declared.id.Id.{Id}
 use Rattle.heap_model.specs.declared.id.Value.{Value}
 use Rattle.heap_model.specs.declared.id.Value.TheVariants as values
-use Rattle.heap_model.specs.graph.Graph.{Graph}
-use Rattle.core_machine.specs.declared.place.Access.TheVariants.{LoadingMeta, Walking, Getting, Naming, LoadingOld, ShadingOld, ShadingNew, Swapping}
+use Rattle.heap_model.specs.graph.Graph.{Graph, Node}
+use Rattle.core_machine.specs.declared.place.Access.TheVariants.{LoadingMeta, Walking, Locating, Indexing, Getting, Naming, LoadingOld, ShadingOld, ShadingNew, Swapping}
 use Rattle.core_machine.specs.declared.place.Place.{Place}
 use Rattle.core_machine.specs.declared.place.Place.TheVariants as places
 use Rattle.core_machine.specs.declared.seat.register.Register.{Register}
@@ -21,7 +20,7 @@ use Rattle.core_rule.specs.Counts.{Awaits}
 use Rattle.core_rule.specs.Objects.{IsKept}
 use Rattle.core_rule.specs.Owners.{Owner}
 use Rattle.core_rule.specs.Registers.{HoldsValue}
-use Rattle.core_rule.specs.Ways.{OnWay, Finds, LoadedKept, WayStands}
+use Rattle.core_rule.specs.Ways.{OnWay, Finds, Locates, LoadedKept, WayStands}
 use Rattle.core_rule.proofs.lists.Options.{of_some}
 use Rattle.core_rule.proofs.marking.Settled.{settled_owners, settled_stays}
 use Rattle.core_rule.proofs.marking.SettledObjects.{names_settled}
@@ -50,8 +49,17 @@ module _ (made : List Id) (owner : ℕ → Owner) (colour : ℕ → Colour) (fra
       here = way.here;
     }
 
-    finds_later : (cells : ℕ → List Cell) → Finds cells made owner fragments seat → Finds cells made later fragments seat
-    finds_later cells finds = record { index = finds.index; row = finds.row; way = way_later finds.index finds.row finds.way; field = finds.field }
+    finds_later : (nodes : ℕ → Node) → Finds nodes made owner fragments seat → Finds nodes made later fragments seat
+    finds_later nodes finds = record { index = finds.index; row = finds.row; way = way_later finds.index finds.row finds.way; field = finds.field }
+
+    locates_later : (nodes : ℕ → Node) → Locates nodes made owner fragments seat → Locates nodes made later fragments seat
+    locates_later nodes locates = record {
+      index = locates.index;
+      way = way_later locates.index 0 locates.way;
+      an_array = locates.an_array;
+      within = locates.within;
+      there = locates.there;
+    }
 
     -- what it has loaded is kept
     old_later : LoadedKept made owner fragments seat → LoadedKept made later fragments seat
@@ -63,15 +71,17 @@ module _ (made : List Id) (owner : ℕ → Owner) (colour : ℕ → Colour) (fra
     }
 
     -- so its way stands at its place
-    pub ways_later : (cells : ℕ → List Cell) (place : Place) → WayStands cells made owner fragments seat place → WayStands cells made later fragments seat place
-    ways_later cells (places.Access LoadingMeta) way = record { index = way.index; way = way_later way.index 0 way.way }
-    ways_later cells (places.Access Walking) way = finds_later cells way
-    ways_later cells (places.Access Getting) way = finds_later cells way
-    ways_later cells (places.Access LoadingOld) way = finds_later cells way
-    ways_later cells (places.Access ShadingOld) way = (finds_later cells way.0, old_later way.1)
-    ways_later cells (places.Access ShadingNew) way = (finds_later cells way.0, λ some. old_later (way.1 some))
-    ways_later cells (places.Access Swapping) way = (finds_later cells way.0, λ some. old_later (way.1 some))
-    ways_later cells _ way = way
+    pub ways_later : (nodes : ℕ → Node) (place : Place) → WayStands nodes made owner fragments seat place → WayStands nodes made later fragments seat place
+    ways_later nodes (places.Access LoadingMeta) way = record { index = way.index; way = way_later way.index 0 way.way }
+    ways_later nodes (places.Access Walking) way = finds_later nodes way
+    ways_later nodes (places.Access Locating) way = locates_later nodes way
+    ways_later nodes (places.Access Indexing) way = locates_later nodes way
+    ways_later nodes (places.Access Getting) way = finds_later nodes way
+    ways_later nodes (places.Access LoadingOld) way = finds_later nodes way
+    ways_later nodes (places.Access ShadingOld) way = (finds_later nodes way.0, old_later way.1)
+    ways_later nodes (places.Access ShadingNew) way = (finds_later nodes way.0, λ some. old_later (way.1 some))
+    ways_later nodes (places.Access Swapping) way = (finds_later nodes way.0, λ some. old_later (way.1 some))
+    ways_later nodes _ way = way
 
     -- and the name that its own list awaits
     pub awaits_later : (g : Graph) (number : ℕ) (place : Place) (awaited : List Entry) → Awaits g made owner fragments number seat place awaited → Awaits g made later fragments number seat place awaited

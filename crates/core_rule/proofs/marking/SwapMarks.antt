@@ -1,5 +1,6 @@
 -- What a swap takes out of a field and what it puts in is marked, so marking comes to all that it came to.
-use Rattle.std.proofs.Common.{◌≡◌, ℕ, ◌%◌, ◌^◌, ◌<◌, ◌⊎◌, None, inl, inr, subst, arith, List}
+use Rattle.std.proofs.Common.{◌≡◌, ℕ, ◌%◌, ◌^◌, ◌<◌, ◌⊎◌, None, inl, inr, sym, subst, arith, List}
+use Rattle.std.proofs.lemmas.Bool.{cases_eq}
 use Rattle.heap_model.specs.declared.heap.Heap.{Heap}
 use Rattle.heap_model.specs.declared.id.Value.{Value}
 use Rattle.heap_model.specs.account.PhaseCounts.{phase}
@@ -15,7 +16,8 @@ use Rattle.core_rule.specs.Objects.{NamesKept, value_word}
 use Rattle.core_rule.specs.Registers.{HoldsValue}
 use Rattle.core_rule.specs.Rule.{Rule}
 use Rattle.core_rule.proofs.ways.AtObject.{is_near}
-use Rattle.core_rule.proofs.colours.LeadsFrames.{but_leads}
+use Rattle.core_rule.proofs.colours.LeadsFrames.{but_leads, same_beside}
+use Rattle.core_rule.proofs.colours.SpineStays.{SpineStays, same_spine, no_spine_stays, same_sources}
 use Rattle.core_rule.proofs.cycle.SwapCycle.{swap_part, swap_within, swap_no_spine, words_swapped, swapped_no_spine, leads_now}
 use Rattle.core_rule.proofs.marking.Marks.{Leaves, leaves_words}
 
@@ -57,7 +59,7 @@ module _ (heap : Heap) (state : State) (book : Book) (number : ℕ) (rule : Rule
 
     pub leaves_swap : Leaves heap state book rule now book
     leaves_swap =
-        let before = leaves_words heap state book rule state.words (λ f source g leads. leads) (λ f source g leads. leads) in
+        let before = leaves_words heap state book rule state.words (same_sources heap state.words) in
         let same : state.collector.phase ≡ phase book.history = rule.collector_stands.phase_told in
         record {
           born = before.born;
@@ -70,4 +72,10 @@ module _ (heap : Heap) (state : State) (book : Book) (number : ℕ) (rule : Rule
           back = λ marking f source g born leads. leads_now heap state book number rule here place value stamp holds names small word is_word
               record { from = omega (arith, same, marking); upto = omega (arith, same, marking) } f source g born leads;
           on = λ marking f source g born leads. leads_later marking f source g leads;
+          spine = λ marking f born. elim (cases_eq f seat.reached) as (λ _. SpineStays heap state.words now f) [
+            | inl same ↦ subst (SpineStays heap state.words now) (sym same) (no_spine_stays heap state.words now seat.reached (swap_no_spine heap state book number rule here place)
+                (swapped_no_spine heap state book number rule here place value stamp holds names small word is_word))
+            | inr apart ↦ same_spine heap state.words now f (same_beside heap state.words seat.reached seat.part word (swap_within heap state book number rule here)
+                (swap_part heap state book number rule here place).below f apart)
+          ];
         }

@@ -1,5 +1,6 @@
 -- Fragment 0 is the board's first one, and nothing else.
 use Rattle.std.proofs.Common.{◌≡◌, ◌≢◌, ℕ, ◌<◌, inl, inr, List, length, refl, sym, ap, ◌∙◌, subst, arith}
+use Rattle.heap_words.specs.declared.spot.Spot.{Spot}
 use Rattle.heap_model.specs.declared.heap.Heap.{Heap}
 use Rattle.heap_model.specs.declared.id.Id.{Id}
 use Rattle.heap_model.specs.graph.Graph.{Graph}
@@ -33,7 +34,7 @@ module _ (seats : ℕ) (owner : ℕ → Owner) (owners : OwnersStand seats owner
         ],
       )
 
-  module _ (heap : Heap) (words : List ℕ) (g : Graph) (made : List Id) (fragments : ℕ → List ℕ) (objects : Objects heap words g made owner fragments) where
+  module _ (heap : Heap) (words : List ℕ) (g : Graph) (made : List Id) (fragments : ℕ → List ℕ) {spines : ℕ → Spot} (objects : Objects heap words g made owner fragments spines) where
     -- no fragment of a kept object behind its first is 0
     pub chain_not_zero : (i k : ℕ) → i < length made → IsKept owner fragments i → k < length (fragments i) → 0 < k → fragment_at (fragments i) k ≢ 0
     chain_not_zero i k below kept within later first =

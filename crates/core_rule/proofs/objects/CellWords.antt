@@ -1,29 +1,34 @@
 -- The words of an object of which one cell was set: that cell's is another, and no other word is.
 use Rattle.std.specs.Prelude.{if◌then◌else◌}
-use Rattle.std.proofs.Common.{◌≡◌, ◌≢◌, ℕ, ◌+◌, ◌-◌, ◌*◌, ◌%◌, ◌^◌, ◌<◌, ◌≤◌, inl, inr, Bool, true, false, List, length, set, slice_get, Some, refl, sym, ap, ◌∙◌, subst, arith}
+use Rattle.std.proofs.Common.{◌≡◌, ◌≢◌, ℕ, ◌+◌, ◌-◌, ◌*◌, ◌/◌, ◌%◌, ◌^◌, ◌<◌, ◌≤◌, inl, inr, Bool, true, false, List, length, set, slice_get, refl, sym, ap, ◌∙◌, subst, arith}
 use Rattle.std.proofs.lemmas.Bool.{ltb-true}
 use Rattle.std.proofs.lemmas.Bool.Decides.{eqb_tells}
 use Rattle.std.proofs.lemmas.List.{length-set}
 use Rattle.heap_words.specs.declared.kind.Kind.{Kind}
 use Rattle.heap_words.specs.declared.kind.Kind.TheVariants as kinds
 use Rattle.heap_words.specs.declared.name.Name.{Name}
+use Rattle.heap_words.specs.declared.spot.Spot.{Spot}
 use Rattle.heap_words.specs.Cell.{cell_word}
 use Rattle.heap_words.specs.Kind.{kind_number}
 use Rattle.heap_model.specs.declared.graph.cell.Cell.{Cell}
 use Rattle.heap_model.specs.declared.id.Id.{Id}
 use Rattle.heap_model.specs.declared.id.Value.{Value}
 use Rattle.heap_model.specs.declared.id.Value.TheVariants as values
+use Rattle.heap_model.specs.graph.Changes.{with_cell}
+use Rattle.heap_model.specs.graph.Graph.{Node}
 use Rattle.core_machine.specs.declared.seat.register.Register.{Register}
 use Rattle.core_machine.specs.declared.seat.register.Register.TheVariants as registers
 use Rattle.core_machine.specs.table.Decode.{stamp_of}
-use Rattle.core_machine.specs.table.Newborn.{record_word_of}
+use Rattle.core_machine.specs.table.Newborn.{record_word_of, sentinel_word_of}
 use Rattle.core_machine.specs.seat.Access.{row_of, part_of}
 use Rattle.core_machine.specs.seat.Registers.{register_word}
-use Rattle.core_rule.proofs.ways.Rows.{field_back, cell_there}
 use Rattle.core_rule.specs.Book.{object_head}
-use Rattle.core_rule.specs.Objects.{NamesKept, value_word, field_word, is_cell, object_word}
+use Rattle.core_rule.specs.Objects.{NamesKept, value_word, field_word, is_cell, record_object_word, array_object_word, object_word}
 use Rattle.core_rule.specs.Owners.{Owner}
 use Rattle.core_rule.specs.Registers.{HoldsValue}
+use Rattle.core_rule.specs.Ways.{row_in, part_in}
+use Rattle.core_rule.proofs.graph.SameNodes.{node_cases}
+use Rattle.core_rule.proofs.objects.ObjectWords.{word_of_cell}
 use Rattle.core_rule.proofs.graph.CellSet.{slice_get-set_same, slice_get-set_other}
 
 -- where a cell stands
@@ -58,29 +63,40 @@ module _ (made : List Id) (owner : ℕ → Owner) (fragments : ℕ → List ℕ)
   register_names (registers.Number n) value holds = subst (λ v. NamesKept made owner fragments v) (sym holds.0) holds.1
   register_names (registers.Object head id) value holds = subst (λ v. NamesKept made owner fragments v) (sym holds.0) holds.1
 
-module _ (head : Id → ℕ) (name : Name) (cells : List Cell) (fragments : List ℕ) (i : ℕ) where
-  -- the word of a cell
-  pub word_of_cell : (cell : Cell) → slice_get cells i ≡ Some cell → object_word head name cells fragments (row_of i) (part_of i) ≡ value_word head cell.value cell.stamp
-  unfolding object_word
-  word_of_cell cell there = rw (cell_there i, field_back i, there) refl
+module _ (head : Id → ℕ) (name : Name) (spine : Spot) (fragments : List ℕ) (i : ℕ) (cell : Cell) where
+  -- the other words of a record
+  other_word : (cells : List Cell) (is : Bool) (m k part : ℕ) → (is ≡ true → m ≢ i)
+      → (if is then field_word head (slice_get (set cells i cell) m) else record_word_of name (length (set cells i cell)) fragments k part)
+      ≡ (if is then field_word head (slice_get cells m) else record_word_of name (length cells) fragments k part)
+  other_word cells true m k part apart = ap (field_word head) (slice_get-set_other cells i m cell (apart refl))
+  other_word cells false m k part apart = ap (λ n. record_word_of name n fragments k part) (length-set cells i cell)
 
-  module _ (cell : Cell) where
-    other_word : (is : Bool) (m k part : ℕ) → (is ≡ true → m ≢ i)
-        → (if is then field_word head (slice_get (set cells i cell) m) else record_word_of name (length (set cells i cell)) fragments k part)
-        ≡ (if is then field_word head (slice_get cells m) else record_word_of name (length cells) fragments k part)
-    other_word true m k part apart = ap (field_word head) (slice_get-set_other cells i m cell (apart refl))
-    other_word false m k part apart = ap (λ n. record_word_of name n fragments k part) (length-set cells i cell)
+  record_stays : (cells : List Cell) (k part : ℕ) → part < 4 → (k ≡ row_of i → part ≡ part_of i → ⊥)
+      → record_object_word head name (set cells i cell) fragments k part ≡ record_object_word head name cells fragments k part
+  unfolding record_object_word
+  record_stays cells k part within apart = other_word cells (is_cell k part) (3 * k + part - 2) k part (λ is e. elsewhere (stands_cell k part is) e)
+    where
+      elsewhere : (1 ≤ part) × (2 ≤ 3 * k + part) → 3 * k + part - 2 ≡ i → ⊥
+      elsewhere stands e = apart (omega (arith, stands.0, stands.1, e, within)) (omega (arith, stands.0, stands.1, e, within))
 
-    -- the other words
-    pub word_stays : (k part : ℕ) → part < 4 → (k ≡ row_of i → part ≡ part_of i → ⊥)
-        → object_word head name (set cells i cell) fragments k part ≡ object_word head name cells fragments k part
-    unfolding object_word
-    word_stays k part within apart = other_word (is_cell k part) (3 * k + part - 2) k part (λ is e. elsewhere (stands_cell k part is) e)
-      where
-        elsewhere : (1 ≤ part) × (2 ≤ 3 * k + part) → 3 * k + part - 2 ≡ i → ⊥
-        elsewhere stands e = apart (omega (arith, stands.0, stands.1, e, within)) (omega (arith, stands.0, stands.1, e, within))
+  -- and of an array
+  array_stays : (cells : List Cell) (k part : ℕ) → part < 4 → (k ≡ i / 4 + 1 → part ≡ i % 4 → ⊥)
+      → array_object_word head name (set cells i cell) spine k part ≡ array_object_word head name cells spine k part
+  unfolding array_object_word
+  array_stays cells k part within apart = elim (eqb_tells k 0) as (λ _. array_object_word head name (set cells i cell) spine k part ≡ array_object_word head name cells spine k part) [
+    | inl e ↦ rw e.0 (ap (λ n. sentinel_word_of name n spine part) (length-set cells i cell))
+    | inr e ↦
+        let some : k ≢ 0 = e.1 in
+        rw e.0 (ap (field_word head) (slice_get-set_other cells i (4 * (k - 1) + part) cell (λ same. apart (omega (arith, some, same, within)) (omega (arith, some, same, within)))))
+  ]
 
--- the word of the cell that was set
-pub word_of_set : (head : Id → ℕ) (name : Name) (cells : List Cell) (fragments : List ℕ) (i : ℕ) (cell : Cell) → i < length cells
-    → object_word head name (set cells i cell) fragments (row_of i) (part_of i) ≡ value_word head cell.value cell.stamp
-word_of_set head name cells fragments i cell within = word_of_cell head name (set cells i cell) fragments i cell (slice_get-set_same cells i cell within)
+  pub word_stays : (object : Node) (k part : ℕ) → part < 4 → (k ≡ row_in object i → part ≡ part_in object i → ⊥)
+      → object_word head name (with_cell object i cell) spine fragments k part ≡ object_word head name object spine fragments k part
+  word_stays object k part within =
+      node_cases (λ (o : Node). (k ≡ row_in o i → part ≡ part_in o i → ⊥) → object_word head name (with_cell o i cell) spine fragments k part ≡ object_word head name o spine fragments k part)
+      (λ cells apart. array_stays cells k part within apart) (λ cells apart. record_stays cells k part within apart) object
+
+  -- the word of the cell that was set
+  pub word_of_set : (object : Node) → i < length object.cells
+      → object_word head name (with_cell object i cell) spine fragments (row_in object i) (part_in object i) ≡ value_word head cell.value cell.stamp
+  word_of_set object within = word_of_cell head name spine fragments (with_cell object i cell) i cell (slice_get-set_same object.cells i cell within)

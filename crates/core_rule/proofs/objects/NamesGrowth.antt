@@ -1,17 +1,19 @@
 -- What named kept objects names the same ones, by the same words, when one more object is made.
-use Rattle.std.proofs.Common.{◌≡◌, ◌≢◌, ℕ, ◌+◌, ◌-◌, ◌*◌, ◌<◌, ◌≤◌, List, [], ◌∷◌, ◌++◌, length, cond, slice_get, Option, Some, None, refl, sym, ap, ◌∙◌, subst, arith, length-append}
+use Rattle.std.proofs.Common.{◌≡◌, ◌≢◌, ℕ, ◌<◌, ◌≤◌, List, [], ◌∷◌, ◌++◌, length, slice_get, Option, Some, None, refl, sym, ap, ◌∙◌, subst, arith, length-append}
 use Rattle.heap_words.specs.declared.name.Name.{Name}
+use Rattle.heap_words.specs.declared.spot.Spot.{Spot}
 use Rattle.heap_model.specs.declared.graph.cell.Cell.{Cell}
 use Rattle.heap_model.specs.declared.id.Id.{Id}
 use Rattle.heap_model.specs.declared.id.Value.{Value}
 use Rattle.heap_model.specs.declared.id.Value.TheVariants as values
 use Rattle.heap_model.specs.graph.Graph.{Graph, Node}
 use Rattle.core_machine.specs.table.Fragments.{tally}
-use Rattle.core_machine.specs.table.Newborn.{record_word_of}
 use Rattle.core_rule.specs.Book.{fragment_at, object_number, object_head}
-use Rattle.core_rule.specs.Objects.{IsKept, NamesKept, value_word, field_word, is_cell, object_word, AreMade, cells_at, cells_in}
+use Rattle.core_rule.specs.Objects.{IsKept, NamesKept, value_word, field_word, object_word, AreMade, node_in, node_at}
 use Rattle.core_rule.specs.Owners.{Owner, Kept}
-use Rattle.core_rule.proofs.graph.IdsGrowth.{OneMore, node_at}
+use Rattle.core_rule.proofs.graph.IdsGrowth.{OneMore, node_before}
+use Rattle.core_rule.proofs.graph.SameNodes.{shape_same}
+use Rattle.core_rule.proofs.objects.ObjectWords.{words_by_cells}
 use Rattle.core_rule.proofs.owners.Keeping.{kept_by, with_object, object_old, object_new, kept_stays, kept_was, kept_part}
 use Rattle.core_rule.proofs.graph.Numbering.{id_at-append, number_of-append}
 use Rattle.core_rule.proofs.entries.SeatLists.{NamesStay}
@@ -68,11 +70,10 @@ module _ (made : List Id) (id : Id) (owner : ℕ → Owner) (fragments : ℕ →
   field_old (Some c) names = value_old c.value c.stamp (names c refl)
 
   -- the words of an object that was there
-  pub words_old : (name : Name) (cells : List Cell) (fs : List ℕ) (k part : ℕ) → ((j : ℕ) (c : Cell) → slice_get cells j ≡ Some c → NamesKept made owner fragments c.value)
-      → object_word (object_head (made ++ id ∷ []) now_fragments) name cells fs k part ≡ object_word (object_head made fragments) name cells fs k part
-  unfolding object_word
-  words_old name cells fs k part names =
-      ap (λ w. cond (is_cell k part) w (record_word_of name (length cells) fs k part)) (field_old (slice_get cells (3 * k + part - 2)) (names (3 * k + part - 2)))
+  pub words_old : (name : Name) (object : Node) (spine : Spot) (fs : List ℕ) (k part : ℕ) → ((j : ℕ) (c : Cell) → slice_get object.cells j ≡ Some c → NamesKept made owner fragments c.value)
+      → object_word (object_head (made ++ id ∷ []) now_fragments) name object spine fs k part ≡ object_word (object_head made fragments) name object spine fs k part
+  words_old name object spine fs k part names =
+      words_by_cells (object_head made fragments) (object_head (made ++ id ∷ []) now_fragments) name object spine fs k part (λ j. field_old (slice_get object.cells j) (names j))
 
 -- names and ways go on when one object more is made
 pub names_grown : (made : List Id) (id : Id) (owner : ℕ → Owner) (fragments : ℕ → List ℕ) (body : List ℕ) → ((f i k : ℕ) → 1 ≤ tally f body → owner f ≢ Kept i k)
@@ -84,11 +85,11 @@ names_grown made id owner fragments body free = record {
 
 pub object_grows : (g now : Graph) (made : List Id) (id : Id) (owner : ℕ → Owner) (fragments : ℕ → List ℕ) (object : Node) (body : List ℕ)
     → ((f i k : ℕ) → 1 ≤ tally f body → owner f ≢ Kept i k) → AreMade g made → OneMore g now id object → (i : ℕ) → i < length made → IsKept owner fragments i
-    → ObjectStays (cells_at g made) (cells_at now (made ++ id ∷ [])) made (made ++ id ∷ []) owner (kept_by (length made) body owner) fragments (with_object fragments (length made) body) i
+    → ObjectStays (node_at g made) (node_at now (made ++ id ∷ [])) made (made ++ id ∷ []) owner (kept_by (length made) body owner) fragments (with_object fragments (length made) body) i
 object_grows g now made id owner fragments object body free ids more i below kept = record {
   below = omega (arith, below, length-append made (id ∷ []));
   kept = kept_old made id owner fragments body free i below kept;
   id = id_at-append made id i below;
   fragments_stay = object_old fragments (length made) body i (old_apart made i below);
-  cells_stay = ap (λ o. length (cells_in o)) (node_at g now made id object ids more i below);
+  shape = shape_same _ _ (ap node_in (node_before g now made id object ids more i below));
 }

@@ -1,12 +1,18 @@
--- The words with which a record is stored are those of its cells, which were never set.
-use Rattle.std.proofs.Common.{◌≡◌, ℕ, zero, suc, ◌+◌, ◌-◌, ◌*◌, Bool, true, false, List, replicate, cond, slice_get, refl, arith}
+-- The words with which an object is stored are those of its cells, which were never set.
+use Rattle.std.specs.Prelude.{if◌then◌else◌}
+use Rattle.std.proofs.Common.{◌≡◌, ℕ, zero, suc, ◌+◌, ◌-◌, ◌*◌, Bool, true, false, List, replicate, cond, slice_get, refl, ap, ◌∙◌, arith}
 use Rattle.std.proofs.lemmas.Bool.Decides.{nat_tests}
 use Rattle.std.proofs.lemmas.List.{length-replicate}
 use Rattle.heap_words.specs.declared.name.Name.{Name}
+use Rattle.heap_words.specs.declared.spot.Spot.{Spot}
 use Rattle.heap_model.specs.declared.id.Id.{Id}
-use Rattle.heap_model.specs.graph.Graph.{unset}
-use Rattle.core_machine.specs.table.Newborn.{record_word_of}
-use Rattle.core_rule.specs.Objects.{field_word, is_cell, object_word}
+use Rattle.heap_model.specs.graph.Graph.{fresh, unset}
+use Rattle.core_machine.specs.table.Newborn.{record_word_of, sentinel_word_of, array_word_of}
+use Rattle.core_rule.specs.Objects.{field_word, is_cell, record_object_word, array_object_word, object_word}
+
+-- the words of a record or an array of so many cells that were never set
+abbrev pub fresh_word : Bool → Name → ℕ → Spot → List ℕ → ℕ → ℕ → ℕ
+fresh_word array name cells spine fragments k part = if array then array_word_of name cells spine k part else record_word_of name cells fragments k part
 
 -- a cell that was never set has the word 0
 unset_word : (head : Id → ℕ) (n i : ℕ) → field_word head (slice_get (replicate n unset) i) ≡ 0
@@ -23,6 +29,8 @@ by_test true cell word same = same refl
 by_test false cell word same = refl
 
 -- so the words are those of the object
-pub newborn_is : (head : Id → ℕ) (name : Name) (n : ℕ) (fragments : List ℕ) (k part : ℕ) → object_word head name (replicate n unset) fragments k part ≡ record_word_of name n fragments k part
-unfolding object_word
-newborn_is head name n fragments k part = rw (length-replicate n unset) (by_test (is_cell k part) (field_word head (slice_get (replicate n unset) (3 * k + part - 2))) (record_word_of name n fragments k part) (λ cell. rw (unset_word head n (3 * k + part - 2), no_cell_word name n fragments k part cell) refl))
+pub newborn_is : (head : Id → ℕ) (name : Name) (array : Bool) (n : ℕ) (spine : Spot) (fragments : List ℕ) (k part : ℕ)
+    → object_word head name (fresh array n) spine fragments k part ≡ fresh_word array name n spine fragments k part
+unfolding record_object_word array_object_word
+newborn_is head name false n spine fragments k part = rw (length-replicate n unset) (by_test (is_cell k part) (field_word head (slice_get (replicate n unset) (3 * k + part - 2))) (record_word_of name n fragments k part) (λ cell. rw (unset_word head n (3 * k + part - 2), no_cell_word name n fragments k part cell) refl))
+newborn_is head name true n spine fragments k part = rw (length-replicate n unset, unset_word head n (4 * (k - 1) + part)) refl

@@ -1,47 +1,53 @@
--- The objects stand as before where no word of a kept fragment changes, and the same fragments are kept.
-use Rattle.std.proofs.Common.{◌≡◌, ◌≢◌, ℕ, ◌<◌, ◌≤◌, List, ◌∙◌, subst, sym}
+-- The objects stand as before where no word of a kept fragment or of a kept array's spine changes, and the same fragments are kept.
+use Rattle.std.proofs.Common.{◌≡◌, ◌≢◌, ℕ, ◌*◌, ◌<◌, ◌≤◌, List, length, ◌∙◌, subst, sym}
+use Rattle.heap_words.specs.declared.spot.Spot.{Spot}
 use Rattle.heap_model.specs.declared.heap.Heap.{Heap}
 use Rattle.heap_model.specs.declared.id.Id.{Id}
 use Rattle.heap_model.specs.declared.id.Value.{Value}
 use Rattle.heap_model.specs.declared.id.Value.TheVariants as values
 use Rattle.heap_model.specs.graph.Graph.{Graph}
+use Rattle.heap_model.specs.graph.Sizes.{spine_words_of}
 use Rattle.core_machine.specs.declared.table.address.Address.TheVariants.{Word, Control}
 use Rattle.core_machine.specs.table.Fragments.{tally}
-use Rattle.core_machine.specs.table.Layout.{at, put}
-use Rattle.core_rule.specs.Objects.{NamesKept, Objects}
+use Rattle.core_machine.specs.table.Layout.{at, put, spine_place}
+use Rattle.core_rule.specs.Objects.{NamesKept, IsKept, Objects, node_at}
 use Rattle.core_rule.specs.Owners.{Owner, Free, Taken, Borne, Kept, owner_after}
-use Rattle.core_rule.proofs.words.Addresses.{word_after_control, fragment_other}
+use Rattle.core_rule.proofs.words.Addresses.{word_after_control, fragment_other, spines_after_control, spines_after_word}
 use Rattle.core_rule.proofs.owners.Handed.{handed_cases}
 
-module _ (heap : Heap) (words now : List ℕ) (g : Graph) (made : List Id) (owner : ℕ → Owner) (fragments : ℕ → List ℕ) where
-  -- no word of a kept fragment changes
+module _ (heap : Heap) (words now : List ℕ) (g : Graph) (made : List Id) (owner : ℕ → Owner) (fragments : ℕ → List ℕ) (spines : ℕ → Spot) where
+  -- no word of a kept fragment changes, nor one of a kept array's spine
   pub objects_words : ((f i k part : ℕ) → owner f ≡ Kept i k → part < 4 → at heap now (Word f part) ≡ at heap words (Word f part))
-      → Objects heap words g made owner fragments → Objects heap now g made owner fragments
-  objects_words same old = record {
+      → ((i j : ℕ) → i < length made → IsKept owner fragments i → j < spine_words_of (node_at g made i) → at heap now (spine_place (spines i) j) ≡ at heap words (spine_place (spines i) j))
+      → Objects heap words g made owner fragments spines → Objects heap now g made owner fragments spines
+  objects_words same same_spine old = record {
     kept = λ i below is. let one = old.kept i below is in record {
       sized = one.sized;
       whole = one.whole;
       owned = one.owned;
       stored = λ k part p number. same _ i k part (one.owned k p) number ∙ one.stored k part p number;
+      listed = λ j p. same_spine i j below is p ∙ one.listed j p;
     };
-    sizes = old.sizes;
     named = old.named;
     back = old.back;
     board = old.board;
   }
 
 -- a control word changes
-pub objects_control : (heap : Heap) (words : List ℕ) (g : Graph) (made : List Id) (owner : ℕ → Owner) (fragments : ℕ → List ℕ) (group n : ℕ)
-    → group < heap.groups → Objects heap words g made owner fragments → Objects heap (put heap words (Control group) n) g made owner fragments
-objects_control heap words g made owner fragments group n below old =
-    objects_words heap words (put heap words (Control group) n) g made owner fragments (λ f i k part is p. word_after_control heap words n group f part below) old
+pub objects_control : (heap : Heap) (words : List ℕ) (g : Graph) (made : List Id) (owner : ℕ → Owner) (fragments : ℕ → List ℕ) (spines : ℕ → Spot) (group n : ℕ)
+    → group < heap.groups → Objects heap words g made owner fragments spines → Objects heap (put heap words (Control group) n) g made owner fragments spines
+objects_control heap words g made owner fragments spines group n below old =
+    objects_words heap words (put heap words (Control group) n) g made owner fragments spines (λ f i k part is p. word_after_control heap words n group f part below)
+    (λ i j less is within. spines_after_control heap words n group below _ _) old
 
 -- a word of a fragment that no object keeps changes
-pub objects_store : (heap : Heap) (words : List ℕ) (g : Graph) (made : List Id) (owner : ℕ → Owner) (fragments : ℕ → List ℕ) (f part n : ℕ)
-    → part < 4 → ((i k : ℕ) → owner f ≢ Kept i k) → Objects heap words g made owner fragments → Objects heap (put heap words (Word f part) n) g made owner fragments
-objects_store heap words g made owner fragments f part n within free old =
-    objects_words heap words (put heap words (Word f part) n) g made owner fragments
-    (λ x i k p is number. fragment_other heap words n f part x p within number (λ e. free i k (subst (λ y. owner y ≡ Kept i k) e is))) old
+pub objects_store : (heap : Heap) (words : List ℕ) (g : Graph) (made : List Id) (owner : ℕ → Owner) (fragments : ℕ → List ℕ) (spines : ℕ → Spot) (f part n : ℕ)
+    → f < 16 * heap.groups → part < 4 → ((i k : ℕ) → owner f ≢ Kept i k) → Objects heap words g made owner fragments spines
+    → Objects heap (put heap words (Word f part) n) g made owner fragments spines
+objects_store heap words g made owner fragments spines f part n inside within free old =
+    objects_words heap words (put heap words (Word f part) n) g made owner fragments spines
+    (λ x i k p is number. fragment_other heap words n f part x p within number (λ e. free i k (subst (λ y. owner y ≡ Kept i k) e is)))
+    (λ i j less is there. spines_after_word heap words n f part inside within _ _) old
 
 -- the same fragments are kept, as the same parts of the same objects
 pub record SameKept (owner now : ℕ → Owner) : Type 0 where
@@ -77,15 +83,15 @@ module _ (owner now : ℕ → Owner) (same : SameKept owner now) (made : List Id
   names_kept (values.Object id) names = (names.0, same.stays _ _ _ names.1)
 
   -- so the objects stand
-  pub objects_owners : (heap : Heap) (words : List ℕ) (g : Graph) → Objects heap words g made owner fragments → Objects heap words g made now fragments
-  objects_owners heap words g old = record {
+  pub objects_owners : (spines : ℕ → Spot) (heap : Heap) (words : List ℕ) (g : Graph) → Objects heap words g made owner fragments spines → Objects heap words g made now fragments spines
+  objects_owners spines heap words g old = record {
     kept = λ i below is. let one = old.kept i below (same.was _ _ _ is) in record {
       sized = one.sized;
       whole = one.whole;
       owned = λ k p. same.stays _ _ _ (one.owned k p);
       stored = one.stored;
+      listed = one.listed;
     };
-    sizes = λ i below is. old.sizes i below (same.was _ _ _ is);
     named = λ i j below is cell there. let one = old.named i j below (same.was _ _ _ is) cell there in (names_kept cell.value one.0, one.1);
     back = λ f i k is. let one = old.back f i k (same.was f i k is) in (one.0, same.stays _ _ _ one.1, one.2, one.3);
     board = old.board;

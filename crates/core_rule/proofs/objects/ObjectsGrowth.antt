@@ -1,27 +1,28 @@
 -- The objects when one more is made of a seat's fragments.
-use Rattle.std.proofs.Common.{◌≡◌, ◌^◌, ◌≢◌, ℕ, zero, suc, ◌+◌, ◌<◌, ◌≤◌, false, List, [], ◌∷◌, ◌++◌, length, replicate, slice_get, Option, Some, inl, inr, sym, ap, ◌∙◌, subst, arith, length-append}
-use Rattle.std.specs.Option.{option_map_or}
+use Rattle.std.specs.Prelude.{if◌then◌else◌, ◌==◌}
+use Rattle.std.proofs.Common.{◌≡◌, ◌^◌, ◌≢◌, ℕ, zero, suc, ◌+◌, ◌<◌, ◌≤◌, Bool, true, false, List, [], ◌∷◌, ◌++◌, length, replicate, slice_get, Option, Some, inl, inr, sym, ap, ◌∙◌, subst, arith, length-append}
+use Rattle.std.proofs.lemmas.Bool.Decides.{nat_tests}
 use Rattle.std.proofs.lemmas.Option.{slice_get_within}
 use Rattle.std.proofs.lemmas.List.{length-replicate}
+use Rattle.heap_words.specs.declared.spot.Spot.{Spot}
 use Rattle.heap_model.specs.declared.id.Id.TheVariants.{Board}
 use Rattle.heap_model.specs.declared.graph.cell.Cell.{Cell}
 use Rattle.heap_model.specs.declared.heap.Heap.{Heap}
 use Rattle.heap_model.specs.declared.id.Id.{Id}
-use Rattle.heap_model.specs.Needs.{record_fragments}
+use Rattle.heap_model.specs.Needs.{record_fragments, array_fragments, array_words}
 use Rattle.heap_model.specs.graph.Objects.{node}
 use Rattle.heap_model.specs.graph.Graph.{Graph, Node, fresh, unset}
-use Rattle.heap_model.specs.graph.Sizes.{fragments_of, fragments_at}
 use Rattle.core_machine.specs.declared.table.address.Address.TheVariants.{Word}
 use Rattle.core_machine.specs.table.Fragments.{tally}
-use Rattle.core_machine.specs.table.Layout.{at}
-use Rattle.core_machine.specs.table.Newborn.{record_word_of}
+use Rattle.core_machine.specs.table.Layout.{at, spine_place}
+use Rattle.core_machine.specs.table.Newborn.{spine_word}
 use Rattle.core_rule.specs.Book.{fragment_at, id_at, object_head}
-use Rattle.core_rule.specs.Objects.{AreMade, IsKept, NamesKept, KeptObject, Objects, cells_in, cells_at, name_of}
+use Rattle.core_rule.specs.Objects.{AreMade, IsKept, IsSized, NamesKept, KeptObject, Objects, node_in, node_at, cells_at, name_of}
 use Rattle.core_rule.specs.Owners.{Owner, Kept}
-use Rattle.core_rule.proofs.graph.IdsGrowth.{OneMore, old_or_new, node_at}
+use Rattle.core_rule.proofs.graph.IdsGrowth.{OneMore, old_or_new, node_before}
 use Rattle.core_rule.proofs.owners.Keeping.{kept_by, with_object, object_new, object_old, kept_stays, kept_part, kept_back}
 use Rattle.core_rule.proofs.objects.NamesGrowth.{old_apart, kept_old, kept_before, kept_new, names_old, words_old}
-use Rattle.core_rule.proofs.objects.Newborn.{newborn_is}
+use Rattle.core_rule.proofs.objects.Newborn.{fresh_word, newborn_is}
 use Rattle.core_rule.proofs.graph.Numbering.{id_at-append, id_at-new}
 
 -- a cell of an object that was never set
@@ -30,90 +31,105 @@ unset_cell zero j cell there = absurd (cc)
 unset_cell (suc n) zero cell there = cc
 unset_cell (suc n) (suc j) cell there = unset_cell n j cell there
 
--- the body of a new record: each fragment once, none that an object keeps, and stored as one whose fields were never set
-pub record NewBody (heap : Heap) (words : List ℕ) (owner : ℕ → Owner) (id : Id) (fields : ℕ) (body : List ℕ) : Type 0 where
-  pub sized : (1 ≤ fields) × (fields ≤ 47)
-  pub whole : length body ≡ record_fragments fields
+-- the fragments and the spine words of an object of so many cells
+abbrev pub fresh_fragments : Bool → ℕ → ℕ
+fresh_fragments array cells = if array then array_fragments cells else record_fragments cells
+
+abbrev pub fresh_words : Bool → ℕ → ℕ
+fresh_words array cells = if array then array_words cells else 0
+
+-- the body of a new object: each fragment once, none that an object keeps, and stored as one whose cells were never set; and the words of an array's spine name its payload fragments
+pub record NewBody (heap : Heap) (words : List ℕ) (owner : ℕ → Owner) (id : Id) (array : Bool) (cells : ℕ) (body : List ℕ) (spine : Spot) : Type 0 where
+  pub sized : IsSized array cells
+  pub whole : length body ≡ fresh_fragments array cells
   pub once : (f : ℕ) → tally f body ≤ 1
   pub unkept : (f i k : ℕ) → 1 ≤ tally f body → owner f ≢ Kept i k
-  pub newborn : (k part : ℕ) → k < length body → part < 4 → at heap words (Word (fragment_at body k) part) ≡ record_word_of (name_of id) fields body k part
+  pub newborn : (k part : ℕ) → k < length body → part < 4 → at heap words (Word (fragment_at body k) part) ≡ fresh_word array (name_of id) cells spine body k part
+  pub listed : (j : ℕ) → j < fresh_words array cells → at heap words (spine_place spine j) ≡ spine_word (fragment_at body (j + 1))
 
-module _ (heap : Heap) (words : List ℕ) (g now : Graph) (made : List Id) (id : Id) (owner : ℕ → Owner) (fragments : ℕ → List ℕ) (fields : ℕ) (body : List ℕ)
-    (ids : AreMade g made) (more : OneMore g now id (fresh false fields)) (new : NewBody heap words owner id fields body) (old : Objects heap words g made owner fragments) where
+-- it has at least one fragment
+pub body_some : (array : Bool) (cells : ℕ) (body : List ℕ) → length body ≡ fresh_fragments array cells → 1 ≤ length body
+body_some true cells body whole = omega (arith, whole)
+body_some false cells body whole = omega (arith, whole)
+
+-- the spine of the object of this number stands there
+abbrev pub with_spine : (ℕ → Spot) → ℕ → Spot → ℕ → Spot
+with_spine spines n spine i = if i == n then spine else spines i
+
+pub spine_new : (spines : ℕ → Spot) (n : ℕ) (spine : Spot) → with_spine spines n spine n ≡ spine
+spine_new spines n spine = grind (arith, nat_tests)
+
+pub spine_old : (spines : ℕ → Spot) (n : ℕ) (spine : Spot) (i : ℕ) → i ≢ n → with_spine spines n spine i ≡ spines i
+spine_old spines n spine i apart = grind (arith, nat_tests, apart)
+
+module _ (heap : Heap) (words : List ℕ) (g now : Graph) (made : List Id) (id : Id) (owner : ℕ → Owner) (fragments : ℕ → List ℕ) (spines : ℕ → Spot) (array : Bool) (cells : ℕ) (body : List ℕ) (spine : Spot)
+    (ids : AreMade g made) (more : OneMore g now id (fresh array cells)) (new : NewBody heap words owner id array cells body spine) (old : Objects heap words g made owner fragments spines) where
   abbrev now_owner : ℕ → Owner
   now_owner = kept_by (length made) body owner
 
   abbrev now_fragments : ℕ → List ℕ
   now_fragments = with_object fragments (length made) body
 
+  abbrev now_spines : ℕ → Spot
+  now_spines = with_spine spines (length made) spine
+
   abbrev now_made : List Id
   now_made = made ++ id ∷ []
 
-  abbrev IsKeptNow : ℕ → Id → List Cell → List ℕ → Type 0
-  IsKeptNow i x cells fs = KeptObject heap words now_owner (object_head now_made now_fragments) i x cells fs
+  abbrev IsKeptNow : ℕ → Id → Node → List ℕ → Spot → Type 0
+  IsKeptNow i x object fs spot = KeptObject heap words now_owner (object_head now_made now_fragments) i x object fs spot
 
-  some : 1 ≤ length body
-  some = omega (arith, new.whole)
+  kept_at : (i : ℕ) (x y : Id) (object now_object : Node) (fs gs : List ℕ) (s t : Spot) → x ≡ y → object ≡ now_object → fs ≡ gs → s ≡ t → IsKeptNow i x object fs s → IsKeptNow i y now_object gs t
+  kept_at i x y object now_object fs gs s t e c f h kept =
+      subst (λ z. IsKeptNow i y now_object gs z) h (subst (λ z. IsKeptNow i y now_object z s) f (subst (λ z. IsKeptNow i y z fs s) c (subst (λ z. IsKeptNow i z object fs s) e kept)))
 
-  kept_at : (i : ℕ) (x y : Id) (cells more_cells : List Cell) (fs gs : List ℕ) → x ≡ y → cells ≡ more_cells → fs ≡ gs → IsKeptNow i x cells fs → IsKeptNow i y more_cells gs
-  kept_at i x y cells more_cells fs gs e c f kept =
-      subst (λ z. IsKeptNow i y more_cells z) f (subst (λ z. IsKeptNow i y z fs) c (subst (λ z. IsKeptNow i z cells fs) e kept))
+  node_old : (i : ℕ) → i < length made → node_at now now_made i ≡ node_at g made i
+  node_old i below = ap node_in (node_before g now made id (fresh array cells) ids more i below)
 
-  cells_old : (i : ℕ) → i < length made → cells_at now now_made i ≡ cells_at g made i
-  cells_old i below = ap cells_in (node_at g now made id (fresh false fields) ids more i below)
+  node_new : node_at now now_made (length made) ≡ fresh array cells
+  node_new = ap (λ x. node_in (node now x)) (id_at-new made id) ∙ ap node_in more.new
 
-  cells_new : cells_at now now_made (length made) ≡ replicate fields unset
-  cells_new = ap (λ x. cells_in (node now x)) (id_at-new made id) ∙ ap cells_in more.new
-
-  old_kept : (i : ℕ) → i < length made → IsKept now_owner now_fragments i → IsKeptNow i (id_at now_made i) (cells_at now now_made i) (now_fragments i)
+  old_kept : (i : ℕ) → i < length made → IsKept now_owner now_fragments i → IsKeptNow i (id_at now_made i) (node_at now now_made i) (now_fragments i) (now_spines i)
   old_kept i below is =
       let before = kept_before made id owner fragments body new.unkept i below is in
       let one = old.kept i below before in
-      kept_at i (id_at made i) (id_at now_made i) (cells_at g made i) (cells_at now now_made i) (fragments i) (now_fragments i)
-      (sym (id_at-append made id i below)) (sym (cells_old i below)) (sym (object_old fragments (length made) body i (old_apart made i below)))
+      kept_at i (id_at made i) (id_at now_made i) (node_at g made i) (node_at now now_made i) (fragments i) (now_fragments i) (spines i) (now_spines i)
+      (sym (id_at-append made id i below)) (sym (node_old i below)) (sym (object_old fragments (length made) body i (old_apart made i below)))
+      (sym (spine_old spines (length made) spine i (old_apart made i below)))
       record {
         sized = one.sized;
         whole = one.whole;
         owned = λ k p. kept_stays (length made) body owner new.unkept _ i k (one.owned k p);
         stored = λ k part p number. one.stored k part p number
-            ∙ sym (words_old made id owner fragments body new.unkept (name_of (id_at made i)) (cells_at g made i) (fragments i) k part
+            ∙ sym (words_old made id owner fragments body new.unkept (name_of (id_at made i)) (node_at g made i) (spines i) (fragments i) k part
             (λ j c there. (old.named i j below before c there).0));
+        listed = one.listed;
       }
 
-  new_kept : IsKept now_owner now_fragments (length made) → IsKeptNow (length made) (id_at now_made (length made)) (cells_at now now_made (length made)) (now_fragments (length made))
+  long : length (replicate cells unset) ≡ cells
+  long = length-replicate cells unset
+
+  new_kept : IsKept now_owner now_fragments (length made)
+      → IsKeptNow (length made) (id_at now_made (length made)) (node_at now now_made (length made)) (now_fragments (length made)) (now_spines (length made))
   new_kept is =
-      let long : length (replicate fields unset) ≡ fields = length-replicate fields unset in
-      kept_at (length made) id (id_at now_made (length made)) (replicate fields unset) (cells_at now now_made (length made)) body (now_fragments (length made))
-      (sym (id_at-new made id)) (sym cells_new) (sym (object_new fragments (length made) body))
+      kept_at (length made) id (id_at now_made (length made)) (fresh array cells) (node_at now now_made (length made)) body (now_fragments (length made)) spine (now_spines (length made))
+      (sym (id_at-new made id)) (sym node_new) (sym (object_new fragments (length made) body)) (sym (spine_new spines (length made) spine))
       record {
-        sized = (omega (arith, long, new.sized), omega (arith, long, new.sized));
-        whole = new.whole ∙ ap record_fragments (sym long);
+        sized = subst (IsSized array) (sym long) new.sized;
+        whole = new.whole ∙ ap (fresh_fragments array) (sym long);
         owned = kept_part (length made) body owner new.once;
-        stored = λ k part p number. new.newborn k part p number ∙ sym (newborn_is (object_head now_made now_fragments) (name_of id) fields body k part);
+        stored = λ k part p number. new.newborn k part p number ∙ sym (newborn_is (object_head now_made now_fragments) (name_of id) array cells spine body k part);
+        listed = λ j p. new.listed j (subst (λ n. j < fresh_words array n) long p);
       }
-
-  -- as many fragments as the graph's objects
-  abbrev IsSized : ℕ → Type 0
-  IsSized i = IsKept now_owner now_fragments i → length (now_fragments i) ≡ fragments_at now (id_at now_made i)
-
-  old_sized : (i : ℕ) → i < length made → IsSized i
-  old_sized i below is =
-      ap (λ (fs : List ℕ). length fs) (object_old fragments (length made) body i (old_apart made i below)) ∙ old.sizes i below (kept_before made id owner fragments body new.unkept i below is)
-      ∙ ap (λ (o : Option Node). option_map_or fragments_of o 0) (sym (node_at g now made id (fresh false fields) ids more i below))
-
-  new_sized : IsSized (length made)
-  new_sized is =
-      ap (λ (fs : List ℕ). length fs) (object_new fragments (length made) body) ∙ new.whole ∙ ap record_fragments (sym (length-replicate fields unset))
-      ∙ ap (λ (o : Option Node). option_map_or fragments_of o 0) (sym (ap (node now) (id_at-new made id) ∙ more.new))
 
   new_named : (j : ℕ) (cell : Cell) → slice_get (cells_at now now_made (length made)) j ≡ Some cell → NamesKept now_made now_owner now_fragments cell.value × (cell.stamp < 2 ^ 32)
   new_named j cell there =
-      let is : cell ≡ unset = unset_cell fields j cell (ap (λ cells. slice_get cells j) (sym cells_new) ∙ there) in
+      let is : cell ≡ unset = unset_cell cells j cell (ap (λ (o : Node). slice_get o.cells j) (sym node_new) ∙ there) in
       subst (λ (c : Cell). NamesKept now_made now_owner now_fragments c.value × (c.stamp < 2 ^ 32)) (sym is) (tt, omega arith)
 
   old_named : (i j : ℕ) → i < length made → IsKept now_owner now_fragments i → (cell : Cell) → slice_get (cells_at now now_made i) j ≡ Some cell → NamesKept now_made now_owner now_fragments cell.value × (cell.stamp < 2 ^ 32)
   old_named i j below is cell there =
-      let one = old.named i j below (kept_before made id owner fragments body new.unkept i below is) cell (ap (λ cells. slice_get cells j) (sym (cells_old i below)) ∙ there) in
+      let one = old.named i j below (kept_before made id owner fragments body new.unkept i below is) cell (ap (λ (o : Node). slice_get o.cells j) (sym (node_old i below)) ∙ there) in
       (names_old made id owner fragments body new.unkept cell.value one.0, one.1)
 
   abbrev Back : ℕ → ℕ → ℕ → Type 0
@@ -125,7 +141,7 @@ module _ (heap : Heap) (words : List ℕ) (g now : Graph) (made : List Id) (id :
   new_back : (f k : ℕ) → k < length body → f ≡ fragment_at body k → Back f (length made) k
   new_back f k within same = (
     omega (arith, longer),
-    kept_new made id owner fragments body new.unkept new.once some,
+    kept_new made id owner fragments body new.unkept new.once (body_some array cells body new.whole),
     subst (λ fs. k < length fs) (sym (object_new fragments (length made) body)) within,
     same ∙ ap (λ fs. fragment_at fs k) (sym (object_new fragments (length made) body)),
   )
@@ -141,11 +157,11 @@ module _ (heap : Heap) (words : List ℕ) (g now : Graph) (made : List Id) (id :
       )
 
   -- the old objects stand, and the new one
-  pub objects_grown : Objects heap words now now_made now_owner now_fragments
+  pub objects_grown : Objects heap words now now_made now_owner now_fragments now_spines
   objects_grown = record {
-    kept = old_or_new g now made id (fresh false fields) ids more (λ i. IsKept now_owner now_fragments i → IsKeptNow i (id_at now_made i) (cells_at now now_made i) (now_fragments i)) old_kept new_kept;
-    sizes = old_or_new g now made id (fresh false fields) ids more IsSized old_sized new_sized;
-    named = λ i j below. old_or_new g now made id (fresh false fields) ids more
+    kept = old_or_new g now made id (fresh array cells) ids more
+        (λ i. IsKept now_owner now_fragments i → IsKeptNow i (id_at now_made i) (node_at now now_made i) (now_fragments i) (now_spines i)) old_kept new_kept;
+    named = λ i j below. old_or_new g now made id (fresh array cells) ids more
         (λ x. IsKept now_owner now_fragments x → (cell : Cell) → slice_get (cells_at now now_made x) j ≡ Some cell → NamesKept now_made now_owner now_fragments cell.value × (cell.stamp < 2 ^ 32))
         (λ x less. old_named x j less) (λ is. new_named j) i below;
     back = λ f i k is. elim (kept_back (length made) body owner f i k is) [

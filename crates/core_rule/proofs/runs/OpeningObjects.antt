@@ -1,26 +1,27 @@
 -- The board is the one object when a heap opens.
 use Rattle.std.specs.Int.{bit_at}
-use Rattle.std.proofs.Common.{◌≡◌, ◌^◌, ℕ, ◌+◌, ◌*◌, ◌/◌, ◌%◌, ◌<◌, ◌≤◌, inl, inr, true, List, [], ◌∷◌, length, nat_lt, replicate, slice_get, Some, IsSome, refl, sym, ap, ◌∙◌, subst, arith}
+use Rattle.std.proofs.Common.{◌≡◌, ◌^◌, ℕ, ◌+◌, ◌*◌, ◌/◌, ◌%◌, ◌<◌, ◌≤◌, inl, inr, true, false, List, [], ◌∷◌, length, nat_lt, replicate, slice_get, Some, IsSome, refl, sym, ap, ◌∙◌, subst, arith}
 use Rattle.std.proofs.lemmas.Bool.{cases_lt, false≢true}
 use Rattle.std.proofs.lemmas.Bool.Decides.{nat_tests, eqb_tells}
 use Rattle.std.proofs.lemmas.List.{get_or_past, length-replicate}
 use Rattle.std.proofs.lemmas.Nat.Bits.{bit_at-zero}
+use Rattle.heap_words.specs.declared.spot.Spot.{Spot}
 use Rattle.heap_model.specs.declared.graph.cell.Cell.{Cell}
 use Rattle.heap_model.specs.declared.heap.Heap.{Heap}
 use Rattle.heap_model.specs.declared.id.Id.{Id}
 use Rattle.heap_model.specs.declared.id.Id.TheVariants.{Board, Made}
 use Rattle.heap_model.specs.graph.Objects.{absent_graph_seat, graph_seat}
 use Rattle.heap_model.specs.graph.Reach.{IsMade}
-use Rattle.heap_model.specs.graph.Sizes.{fragments_at}
-use Rattle.heap_model.specs.graph.Graph.{GraphSeat, opening, opening_graph_seat, unset}
+use Rattle.heap_model.specs.graph.Graph.{GraphSeat, opening, opening_graph_seat, fresh, unset}
 use Rattle.core_machine.specs.declared.table.address.Address.{Address}
 use Rattle.core_machine.specs.declared.table.address.Address.TheVariants.{Control, Word}
 use Rattle.core_machine.specs.table.Layout.{at, InTable}
+use Rattle.core_machine.specs.seat.Seat.{no_spot}
 use Rattle.core_machine.specs.machine.Opening.{board, board_name, opening_word}
 use Rattle.core_rule.specs.Book.{White, fragment_at, id_at, object_number, object_head}
 use Rattle.core_rule.specs.Colours.{Marks}
 use Rattle.core_rule.specs.ControlWords.{Bits}
-use Rattle.core_rule.specs.Objects.{FitsName, AreMade, IsKept, NamesKept, KeptObject, Objects, cells_at}
+use Rattle.core_rule.specs.Objects.{FitsName, AreMade, IsKept, NamesKept, KeptObject, Objects, node_at, cells_at}
 use Rattle.core_rule.specs.Owners.{Kept, taken_bit, born_bit}
 use Rattle.core_rule.proofs.graph.GraphRegisters.{opening_at}
 use Rattle.core_rule.proofs.objects.Newborn.{newborn_is}
@@ -33,6 +34,10 @@ opening_made = Board ∷ []
 
 abbrev pub opening_fragments : ℕ → List ℕ
 opening_fragments i = board
+
+-- it has no spine
+abbrev pub opening_spines : ℕ → Spot
+opening_spines i = no_spot
 
 -- no seat has made an object
 nothing_made : (heap : Heap) (s : ℕ) → (graph_seat (opening heap) s).objects ≡ []
@@ -90,7 +95,7 @@ module _ (heap : Heap) (words : List ℕ) (some : 1 ≤ heap.groups) (open_words
     outside = λ f past. refl;
   }
 
-  board_kept : KeptObject heap words opening_owner (object_head opening_made opening_fragments) 0 Board (replicate 32 unset) board
+  board_kept : KeptObject heap words opening_owner (object_head opening_made opening_fragments) 0 Board (fresh false 32) board no_spot
   board_kept = record {
     sized = (omega arith, omega arith);
     whole = refl;
@@ -98,16 +103,16 @@ module _ (heap : Heap) (words : List ℕ) (some : 1 ≤ heap.groups) (open_words
     stored = λ k part below fits.
         let here : k < 11 = omega arith in
         rw (board_at k here, open_words (Word k part) (omega (arith, here, some), fits))
-        (let newborn = newborn_is (object_head opening_made opening_fragments) board_name 32 board k part in
+        (let newborn = newborn_is (object_head opening_made opening_fragments) board_name false 32 no_spot board k part in
         let first : nat_lt k 11 ≡ true = grind (arith, nat_tests, here) in rw first (sym newborn));
+    listed = λ j none. absurd (omega (arith, none));
   }
 
   -- it has the words of a record that was never set
-  pub opening_objects : Objects heap words (opening heap) opening_made opening_owner opening_fragments
+  pub opening_objects : Objects heap words (opening heap) opening_made opening_owner opening_fragments opening_spines
   opening_objects = record {
     kept = λ i below is. let none : 0 ≡ i = omega arith in
-        subst (λ x. KeptObject heap words opening_owner (object_head opening_made opening_fragments) x (id_at opening_made x) (cells_at (opening heap) opening_made x) (opening_fragments x)) none board_kept;
-    sizes = λ i below is. let none : 0 ≡ i = omega arith in subst (λ x. length (opening_fragments x) ≡ fragments_at (opening heap) (id_at opening_made x)) none refl;
+        subst (λ x. KeptObject heap words opening_owner (object_head opening_made opening_fragments) x (id_at opening_made x) (node_at (opening heap) opening_made x) (opening_fragments x) (opening_spines x)) none board_kept;
     named = λ i j below is cell there. let none : i ≡ 0 = omega arith in
         let blank : cell ≡ unset = unset_cell 32 j cell (subst (λ x. slice_get (cells_at (opening heap) opening_made x) j ≡ Some cell) none there) in
         subst (λ (c : Cell). NamesKept opening_made opening_owner opening_fragments c.value × (c.stamp < 2 ^ 32)) (sym blank) (tt, omega arith);

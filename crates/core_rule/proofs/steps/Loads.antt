@@ -37,6 +37,7 @@ use Rattle.core_rule.specs.Objects.{cells_at}
 use Rattle.core_rule.specs.Registers.{Registers}
 use Rattle.core_rule.specs.Rule.{Rule}
 use Rattle.core_rule.specs.Ways.{WayStands}
+use Rattle.core_rule.proofs.colours.SpineStays.{same_sources}
 use Rattle.core_rule.proofs.marking.Marks.{Leaves, RootsGoOn, marks_go_on, leaves_words}
 use Rattle.core_rule.proofs.footprint.BookGoing.{book_stays}
 use Rattle.core_rule.proofs.steps.Assemble.{Keeps, seat_steps}
@@ -106,7 +107,7 @@ module _ (heap : Heap) (state : State) (book : Book) (number : ℕ) (rule : Rule
 
   -- each word leads where it led
   words_lead : Leaves heap state book rule state.words book
-  words_lead = leaves_words heap state book rule state.words (λ f part g leads. leads) (λ f part g leads. leads)
+  words_lead = leaves_words heap state book rule state.words (same_sources heap state.words)
 
   -- nothing is shown
   pub load_goes : Registers (graph_of heap book.history) book.made book.owner book.fragments number registers place (target_of (seat_at state number).command)

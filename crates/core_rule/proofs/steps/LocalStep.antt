@@ -25,6 +25,7 @@ use Rattle.core_rule.specs.Colours.{BornColours}
 use Rattle.core_rule.specs.Cycle.{HeapInCycle}
 use Rattle.core_rule.specs.Rule.{Rule}
 use Rattle.core_rule.proofs.frames.SeatFrames.{with_entry}
+use Rattle.core_rule.proofs.colours.SpineStays.{same_sources}
 use Rattle.core_rule.proofs.marking.Marks.{MarksGoOn, RootsGoOn, marks_go_on, leaves_words}
 use Rattle.core_rule.proofs.steps.Assemble.{Keeps}
 use Rattle.core_rule.proofs.entries.AtRest.{spent_own, few_own}
@@ -93,4 +94,4 @@ local_reply_keeps heap state book number a now reply rule here machine rest told
     (leaves_same heap state.words book.owner book.colour (phase book.history) r))
     (subst (λ ws. MarksGoOn heap state book (with_entry book (entries.Said number seat.command reply)) ws now) (sym same)
     (marks_go_on heap state book rule number here state.words (with_entry book (entries.Said number seat.command reply)) now
-    (leaves_words heap state book rule state.words (λ f part g leads. leads) (λ f part g leads. leads)) tells.answered roots))
+    (leaves_words heap state book rule state.words (same_sources heap state.words)) tells.answered roots))

@@ -15,9 +15,12 @@ use Rattle.core_machine.specs.machine.Machine.{State, seat_at, state_after_turn}
 use Rattle.core_machine.specs.machine.Value.{IsMachine}
 use Rattle.core_machine.proofs.table_lemmas.Addresses.{put-at}
 use Rattle.core_rule.specs.Book.{Book}
+use Rattle.core_rule.specs.Budgets.{BudgetsStand}
 use Rattle.core_rule.specs.Phases.{CollectorAgrees}
 use Rattle.core_rule.specs.Rule.{Rule, HeapStands, SeatStands, MarksStand}
 use Rattle.core_rule.proofs.footprint.BookGoing.{BookGoesOn, book_stays}
+use Rattle.core_rule.proofs.spines.BudgetFrames.{SameGrants, budgets_turn}
+use Rattle.core_rule.proofs.spines.OtherWords.{LeavesSpines, spines_left_none}
 use Rattle.core_rule.proofs.steps.Assemble.{Keeps, parts_keep}
 
 -- a turn of the collector keeps the rule
@@ -36,15 +39,20 @@ MayEnd heap state book = (kept : ℕ) → state.collector.stage ≡ stages.Endin
 abbrev pub after_turn : State → List ℕ → Collector → State
 after_turn state words collector = record state { words = words; collector = collector }
 
+-- as many spine words are granted after a turn
+pub turn_budgets : (heap : Heap) (state : State) (book : Book) → Rule heap state book → (words : List ℕ) (collector : Collector) (now : Book)
+    → LeavesSpines heap state.words words → SameGrants heap book now → BudgetsStand heap (after_turn state words collector) now
+turn_budgets heap state book rule words collector now leaves grants = budgets_turn heap state book words collector now leaves grants rule.budgets
+
 -- the rule after a turn
 pub turn_steps : (heap : Heap) (state : State) (book : Book) (words : List ℕ) (collector : Collector) (now : Book) (added : List Entry)
     → Rule heap state book → IsMachine heap (after_turn state words collector) → now.history ≡ book.history ++ added
     → HeapStands heap words now
     → ((r : ℕ) → r < heap.seats → SeatStands heap state.words book r (seat_at state r) → SeatStands heap words now r (seat_at state r))
     → CollectorAgrees heap collector now.history → MarksStand heap (after_turn state words collector) now.owner now.colour now.fragments
-    → BookGoesOn heap state book now → Keeps heap state (after_turn state words collector) book now.begun added
-turn_steps heap state book words collector now added rule machine grown heap_after seats collector_after marks goes =
-    parts_keep now grown machine heap_after (λ r below. seats r below (rule.seats_stand r below)) collector_after marks goes
+    → BudgetsStand heap (after_turn state words collector) now → BookGoesOn heap state book now → Keeps heap state (after_turn state words collector) book now.begun added
+turn_steps heap state book words collector now added rule machine grown heap_after seats collector_after marks budgets goes =
+    parts_keep now grown machine heap_after (λ r below. seats r below (rule.seats_stand r below)) collector_after marks budgets goes
 
 -- the collector with no entry added
 abbrev pub quiet : Collector → Collector
@@ -56,12 +64,13 @@ pub load_turns_with : (heap : Heap) (state : State) (book : Book) (a : Address) 
     → HeapStands heap state.words now
     → ((r : ℕ) → r < heap.seats → SeatStands heap state.words book r (seat_at state r) → SeatStands heap state.words now r (seat_at state r))
     → CollectorAgrees heap collector now.history → MarksStand heap (after_turn state state.words collector) now.owner now.colour now.fragments
-    → BookGoesOn heap state book now → Keeps heap state (after_turn state (put heap state.words a (at heap state.words a)) (quiet collector)) book now.begun []
-load_turns_with heap state book a collector now rule machine told heap_after seats stands marks goes =
+    → BudgetsStand heap (after_turn state state.words collector) now → BookGoesOn heap state book now → Keeps heap state (after_turn state (put heap state.words a (at heap state.words a)) (quiet collector)) book now.begun []
+load_turns_with heap state book a collector now rule machine told heap_after seats stands marks budgets goes =
     subst (λ words. IsMachine heap (after_turn state words (quiet collector)) → Keeps heap state (after_turn state words (quiet collector)) book now.begun []) (sym (put-at heap state.words a))
     (λ same. turn_steps heap state book state.words (quiet collector) now [] rule same (told ∙ sym (append-nil book.history)) heap_after seats
     (subst (λ log. CollectorAgrees heap (record collector { log = log }) now.history) (sym (append-nil collector.log)) stands)
-    record { heap_marks = marks.heap_marks; roots = λ r below is answered. marks.roots r below (record { phase = is.phase; goes_on = is.goes_on }) answered } goes) machine
+    record { heap_marks = marks.heap_marks; roots = λ r below is answered. marks.roots r below (record { phase = is.phase; goes_on = is.goes_on }) answered }
+    record { exact = budgets.exact; word = budgets.word; told = budgets.told; low = budgets.low; none_returned = budgets.none_returned } goes) machine
 
 -- and after one that leaves the book
 pub load_turns : (heap : Heap) (state : State) (book : Book) (a : Address) (collector : Collector) → Rule heap state book
@@ -69,4 +78,6 @@ pub load_turns : (heap : Heap) (state : State) (book : Book) (a : Address) (coll
     → CollectorAgrees heap collector book.history → MarksStand heap (after_turn state state.words collector) book.owner book.colour book.fragments
     → Keeps heap state (after_turn state (put heap state.words a (at heap state.words a)) (quiet collector)) book book.begun []
 load_turns heap state book a collector rule machine agrees marks =
-    load_turns_with heap state book a collector book rule machine refl rule.heap_stands (λ r below seat_stands. seat_stands) agrees marks (book_stays heap state book book.history book.begun)
+    load_turns_with heap state book a collector book rule machine refl rule.heap_stands (λ r below seat_stands. seat_stands) agrees marks
+    (turn_budgets heap state book rule state.words collector book (spines_left_none heap state.words) record { told = refl; returned = refl; kept = refl; gone = refl })
+    (book_stays heap state book book.history book.begun)

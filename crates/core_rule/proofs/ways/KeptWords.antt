@@ -1,50 +1,35 @@
 -- What the words of a kept object tell, and those on the way to a field of it.
-use Rattle.std.proofs.Common.{◌≡◌, ℕ, zero, suc, ◌+◌, ◌*◌, ◌^◌, ◌<◌, false, eqb, inl, inr, List, length, slice_get, Some, refl, ap, ◌∙◌, arith}
+use Rattle.std.proofs.Common.{◌≡◌, ℕ, zero, suc, ◌+◌, ◌*◌, ◌/◌, ◌^◌, ◌<◌, ◌≤◌, Bool, true, false, inl, inr, List, length, slice_get, Option, Some, None, refl, sym, ap, ◌∙◌, subst, arith}
+use Rattle.std.specs.Prelude.{if◌then◌else◌}
 use Rattle.std.proofs.lemmas.Bool.{cases_lt}
 use Rattle.std.proofs.lemmas.List.{get_or_past}
 use Rattle.std.proofs.lemmas.Option.{slice_get_within}
-use Rattle.heap_words.specs.declared.name.Name.{Name}
-use Rattle.heap_words.specs.Name.{name_word}
+use Rattle.heap_words.specs.declared.spot.Spot.{Spot}
+use Rattle.heap_words.specs.Spot.{spot_in}
 use Rattle.heap_model.specs.declared.graph.cell.Cell.{Cell}
 use Rattle.heap_model.specs.declared.heap.Heap.{Heap}
 use Rattle.heap_model.specs.declared.id.Id.{Id}
 use Rattle.heap_model.specs.declared.id.Value.{Value}
 use Rattle.heap_model.specs.declared.id.Value.TheVariants as values
 use Rattle.heap_model.specs.Heap.{IsHeap}
-use Rattle.heap_model.specs.graph.Graph.{Graph}
+use Rattle.heap_model.specs.graph.Graph.{Graph, Node}
+use Rattle.heap_model.specs.graph.Sizes.{fragments_of, fragments_at, spine_words_of}
 use Rattle.core_machine.specs.declared.table.address.Address.TheVariants.{Word}
-use Rattle.core_machine.specs.table.Layout.{at}
-use Rattle.core_machine.specs.table.Decode.{link_of, length_of, id_of}
-use Rattle.core_machine.specs.table.Newborn.{record_meta, link_after}
-use Rattle.core_machine.specs.seat.Access.{row_of, part_of}
+use Rattle.core_machine.specs.table.Layout.{at, spine_place, FitsSpot}
+use Rattle.core_machine.specs.table.Decode.{link_of, length_of, id_of, array_length_of, spine_words_in, payload_in}
+use Rattle.core_machine.specs.table.Newborn.{record_meta, array_meta}
 use Rattle.core_machine.specs.seat.Commands.{field_of}
 use Rattle.core_machine.specs.seat.Seat.{Seat}
 use Rattle.core_rule.specs.Book.{fragment_at, id_at, object_head}
 use Rattle.core_rule.specs.ControlWords.{Bits}
-use Rattle.core_rule.specs.Objects.{AreMade, Objects, KeptObject, NamesKept, IsKept, cells_at, value_word, object_word}
+use Rattle.core_rule.specs.Objects.{AreMade, Objects, KeptObject, NamesKept, IsKept, IsSized, node_at, cells_at, name_of, value_word, object_word}
 use Rattle.core_rule.specs.Owners.{Owner, Kept}
-use Rattle.core_rule.specs.Ways.{Finds}
-use Rattle.core_rule.proofs.ways.Rows.{field_back, part_within, cell_there, row_within}
-use Rattle.core_rule.proofs.ways.Told.{HasRoom, length_in-meta, link_in-meta, link_in-link, id_in-name}
-
-module _ (head : Id → ℕ) (name : Name) (cells : List Cell) (fragments : List ℕ) where
-  -- the words of an object that are no cells
-  meta_word_of : object_word head name cells fragments 0 0 ≡ record_meta (length cells) fragments
-  unfolding object_word
-  meta_word_of = refl
-
-  name_word_of : object_word head name cells fragments 0 1 ≡ name_word name
-  unfolding object_word
-  name_word_of = refl
-
-  link_word_of : (k : ℕ) → object_word head name cells fragments (suc k) 0 ≡ link_after fragments (suc k)
-  unfolding object_word
-  link_word_of k = let later : eqb (suc k) 0 ≡ false = grind arith in rw later refl
-
-  -- and the cell of a field
-  cell_word_of : (i : ℕ) (cell : Cell) → slice_get cells i ≡ Some cell → object_word head name cells fragments (row_of i) (part_of i) ≡ value_word head cell.value cell.stamp
-  unfolding object_word
-  cell_word_of i cell there = rw (cell_there i, field_back i, there) refl
+use Rattle.core_rule.specs.Ways.{Finds, row_in, part_in}
+use Rattle.core_rule.proofs.graph.SameNodes.{made_size, node_cases}
+use Rattle.core_rule.proofs.objects.ObjectWords.{record_meta_at, record_link_at, array_meta_at, spine_place_at, name_at, word_of_cell}
+use Rattle.core_rule.proofs.ways.ArrayWords.{array_length_in-meta, length_in-array_meta, words_in-meta, spot_in-word, payload_in-word}
+use Rattle.core_rule.proofs.ways.Rows.{part_fits, row_fits}
+use Rattle.core_rule.proofs.ways.Told.{HasRoom, length_in-meta, array_length_in-record, link_in-meta, link_in-link, id_in-name}
 
 -- a fragment that has an owner is the heap's
 pub kept_within : (heap : Heap) (words : List ℕ) (owner : ℕ → Owner) (f i k : ℕ) → Bits heap words owner → owner f ≡ Kept i k → f < 16 * heap.groups
@@ -52,6 +37,24 @@ kept_within heap words owner f i k bits is = elim (cases_lt f (16 * heap.groups)
   | inl below ↦ below
   | inr past ↦ let none = bits.outside f past in absurd (cc)
 ]
+
+-- an object has some cells, and as many as a meta can tell
+pub sized_few : (array : Bool) (cells : ℕ) → IsSized array cells → (1 ≤ cells) × (cells ≤ 4096)
+sized_few true cells sized = sized
+sized_few false cells sized = (sized.0, omega (arith, sized.1))
+
+-- an array has a spine word
+pub array_has_words : (object : Node) → IsSized object.array (length object.cells) → object.array ≡ true → 1 ≤ spine_words_of object
+array_has_words object sized = node_cases (λ (o : Node). IsSized o.array (length o.cells) → o.array ≡ true → 1 ≤ spine_words_of o)
+    (λ cells few kind. omega (arith, few.0)) (λ cells few kind. absurd (cc kind)) object sized
+
+-- and one payload fragment for each
+pub array_payloads : (object : Node) → object.array ≡ true → fragments_of object ≡ spine_words_of object + 1
+array_payloads object = node_cases (λ (o : Node). o.array ≡ true → fragments_of o ≡ spine_words_of o + 1) (λ cells kind. omega arith) (λ cells kind. absurd (cc kind)) object
+
+-- a record has none
+pub record_no_words : (object : Node) → object.array ≡ false → spine_words_of object ≡ 0
+record_no_words object = node_cases (λ (o : Node). o.array ≡ false → spine_words_of o ≡ 0) (λ cells kind. absurd (cc kind)) (λ cells kind. refl) object
 
 module _ (heap : Heap) (words : List ℕ) (g : Graph) (made : List Id) (owner : ℕ → Owner) (fragments : ℕ → List ℕ)
     (limits : IsHeap heap) (bits : Bits heap words owner) where
@@ -61,9 +64,19 @@ module _ (heap : Heap) (words : List ℕ) (g : Graph) (made : List Id) (owner : 
   has_room (values.Number n) names = names
   has_room (values.Object id) names = omega (arith, limits.groups_fit, kept_within heap words owner _ _ _ bits names.1)
 
-  module _ (ids : AreMade g made) (objects : Objects heap words g made owner fragments) (index : ℕ) (below : index < length made) (kept : IsKept owner fragments index) where
-    the_object : KeptObject heap words owner (object_head made fragments) index (id_at made index) (cells_at g made index) (fragments index)
+  module _ {spines : ℕ → Spot} (ids : AreMade g made) (objects : Objects heap words g made owner fragments spines) (index : ℕ) (below : index < length made) (kept : IsKept owner fragments index) where
+    abbrev object : Node
+    object = node_at g made index
+
+    the_object : KeptObject heap words owner (object_head made fragments) index (id_at made index) object (fragments index) (spines index)
     the_object = objects.kept index below kept
+
+    -- it has as many fragments as the graph says
+    pub size_of : length (fragments index) ≡ fragments_at g (id_at made index)
+    size_of = the_object.whole ∙ made_size _ (ids.in_graph index below)
+
+    few : (1 ≤ length object.cells) × (length object.cells ≤ 4096)
+    few = sized_few object.array (length object.cells) the_object.sized
 
     small : (k : ℕ) → k < length (fragments index) → fragment_at (fragments index) k < 2 ^ 30
     small k within = omega (arith, limits.groups_fit, kept_within heap words owner _ _ _ bits (the_object.owned k within))
@@ -74,55 +87,104 @@ module _ (heap : Heap) (words : List ℕ) (g : Graph) (made : List Id) (owner : 
       | inr one ↦ let none : fragment_at (fragments index) 1 ≡ 0 = get_or_past (fragments index) 1 0 one in omega (arith, none)
     ]
 
-    some_fragment : 0 < length (fragments index)
-    some_fragment = omega (arith, the_object.whole)
+    pub some_fragment : 0 < length (fragments index)
+    some_fragment = subst (λ n. 0 < n) (sym the_object.whole) (node_cases (λ o. 0 < fragments_of o) (λ cells. omega arith) (λ cells. omega arith) object)
 
-    meta_found : at heap words (Word (fragment_at (fragments index) 0) 0) ≡ record_meta (length (cells_at g made index)) (fragments index)
-    meta_found = the_object.stored 0 0 some_fragment (omega arith) ∙ meta_word_of _ _ _ _
+    -- of a record its meta was found, and of an array
+    meta_found : object.array ≡ false → at heap words (Word (fragment_at (fragments index) 0) 0) ≡ record_meta (length object.cells) (fragments index)
+    meta_found kind = the_object.stored 0 0 some_fragment (omega arith) ∙ record_meta_at _ _ _ _ object kind
 
-    -- its length stands in its meta
+    array_found : object.array ≡ true → at heap words (Word (fragment_at (fragments index) 0) 0) ≡ array_meta (length object.cells)
+    array_found kind = the_object.stored 0 0 some_fragment (omega arith) ∙ array_meta_at _ _ _ _ object kind
+
+    -- it is one or the other
+    pub by_kind : (P : Type 0) → (object.array ≡ true → P) → (object.array ≡ false → P) → P
+    by_kind P an_array a_record = by object.array refl
+      where
+        by : (array : Bool) → object.array ≡ array → P
+        by true is = an_array is
+        by false is = a_record is
+
+    -- its length stands in its meta, which tells an array's alone to be one
     pub length_found : length_of (at heap words (Word (fragment_at (fragments index) 0) 0)) ≡ length (cells_at g made index)
-    length_found = ap length_of meta_found ∙ length_in-meta _ (fragments index) (omega (arith, the_object.sized.1)) second
+    length_found = by_kind _
+        (λ kind. ap length_of (array_found kind) ∙ length_in-array_meta _ (omega (arith, few.1)))
+        (λ kind. ap length_of (meta_found kind) ∙ length_in-meta _ (fragments index) (omega (arith, few.1)) second)
 
-    -- the way leads from each fragment to the next
-    pub link_found : (k : ℕ) → k + 1 < length (fragments index)
+    pub array_length_found : array_length_of (at heap words (Word (fragment_at (fragments index) 0) 0)) ≡ (if object.array then Some (length object.cells) else None)
+    array_length_found = by_kind _
+        (λ kind. ap array_length_of (array_found kind) ∙ array_length_in-meta (length object.cells) (omega (arith, few.1)) ∙ rw kind refl)
+        (λ kind. ap array_length_of (meta_found kind) ∙ array_length_in-record (length object.cells) (fragments index) (omega (arith, few.1)) second ∙ rw kind refl)
+
+    -- the way of a record leads from each fragment to the next
+    pub link_found : object.array ≡ false → (k : ℕ) → k + 1 < length (fragments index)
         → link_of (at heap words (Word (fragment_at (fragments index) k) 0)) ≡ fragment_at (fragments index) (k + 1)
-    link_found zero more = ap link_of meta_found ∙ link_in-meta _ (fragments index) (omega (arith, the_object.sized.1)) second
-    link_found (suc k) more =
-        ap link_of (the_object.stored (suc k) 0 (omega (arith, more)) (omega arith) ∙ link_word_of _ _ _ _ k)
+    link_found kind zero more = ap link_of (meta_found kind) ∙ link_in-meta _ (fragments index) (omega (arith, few.1)) second
+    link_found kind (suc k) more =
+        ap link_of (the_object.stored (suc k) 0 (omega (arith, more)) (omega arith) ∙ record_link_at _ _ _ _ object k kind)
         ∙ link_in-link (fragments index) (suc k) more (small (suc k + 1) more)
+
+    -- an array tells how many spine words it has, and where they stand; and each names a fragment of it
+    pub words_found : object.array ≡ true → spine_words_in (at heap words (Word (fragment_at (fragments index) 0) 0)) ≡ spine_words_of object
+    words_found kind = ap spine_words_in (array_found kind) ∙ words_in-meta (length object.cells) (omega (arith, few.1)) ∙ rw kind refl
+
+    pub spine_found : object.array ≡ true → FitsSpot (spines index) → spot_in (at heap words (Word (fragment_at (fragments index) 0) 2)) ≡ spines index
+    spine_found kind fits = ap spot_in (the_object.stored 0 2 some_fragment (omega arith) ∙ spine_place_at _ _ _ _ object kind) ∙ spot_in-word (spines index) fits
+
+    pub payload_below : object.array ≡ true → (j : ℕ) → j + 1 < length (fragments index) → j < spine_words_of object
+    payload_below kind j within = omega (arith, within, the_object.whole, array_payloads object kind)
+
+    payload_there : (j : ℕ) → j < spine_words_of object → j + 1 < length (fragments index)
+    payload_there j within = by_kind _
+        (λ kind. omega (arith, within, the_object.whole, array_payloads object kind))
+        (λ kind. absurd (omega (arith, within, record_no_words object kind)))
+
+    pub payload_found : (j : ℕ) → j < spine_words_of object
+        → (j + 1 < length (fragments index)) × (payload_in (at heap words (spine_place (spines index) j)) ≡ fragment_at (fragments index) (j + 1))
+    payload_found j within = (payload_there j within, ap payload_in (the_object.listed j within) ∙ payload_in-word _ (small (j + 1) (payload_there j within)))
 
     -- its id stands in its name
     pub name_found : id_of (at heap words (Word (fragment_at (fragments index) 0) 1)) ≡ id_at made index
-    name_found = ap id_of (the_object.stored 0 1 some_fragment (omega arith) ∙ name_word_of _ _ _ _) ∙ id_in-name (id_at made index) (ids.fit index below)
+    name_found = ap id_of (the_object.stored 0 1 some_fragment (omega arith) ∙ name_at _ _ _ _ object) ∙ id_in-name (id_at made index) (ids.fit index below)
 
     -- it has the row of each of its fields
-    pub row_there : (i : ℕ) → i < length (cells_at g made index) → row_of i < length (fragments index)
-    row_there i within = omega (arith, the_object.whole, row_within i (length (cells_at g made index)) within)
+    pub row_there : (i : ℕ) → i < length (cells_at g made index) → row_in object i < length (fragments index)
+    row_there i within = subst (λ n. row_in object i < n) (sym the_object.whole) (row_fits object i within)
 
     -- and in it the field's cell
     pub field_found : (i : ℕ) (cell : Cell) → slice_get (cells_at g made index) i ≡ Some cell
-        → at heap words (Word (fragment_at (fragments index) (row_of i)) (part_of i)) ≡ value_word (object_head made fragments) cell.value cell.stamp
+        → at heap words (Word (fragment_at (fragments index) (row_in object i)) (part_in object i)) ≡ value_word (object_head made fragments) cell.value cell.stamp
     field_found i cell there =
-        the_object.stored (row_of i) (part_of i) (row_there i (slice_get_within _ i cell there)) (part_within i)
-        ∙ cell_word_of _ _ _ _ i cell there
+        the_object.stored (row_in object i) (part_in object i) (row_there i (slice_get_within _ i cell there)) (part_fits object i)
+        ∙ word_of_cell _ _ _ _ object i cell there
 
-  module _ (ids : AreMade g made) (objects : Objects heap words g made owner fragments) (seat : Seat) (finds : Finds (cells_at g made) made owner fragments seat) where
+  module _ {spines : ℕ → Spot} (ids : AreMade g made) (objects : Objects heap words g made owner fragments spines) (seat : Seat) (finds : Finds (node_at g made) made owner fragments seat) where
     -- the object has the row to which a way leads
     pub row_ahead : finds.row + seat.links < length (fragments finds.index)
-    row_ahead = omega (arith, finds.field.leads, row_there ids objects finds.index finds.way.below finds.way.kept (field_of seat.command) finds.field.within)
+    row_ahead = subst (λ n. n < length (fragments finds.index)) (sym finds.field.leads) (row_there ids objects finds.index finds.way.below finds.way.kept (field_of seat.command) finds.field.within)
 
-    -- where links lead on, the first of them leads to the next row
+    -- where links lead on it is a record, and the first of them leads to the next row
+    pub a_record : 0 < seat.links → (node_at g made finds.index).array ≡ false
+    a_record more = by_kind ids objects finds.index finds.way.below finds.way.kept _ (λ kind. absurd (omega (arith, more, finds.field.linked kind))) (λ kind. kind)
+
+    -- in an array the way has come to a fragment behind the first
+    pub behind_first : (node_at g made finds.index).array ≡ true → 1 ≤ finds.row
+    behind_first kind =
+        let field = field_of seat.command in
+        let row : row_in (node_at g made finds.index) field ≡ field / 4 + 1 = rw kind refl in
+        let there : finds.row + seat.links ≡ field / 4 + 1 = finds.field.leads ∙ row in omega (arith, there, finds.field.linked kind)
+
     pub link_ahead : 0 < seat.links → link_of (at heap words (Word seat.reached 0)) ≡ fragment_at (fragments finds.index) (finds.row + 1)
     link_ahead more = ap (λ f. link_of (at heap words (Word f 0))) finds.way.here
-        ∙ link_found ids objects finds.index finds.way.below finds.way.kept finds.row (omega (arith, more, row_ahead))
+        ∙ link_found ids objects finds.index finds.way.below finds.way.kept (a_record more) finds.row (omega (arith, more, row_ahead))
 
     -- where none does, the way stands at the field
-    pub field_reached : seat.links ≡ 0 → Word seat.reached seat.part ≡ Word (fragment_at (fragments finds.index) (row_of (field_of seat.command))) (part_of (field_of seat.command))
+    pub field_reached : seat.links ≡ 0
+        → Word seat.reached seat.part ≡ Word (fragment_at (fragments finds.index) (row_in (node_at g made finds.index) (field_of seat.command))) (part_in (node_at g made finds.index) (field_of seat.command))
     field_reached arrived = cc (finds.way.here, finds.field.there, row)
       where
-        row : finds.row ≡ row_of (field_of seat.command)
-        row = omega (arith, finds.field.leads, arrived)
+        row : finds.row ≡ row_in (node_at g made finds.index) (field_of seat.command)
+        row = omega (arith, arrived) ∙ finds.field.leads
 
     -- and its cell is found
     pub cell_reached : seat.links ≡ 0 → (cell : Cell) → slice_get (cells_at g made finds.index) (field_of seat.command) ≡ Some cell

@@ -1,7 +1,8 @@
 -- What a set has loaded, and what its register holds, is a kept object's first fragment.
 use Rattle.std.specs.Prelude.{slice_get, slice_index_or}
-use Rattle.std.proofs.Common.{◌≡◌, ℕ, zero, suc, ◌<◌, List, [], ◌∷◌, length, get_or, Some, refl, sym, ap, ◌∙◌, arith}
+use Rattle.std.proofs.Common.{◌≡◌, ℕ, zero, suc, ◌<◌, false, List, [], ◌∷◌, length, get_or, Some, refl, sym, ap, ◌∙◌, arith}
 use Rattle.std.proofs.lemmas.Option.{slice_get-get_or}
+use Rattle.heap_words.specs.declared.spot.Spot.{Spot}
 use Rattle.heap_model.specs.declared.graph.cell.Cell.{Cell}
 use Rattle.heap_model.specs.declared.heap.Heap.{Heap}
 use Rattle.heap_model.specs.declared.id.Id.{Id}
@@ -14,16 +15,17 @@ use Rattle.core_machine.specs.declared.seat.register.Register.{Register}
 use Rattle.core_machine.specs.declared.seat.register.Register.TheVariants as registers
 use Rattle.core_machine.specs.seat.Commands.{field_of}
 use Rattle.core_machine.specs.table.Layout.{at}
-use Rattle.core_machine.specs.table.Decode.{head_of}
+use Rattle.core_machine.specs.table.Decode.{head_of, is_meta}
 use Rattle.core_machine.specs.seat.Registers.{register_head as head_of_register, heads_of}
 use Rattle.core_machine.specs.seat.Seat.{Seat}
 use Rattle.core_rule.specs.Book.{fragment_at, object_number, object_head}
 use Rattle.core_rule.specs.ControlWords.{Bits}
-use Rattle.core_rule.specs.Objects.{AreMade, Objects, NamesKept, IsKept, cells_at}
+use Rattle.core_rule.specs.Objects.{AreMade, Objects, NamesKept, IsKept, node_at, cells_at}
 use Rattle.core_rule.specs.Owners.{Owner}
 use Rattle.core_rule.specs.Registers.{HoldsValue}
 use Rattle.core_rule.specs.Ways.{Finds}
 use Rattle.core_rule.proofs.ways.KeptWords.{has_room, cell_reached}
+use Rattle.core_rule.proofs.ways.ArrayWords.{value_plain}
 use Rattle.core_rule.proofs.ways.Told.{named_head, head_in-value}
 
 -- the first fragment of a kept object
@@ -78,10 +80,10 @@ module _ (made : List Id) (owner : ℕ → Owner) (fragments : ℕ → List ℕ)
   heads_refer (registers.Object head id ∷ held) value holds zero less = (0, held_refers (registers.Object head id) (value 0) (holds 0) head refl)
   heads_refer (registers.Object head id ∷ held) value holds (suc j) less = let its = heads_refer held (λ r. value (suc r)) (λ r. holds (suc r)) j (omega (arith, less)) in (suc its.0, its.1)
 
-module _ (heap : Heap) (words : List ℕ) (g : Graph) (made : List Id) (owner : ℕ → Owner) (fragments : ℕ → List ℕ)
-    (limits : IsHeap heap) (bits : Bits heap words owner) (ids : AreMade g made) (objects : Objects heap words g made owner fragments) where
+module _ (heap : Heap) (words : List ℕ) (g : Graph) (made : List Id) (owner : ℕ → Owner) (fragments : ℕ → List ℕ) {spines : ℕ → Spot}
+    (limits : IsHeap heap) (bits : Bits heap words owner) (ids : AreMade g made) (objects : Objects heap words g made owner fragments spines) where
   -- what the field of a set refers to
-  pub loaded_refers : (seat : Seat) → seat.links ≡ 0 → (finds : Finds (cells_at g made) made owner fragments seat)
+  pub loaded_refers : (seat : Seat) → seat.links ≡ 0 → (finds : Finds (node_at g made) made owner fragments seat)
       → (f : ℕ) → head_of (at heap words (Word seat.reached seat.part)) ≡ Some f → CellRefers g made owner fragments finds.index f
   loaded_refers seat arrived finds f is =
       let field : ℕ = field_of seat.command in
@@ -97,6 +99,16 @@ module _ (heap : Heap) (words : List ℕ) (g : Graph) (made : List Id) (owner : 
             ∙ ap head_of (sym (cell_reached heap words g made owner fragments limits bits ids objects seat finds arrived cell there)) ∙ is);
       }
 
-  pub loaded_kept : (seat : Seat) → seat.links ≡ 0 → Finds (cells_at g made) made owner fragments seat
+  pub loaded_kept : (seat : Seat) → seat.links ≡ 0 → Finds (node_at g made) made owner fragments seat
       → (f : ℕ) → head_of (at heap words (Word seat.reached seat.part)) ≡ Some f → KeptHead made owner fragments f
   loaded_kept seat arrived finds f is = let cell = loaded_refers seat arrived finds f is in refers_kept made owner fragments cell.cell.value f cell.refers
+
+  -- its word isn't fixed
+  pub field_plain : (seat : Seat) → seat.links ≡ 0 → Finds (node_at g made) made owner fragments seat → is_meta (at heap words (Word seat.reached seat.part)) ≡ false
+  field_plain seat arrived finds =
+      let field : ℕ = field_of seat.command in
+      let cell : Cell = get_or (cells_at g made finds.index) field unset in
+      let there : slice_get (cells_at g made finds.index) field ≡ Some cell = slice_get-get_or (cells_at g made finds.index) field unset finds.field.within in
+      let named = objects.named finds.index field finds.way.below finds.way.kept cell there in
+      ap is_meta (cell_reached heap words g made owner fragments limits bits ids objects seat finds arrived cell there)
+      ∙ value_plain (object_head made fragments) cell.value cell.stamp (has_room heap words g made owner fragments limits bits cell.value named.0) named.1

@@ -1,27 +1,31 @@
 -- The way after a fragment's first word was found.
-use Rattle.std.proofs.Common.{◌≡◌, ℕ, ◌+◌, ◌-◌, ◌<◌, false, eqb, inl, inr, List, None, IsSome, ap, subst, arith, true}
+use Rattle.std.proofs.Common.{◌≡◌, ℕ, ◌+◌, ◌-◌, ◌/◌, ◌<◌, false, eqb, inl, inr, List, None, IsSome, refl, ap, ◌∙◌, subst, arith, true}
 use Rattle.std.proofs.lemmas.Bool.{false≢true, cond_both, eqb-true, eqb-false}
 use Rattle.std.proofs.lemmas.Bool.Decides.{eqb_tells}
-use Rattle.heap_model.specs.declared.graph.cell.Cell.{Cell}
+use Rattle.heap_words.specs.declared.spot.Spot.{Spot}
 use Rattle.heap_model.specs.declared.entry.Entry.{Entry}
 use Rattle.heap_model.specs.declared.heap.Heap.{Heap}
 use Rattle.heap_model.specs.declared.id.Id.{Id}
 use Rattle.heap_model.specs.Heap.{IsHeap}
-use Rattle.heap_model.specs.graph.Graph.{Graph}
+use Rattle.heap_model.specs.graph.Graph.{Graph, Node}
+use Rattle.heap_model.specs.graph.Sizes.{spine_words_of}
 use Rattle.core_machine.specs.declared.table.address.Address.TheVariants.{Word}
 use Rattle.core_machine.specs.declared.place.Place.TheVariants as places
 use Rattle.core_machine.specs.declared.place.Access.{Access}
 use Rattle.core_machine.specs.declared.place.Access.TheVariants.{Walking, Getting, Swapping, LoadingOld}
-use Rattle.core_machine.specs.table.Layout.{at}
-use Rattle.core_machine.specs.table.Decode.{head_of, link_of}
+use Rattle.core_machine.specs.table.Layout.{at, spine_place}
+use Rattle.core_machine.specs.table.Decode.{head_of, link_of, payload_in}
 use Rattle.core_machine.specs.seat.Access.{has_barrier_of, way_place_of, after_link, after_walk, at_access}
+use Rattle.core_machine.specs.seat.Commands.{field_of}
 use Rattle.core_machine.specs.seat.Seat.{Seat}
 use Rattle.core_machine.proofs.seat_lemmas.FieldPlaces.{field_cases}
 use Rattle.core_rule.specs.ControlWords.{Bits}
-use Rattle.core_rule.specs.Objects.{AreMade, Objects, cells_at}
+use Rattle.core_rule.specs.Objects.{AreMade, Objects, node_at}
 use Rattle.core_rule.specs.Owners.{Owner}
-use Rattle.core_rule.specs.Ways.{Finds, LoadedKept, OldKept, AccessStands}
-use Rattle.core_rule.proofs.ways.KeptWords.{link_ahead}
+use Rattle.core_rule.specs.Spines.{IsWordOf}
+use Rattle.core_rule.specs.Ways.{Finds, Locates, LoadedKept, OldKept, AccessStands}
+use Rattle.core_rule.proofs.ways.KeptWords.{link_ahead, payload_found}
+use Rattle.core_rule.proofs.ways.Rows.{array_word}
 use Rattle.core_rule.proofs.cycle.Unwatched.{IsUnwatched}
 
 -- so the way leads to one of four places
@@ -54,15 +58,15 @@ module _ (made : List Id) (owner : ℕ → Owner) (fragments : ℕ → List ℕ)
       → LoadedKept made owner fragments (record seat { place = places.Access place; mine = mine })
   loaded_at place mine loaded = record { index = loaded.index; below = loaded.below; kept = loaded.kept; loads = loaded.loads }
 
-module _ (cells : ℕ → List Cell) (made : List Id) (owner : ℕ → Owner) (fragments : ℕ → List ℕ) where
+module _ (nodes : ℕ → Node) (made : List Id) (owner : ℕ → Owner) (fragments : ℕ → List ℕ) where
   -- a field that is found is found at the place that comes next
-  pub way_stands : (seat reached : Seat) → seat.loaded ≡ 0 → Finds cells made owner fragments seat → AccessStands cells made owner fragments seat (way_place_of reached)
+  pub way_stands : (seat reached : Seat) → seat.loaded ≡ 0 → Finds nodes made owner fragments seat → AccessStands nodes made owner fragments seat (way_place_of reached)
   way_stands seat reached unloaded finds =
-      way_cases (λ place. AccessStands cells made owner fragments seat place) reached finds finds (λ on. finds) (λ off. (finds, none_old made owner fragments seat (ap head_of unloaded)))
+      way_cases (λ place. AccessStands nodes made owner fragments seat place) reached finds finds (λ on. finds) (λ off. (finds, none_old made owner fragments seat (ap head_of unloaded)))
 
   -- it is found wherever the call stands
-  pub finds_at : (seat : Seat) (loaded : ℕ) (place : Access) (mine : List Entry) → Finds cells made owner fragments seat
-      → Finds cells made owner fragments (record seat { loaded = loaded; place = places.Access place; mine = mine })
+  pub finds_at : (seat : Seat) (loaded : ℕ) (place : Access) (mine : List Entry) → Finds nodes made owner fragments seat
+      → Finds nodes made owner fragments (record seat { loaded = loaded; place = places.Access place; mine = mine })
   finds_at seat loaded place mine finds = record {
     index = finds.index;
     row = finds.row;
@@ -70,11 +74,22 @@ module _ (cells : ℕ → List Cell) (made : List Id) (owner : ℕ → Owner) (f
     field = finds.field;
   }
 
-module _ (heap : Heap) (words : List ℕ) (g : Graph) (made : List Id) (owner : ℕ → Owner) (fragments : ℕ → List ℕ)
-    (limits : IsHeap heap) (bits : Bits heap words owner) (ids : AreMade g made) (objects : Objects heap words g made owner fragments) where
+  -- so is the way to an array's cell while it stands at the array's first fragment
+  pub locates_at : (seat : Seat) (address : Spot) (place : Access) (mine : List Entry) → Locates nodes made owner fragments seat
+      → Locates nodes made owner fragments (record seat { address = address; place = places.Access place; mine = mine })
+  locates_at seat address place mine locates = record {
+    index = locates.index;
+    way = record { below = locates.way.below; kept = locates.way.kept; holds = locates.way.holds; here = locates.way.here };
+    an_array = locates.an_array;
+    within = locates.within;
+    there = locates.there;
+  }
+
+module _ (heap : Heap) (words : List ℕ) (g : Graph) (made : List Id) (owner : ℕ → Owner) (fragments : ℕ → List ℕ) {spines : ℕ → Spot}
+    (limits : IsHeap heap) (bits : Bits heap words owner) (ids : AreMade g made) (objects : Objects heap words g made owner fragments spines) where
   -- and after one link more
-  pub finds_on : (seat : Seat) (loaded : ℕ) (place : Access) (mine : List Entry) → 0 < seat.links → Finds (cells_at g made) made owner fragments seat
-      → Finds (cells_at g made) made owner fragments
+  pub finds_on : (seat : Seat) (loaded : ℕ) (place : Access) (mine : List Entry) → 0 < seat.links → Finds (node_at g made) made owner fragments seat
+      → Finds (node_at g made) made owner fragments
       (record seat { reached = link_of (at heap words (Word seat.reached 0)); links = seat.links - 1; loaded = loaded; place = places.Access place; mine = mine })
   finds_on seat loaded place mine more finds = record {
     index = finds.index;
@@ -85,5 +100,37 @@ module _ (heap : Heap) (words : List ℕ) (g : Graph) (made : List Id) (owner : 
       holds = finds.way.holds;
       here = link_ahead heap words g made owner fragments limits bits ids objects seat finds more;
     };
-    field = record { within = finds.field.within; leads = omega (arith, more, finds.field.leads); there = finds.field.there };
+    field = record {
+      within = finds.field.within;
+      leads = omega (arith, more) ∙ finds.field.leads;
+      linked = λ an_array. omega (arith, finds.field.linked an_array);
+      there = finds.field.there;
+    };
+  }
+
+  -- the array has the spine word that names its cell's fragment
+  pub word_ahead : (seat : Seat) (locates : Locates (node_at g made) made owner fragments seat) → field_of seat.command / 4 < spine_words_of (node_at g made locates.index)
+  word_ahead seat locates = array_word (node_at g made locates.index) (field_of seat.command) locates.an_array locates.within
+
+  -- by that its fragment is found, where the word is its spine's
+  pub finds_payload : (seat : Seat) (loaded : ℕ) (place : Access) (mine : List Entry) → seat.links ≡ 0 → (locates : Locates (node_at g made) made owner fragments seat)
+      → IsWordOf (spines locates.index) seat.address.half (seat.address.offset + field_of seat.command / 4) (field_of seat.command / 4)
+      → Finds (node_at g made) made owner fragments
+      (record seat { reached = payload_in (at heap words (spine_place seat.address (field_of seat.command / 4))); loaded = loaded; place = places.Access place; mine = mine })
+  finds_payload seat loaded place mine arrived locates its = record {
+    index = locates.index;
+    row = field_of seat.command / 4 + 1;
+    way = record {
+      below = locates.way.below;
+      kept = locates.way.kept;
+      holds = locates.way.holds;
+      here = rw (its.half_is, its.offset_is)
+          (payload_found heap words g made owner fragments limits bits ids objects locates.index locates.way.below locates.way.kept (field_of seat.command / 4) (word_ahead seat locates)).1;
+    };
+    field = record {
+      within = locates.within;
+      leads = let none : field_of seat.command / 4 + 1 + seat.links ≡ field_of seat.command / 4 + 1 = omega (arith, arrived) in none ∙ rw locates.an_array refl;
+      linked = λ an_array. arrived;
+      there = locates.there ∙ rw locates.an_array refl;
+    };
   }

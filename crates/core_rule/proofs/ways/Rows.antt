@@ -1,10 +1,14 @@
--- Where a record's field stands.
-use Rattle.std.proofs.Common.{◌≡◌, ℕ, ◌+◌, ◌-◌, ◌*◌, ◌<◌, true, inl, inr, refl, arith}
+-- Where a record's field stands, and an array's cell.
+use Rattle.std.proofs.Common.{◌≡◌, ℕ, ◌+◌, ◌-◌, ◌*◌, ◌/◌, ◌%◌, ◌<◌, true, inl, inr, length, refl, arith}
 use Rattle.std.proofs.lemmas.Bool.{lt-ltb}
 use Rattle.std.proofs.lemmas.Bool.Decides.{eqb_tells}
 use Rattle.heap_model.specs.Needs.{record_fragments}
+use Rattle.heap_model.specs.graph.Graph.{Node}
+use Rattle.heap_model.specs.graph.Sizes.{fragments_of, spine_words_of}
 use Rattle.core_machine.specs.seat.Access.{row_of, part_of}
 use Rattle.core_rule.specs.Objects.{is_cell}
+use Rattle.core_rule.specs.Ways.{row_in, part_in}
+use Rattle.core_rule.proofs.graph.SameNodes.{node_cases}
 
 -- the field of a row and a part
 pub field_back : (i : ℕ) → 3 * row_of i + part_of i - 2 ≡ i
@@ -23,3 +27,20 @@ cell_there i = elim (eqb_tells (row_of i) 0) as (λ _. is_cell (row_of i) (part_
 -- the record has that row
 pub row_within : (i length : ℕ) → i < length → row_of i < record_fragments length
 row_within i length within = omega (arith, within)
+
+-- the cell of a row behind the first and a part
+pub cell_back : (i : ℕ) → 4 * (i / 4 + 1 - 1) + i % 4 ≡ i
+cell_back i = omega arith
+
+-- an object has the row of each of its cells, and there the part
+pub part_fits : (object : Node) (i : ℕ) → part_in object i < 4
+part_fits object i = node_cases (λ o. part_in o i < 4) (λ cells. omega arith) (λ cells. omega arith) object
+
+pub row_fits : (object : Node) (i : ℕ) → i < length object.cells → row_in object i < fragments_of object
+row_fits object i = node_cases (λ (o : Node). i < length o.cells → row_in o i < fragments_of o)
+    (λ cells within. omega (arith, within)) (λ cells within. omega (arith, within)) object
+
+-- an array has the spine word that names the fragment of each of its cells
+pub array_word : (object : Node) (i : ℕ) → object.array ≡ true → i < length object.cells → i / 4 < spine_words_of object
+array_word object i = node_cases (λ (o : Node). o.array ≡ true → i < length o.cells → i / 4 < spine_words_of o)
+    (λ cells kind within. omega (arith, within)) (λ cells kind within. absurd (cc kind)) object

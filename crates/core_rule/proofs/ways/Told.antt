@@ -12,7 +12,7 @@ use Rattle.heap_model.specs.declared.id.Value.{Value}
 use Rattle.heap_model.specs.declared.id.Value.TheVariants as values
 use Rattle.core_machine.specs.declared.seat.register.Register.{Register}
 use Rattle.core_machine.specs.declared.seat.register.Register.TheVariants as registers
-use Rattle.core_machine.specs.table.Decode.{head_of, link_of, length_of, id_of, id_of_owner, stamp_of, plain_of, first_pointer, reference_of, plain_register}
+use Rattle.core_machine.specs.table.Decode.{head_of, link_of, length_of, array_length_in, array_length_of, id_of, id_of_owner, stamp_of, plain_of, first_pointer, reference_of, plain_register}
 use Rattle.core_machine.specs.table.Newborn.{record_meta, link_after}
 use Rattle.core_machine.proofs.table_lemmas.CellWords.{cell_of-cell_word}
 use Rattle.core_rule.specs.Objects.{FitsName, name_of, value_word}
@@ -21,6 +21,12 @@ use Rattle.core_rule.specs.Objects.{FitsName, name_of, value_word}
 pub length_in-meta : (fields : ℕ) (fragments : List ℕ) → fields < 2 ^ 13 → get_or fragments 1 0 < 2 ^ 32 → length_of (record_meta fields fragments) ≡ fields
 length_in-meta fields fragments few small =
     ap (λ (c : Cell). c.value % 2 ^ 13) (cell_of-cell_word kinds.Fixed fields (get_or fragments 1 0) (omega (arith, few)) small) ∙ omega (arith, few)
+
+-- which tells no array's
+pub array_length_in-record : (fields : ℕ) (fragments : List ℕ) → fields < 2 ^ 13 → get_or fragments 1 0 < 2 ^ 32 → array_length_of (record_meta fields fragments) ≡ None
+array_length_in-record fields fragments few small =
+    ap (λ (c : Cell). array_length_in c.kind c) (cell_of-cell_word kinds.Fixed fields (get_or fragments 1 0) (omega (arith, few)) small)
+    ∙ rw (lt-ltb fields (2 ^ 29) (omega (arith, few))) refl
 
 -- a lead, and 0 where there is none
 lead_or_none : (n : ℕ) → unwrap_or (cond {A = Option ℕ} (eqb n 0) None (Some n)) 0 ≡ n

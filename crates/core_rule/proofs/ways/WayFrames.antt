@@ -1,26 +1,31 @@
 -- A way goes on as before where its object does.
-use Rattle.std.proofs.Common.{◌≡◌, ℕ, ◌<◌, List, length}
-use Rattle.heap_model.specs.declared.graph.cell.Cell.{Cell}
+use Rattle.std.proofs.Common.{◌≡◌, ℕ, ◌+◌, ◌/◌, ◌%◌, ◌<◌, List, length, sym, ap, ◌∙◌}
+use Rattle.std.specs.Prelude.{if◌then◌else◌}
+use Rattle.heap_model.specs.declared.command.Command.{Command}
 use Rattle.heap_model.specs.declared.id.Id.{Id}
+use Rattle.heap_model.specs.graph.Graph.{Node}
 use Rattle.core_machine.specs.declared.place.Place.{Place}
 use Rattle.core_machine.specs.declared.place.Place.TheVariants as places
-use Rattle.core_machine.specs.declared.place.Access.TheVariants.{LoadingMeta, Walking, Getting, LoadingOld, ShadingOld, ShadingNew, Swapping}
+use Rattle.core_machine.specs.declared.place.Access.TheVariants.{LoadingMeta, Walking, Locating, Indexing, Getting, LoadingOld, ShadingOld, ShadingNew, Swapping}
+use Rattle.core_machine.specs.seat.Access.{row_of, part_of}
+use Rattle.core_machine.specs.seat.Commands.{field_of}
 use Rattle.core_machine.specs.seat.Seat.{Seat}
 use Rattle.core_rule.specs.Book.{id_at}
 use Rattle.core_rule.specs.Objects.{IsKept}
 use Rattle.core_rule.specs.Owners.{Owner}
-use Rattle.core_rule.specs.Ways.{LoadedKept, OnWay, Finds, WayStands}
+use Rattle.core_rule.specs.Ways.{LoadedKept, OnWay, FieldAhead, Finds, Locates, WayStands}
+use Rattle.core_rule.proofs.graph.SameNodes.{SameShape}
 
--- the object of this number is kept as before: under its id, in its fragments, with as many cells
-pub record ObjectStays (cells now_cells : ℕ → List Cell) (made now_made : List Id) (owner now_owner : ℕ → Owner) (fragments now_fragments : ℕ → List ℕ) (i : ℕ) : Type 0 where
+-- the object of this number is kept as before: under its id, in its fragments, of its kind and with as many cells
+pub record ObjectStays (nodes now_nodes : ℕ → Node) (made now_made : List Id) (owner now_owner : ℕ → Owner) (fragments now_fragments : ℕ → List ℕ) (i : ℕ) : Type 0 where
   pub below : i < length now_made
   pub kept : IsKept now_owner now_fragments i
   pub id : id_at now_made i ≡ id_at made i
   pub fragments_stay : now_fragments i ≡ fragments i
-  pub cells_stay : length (now_cells i) ≡ length (cells i)
+  pub shape : SameShape (now_nodes i) (nodes i)
 
-module _ (cells now_cells : ℕ → List Cell) (made now_made : List Id) (owner now_owner : ℕ → Owner) (fragments now_fragments : ℕ → List ℕ)
-    (stay : (i : ℕ) → i < length made → IsKept owner fragments i → ObjectStays cells now_cells made now_made owner now_owner fragments now_fragments i) where
+module _ (nodes now_nodes : ℕ → Node) (made now_made : List Id) (owner now_owner : ℕ → Owner) (fragments now_fragments : ℕ → List ℕ)
+    (stay : (i : ℕ) → i < length made → IsKept owner fragments i → ObjectStays nodes now_nodes made now_made owner now_owner fragments now_fragments i) where
   way_stays : (seat : Seat) (index row : ℕ) → OnWay made owner fragments seat index row → OnWay now_made now_owner now_fragments seat index row
   way_stays seat index row way =
       let one = stay index way.below way.kept in
@@ -31,13 +36,33 @@ module _ (cells now_cells : ℕ → List Cell) (made now_made : List Id) (owner 
         here = rw one.fragments_stay way.here;
       }
 
-  finds_stays : (seat : Seat) → Finds cells made owner fragments seat → Finds now_cells now_made now_owner now_fragments seat
+  -- where the command's field stands
+  ahead_stays : (now before : Node) (command : Command) (row links part : ℕ) → SameShape now before → FieldAhead before command row links part → FieldAhead now command row links part
+  ahead_stays now before command row links part shape ahead = record {
+    within = rw shape.cells ahead.within;
+    leads = ahead.leads ∙ ap (λ a. if a then field_of command / 4 + 1 else row_of (field_of command)) (sym shape.kind);
+    linked = λ an_array. ahead.linked (sym shape.kind ∙ an_array);
+    there = ahead.there ∙ ap (λ a. if a then field_of command % 4 else part_of (field_of command)) (sym shape.kind);
+  }
+
+  finds_stays : (seat : Seat) → Finds nodes made owner fragments seat → Finds now_nodes now_made now_owner now_fragments seat
   finds_stays seat finds = record {
     index = finds.index;
     row = finds.row;
     way = way_stays seat finds.index finds.row finds.way;
-    field = rw (stay finds.index finds.way.below finds.way.kept).cells_stay finds.field;
+    field = ahead_stays _ _ seat.command finds.row seat.links seat.part (stay finds.index finds.way.below finds.way.kept).shape finds.field;
   }
+
+  locates_stays : (seat : Seat) → Locates nodes made owner fragments seat → Locates now_nodes now_made now_owner now_fragments seat
+  locates_stays seat locates =
+      let shape = (stay locates.index locates.way.below locates.way.kept).shape in
+      record {
+        index = locates.index;
+        way = way_stays seat locates.index 0 locates.way;
+        an_array = shape.kind ∙ locates.an_array;
+        within = rw shape.cells locates.within;
+        there = locates.there;
+      }
 
   loaded_stays : (seat : Seat) → LoadedKept made owner fragments seat → LoadedKept now_made now_owner now_fragments seat
   loaded_stays seat loaded =
@@ -45,9 +70,11 @@ module _ (cells now_cells : ℕ → List Cell) (made now_made : List Id) (owner 
       record { index = loaded.index; below = one.below; kept = one.kept; loads = rw one.fragments_stay loaded.loads }
 
   -- a seat's way stays at its place
-  pub ways_stay : (seat : Seat) (place : Place) → WayStands cells made owner fragments seat place → WayStands now_cells now_made now_owner now_fragments seat place
+  pub ways_stay : (seat : Seat) (place : Place) → WayStands nodes made owner fragments seat place → WayStands now_nodes now_made now_owner now_fragments seat place
   ways_stay seat (places.Access LoadingMeta) way = record { index = way.index; way = way_stays seat way.index 0 way.way }
   ways_stay seat (places.Access Walking) way = finds_stays seat way
+  ways_stay seat (places.Access Locating) way = locates_stays seat way
+  ways_stay seat (places.Access Indexing) way = locates_stays seat way
   ways_stay seat (places.Access Getting) way = finds_stays seat way
   ways_stay seat (places.Access LoadingOld) way = finds_stays seat way
   ways_stay seat (places.Access ShadingOld) way = (finds_stays seat way.0, loaded_stays seat way.1)

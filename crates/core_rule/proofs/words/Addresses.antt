@@ -1,16 +1,20 @@
 -- Words that are read after another one was written.
-use Rattle.std.proofs.Common.{◌≡◌, ◌≢◌, ℕ, ◌*◌, ◌<◌, List, length, arith}
+use Rattle.std.proofs.Common.{◌≡◌, ◌≢◌, ℕ, ◌+◌, ◌*◌, ◌<◌, List, length, arith}
 use Rattle.std.proofs.lemmas.List.{get_or-set_other}
 use Rattle.heap_model.specs.declared.heap.Heap.{Heap}
 use Rattle.core_machine.specs.declared.table.address.Address.{Address}
-use Rattle.core_machine.specs.declared.table.address.Address.TheVariants.{Control, Word}
+use Rattle.core_machine.specs.declared.table.address.Address.TheVariants.{Control, Word, Spine}
 use Rattle.core_machine.specs.table.Layout.{table_length, index_of, at, put}
-use Rattle.core_machine.proofs.table_lemmas.Addresses.{at-put_same}
+use Rattle.core_machine.proofs.table_lemmas.Addresses.{at-put_same, at-put_other}
 
 -- a word with another index is as before
 pub at-put_apart : (heap : Heap) (words : List ℕ) (a b : Address) (n : ℕ) → index_of heap b ≢ index_of heap a → at heap (put heap words a n) b ≡ at heap words b
 unfolding at put
 at-put_apart heap words a b n apart = get_or-set_other words (index_of heap a) (index_of heap b) n 0 apart
+
+-- every spine word is as before
+abbrev pub SameSpines : Heap → List ℕ → List ℕ → Type 0
+SameSpines heap words now = (half offset : ℕ) → at heap now (Spine half offset) ≡ at heap words (Spine half offset)
 
 module _ (heap : Heap) (words : List ℕ) (n : ℕ) where
   -- the word that was written
@@ -38,3 +42,25 @@ module _ (heap : Heap) (words : List ℕ) (n : ℕ) where
   -- another part of the same
   pub part_other : (f j g i : ℕ) → i ≢ j → g ≡ f → at heap (put heap words (Word f j) n) (Word g i) ≡ at heap words (Word g i)
   part_other f j g i apart same = at-put_apart heap words (Word f j) (Word g i) n (λ e. apart (omega (arith, e, same)))
+
+  -- the spine words stand behind all others, so a step on one of these leaves them
+  pub spines_elsewhere : (a : Address) → index_of heap a < 19 + 65 * heap.groups → SameSpines heap words (put heap words a n)
+  spines_elsewhere a before half offset = at-put_apart heap words a (Spine half offset) n (λ e. omega (arith, e, before))
+
+  pub spines_after_control : (g : ℕ) → g < heap.groups → SameSpines heap words (put heap words (Control g) n)
+  spines_after_control g below = spines_elsewhere (Control g) (omega (arith, below))
+
+  pub spines_after_word : (f j : ℕ) → f < 16 * heap.groups → j < 4 → SameSpines heap words (put heap words (Word f j) n)
+  spines_after_word f j below part = spines_elsewhere (Word f j) (omega (arith, below, part))
+
+  -- and a step on one of them leaves the others
+  pub spine_other : (half offset half' offset' : ℕ) → half < 2 → half' < 2 → (half' ≡ half → offset' ≡ offset → ⊥)
+      → at heap (put heap words (Spine half offset) n) (Spine half' offset') ≡ at heap words (Spine half' offset')
+  spine_other half offset half' offset' here there apart = at-put_other heap words (Spine half offset) (Spine half' offset') n here there (λ e. apart (cc (e)) (cc (e)))
+
+  -- and all words of fragments, and the control words
+  pub word_after_spine : (half offset f j : ℕ) → f < 16 * heap.groups → j < 4 → at heap (put heap words (Spine half offset) n) (Word f j) ≡ at heap words (Word f j)
+  word_after_spine half offset f j below part = at-put_apart heap words (Spine half offset) (Word f j) n (λ e. omega (arith, e, below, part))
+
+  pub control_after_spine : (half offset g : ℕ) → g < heap.groups → at heap (put heap words (Spine half offset) n) (Control g) ≡ at heap words (Control g)
+  control_after_spine half offset g below = at-put_apart heap words (Spine half offset) (Control g) n (λ e. omega (arith, e, below))

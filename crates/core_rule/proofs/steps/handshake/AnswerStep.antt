@@ -38,7 +38,7 @@ use Rattle.core_rule.specs.Phases.{Asks, answer_word}
 use Rattle.core_rule.specs.Rule.{Rule, HeapStands, OwnStands, SeatStands}
 use Rattle.core_rule.specs.Registers.{HoldsValue}
 use Rattle.heap_model.specs.graph.Objects.{register_value}
-use Rattle.core_rule.proofs.colours.LeadsFrames.{leads_ahead, ahead_leads}
+use Rattle.core_rule.proofs.colours.LeadsFrames.{same_ahead}
 use Rattle.core_rule.proofs.lists.Options.{if_some}
 use Rattle.core_rule.specs.Colours.{IsMarked}
 use Rattle.core_rule.specs.Flight.{RootsStand, WhilePolling}
@@ -185,8 +185,7 @@ module _ (heap : Heap) (state : State) (book : Book) (number : ℕ) (rule : Rule
   marks_on history looks added =
       let later : Book = record book { history = history } in
       let leaves : Leaves heap state book rule words later
-      = leaves_words heap state book rule words (leads_ahead heap state.words (Answer number) p (omega (arith, small)))
-      (ahead_leads heap state.words (Answer number) p (omega (arith, small))) in
+      = leaves_words heap state book rule words (same_ahead heap state.words (Answer number) p (omega (arith, small))) in
       record {
         heap_on = heap_marks_on heap state book rule words later leaves;
         reached_on = comes_on heap state book rule words later leaves;

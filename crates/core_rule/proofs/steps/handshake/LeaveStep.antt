@@ -31,7 +31,7 @@ use Rattle.core_machine.proofs.table_lemmas.Addresses.{at-put_same}
 use Rattle.core_rule.specs.Objects.{Objects}
 use Rattle.core_rule.specs.Registers as regs
 use Rattle.core_rule.specs.Paths.{IsReached}
-use Rattle.core_rule.proofs.colours.LeadsFrames.{leads_ahead, ahead_leads}
+use Rattle.core_rule.proofs.colours.LeadsFrames.{same_ahead}
 use Rattle.std.specs.Prelude.{IfSome}
 use Rattle.core_machine.specs.declared.seat.register.Register.{Register}
 use Rattle.core_machine.specs.seat.Registers.{register_head}
@@ -117,8 +117,7 @@ leave_keeps heap state book number rule here place machine =
         (seat_after (leave_move number (seat_at state number)) (at heap state.words (Answer number)))
     marks_on small left =
         let leaves : Leaves heap state book rule (put heap state.words (Answer number) LEFT) (with_entry book left)
-        = leaves_words heap state book rule (put heap state.words (Answer number) LEFT) (leads_ahead heap state.words (Answer number) LEFT (omega (arith, small)))
-        (ahead_leads heap state.words (Answer number) LEFT (omega (arith, small))) in
+        = leaves_words heap state book rule (put heap state.words (Answer number) LEFT) (same_ahead heap state.words (Answer number) LEFT (omega (arith, small))) in
         record {
           heap_on = heap_marks_on heap state book rule (put heap state.words (Answer number) LEFT) (with_entry book left) leaves;
           reached_on = comes_on heap state book rule (put heap state.words (Answer number) LEFT) (with_entry book left) leaves;

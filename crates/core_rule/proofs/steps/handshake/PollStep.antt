@@ -29,6 +29,7 @@ use Rattle.core_rule.specs.Cycle.{SeatInCycle}
 use Rattle.core_rule.specs.Phases.{Asks, PollingStands}
 use Rattle.core_rule.specs.Paths.{IsReached}
 use Rattle.core_rule.specs.Rule.{Rule, SeatStands}
+use Rattle.core_rule.proofs.colours.SpineStays.{same_sources}
 use Rattle.core_rule.proofs.marking.Marks.{roots_off_way, leaves_words, marks_off_way}
 use Rattle.core_rule.proofs.footprint.BookGoing.{book_stays}
 use Rattle.core_rule.proofs.steps.Assemble.{Keeps, seat_steps, StepKeeps}
@@ -160,7 +161,7 @@ module _ (heap : Heap) (state : State) (book : Book) (number : ℕ) (rule : Rule
         cycle = own_cycle apart;
       }
       (λ r below apart other. other)
-      (marks_off_way heap state book rule number here state.words book next (leaves_words heap state book rule state.words (λ f part x leads. leads) (λ f part x leads. leads)) refl refl tt)
+      (marks_off_way heap state book rule number here state.words book next (leaves_words heap state book rule state.words (same_sources heap state.words)) refl refl tt)
       (book_stays heap state book book.history book.begun)) machine
 
   poll_kept : PollKeeps heap state book number seat.command (found == seat.answered)

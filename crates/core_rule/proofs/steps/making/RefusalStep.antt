@@ -21,6 +21,7 @@ use Rattle.core_machine.specs.seat.Seat.{Seat, need}
 use Rattle.core_machine.specs.machine.Value.{IsMachine}
 use Rattle.core_machine.proofs.table_lemmas.Addresses.{put-at}
 use Rattle.core_rule.specs.Gathers.{GathersRight}
+use Rattle.core_rule.proofs.colours.SpineStays.{same_sources}
 use Rattle.core_rule.proofs.marking.Marks.{leaves_words, marks_off_way}
 use Rattle.core_rule.proofs.footprint.BookGoing.{book_stays}
 use Rattle.core_rule.proofs.steps.Assemble.{present_at, Keeps, seat_steps, StepKeeps, seat_fits}
@@ -97,5 +98,5 @@ refusal_keeps heap state book number rule here place machine =
     (λ r below apart other. seat_past heap state.words state.words (fragments_same heap state.words) book entry nodes r (seat_at state r) (of_other number r apart) (ap (λ (x : Graph). graph_seat x r) graph)
     (cycle_other heap state.words book.owner book.colour book.history entry refl r (seat_at state r) other.cycle (of_other number r apart)) other)
     (marks_off_way heap state book rule number here state.words (record book { history = history }) (seat_after (refusal_move number seat) (at heap state.words Phase))
-    (leaves_words heap state book rule state.words (λ f part x leads. leads) (λ f part x leads. leads)) refl refl tt)
+    (leaves_words heap state book rule state.words (same_sources heap state.words)) refl refl tt)
     (book_stays heap state book history book.begun))

@@ -1,0 +1,51 @@
+-- A seat that makes no object has no spine words, and none granted.
+use Rattle.std.proofs.Common.{◌≡◌, ℕ, List, refl, sym, ◌∙◌}
+use Rattle.heap_model.specs.declared.entry.Entry.{Entry}
+use Rattle.heap_model.specs.declared.heap.Heap.{Heap}
+use Rattle.core_machine.specs.declared.place.Place.{Place}
+use Rattle.core_machine.specs.declared.place.Place.TheVariants as places
+use Rattle.core_machine.specs.seat.Seat.{Seat}
+use Rattle.core_rule.specs.Budgets.{granted_at, unplaced_at, refused_at, UsedStands}
+use Rattle.core_rule.specs.Owners.{SpineOwner}
+use Rattle.core_rule.specs.Spines.{HasPlace, SpineInHand}
+
+-- no object is made at the place
+abbrev pub MakesNone : Place → Type 0
+MakesNone (places.Making place) = ⊥
+MakesNone _ = Unit {0}
+
+-- a seat there has no spine
+pub none_has_place : (seat : Seat) (place : Place) → MakesNone place → ¬ HasPlace seat place
+none_has_place seat (places.Making place) none has = none
+none_has_place seat _ none has = has
+
+-- and has found no words to be in use
+pub none_used : (heap : Heap) (history : List Entry) (number : ℕ) (seat : Seat) (place : Place) → MakesNone place → UsedStands heap history number seat place
+none_used heap history number seat (places.Making place) none = absurd none
+none_used heap history number seat _ none = tt
+
+-- a seat has as many words granted, placed and refused as it had
+pub record SameWeights (old now : Seat) : Type 0 where
+  pub granted : granted_at now now.place ≡ granted_at old old.place
+  pub unplaced : unplaced_at now now.place ≡ unplaced_at old old.place
+  pub refused : refused_at now now.place ≡ refused_at old old.place
+
+none_granted : (seat : Seat) (place : Place) → MakesNone place → granted_at seat place ≡ 0
+none_granted seat (places.Making place) none = absurd none
+none_granted seat _ none = refl
+
+none_unplaced : (seat : Seat) (place : Place) → MakesNone place → unplaced_at seat place ≡ 0
+none_unplaced seat (places.Making place) none = absurd none
+none_unplaced seat _ none = refl
+
+none_refused : (seat : Seat) (place : Place) → MakesNone place → refused_at seat place ≡ 0
+none_refused seat (places.Making place) none = absurd none
+none_refused seat _ none = refl
+
+-- so it is where it makes no object before and after
+pub none_weights : (old now : Seat) → MakesNone old.place → MakesNone now.place → SameWeights old now
+none_weights old now before after = record {
+  granted = none_granted now now.place after ∙ sym (none_granted old old.place before);
+  unplaced = none_unplaced now now.place after ∙ sym (none_unplaced old old.place before);
+  refused = none_refused now now.place after ∙ sym (none_refused old old.place before);
+}

@@ -1,0 +1,43 @@
+-- The spine words, the budget and the place of the next spine stay at a step on another word.
+use Rattle.std.proofs.Common.{◌≡◌, ◌≢◌, ℕ, ◌+◌, ◌*◌, ◌<◌, List, refl, sym, subst, arith}
+use Rattle.heap_model.specs.declared.heap.Heap.{Heap}
+use Rattle.core_machine.specs.declared.table.address.Address.{Address}
+use Rattle.core_machine.specs.declared.table.address.Address.TheVariants as addresses
+use Rattle.core_machine.specs.table.Layout.{index_of, at, put}
+use Rattle.core_machine.proofs.table_lemmas.Addresses.{put-at}
+use Rattle.core_rule.proofs.words.Addresses.{at-put_apart, SameSpines, spines_elsewhere}
+
+-- each spine word, the budget and the spot are as before
+pub record LeavesSpines (heap : Heap) (words now : List ℕ) : Type 0 where
+  pub spines : SameSpines heap words now
+  pub spot : at heap now addresses.Spot ≡ at heap words addresses.Spot
+  pub budget : at heap now addresses.Budget ≡ at heap words addresses.Budget
+
+-- so they are where no word changes
+pub spines_left_none : (heap : Heap) (words : List ℕ) → LeavesSpines heap words words
+spines_left_none heap words = record { spines = λ half offset. refl; spot = refl; budget = refl }
+
+-- and where a word is written back
+pub spines_left_load : (heap : Heap) (words : List ℕ) (a : Address) → LeavesSpines heap words (put heap words a (at heap words a))
+spines_left_load heap words a = subst (LeavesSpines heap words) (sym (put-at heap words a)) (spines_left_none heap words)
+
+module _ (heap : Heap) (words : List ℕ) (n : ℕ) where
+  left_elsewhere : (a : Address) → index_of heap a < 19 + 65 * heap.groups → index_of heap a ≢ 17 → index_of heap a ≢ 18 → LeavesSpines heap words (put heap words a n)
+  left_elsewhere a before no_budget no_spot = record {
+    spines = spines_elsewhere heap words n a before;
+    spot = at-put_apart heap words a addresses.Spot n (λ e. no_spot (sym e));
+    budget = at-put_apart heap words a addresses.Budget n (λ e. no_budget (sym e));
+  }
+
+  -- a control word, a fragment's word, the phase or an answer changes
+  pub spines_left_control : (g : ℕ) → g < heap.groups → LeavesSpines heap words (put heap words (addresses.Control g) n)
+  spines_left_control g below = left_elsewhere (addresses.Control g) (omega (arith, below)) (λ e. omega (arith, e)) (λ e. omega (arith, e))
+
+  pub spines_left_word : (f part : ℕ) → f < 16 * heap.groups → part < 4 → LeavesSpines heap words (put heap words (addresses.Word f part) n)
+  spines_left_word f part below within = left_elsewhere (addresses.Word f part) (omega (arith, below, within)) (λ e. omega (arith, e)) (λ e. omega (arith, e))
+
+  pub spines_left_phase : LeavesSpines heap words (put heap words addresses.Phase n)
+  spines_left_phase = left_elsewhere addresses.Phase (omega arith) (λ e. omega (arith, e)) (λ e. omega (arith, e))
+
+  pub spines_left_answer : (r : ℕ) → r < 16 → LeavesSpines heap words (put heap words (addresses.Answer r) n)
+  spines_left_answer r below = left_elsewhere (addresses.Answer r) (omega (arith, below)) (λ e. omega (arith, e, below)) (λ e. omega (arith, e, below))

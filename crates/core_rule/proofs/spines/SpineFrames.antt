@@ -1,0 +1,122 @@
+-- Whose the spine words are, and what they are, stands as before where a step leaves them.
+use Rattle.std.proofs.Common.{◌≡◌, ◌≢◌, ℕ, ◌+◌, ◌/◌, ◌<◌, List, length, refl, sym, ap, ◌∙◌, subst}
+use Rattle.heap_words.specs.declared.spot.Spot.{Spot}
+use Rattle.heap_words.specs.Spot.{spot_in}
+use Rattle.heap_model.specs.declared.heap.Heap.{Heap}
+use Rattle.heap_model.specs.declared.id.Id.{Id}
+use Rattle.heap_model.specs.graph.Graph.{Node}
+use Rattle.heap_model.specs.graph.Sizes.{spine_words_of}
+use Rattle.core_machine.specs.declared.place.Access.TheVariants.{Indexing}
+use Rattle.core_machine.specs.declared.place.Place.{Place}
+use Rattle.core_machine.specs.declared.place.Place.TheVariants as places
+use Rattle.core_machine.specs.seat.Commands.{field_of}
+use Rattle.core_machine.specs.seat.Seat.{Seat, spine_need}
+use Rattle.core_machine.specs.table.Layout.{at, spine_place}
+use Rattle.core_machine.specs.table.Newborn.{spine_word}
+use Rattle.core_rule.specs.Book.{fragment_at}
+use Rattle.core_rule.specs.Objects.{IsKept}
+use Rattle.core_rule.specs.Owners.{Owner, Kept, SpineOwner, Open, Placed, Spined}
+use Rattle.core_rule.specs.Spines.{SpinesStand, SpineInHand, HasPlace, WordStandsAhead, IsWordOf, next_spine}
+use Rattle.core_rule.specs.Ways.{Locates, WayStands}
+use Rattle.core_rule.proofs.graph.SameNodes.{SameShape, shape_words, shape_same}
+use Rattle.core_rule.proofs.objects.ObjectFrames.{SameKept}
+use Rattle.core_rule.proofs.spines.OtherWords.{LeavesSpines, spines_left_none}
+use Rattle.core_rule.proofs.ways.WayFrames.{ObjectStays}
+
+-- the same fragments are kept where whose they are is as before
+pub same_kept : (owner : ℕ → Owner) → SameKept owner owner
+same_kept owner = record { stays = λ f i k is. is; was = λ f i k is. is }
+
+-- and each object has its shape where it is as before
+pub same_shapes : (nodes : ℕ → Node) (i : ℕ) → SameShape (nodes i) (nodes i)
+same_shapes nodes i = shape_same (nodes i) (nodes i) refl
+
+-- the next spine has its place where the spot stays
+same_spot : (heap : Heap) (words now : List ℕ) → LeavesSpines heap words now → next_spine heap now ≡ next_spine heap words
+same_spot heap words now leaves = ap spot_in leaves.spot
+
+module _ (heap : Heap) (words now : List ℕ) (leaves : LeavesSpines heap words now) (seats made : ℕ) (spines : ℕ → Spot) (fragments : ℕ → List ℕ) (spine_owner : ℕ → ℕ → SpineOwner) where
+  -- the same are kept, and have as many spine words
+  pub spines_stay : (nodes now_nodes : ℕ → Node) (owner now_owner : ℕ → Owner) → SameKept owner now_owner → ((i : ℕ) → SameShape (now_nodes i) (nodes i))
+      → SpinesStand heap words seats made nodes owner fragments spines spine_owner → SpinesStand heap now seats made now_nodes now_owner fragments spines spine_owner
+  spines_stay nodes now_nodes owner now_owner kept shapes old =
+      let words_of : (i : ℕ) → spine_words_of (now_nodes i) ≡ spine_words_of (nodes i) = λ i. shape_words (now_nodes i) (nodes i) (shapes i) in
+      record {
+        spot = rw leaves.spot old.spot;
+        before = λ half offset some. rw leaves.spot (old.before half offset some);
+        seated = old.seated;
+        kept = λ i j below is within. old.kept i j below (kept.was _ _ _ is) (subst (λ n. j < n) (words_of i) within);
+        back = λ half offset i j is. let one = old.back half offset i j is in (one.0, kept.stays _ _ _ one.1, subst (λ n. j < n) (sym (words_of i)) one.2, one.3);
+      }
+
+  -- no more than words change
+  pub spines_words : (nodes : ℕ → Node) (owner : ℕ → Owner)
+      → SpinesStand heap words seats made nodes owner fragments spines spine_owner → SpinesStand heap now seats made nodes owner fragments spines spine_owner
+  spines_words nodes owner = spines_stay nodes nodes owner owner (same_kept owner) (same_shapes nodes)
+
+-- what a seat has stored of its spine is there
+abbrev pub SpineIsStored : Heap → List ℕ → Seat → Type 0
+SpineIsStored heap words seat = HasPlace seat seat.place → (j : ℕ) → j < seat.listed → at heap words (spine_place seat.spine j) ≡ spine_word (fragment_at seat.body (j + 1))
+
+pub spine_stored : (heap : Heap) (words now : List ℕ) (seat : Seat) → LeavesSpines heap words now → SpineIsStored heap words seat → SpineIsStored heap now seat
+spine_stored heap words now seat leaves stored = λ has j less. leaves.spines _ _ ∙ stored has j less
+
+-- the seat has the spine words that it had, and those of arrays are theirs
+pub record SpinesLeft (r : ℕ) (was now : ℕ → ℕ → SpineOwner) : Type 0 where
+  pub stays : (half offset k : ℕ) → was half offset ≡ Placed r k → now half offset ≡ Placed r k
+  pub own : (half offset k : ℕ) → now half offset ≡ Placed r k → was half offset ≡ Placed r k
+  pub arrays : (half offset i k : ℕ) → was half offset ≡ Spined i k → now half offset ≡ Spined i k
+
+pub spines_left : (r : ℕ) (spine_owner : ℕ → ℕ → SpineOwner) → SpinesLeft r spine_owner spine_owner
+spines_left r spine_owner = record { stays = λ half offset k is. is; own = λ half offset k is. is; arrays = λ half offset i k is. is }
+
+-- so its spine stands
+pub spine_stays : (heap : Heap) (words now : List ℕ) (was later : ℕ → ℕ → SpineOwner) (r : ℕ) (seat : Seat) → SpinesLeft r was later → SpineIsStored heap now seat
+    → SpineInHand heap words was r seat → SpineInHand heap now later r seat
+spine_stays heap words now was later r seat left stored old = record {
+  placed = λ has j less. left.stays _ _ _ (old.placed has j less);
+  own = λ half offset j is. old.own half offset j (left.own half offset j is);
+  stored = stored;
+}
+
+-- a seat that has no spine goes on where it has none
+pub spine_away : (heap : Heap) (words now : List ℕ) (spine_owner : ℕ → ℕ → SpineOwner) (number : ℕ) (old new : Seat) → ¬ HasPlace old old.place → ¬ HasPlace new new.place
+    → SpineInHand heap words spine_owner number old → SpineInHand heap now spine_owner number new
+spine_away heap words now spine_owner number old new before after hand = record {
+  placed = λ has. absurd (after has);
+  own = λ half offset j is. absurd (before (hand.own half offset j is).0);
+  stored = λ has. absurd (after has);
+}
+
+-- its spine is the one that it had, of as many words, of which as many are stored, for the same fragments
+pub record SameSpine (old new : Seat) : Type 0 where
+  pub has : HasPlace new new.place → HasPlace old old.place
+  pub had : HasPlace old old.place → HasPlace new new.place
+  pub need : spine_need new ≡ spine_need old
+  pub spine : new.spine ≡ old.spine
+  pub listed : new.listed ≡ old.listed
+  pub body : new.body ≡ old.body
+
+-- so it goes on where that stays
+pub spine_goes_on : (heap : Heap) (words now : List ℕ) (spine_owner : ℕ → ℕ → SpineOwner) (number : ℕ) (old new : Seat) → LeavesSpines heap words now → SameSpine old new
+    → SpineInHand heap words spine_owner number old → SpineInHand heap now spine_owner number new
+spine_goes_on heap words now spine_owner number old new leaves same hand = record {
+  placed = λ has. rw (same.need, same.spine) (hand.placed (same.has has));
+  own = λ half offset j is. let one = hand.own half offset j is in (same.had one.0, rw same.need one.1, rw same.spine one.2);
+  stored = λ has. rw (same.spine, same.listed, same.body) (λ j less. leaves.spines _ _ ∙ hand.stored (same.has has) j less);
+}
+
+kept_index : (i k j l : ℕ) → Kept i k ≡ Kept j l → i ≡ j
+kept_index i k j l e = cc
+
+-- the spine word that a call is about to load is the array's also where whose they are went on
+pub word_ahead_stays : (nodes now_nodes : ℕ → Node) (made now_made : List Id) (owner now_owner : ℕ → Owner) (fragments now_fragments : ℕ → List ℕ) (was now : ℕ → ℕ → SpineOwner)
+    → ((half offset i k : ℕ) → was half offset ≡ Spined i k → now half offset ≡ Spined i k)
+    → ((i : ℕ) → i < length made → IsKept owner fragments i → ObjectStays nodes now_nodes made now_made owner now_owner fragments now_fragments i)
+    → (seat : Seat) (place : Place) → WayStands nodes made owner fragments seat place → WordStandsAhead owner was seat place → WordStandsAhead now_owner now seat place
+word_ahead_stays nodes now_nodes made now_made owner now_owner fragments now_fragments was now arrays stay seat (places.Access Indexing) way ahead = λ i is.
+    let one = stay way.index way.way.below way.way.kept in
+    let same : now_owner seat.reached ≡ Kept way.index 0 = ap now_owner way.way.here ∙ ap (λ fs. now_owner (fragment_at fs 0)) (sym one.fragments_stay) ∙ one.kept in
+    let index : i ≡ way.index = kept_index i 0 way.index 0 (sym is ∙ same) in
+    arrays _ _ i _ (ahead i (ap owner way.way.here ∙ way.way.kept ∙ ap (λ n. Kept n 0) (sym index)))
+word_ahead_stays nodes now_nodes made now_made owner now_owner fragments now_fragments was now arrays stay seat _ way ahead = tt
