@@ -1,5 +1,5 @@
 -- What stands of the heap and of each seat when a group's marks are cleared.
-use Rattle.std.proofs.Common.{◌≡◌, ◌≢◌, ℕ, ◌%◌, ◌<◌, Bool, true, false, List, bit_and, refl, ap, ◌∙◌, arith}
+use Rattle.std.proofs.Common.{◌≡◌, ◌≢◌, ℕ, ◌%◌, ◌<◌, Bool, true, false, List, length, bit_and, refl, ap, ◌∙◌, arith}
 use Rattle.heap_model.specs.declared.heap.Heap.{Heap}
 use Rattle.heap_model.specs.account.Cycles.{graph_of}
 use Rattle.heap_model.specs.account.PhaseCounts.{phase}
@@ -16,6 +16,7 @@ use Rattle.core_machine.specs.table.Operation.{marks_cleared}
 use Rattle.core_rule.specs.Book.{Book, Colour}
 use Rattle.core_rule.specs.Colours.{Coloured, BornColours}
 use Rattle.core_rule.specs.Flight.{RootsStand, WhilePolling}
+use Rattle.core_rule.specs.Objects.{node_at}
 use Rattle.core_rule.specs.Owners.{Borne}
 use Rattle.core_rule.specs.Phases.{AnswerStands}
 use Rattle.core_rule.specs.Rule.{Rule, HeapStands, SeatStands}
@@ -26,6 +27,8 @@ use Rattle.core_rule.proofs.hand.StoredFrames.{stored_control}
 use Rattle.core_rule.proofs.marking.Marks.{all_answered}
 use Rattle.core_rule.proofs.objects.ObjectFrames.{objects_control}
 use Rattle.core_rule.proofs.owners.Seated.{borne_by_seat}
+use Rattle.core_rule.proofs.spines.OtherWords.{LeavesSpines, spines_left_control}
+use Rattle.core_rule.proofs.spines.SpineFrames.{spines_words, spine_after}
 use Rattle.core_rule.proofs.words.SweepWords.{cleared_in, cleared_white, cleared_marks, cleared_bits}
 
 -- in the last phase nobody is about to answer that marking begins
@@ -50,6 +53,10 @@ module _ (heap : Heap) (state : State) (book : Book) (rule : Rule heap state boo
   abbrev pub book_cleared : Book
   book_cleared = record book { colour = colour }
 
+  -- the spine words and the budget are as before
+  pub leaves_spines : LeavesSpines heap state.words words_cleared
+  leaves_spines = spines_left_control heap state.words word g below
+
   module _ (last : phase book.history % 7 ≡ 6) where
     -- what is marked then was, and is born; of the last phase nothing else is said
     coloured : Coloured heap words_cleared book.owner colour book.fragments (phase book.history)
@@ -67,7 +74,9 @@ module _ (heap : Heap) (state : State) (book : Book) (rule : Rule heap state boo
       control_words = cleared_bits heap state.words g rule.machine.table below book.owner old.control_words;
       owners = old.owners;
       ids = old.ids;
-      objects = objects_control heap state.words (graph_of heap book.history) book.made book.owner book.fragments g word below old.objects;
+      objects = objects_control heap state.words (graph_of heap book.history) book.made book.owner book.fragments book.spines g word below old.objects;
+      spines = spines_words heap state.words words_cleared leaves_spines heap.seats (length book.made) book.spines book.fragments book.spine_owner
+          (node_at (graph_of heap book.history) book.made) book.owner old.spines;
       used = old.used;
       cycle = record {
         word = phase_after_control heap state.words word g ∙ old.cycle.word;
@@ -103,7 +112,7 @@ module _ (heap : Heap) (state : State) (book : Book) (rule : Rule heap state boo
       -- so each seat stands
       pub seat_cleared : (r : ℕ) → r < heap.seats → SeatStands heap state.words book r (seat_at state r) → SeatStands heap words_cleared book_cleared r (seat_at state r)
       seat_cleared r under stands = record {
-        own = record { holding = stands.own.holding; stored = stored_control heap state.words r (seat_at state r) g word below stands.own.stored; together = stands.own.together };
+        own = record { holding = stands.own.holding; stored = stored_control heap state.words r (seat_at state r) g word below stands.own.stored; together = stands.own.together; spine = spine_after heap state.words words_cleared book.spine_owner r (seat_at state r) leaves_spines stands.own.spine };
         names = stands.names;
         told = stands.told;
         cycle = record {

@@ -22,6 +22,7 @@ use Rattle.core_rule.specs.Colours.{IsMarked}
 use Rattle.core_rule.specs.Counts.{AreUsed}
 use Rattle.core_rule.specs.Cycle.{HeapInCycle}
 use Rattle.core_rule.specs.Marking.{AfterMarking}
+use Rattle.core_rule.specs.Objects.{node_at}
 use Rattle.core_rule.specs.Sweep.{AreDead}
 use Rattle.core_rule.specs.Owners.{Owner, Free, taken_bit, born_bit, dead_bit, owner_after}
 use Rattle.core_rule.specs.Rule.{Rule, HeapStands, SeatStands}
@@ -40,6 +41,9 @@ use Rattle.core_rule.proofs.objects.ObjectFrames.{SameKept, objects_owners, obje
 use Rattle.core_rule.proofs.owners.DeadOwners.{of_dead, set_dead, kept_freed, hand_freed, owners_freed}
 use Rattle.core_rule.proofs.owners.Handed.{fewer, handed_cases}
 use Rattle.core_rule.proofs.owners.OwnerLemmas.{is_dead}
+use Rattle.core_rule.proofs.spines.BudgetFrames.{SameGrants, none_granted_by, none_returned_by, kept_owned}
+use Rattle.core_rule.proofs.spines.OtherWords.{LeavesSpines, spines_left_control}
+use Rattle.core_rule.proofs.spines.SpineFrames.{same_shapes, spines_stay, spine_stored, spines_left}
 use Rattle.core_rule.proofs.words.SetBits.{set_in, set_once, set_group}
 use Rattle.core_rule.proofs.words.SweepWords.{freed_bits, freed_marks}
 
@@ -77,6 +81,18 @@ module _ (heap : Heap) (state : State) (book : Book) (rule : Rule heap state boo
 
   same : SameKept book.owner owner
   same = kept_freed book.owner fs are_dead
+
+  -- the spine words and the budget are as before, and as many spine words are granted
+  pub leaves_spines : LeavesSpines heap state.words words_freed
+  leaves_spines = spines_left_control heap state.words word g below
+
+  pub grants_freed : SameGrants heap book book_freed
+  grants_freed = record {
+    told = none_granted_by book.history entry refl;
+    returned = none_returned_by book.history entry refl;
+    kept = rw graph_freed (kept_owned (length book.made) (node_at before book.made) book.owner owner book.fragments same);
+    gone = refl;
+  }
 
   -- as many fewer are taken
   fewer_taken : sum_upto (16 * heap.groups) (λ f. taken_bit (book.owner f)) ≡ sum_upto (16 * heap.groups) (λ f. taken_bit (owner f)) + length fs
@@ -120,8 +136,10 @@ module _ (heap : Heap) (state : State) (book : Book) (rule : Rule heap state boo
           control_words = freed_bits heap state.words g rule.machine.table below book.owner dead small are stands.control_words;
           owners = owners_freed book.owner fs are_dead heap.seats stands.owners;
           ids = rw graph_freed stands.ids;
-          objects = rw graph_freed (objects_owners book.owner owner same book.made book.fragments heap words_freed before
-              (objects_control heap state.words before book.made book.owner book.fragments g word below stands.objects));
+          objects = rw graph_freed (objects_owners book.owner owner same book.made book.fragments book.spines heap words_freed before
+              (objects_control heap state.words before book.made book.owner book.fragments book.spines g word below stands.objects));
+          spines = rw graph_freed (spines_stay heap state.words words_freed leaves_spines heap.seats (length book.made) book.spines book.fragments book.spine_owner
+              (node_at before book.made) (node_at before book.made) book.owner owner same (same_shapes (node_at before book.made)) stands.spines);
           used = used;
           cycle = heap_cycle_more heap words_freed owner book.colour book.history entry refl book.fragments cycle;
           legal = legal;
@@ -139,6 +157,8 @@ module _ (heap : Heap) (state : State) (book : Book) (rule : Rule heap state boo
         kept = rw graph_freed (kept_owners before book.made book.owner owner book.fragments same);
         hand = hand_freed book.owner fs are_dead r;
         stored = stored_control heap state.words r seat g word below stands.own.stored;
+        spines = spines_left r book.spine_owner;
+        spine_stored = spine_stored heap state.words words_freed seat leaves_spines stands.own.spine.stored;
         gathers = gathers_freed heap book.owner book.history fs (set_once g dead) inside are_dead (book.begun r) r seat.cursor seat.tried seat.given stands.told.began.earlier
             fits.own.cursor_within (tried_within heap seat seat.place fits.at_place) stands.told.gathers;
         cycle = cycle_other heap words_freed owner book.colour book.history entry refl r seat

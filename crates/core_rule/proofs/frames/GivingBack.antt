@@ -18,6 +18,7 @@ use Rattle.core_rule.specs.Book.{Book}
 use Rattle.core_rule.specs.ControlWords.{Bits}
 use Rattle.core_rule.specs.Cycle.{SeatInCycle}
 use Rattle.core_rule.specs.Owners.{Owner, Free, Borne, Taken, born_bit, owner_after, IsBoards}
+use Rattle.core_rule.specs.Objects.{node_at}
 use Rattle.core_rule.specs.Rule.{Rule, HeapStands, SeatStands}
 use Rattle.core_rule.proofs.marking.MakingMarks.{leaves_handed}
 use Rattle.core_rule.proofs.marking.Marks.{MarksGoOn, IsOffWay, marks_off_way}
@@ -32,6 +33,9 @@ use Rattle.core_rule.proofs.entries.AtRest.{seat_fits}
 use Rattle.core_rule.proofs.entries.InFlight.{tried_within}
 use Rattle.core_rule.proofs.cycle.MakingCycle.{cycle_goes_on, answer_after_control, heap_hands, borne_before, cycle_control}
 use Rattle.core_rule.proofs.objects.ObjectFrames.{SameKept, objects_owners, part_kept, objects_control, free_keeps_none}
+use Rattle.core_rule.proofs.spines.BudgetFrames.{SameGrants, none_granted_by, none_returned_by, kept_owned}
+use Rattle.core_rule.proofs.spines.OtherWords.{LeavesSpines, spines_left_control}
+use Rattle.core_rule.proofs.spines.SpineFrames.{same_shapes, spines_stay, spine_stored, spines_left}
 use Rattle.core_rule.proofs.entries.Others.{of_other}
 use Rattle.core_rule.proofs.owners.OwnerFrames.{owners_handed}
 use Rattle.core_rule.proofs.frames.SeatFrames.{same_party, told_other, kept_owners, seat_left}
@@ -73,6 +77,18 @@ module _ (heap : Heap) (state : State) (book : Book) (number : ℕ) (rule : Rule
   inside : (f : ℕ) → 1 ≤ tally f fs → f < 16 * heap.groups
   inside = held_within heap state.words book.owner rule.heap_stands.control_words number fs held
 
+  -- the spine words and the budget are as before, and as many spine words are granted
+  pub leaves_spines : LeavesSpines heap state.words words_given
+  leaves_spines = spines_left_control heap state.words word g below
+
+  pub grants_given : SameGrants heap book book_given
+  grants_given = record {
+    told = none_granted_by book.history entry refl;
+    returned = none_returned_by book.history entry refl;
+    kept = rw graph_given (kept_owned (length book.made) (node_at before book.made) book.owner owner book.fragments kept_given);
+    gone = refl;
+  }
+
   -- the heap stands
   pub heap_given : Bits heap words_given owner → (graph_seat before number).left ≡ false → 1 ≤ length fs → spent_of number book.history + length fs ≤ taken_of number book.history
       → HeapStands heap words_given book_given
@@ -82,8 +98,10 @@ module _ (heap : Heap) (state : State) (book : Book) (number : ℕ) (rule : Rule
         control_words = bits;
         owners = owners_handed heap.seats book.owner stands.owners Free fs tt (λ there. subst IsBoards (held 0 there) stands.owners.board);
         ids = rw graph_given stands.ids;
-        objects = rw graph_given (objects_owners book.owner owner kept_given book.made book.fragments heap words_given before
-            (objects_control heap state.words before book.made book.owner book.fragments g word below stands.objects));
+        objects = rw graph_given (objects_owners book.owner owner kept_given book.made book.fragments book.spines heap words_given before
+            (objects_control heap state.words before book.made book.owner book.fragments book.spines g word below stands.objects));
+        spines = rw graph_given (spines_stay heap state.words words_given leaves_spines heap.seats (length book.made) book.spines book.fragments book.spine_owner
+            (node_at before book.made) (node_at before book.made) book.owner owner kept_given (same_shapes (node_at before book.made)) stands.spines);
         used = give_used heap book.owner book.history number fs once inside stands.used held;
         legal = legal_gives heap book.history number (length fs) stands.legal present some own;
         cycle = heap_cycle_more heap words_given owner book.colour book.history entry refl book.fragments
@@ -119,6 +137,8 @@ module _ (heap : Heap) (state : State) (book : Book) (number : ℕ) (rule : Rule
         kept = rw graph_given (kept_owners before book.made book.owner owner book.fragments kept_given);
         hand = hand_given book.owner r number fs apart held;
         stored = stored_control heap state.words r seat g word below other.own.stored;
+        spines = spines_left r book.spine_owner;
+        spine_stored = spine_stored heap state.words words_given seat leaves_spines other.own.spine.stored;
         gathers = other_gives heap book.owner book.history number fs once inside rule.heap_stands.used (book.begun r) other.told.began.earlier seat.cursor seat.tried seat.given held
             fits.own.cursor_within (tried_within heap seat seat.place fits.at_place) r apart other.told.gathers;
         cycle = cycle_other heap words_given owner book.colour book.history entry refl r seat

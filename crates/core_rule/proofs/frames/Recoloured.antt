@@ -1,5 +1,5 @@
 -- A control word gets other marks: what stays of the heap and of each seat.
-use Rattle.std.proofs.Common.{◌≡◌, ℕ, ◌<◌, List, inl, ◌∙◌, arith}
+use Rattle.std.proofs.Common.{◌≡◌, ℕ, ◌<◌, List, length, inl, refl, slice_set, ◌∙◌, arith}
 use Rattle.heap_model.specs.declared.heap.Heap.{Heap}
 use Rattle.heap_model.specs.account.Cycles.{graph_of}
 use Rattle.heap_model.specs.account.PhaseCounts.{phase, last_answer, has_left}
@@ -10,12 +10,15 @@ use Rattle.core_rule.specs.Book.{Book, Colour}
 use Rattle.core_rule.specs.Colours.{Marks, IsMarked, Coloured}
 use Rattle.core_rule.specs.ControlWords.{Bits}
 use Rattle.core_rule.specs.Owners.{Borne}
+use Rattle.core_rule.specs.Objects.{node_at}
 use Rattle.core_rule.specs.Rule.{Rule, HeapStands, SeatStands}
 use Rattle.core_rule.proofs.colours.LeadsFrames.{leads_control}
 use Rattle.core_rule.proofs.cycle.CycleFrames.{LeavesCycle, cycle_stays}
 use Rattle.core_rule.proofs.cycle.FieldFrames.{watched_born}
 use Rattle.core_rule.proofs.hand.StoredFrames.{stored_control}
 use Rattle.core_rule.proofs.objects.ObjectFrames.{objects_control}
+use Rattle.core_rule.proofs.spines.OtherWords.{LeavesSpines, spines_left_control}
+use Rattle.core_rule.proofs.spines.SpineFrames.{spines_words, spine_after}
 use Rattle.core_rule.proofs.words.Addresses.{at-put_apart}
 
 -- the control words tell the same owners and the new colours, which are right; what was marked is, and what seats bear has its colour
@@ -35,13 +38,19 @@ module _ (heap : Heap) (state : State) (book : Book) (rule : Rule heap state boo
   abbrev words : List ℕ
   words = put heap state.words (Control g) n
 
+  -- the spine words and the budget are as before
+  leaves_spines : LeavesSpines heap state.words words
+  leaves_spines = spines_left_control heap state.words n g below
+
   -- the heap stands
   pub heap_recoloured : HeapStands heap words (with_colours book coloured)
   heap_recoloured = let old = rule.heap_stands in record {
     control_words = new.bits;
     owners = old.owners;
     ids = old.ids;
-    objects = objects_control heap state.words (graph_of heap book.history) book.made book.owner book.fragments g n below old.objects;
+    objects = objects_control heap state.words (graph_of heap book.history) book.made book.owner book.fragments book.spines g n below old.objects;
+    spines = spines_words heap state.words words leaves_spines heap.seats (length book.made) book.spines book.fragments book.spine_owner
+        (node_at (graph_of heap book.history) book.made) book.owner old.spines;
     used = old.used;
     cycle = record {
       word = at-put_apart heap state.words (Control g) Phase n (λ e. omega (arith, e)) ∙ old.cycle.word;
@@ -63,7 +72,7 @@ module _ (heap : Heap) (state : State) (book : Book) (rule : Rule heap state boo
   -- so each seat stands that makes no step
   pub seat_recoloured : (r : ℕ) → r < heap.seats → SeatStands heap state.words book r (seat_at state r) → SeatStands heap words (with_colours book coloured) r (seat_at state r)
   seat_recoloured r less stands = record {
-    own = record { holding = stands.own.holding; stored = stored_control heap state.words r (seat_at state r) g n below stands.own.stored; together = stands.own.together };
+    own = record { holding = stands.own.holding; stored = stored_control heap state.words r (seat_at state r) g n below stands.own.stored; together = stands.own.together; spine = spine_after heap state.words words book.spine_owner r (seat_at state r) leaves_spines stands.own.spine };
     names = stands.names;
     told = stands.told;
     cycle = cycle_stays heap state.words words book.owner book.owner book.colour coloured (phase book.history) (last_answer r book.history) (has_left r book.history)

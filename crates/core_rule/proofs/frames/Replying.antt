@@ -15,9 +15,10 @@ use Rattle.core_rule.specs.Book.{Book}
 use Rattle.core_rule.specs.Gathers.{Began, IsAnswered}
 use Rattle.core_rule.specs.Rule.{HeapStands, SeatStands}
 use Rattle.core_rule.proofs.cycle.CycleHistory.{heap_cycle_more, cycle_other}
-use Rattle.core_rule.proofs.frames.EntryFrames.{heap_past, seat_past, fragments_same}
+use Rattle.core_rule.proofs.frames.EntryFrames.{heap_past, seat_past, grants_past, fragments_same}
 use Rattle.core_rule.proofs.entries.Legality.{legal_more}
 use Rattle.core_rule.proofs.graph.SameNodes.{SameNodes}
+use Rattle.core_rule.proofs.spines.BudgetFrames.{SameGrants}
 use Rattle.core_rule.proofs.frames.SeatFrames.{with_entry}
 
 -- no part of its effect is anything
@@ -40,6 +41,10 @@ module _ (heap : Heap) (words : List ℕ) (book : Book) (entry : Entry) (nothing
       record { taken = no_part entry (λ e. e.taken) nothing refl; given = no_part entry (λ e. e.given) nothing refl; freed = no_part entry (λ e. e.freed) nothing refl }
       (legal_more heap false book.history entry stands.legal accepts keeps)
       (heap_cycle_more heap words book.owner book.colour book.history entry (no_part entry (λ e. e.phases) nothing refl) book.fragments stands.cycle) stands
+
+  -- as many spine words are granted
+  pub grants_told : SameGrants heap book (with_entry book entry)
+  grants_told = grants_past heap words words (fragments_same heap words) book entry nodes (no_part entry (λ e. e.words) nothing refl) (no_part entry (λ e. e.returned) nothing refl)
 
   -- another seat stands
   pub other_told : (r : ℕ) (seat : Seat) → is_of r entry ≡ false → graph_seat (graph_of heap (book.history ++ entry ∷ [])) r ≡ graph_seat (graph_of heap book.history) r

@@ -10,6 +10,7 @@ use Rattle.core_rule.specs.Owners.{Owner, Kept}
 use Rattle.core_rule.proofs.words.Addresses.{word_after_control, fragment_other}
 use Rattle.core_rule.proofs.hand.Bodies.{body_at-own}
 use Rattle.core_rule.proofs.owners.OwnerLemmas.{IsOwn, own_keeps_none}
+use Rattle.core_rule.proofs.spines.OtherWords.{LeavesSpines}
 
 -- a control word changes
 pub stored_control : (heap : Heap) (words : List ℕ) (number : ℕ) (seat : Seat) (group n : ℕ) → group < heap.groups → IsStored heap words number seat → IsStored heap (put heap words (Control group) n) number seat
@@ -25,10 +26,11 @@ stored_store heap words owner number seat f part n holding within fits other old
     (λ e. other (subst (λ x. IsOwn number (owner x)) e (body_at-own owner number seat.reserve seat.hand seat.body holding (u / 4) row)))
     ∙ old u less
 
--- the control words and the words of fragments that no object keeps are as before
+-- the control words, the words of fragments that no object keeps, the spine words and the budget are as before
 pub record SameUnkept (heap : Heap) (owner : ℕ → Owner) (words now : List ℕ) : Type 0 where
   pub controls : (group : ℕ) → group < heap.groups → at heap now (Control group) ≡ at heap words (Control group)
   pub unkept : (f part : ℕ) → ((i k : ℕ) → owner f ≢ Kept i k) → part < 4 → at heap now (Word f part) ≡ at heap words (Word f part)
+  pub spines : LeavesSpines heap words now
 
 -- so what a seat has stored stands
 pub stored_stays : (heap : Heap) (owner : ℕ → Owner) (words now : List ℕ) (r : ℕ) (seat : Seat) → SameUnkept heap owner words now → Holding owner r seat.reserve seat.hand seat.body

@@ -23,6 +23,7 @@ use Rattle.core_rule.proofs.objects.ObjectWords.{word_of_cell}
 use Rattle.core_rule.proofs.ways.Rows.{part_fits, row_fits}
 use Rattle.core_rule.proofs.graph.Numbering.{id_tells}
 use Rattle.core_rule.proofs.hand.StoredFrames.{SameUnkept}
+use Rattle.core_rule.proofs.spines.OtherWords.{spines_left_word}
 
 module _ (heap : Heap) (words : List ℕ) (g now : Graph) (number : ℕ) (made : List Id) (owner : ℕ → Owner) (fragments : ℕ → List ℕ) (spines : ℕ → Spot) (n i : ℕ) (cell : Cell) (word : ℕ)
     (ids : AreMade g made) (old : Objects heap words g made owner fragments spines) (below : n < length made) (kept : IsKept owner fragments n)
@@ -197,8 +198,9 @@ module _ (heap : Heap) (words : List ℕ) (g now : Graph) (number : ℕ) (made :
     }
 
   -- no word but an object's changes
-  pub set_unkept : SameUnkept heap owner words now_words
-  set_unkept = record {
+  pub set_unkept : target < 16 * heap.groups → SameUnkept heap owner words now_words
+  set_unkept target_below = record {
     controls = λ group less. control_after_word heap words word target part group less;
     unkept = λ f p free fits. fragment_other heap words word target part f p part_is_one fits (λ e. free n row (ap owner e ∙ target_owned));
+    spines = spines_left_word heap words word target part target_below part_is_one;
   }

@@ -1,6 +1,11 @@
 -- A seat that makes no object has no spine words, and none granted.
-use Rattle.std.proofs.Common.{◌≡◌, ℕ, List, refl, sym, ◌∙◌}
+use Rattle.std.proofs.Common.{◌≡◌, ℕ, List, refl, sym, ◌∙◌, arith}
 use Rattle.heap_model.specs.declared.entry.Entry.{Entry}
+use Rattle.heap_model.specs.declared.command.Command.{Command}
+use Rattle.heap_model.specs.declared.command.Command.TheVariants as commands
+use Rattle.heap_model.specs.declared.reply.Reply.{Reply}
+use Rattle.heap_model.specs.declared.reply.Reply.TheVariants as replies
+use Rattle.heap_model.specs.Needs.{need_of, made_by, words_by, spine_need_of}
 use Rattle.heap_model.specs.declared.heap.Heap.{Heap}
 use Rattle.core_machine.specs.declared.place.Place.{Place}
 use Rattle.core_machine.specs.declared.place.Place.TheVariants as places
@@ -23,6 +28,15 @@ none_has_place seat _ none has = has
 pub none_used : (heap : Heap) (history : List Entry) (number : ℕ) (seat : Seat) (place : Place) → MakesNone place → UsedStands heap history number seat place
 none_used heap history number seat (places.Making place) none = absurd none
 none_used heap history number seat _ none = tt
+
+-- a reply that makes no object grants no words
+pub none_made_words : (command : Command) (reply : Reply) → made_by command reply ≡ 0 → words_by command reply ≡ 0
+none_made_words command (replies.Made id) none = no_need command none
+  where
+    no_need : (c : Command) → need_of c ≡ 0 → spine_need_of c ≡ 0
+    no_need (commands.Array d cells) needs = absurd (omega (arith, needs))
+    no_need _ needs = refl
+none_made_words command _ none = refl
 
 -- a seat has as many words granted, placed and refused as it had
 pub record SameWeights (old now : Seat) : Type 0 where

@@ -79,6 +79,12 @@ spine_stays heap words now was later r seat left stored old = record {
   stored = stored;
 }
 
+-- and where no more than words change
+pub spine_after : (heap : Heap) (words now : List ℕ) (spine_owner : ℕ → ℕ → SpineOwner) (number : ℕ) (seat : Seat) → LeavesSpines heap words now
+    → SpineInHand heap words spine_owner number seat → SpineInHand heap now spine_owner number seat
+spine_after heap words now spine_owner number seat leaves hand =
+    spine_stays heap words now spine_owner spine_owner number seat (spines_left number spine_owner) (spine_stored heap words now seat leaves hand.stored) hand
+
 -- a seat that has no spine goes on where it has none
 pub spine_away : (heap : Heap) (words now : List ℕ) (spine_owner : ℕ → ℕ → SpineOwner) (number : ℕ) (old new : Seat) → ¬ HasPlace old old.place → ¬ HasPlace new new.place
     → SpineInHand heap words spine_owner number old → SpineInHand heap now spine_owner number new

@@ -35,11 +35,13 @@ use Rattle.core_rule.proofs.entries.Legality.{legal_more, keeps_said}
 use Rattle.core_rule.proofs.graph.LocalReplies.{IsLocalReply}
 use Rattle.core_rule.proofs.steps.ReplyStep.{reply_keeps, graph_replies}
 use Rattle.core_rule.proofs.hand.StoredFrames.{SameUnkept}
+use Rattle.core_rule.proofs.spines.NoneMade.{MakesNone}
+use Rattle.core_rule.proofs.spines.OtherWords.{spines_left_none}
 use Rattle.core_rule.proofs.cycle.Unwatched.{IsApart, cycle_apart}
 
 -- a load leaves all words
 load_leaves : (heap : Heap) (book : Book) (words : List ℕ) (a : Address) → SameUnkept heap book.owner words (put heap words a (at heap words a))
-load_leaves heap book words a = rw (put-at heap words a) record { controls = λ group below. refl; unkept = λ f part free within. refl }
+load_leaves heap book words a = rw (put-at heap words a) record { controls = λ group below. refl; unkept = λ f part free within. refl; spines = spines_left_none heap words }
 
 -- the seat stands idle and has told the reply; of its own data its registers alone are others
 pub record SeatTells (old now : Seat) (entry : Entry) : Type 0 where
@@ -55,13 +57,13 @@ pub record SeatTells (old now : Seat) (entry : Entry) : Type 0 where
 -- a load at which such a reply stands keeps the rule
 pub local_reply_keeps : (heap : Heap) (state : State) (book : Book) (number : ℕ) (a : Address) (now : Seat) (reply : Reply) → (rule : Rule heap state book) → (here : number < heap.seats)
     → IsMachine heap (record state { words = put heap state.words a (at heap state.words a); seats = slice_set state.seats number now })
-    → IsAtRest (seat_at state number) → (seat_at state number).mine ≡ filter (is_of number) book.history → (graph_seat (graph_of heap book.history) number).left ≡ false → IsCommand (seat_at state number).command
+    → MakesNone (seat_at state number).place → IsAtRest (seat_at state number) → (seat_at state number).mine ≡ filter (is_of number) book.history → (graph_seat (graph_of heap book.history) number).left ≡ false → IsCommand (seat_at state number).command
     → IsLocalReply heap book.history (graph_of heap book.history) number book.made book.owner book.fragments (seat_at state number).command reply now.registers
     → is_leave_of number (entries.Said number (seat_at state number).command reply) ≡ false
     → SeatTells (seat_at state number) now (entries.Said number (seat_at state number).command reply)
     → RootsGoOn heap state book rule number here now
     → Keeps heap state (record state { words = put heap state.words a (at heap state.words a); seats = slice_set state.seats number now }) book book.begun (entries.Said number (seat_at state number).command reply ∷ [])
-local_reply_keeps heap state book number a now reply rule here machine rest told present ranges local stays tells roots =
+local_reply_keeps heap state book number a now reply rule here machine makes rest told present ranges local stays tells roots =
     let seat : Seat = seat_at state number in
     let g : Graph = graph_of heap book.history in
     let stands = rule.seats_stand number here in
@@ -69,7 +71,7 @@ local_reply_keeps heap state book number a now reply rule here machine rest told
     let words : List ℕ = put heap state.words a (at heap state.words a) in
     let same : words ≡ state.words = put-at heap state.words a in
     reply_keeps heap state book number (put heap state.words a (at heap state.words a)) now seat.command reply rule here machine
-    local.plain.none rest told
+    local.plain.none makes rest told
     (legal_more heap false book.history (entries.Said number seat.command reply) rule.heap_stands.legal (present, ranges, local.says)
     (keeps_said heap false book.history number seat.command reply local.plain.none local.plain.space local.plain.spine local.plain.phases (spent_own heap state book number rule here rest)
     (omega (arith, local.plain.most, few_own heap state book number rule here rest))))

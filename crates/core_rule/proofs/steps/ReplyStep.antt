@@ -1,7 +1,6 @@
 -- A reply that makes no object keeps the rule, where the words that it changes are none but a seat's answer or a kept object's.
 use Rattle.std.proofs.Common.{subst, ◌≡◌, ◌≢◌, ℕ, ◌<◌, false, List, [], ◌∷◌, ◌++◌, length, filter, drop, slice_set, refl, sym, ◌∙◌, arith, append-nil, ap}
 use Rattle.std.proofs.lemmas.List.{get_or-set_same, length-set}
-use Rattle.heap_model.specs.declared.graph.cell.Cell.{Cell}
 use Rattle.heap_model.specs.declared.command.Command.{Command}
 use Rattle.heap_model.specs.declared.entry.Entry.{Entry}
 use Rattle.heap_model.specs.declared.entry.Entry.TheVariants as entries
@@ -11,7 +10,7 @@ use Rattle.heap_model.specs.account.Account.{IsLegalBy, ButSpine}
 use Rattle.heap_model.specs.account.Cycles.{graph_of}
 use Rattle.heap_model.specs.account.Effects.{is_of}
 use Rattle.heap_model.specs.graph.Growth.{after_reply}
-use Rattle.heap_model.specs.Needs.{made_by}
+use Rattle.heap_model.specs.Needs.{made_by, words_by}
 use Rattle.heap_model.specs.graph.Objects.{graph_seat, register_value}
 use Rattle.heap_model.specs.account.PhaseCounts.{phase, last_answer, has_left}
 use Rattle.heap_model.specs.account.Space.{taken_of, spent_of}
@@ -25,11 +24,11 @@ use Rattle.core_machine.specs.seat.Seat.{Seat, absent_seat}
 use Rattle.core_machine.specs.machine.Value.{IsMachine}
 use Rattle.core_rule.specs.Book.{Book}
 use Rattle.core_rule.specs.Cycle.{HeapInCycle, SeatInCycle}
-use Rattle.core_rule.specs.Objects.{AreMade, Objects, cells_at}
+use Rattle.core_rule.specs.Objects.{AreMade, Objects, node_at}
 use Rattle.core_rule.specs.Registers as regs
 use Rattle.core_rule.specs.Rule.{Rule, OwnStands, NamesStand, ToldStands}
 use Rattle.core_rule.proofs.marking.Marks.{MarksGoOn}
-use Rattle.core_rule.proofs.steps.Assemble.{Keeps, seat_fits, seat_steps}
+use Rattle.core_rule.proofs.steps.Assemble.{Keeps, seat_fits, seat_steps, step_budgets}
 use Rattle.core_rule.proofs.entries.AtRest.{own_reserve}
 use Rattle.core_rule.proofs.words.ControlLemmas.{bits_same}
 use Rattle.core_rule.proofs.cycle.CycleFrames.{LeavesCycle, cycle_stays}
@@ -41,25 +40,28 @@ use Rattle.core_rule.proofs.entries.InFlight.{began_idle, stored_within}
 use Rattle.core_rule.proofs.entries.Others.{of_other}
 use Rattle.core_rule.proofs.entries.OwnEntries.{own_grows}
 use Rattle.core_rule.proofs.entries.ReplyEntries.{said_own, said_used, said_taken, said_spent}
-use Rattle.core_rule.proofs.graph.SameNodes.{ids_stay, objects_stay, cells_stay}
+use Rattle.core_rule.proofs.graph.SameNodes.{SameShape, ids_stay, objects_stay, shapes_stay}
 use Rattle.core_rule.proofs.footprint.BookGoing.{book_stays}
 use Rattle.core_rule.proofs.frames.SeatFrames.{SameParty, with_entry, seat_stays, same_party}
 use Rattle.core_rule.proofs.hand.StoredFrames.{SameUnkept, stored_stays}
+use Rattle.core_rule.proofs.spines.BudgetFrames.{none_granted_by, none_returned_by, kept_alike}
+use Rattle.core_rule.proofs.spines.NoneMade.{MakesNone, SameWeights, none_has_place, none_weights, none_made_words}
+use Rattle.core_rule.proofs.spines.SpineFrames.{same_kept, spines_stay, spine_away}
 
--- the graph has the same objects of the same lengths, with the cells that their words have, and the other seats' data
+-- the graph has the same objects of the same shapes, with the cells that their words have, and the other seats' data
 pub record GraphReplies (heap : Heap) (words : List ℕ) (book : Book) (g now : Graph) (number : ℕ) : Type 0 where
   pub ids : AreMade now book.made
-  pub objects : Objects heap words now book.made book.owner book.fragments
-  pub lengths : (i : ℕ) → length (cells_at now book.made i) ≡ length (cells_at g book.made i)
+  pub objects : Objects heap words now book.made book.owner book.fragments book.spines
+  pub shapes : (i : ℕ) → SameShape (node_at now book.made i) (node_at g book.made i)
   pub others : (r : ℕ) → r ≢ number → SameParty g now r
 
 -- so it is where the registers of a seat change alone
-pub graph_replies : (g now : Graph) (number : ℕ) → SeatChanges g now number → (heap : Heap) (words : List ℕ) (book : Book) → AreMade g book.made → Objects heap words g book.made book.owner book.fragments
+pub graph_replies : (g now : Graph) (number : ℕ) → SeatChanges g now number → (heap : Heap) (words : List ℕ) (book : Book) → AreMade g book.made → Objects heap words g book.made book.owner book.fragments book.spines
     → GraphReplies heap words book g now number
 graph_replies g now number changes heap words book ids objects = record {
   ids = ids_stay g now book.made changes.nodes ids;
-  objects = objects_stay g now book.made changes.nodes book.owner book.fragments heap words objects;
-  lengths = λ i. ap (λ (cells : List Cell). length cells) (cells_stay g now book.made changes.nodes i);
+  objects = objects_stay g now book.made changes.nodes book.owner book.fragments book.spines heap words objects;
+  shapes = shapes_stay g now book.made changes.nodes;
   others = λ r apart. same_party g now r (changes.others r apart);
 }
 
@@ -101,20 +103,23 @@ module _ (heap : Heap) (state : State) (book : Book) (number : ℕ) (words : Lis
 
   -- a reply is told, and what the seat has, names and is told of stands
   pub told_keeps : IsLegalBy ButSpine heap false later.history → SameUnkept heap book.owner state.words words → GraphReplies heap words book before after number
-      → OwnStands heap words book.owner number now → NamesStand after book.made book.owner book.fragments number now
+      → SameWeights seat now → words_by command reply ≡ 0
+      → OwnStands heap words book.owner book.spine_owner number now → NamesStand after book.made book.owner book.fragments book.spine_owner number now
       → ToldStands heap after later.history book.made book.owner book.fragments (book.begun number) number now
       → HeapInCycle heap words (phase book.history) book.owner book.colour book.fragments
       → SeatInCycle heap words (phase later.history) (last_answer number later.history) (has_left number later.history) book.owner book.colour number now
       → ((r : ℕ) → r < heap.seats → r ≢ number → LeavesCycle heap state.words words book.owner book.owner book.colour book.colour (phase book.history) r)
       → MarksGoOn heap state book later words now
       → Keeps heap state (record state { words = words; seats = slice_set state.seats number now }) book book.begun (entry ∷ [])
-  told_keeps legal same grows own names told heap_cycle cycle leaves marks =
+  told_keeps legal same grows weights wordless own names told heap_cycle cycle leaves marks =
       seat_steps heap state book number words now later (entry ∷ []) rule here machine refl refl
       record {
         control_words = bits_same heap state.words words book.owner same.controls rule.heap_stands.control_words;
         owners = rule.heap_stands.owners;
         ids = rw graph grows.ids;
         objects = rw graph grows.objects;
+        spines = rw graph (spines_stay heap state.words words same.spines heap.seats (length book.made) book.spines book.fragments book.spine_owner (node_at before book.made) (node_at after book.made)
+            book.owner book.owner (same_kept book.owner) grows.shapes rule.heap_stands.spines);
         used = said_used book.history number command reply heap book.owner rule.heap_stands.used;
         cycle = heap_cycle_more heap words book.owner book.colour book.history entry refl book.fragments heap_cycle;
         legal = legal;
@@ -122,34 +127,44 @@ module _ (heap : Heap) (state : State) (book : Book) (number : ℕ) (words : Lis
       record { own = own; names = rw graph names; told = rw graph told; cycle = cycle }
       (λ r below apart other. seat_stays heap state.words words book entry r (seat_at state r) (of_other number r apart)
       (rw graph (grows.others r apart))
-      (rw graph grows.lengths)
+      (rw graph grows.shapes)
       (stored_stays heap book.owner state.words words r (seat_at state r) same other.own.holding (stored_within heap (seat_at state r) (seat_at state r).place (seat_fits rule r below).at_place) other.own.stored)
+      same.spines
       (cycle_other heap words book.owner book.colour book.history entry refl r (seat_at state r)
       (cycle_stays heap state.words words book.owner book.owner book.colour book.colour (phase book.history) (last_answer r book.history) (has_left r book.history) r (seat_at state r)
       (leaves r below apart) (watched_born heap state book rule r below) other.cycle) (of_other number r apart))
       other)
-      marks (book_stays heap state book later.history book.begun)
+      marks
+      (step_budgets heap state book number rule here words now later same.spines weights record {
+        told = none_granted_by book.history entry wordless;
+        returned = none_returned_by book.history entry refl;
+        kept = rw graph (kept_alike (length book.made) (node_at before book.made) (node_at after book.made) book.owner book.fragments grows.shapes);
+        gone = refl;
+      })
+      (book_stays heap state book later.history book.begun)
 
   -- the seat stands idle then
-  pub reply_keeps : made_by command reply ≡ 0 → IsAtRest seat → seat.mine ≡ filter (is_of number) book.history → IsLegalBy ButSpine heap false later.history
+  pub reply_keeps : made_by command reply ≡ 0 → MakesNone seat.place → IsAtRest seat → seat.mine ≡ filter (is_of number) book.history → IsLegalBy ButSpine heap false later.history
       → SameUnkept heap book.owner state.words words → GraphReplies heap words book before after number → SeatReplies book after number seat now entry
       → HeapInCycle heap words (phase book.history) book.owner book.colour book.fragments
       → SeatInCycle heap words (phase later.history) (last_answer number later.history) (has_left number later.history) book.owner book.colour number now
       → ((r : ℕ) → r < heap.seats → r ≢ number → LeavesCycle heap state.words words book.owner book.owner book.colour book.colour (phase book.history) r)
       → MarksGoOn heap state book later words now
       → Keeps heap state (record state { words = words; seats = slice_set state.seats number now }) book book.begun (entry ∷ [])
-  reply_keeps none rest told legal same grows replies heap_cycle cycle leaves marks =
+  reply_keeps none makes rest told legal same grows replies heap_cycle cycle leaves marks =
       let stands = rule.seats_stand number here in
       let idle : IsAtRest now = rw replies.idle at fit_after.at_place in
       let own = own_reserve heap state book number rule here rest in
-      told_keeps legal same grows
+      let ends : MakesNone now.place = rw replies.idle tt in
+      told_keeps legal same grows (none_weights seat now makes ends) (none_made_words command reply none)
       record {
         holding = holding_as book.owner number seat.reserve seat.hand seat.body now.reserve now.hand now.body replies.reserve
             (idle.empty_hand ∙ sym rest.empty_hand) (idle.no_body ∙ sym rest.no_body) stands.own.holding;
         stored = none_stored heap words number now idle.none_stored;
         together = nothing_together heap now.cursor now.tried now.hand now.body idle.empty_hand idle.no_body;
+        spine = spine_away heap state.words words book.spine_owner number seat now (none_has_place seat seat.place makes) (none_has_place now now.place ends) stands.own.spine;
       }
-      record { registers = λ i awake. replies.registers i; way = rw replies.idle tt }
+      record { registers = λ i awake. replies.registers i; way = rw replies.idle tt; ahead = rw replies.idle tt }
       record {
         list = record {
           awaited = [];
@@ -165,5 +180,6 @@ module _ (heap : Heap) (state : State) (book : Book) (number : ℕ) (words : Lis
         };
         began = rw replies.idle (began_idle book.history entry number (book.begun number) seat.place stands.told.began);
         gathers = gathers_none heap book.owner number (drop (book.begun number) later.history) now.cursor now.tried now.given idle.none_tried idle.none_given;
+        used = rw replies.idle tt;
       }
       heap_cycle cycle leaves marks
