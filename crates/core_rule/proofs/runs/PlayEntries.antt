@@ -50,7 +50,7 @@ use Rattle.core_rule.proofs.hand.Bodies.{bare_hand}
 use Rattle.core_rule.proofs.entries.PhasesTold.{told_cases, told_if}
 use Rattle.core_rule.proofs.looks.Words.{word_below}
 use Rattle.core_rule.proofs.runs.Plays.{behind_keeps, IsPlainReply, MayPlay, taking, giving, answering, saying, plain_keeps, finds_in_play}
-use Rattle.core_rule.proofs.entries.RecordCommands.{full_keeps}
+use Rattle.core_rule.proofs.entries.MakingCommands.{full_keeps}
 
 -- a seat that is about to be noted stands behind by its word
 abbrev pub NotedNow : Heap → List ℕ → Place → Type 0

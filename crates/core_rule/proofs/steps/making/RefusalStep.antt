@@ -36,7 +36,7 @@ use Rattle.core_rule.proofs.cycle.MakingCycle.{cycle_goes_on}
 use Rattle.core_rule.proofs.entries.Others.{of_other}
 use Rattle.core_rule.proofs.entries.OwnEntries.{own_grows, counts_own}
 use Rattle.core_rule.proofs.entries.PhaseEntries.{no_leave_told}
-use Rattle.core_rule.proofs.entries.RecordCommands.{graph_full, accepts_full, full_keeps}
+use Rattle.core_rule.proofs.entries.MakingCommands.{graph_full, accepts_full, full_keeps}
 use Rattle.core_rule.proofs.gather.Refusals.{finds_in_run}
 use Rattle.core_rule.proofs.graph.SameNodes.{nodes_same}
 use Rattle.core_rule.proofs.entries.SeatLists.{making_list, whole_list}
