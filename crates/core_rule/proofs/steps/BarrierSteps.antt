@@ -116,7 +116,7 @@ module _ (heap : Heap) (state : State) (book : Book) (number : ℕ) (rule : Rule
     leads_back x leads = leads_control heap state.words (f / 16) _ (omega (arith, shade_within heap state book number rule here f head.index head.kept head.is)) _ _ x leads
 
     -- a shade that leads on
-    pub shades_on : (next : Access) → Unnamed next
+    pub shades_on : (next : Access) → Unnamed next → NoWordAhead next
         → AccessStands (node_at g book.made) book.made book.owner book.fragments (shading seat seat.shaded (places.Access next)) next
         → (IsBetween 2 5 p → IsBetween 2 5 seat.answered → FieldStands heap (words_shaded heap state book number rule here f head.index head.kept head.is) coloured (shading seat seat.shaded (places.Access next)) next)
         → (IsBetween 1 5 p → ShadedStands coloured (shading seat seat.shaded (places.Access next)) next)
@@ -125,13 +125,13 @@ module _ (heap : Heap) (state : State) (book : Book) (number : ℕ) (rule : Rule
         → IsNamed heap state book f
         → IsMachine heap (shaded_state (shading seat seat.shaded (places.Access next)))
         → Keeps heap state (shaded_state (shading seat seat.shaded (places.Access next))) book book.begun []
-    shades_on next names way field shaded marked comes named machine =
+    shades_on next names ahead way field shaded marked comes named machine =
         let stands = rule.seats_stand number here in
         let new : Seat = shading seat seat.shaded (places.Access next) in
         shade_keeps heap state book number rule here f head.index head.kept head.is seat.shaded (places.Access next) (barrier_runs p seat.answered (is_near heap state book number rule here from place) (barrier_window seat on)) machine
         (λ r unawaited. holds_all r)
         (list_more g book.made book.owner book.fragments number seat book.history busy stands.told.list g book.history new [] [] [] refl refl (sym (append-nil (filter (is_of number) book.history))) (names new))
-        way busy
+        way (rw place tt) tt (ahead new) busy
         (cycle_by_flight heap state.words (words_shaded heap state book number rule here f head.index head.kept head.is) book.owner book.owner book.colour coloured p
         (last_answer number book.history) (has_left number book.history) number seat new
         record { answered = refl; left = refl; asked = refl } (answer_shaded heap state book number rule here f head.index head.kept head.is number here) tt
