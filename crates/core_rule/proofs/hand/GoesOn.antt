@@ -90,7 +90,15 @@ record_no_words (commands.New d fields) made other = refl
 record_no_words (commands.Array d cells) made other = absurd (other tt)
 record_no_words _ made other = absurd made
 
--- so it is on each way
+-- so it is where what was claimed is to be given back
+pub unplaced_refusing : (seat : Seat) (hand : List ℕ) → seat.place ≡ places.Making (refusal_place hand) → IsUnplaced (spine_need seat) seat
+unplaced_refusing seat hand placed =
+    returning_cases (λ m. seat.place ≡ places.Making m → IsUnplaced (spine_need seat) seat) hand
+    (λ none is. rw is record { granted = refl; unplaced = refl; refused = refl; no_place = λ has. has; none_used = λ heap history number. tt })
+    (λ some is. rw is record { granted = refl; unplaced = refl; refused = refl; no_place = λ has. has; none_used = λ heap history number. tt })
+    placed
+
+-- and on each way on
 pub unplaced_goes_on : (heap : Heap) (seat : Seat) → MakesObject seat.command → IsUnplaced (spine_need seat) (gather_next heap seat)
 unplaced_goes_on heap seat made =
     goes_on_cases (IsUnplaced (spine_need seat)) heap seat
@@ -105,6 +113,4 @@ unplaced_goes_on heap seat made =
     })
     _ refl refl)
     (λ few left. record { granted = refl; unplaced = refl; refused = refl; no_place = λ has. has; none_used = λ heap history number. tt })
-    (λ few tried. returning_cases (λ m. IsUnplaced (spine_need seat) (record seat { place = places.Making m })) seat.hand
-    (λ none. record { granted = refl; unplaced = refl; refused = refl; no_place = λ has. has; none_used = λ heap history number. tt })
-    (λ some. record { granted = refl; unplaced = refl; refused = refl; no_place = λ has. has; none_used = λ heap history number. tt }))
+    (λ few tried. unplaced_refusing _ seat.hand refl)
