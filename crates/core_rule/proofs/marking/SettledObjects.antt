@@ -21,7 +21,7 @@ use Rattle.core_rule.specs.Ways.{row_in, part_in}
 use Rattle.core_rule.proofs.colours.SourceCases.{word_leads}
 use Rattle.core_rule.proofs.lists.Options.{each_some}
 use Rattle.core_rule.proofs.marking.Ended.{leads_marked, first_marked, whole_marked}
-use Rattle.core_rule.proofs.marking.Settled.{settled_owners, settled_book, settled_was, settled_stays}
+use Rattle.core_rule.proofs.marking.Settled.{settled_owners, settled_was, settled_stays}
 use Rattle.core_rule.proofs.ways.KeptWords.{kept_within, has_room, row_there, field_found}
 use Rattle.core_rule.proofs.ways.ArrayWords.{plain_lead, value_plain}
 use Rattle.core_rule.proofs.ways.Rows.{part_fits}
@@ -39,7 +39,7 @@ module _ (made : List Id) (owner : ℕ → Owner) (colour : ℕ → Colour) (fra
 
 module _ (heap : Heap) (state : State) (book : Book) (rule : Rule heap state book) (third : phase book.history % 7 ≡ 3) (none : (f : ℕ) → book.colour f ≢ Grey) where
   abbrev now : ℕ → Owner
-  now = (settled_book book).owner
+  now = settled_owners book.owner book.colour
 
   abbrev head : Id → ℕ
   head = object_head book.made book.fragments

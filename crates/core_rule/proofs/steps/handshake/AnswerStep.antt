@@ -57,7 +57,7 @@ use Rattle.core_rule.proofs.cycle.CycleHistory.{heap_cycle_more, cycle_own, cycl
 use Rattle.heap_model.specs.account.Space.{taken_of, spent_of}
 use Rattle.core_rule.proofs.hand.Bodies.{bare_hand}
 use Rattle.core_rule.proofs.hand.EmptyHand.{nothing_together, none_stored, gathers_none, holding_as}
-use Rattle.core_rule.proofs.frames.EntryFrames.{SameFragments, heap_past, seat_past, grants_past}
+use Rattle.core_rule.proofs.frames.EntryFrames.{SameFragments, UsesNothing, heap_past, seat_past, grants_past}
 use Rattle.core_rule.proofs.hand.HandMoves.{bears_nothing}
 use Rattle.core_rule.proofs.entries.InFlight.{began_idle, began_past}
 use Rattle.core_rule.proofs.entries.Legality.{legal_more}
@@ -137,9 +137,12 @@ module _ (heap : Heap) (state : State) (book : Book) (number : ℕ) (rule : Rule
   nodes : SameNodes g (graph_of heap middle.history)
   nodes = nodes_same g (graph_of heap middle.history) graph
 
+  uses : UsesNothing first
+  uses = record { taken = refl; given = refl; freed = refl; words = refl; returned = refl }
+
   heap_middle : HeapStands heap words middle
   heap_middle =
-      heap_past heap state.words words same book first nodes record { taken = refl; given = refl; freed = refl }
+      heap_past heap state.words words same book first nodes uses
       (legal_more heap false book.history first rule.heap_stands.legal present (keeps_answer heap book number p commands.Poll refl asks.now next))
       (heap_cycle_more heap words book.owner book.colour book.history first refl book.fragments
       (heap_cycle_answer heap state.words number p small (phase book.history) book.owner book.colour book.fragments rule.heap_stands.cycle)) rule.heap_stands
@@ -149,7 +152,7 @@ module _ (heap : Heap) (state : State) (book : Book) (number : ℕ) (rule : Rule
   makes = rw place tt
 
   grants_middle : SameGrants heap book middle
-  grants_middle = grants_past heap state.words words same book first nodes refl refl
+  grants_middle = grants_past heap state.words words same book first nodes uses
 
   own_cycle : (looks : Looks) (added : List Entry)
       → SeatInCycle heap words (phase middle.history) (last_answer number middle.history) (has_left number middle.history) book.owner book.colour number (ended looks added)

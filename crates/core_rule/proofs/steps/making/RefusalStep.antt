@@ -74,7 +74,7 @@ refusal_keeps heap state book number rule here place machine =
     (sym (put-at heap state.words Phase))
     (seat_steps heap state book number state.words (seat_after (refusal_move number seat) (at heap state.words Phase)) (record book { history = history }) (entry ∷ [])
     rule here whole refl refl
-    (heap_past heap state.words state.words (fragments_same heap state.words) book entry nodes record { taken = refl; given = refl; freed = refl } legal
+    (heap_past heap state.words state.words (fragments_same heap state.words) book entry nodes record { taken = refl; given = refl; freed = refl; words = refl; returned = refl } legal
     (heap_cycle_more heap state.words book.owner book.colour book.history entry refl book.fragments rule.heap_stands.cycle) rule.heap_stands)
     record {
       own = record {
