@@ -1,5 +1,5 @@
 -- The objects once marking has ended: those that are kept then are whole, and refer to kept ones alone.
-use Rattle.std.proofs.Common.{◌≡◌, ◌≢◌, ℕ, ◌<◌, ◌%◌, List, length, slice_get, Some, IfSome, ap, ◌∙◌, arith}
+use Rattle.std.proofs.Common.{◌≡◌, ◌≢◌, ℕ, ◌<◌, ◌%◌, List, length, slice_get, Some, IfSome, ap, ◌∙◌}
 use Rattle.std.proofs.lemmas.Option.{slice_get_within}
 use Rattle.heap_model.specs.declared.graph.cell.Cell.{Cell}
 use Rattle.heap_model.specs.declared.heap.Heap.{Heap}
@@ -10,7 +10,6 @@ use Rattle.heap_model.specs.account.Cycles.{graph_of}
 use Rattle.heap_model.specs.account.PhaseCounts.{phase}
 use Rattle.heap_model.specs.graph.Graph.{Node}
 use Rattle.core_machine.specs.machine.Machine.{State}
-use Rattle.core_machine.specs.declared.table.address.Address.TheVariants.{Word}
 use Rattle.core_machine.specs.table.Decode.{pointer_in}
 use Rattle.core_rule.specs.Book.{Book, Colour, Grey, fragment_at, id_at, object_head, object_number}
 use Rattle.core_rule.specs.Colours.{IsMarked, WordPointsTo}

@@ -1,5 +1,5 @@
 -- Loading the spine word that names a cell's fragment keeps the rule.
-use Rattle.std.proofs.Common.{◌≡◌, ℕ, ◌+◌, ◌/◌, [], ◌++◌, refl, sym, ap, ◌∙◌, subst}
+use Rattle.std.proofs.Common.{ℕ, ◌+◌, ◌/◌, [], ◌++◌, refl, sym, ap, ◌∙◌, subst}
 use Rattle.heap_model.specs.account.Cycles.{graph_of}
 use Rattle.heap_model.specs.graph.Graph.{Graph}
 use Rattle.core_machine.specs.declared.place.Access.{Access}
@@ -14,10 +14,8 @@ use Rattle.core_machine.specs.machine.Machine.{seat_at}
 use Rattle.core_machine.specs.table.Decode.{payload_in}
 use Rattle.core_machine.specs.table.Layout.{at, spine_place}
 use Rattle.core_machine.proofs.seat_lemmas.FieldPlaces.{field_cases}
-use Rattle.core_rule.specs.Book.{fragment_at}
 use Rattle.core_rule.specs.Counts.{Awaits}
 use Rattle.core_rule.specs.Objects.{node_at}
-use Rattle.core_rule.specs.Owners.{Kept, Spined}
 use Rattle.core_rule.specs.Roots.{AtCall}
 use Rattle.core_rule.specs.Spines.{IsWordOf, WordStandsAhead}
 use Rattle.core_rule.specs.Ways.{Finds, Locates, AccessStands}
