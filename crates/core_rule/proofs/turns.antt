@@ -9,8 +9,9 @@ pub mod SweepTurns
 use Rattle.std.proofs.Common.{refl}
 use Rattle.core_machine.specs.declared.collector.stage.Stage.{Stage}
 use Rattle.core_machine.specs.declared.collector.stage.Stage.TheVariants as stages
+use Rattle.core_rule.specs.Marking.{IsFewWords}
 use Rattle.core_rule.specs.TurnsLeft.{EachTurnLeavesFewer}
-use Rattle.core_rule.proofs.turns.Lefts.{IsFewWords, StageLeavesFewer, HasFewWords}
+use Rattle.core_rule.proofs.turns.Lefts.{StageLeavesFewer}
 
 -- by its stage
 leaves_fewer_at : (stage : Stage) → IsFewWords stage → StageLeavesFewer stage
@@ -29,5 +30,5 @@ leaves_fewer_at (stages.Freeing group dead) few = SweepTurns.free_leaves group d
 leaves_fewer_at (stages.Clearing group kept) few = SweepTurns.clear_leaves group kept
 leaves_fewer_at (stages.Ending kept) few = SweepTurns.end_leaves kept
 
-pub each_turn_leaves_fewer : HasFewWords → EachTurnLeavesFewer
-each_turn_leaves_fewer few heap state book rule stepped = leaves_fewer_at state.collector.stage (few heap state book rule) heap state book rule refl stepped
+pub each_turn_leaves_fewer : EachTurnLeavesFewer
+each_turn_leaves_fewer heap state book rule stepped = leaves_fewer_at state.collector.stage rule.marks_stand.heap_marks.few heap state book rule refl stepped

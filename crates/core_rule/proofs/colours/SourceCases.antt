@@ -9,11 +9,8 @@ use Rattle.core_machine.specs.declared.table.address.Address.TheVariants.{Word}
 use Rattle.core_machine.specs.table.Layout.{at, spine_place}
 use Rattle.core_machine.specs.table.Decode.{pointer_in, payload_in, spine_words_in}
 use Rattle.core_rule.specs.Colours.{WordPointsTo}
+pub use Rattle.core_rule.specs.Sources.{HasNoSpine}
 use Rattle.core_rule.specs.Sources.{spine_pointer, source_pointer}
-
--- the fragment's first word is no array's meta
-abbrev pub HasNoSpine : Heap → List ℕ → ℕ → Type 0
-HasNoSpine heap words f = spine_words_in (at heap words (Word f 0)) ≡ 0
 
 none_below : (n k : ℕ) (o : Option ℕ) → n ≡ 0 → (if nat_lt k n then o else None) ≡ None
 none_below n k o none = elim (leb_tells (suc k) n) as (λ _. (if nat_lt k n then o else None) ≡ None) [

@@ -6,6 +6,7 @@ use Rattle.heap_model.specs.declared.heap.Heap.{Heap}
 use Rattle.heap_model.specs.account.Cycles.{graph_of}
 use Rattle.heap_model.specs.graph.Objects.{register_value}
 use Rattle.core_machine.specs.declared.collector.stage.Scan.{Scan}
+use Rattle.core_machine.specs.declared.collector.stage.SpineScan.{SpineScan}
 use Rattle.core_machine.specs.declared.collector.stage.Stage.TheVariants as stages
 use Rattle.core_machine.specs.declared.place.Access.TheVariants.{ShadingOld}
 use Rattle.core_machine.specs.declared.place.Place.TheVariants as places
@@ -18,11 +19,12 @@ use Rattle.core_rule.proofs.colours.ShadeColours.{with_mark, mark_away}
 use Rattle.core_rule.proofs.footprint.Going.{stays, OwnersGoOn, MadeGoesOn}
 use Rattle.core_rule.proofs.ways.LoadedObjects.{RefersTo}
 
--- why a fragment comes to be marked: a register holds its object, a set has loaded it, or the collector's scan led to it
+-- why a fragment comes to be marked: a register holds its object, a set has loaded it, or the collector's scan led to it, by a word of it or of its spine
 pub data IsNamed (heap : Heap) (state : State) (book : Book) (f : ℕ) : Type 0 where
   by_register : (number r : ℕ) → RefersTo book.made book.owner book.fragments (register_value (graph_of heap book.history) number r) f → IsNamed heap state book f
   by_set : (number : ℕ) → number < heap.seats → (seat_at state number).place ≡ places.Access ShadingOld → head_of (seat_at state number).loaded ≡ Some f → IsNamed heap state book f
   by_scan : (scan : Scan) (next : ℕ) → state.collector.stage ≡ stages.Shading scan f next → IsNamed heap state book f
+  by_spine : (s : SpineScan) → state.collector.stage ≡ stages.Spreading s f → IsNamed heap state book f
 
 -- what is marked of the objects made before was so, or was named
 abbrev pub ColoursGoOn : Heap → State → Book → (ℕ → Owner) → (ℕ → Colour) → Type 0

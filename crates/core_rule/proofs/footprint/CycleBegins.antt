@@ -34,7 +34,7 @@ use Rattle.core_rule.proofs.cycle.Barriers.{barrier_window}
 use Rattle.core_rule.proofs.entries.AtRest.{seat_fits, in_flight}
 use Rattle.core_rule.proofs.entries.PhaseEntries.{phase_rises}
 use Rattle.core_rule.proofs.footprint.BeginSize.{size_begins}
-use Rattle.core_rule.proofs.footprint.BookGoing.{IsNamed, by_register, by_set, by_scan}
+use Rattle.core_rule.proofs.footprint.BookGoing.{IsNamed, by_register, by_set, by_scan, by_spine}
 use Rattle.core_rule.proofs.footprint.Bounds.{up_to_cycle-begin, graph-begin, all_bring-begin, bound-begin}
 use Rattle.core_rule.proofs.footprint.Brought.{counted_brought}
 use Rattle.core_rule.proofs.footprint.Closed.{registers_inside}
@@ -90,6 +90,7 @@ module _ (heap : Heap) (state new : State) (book : Book) (begun_at : ℕ → ℕ
         (subst (λ g. register_value g number r ≡ values.Object refers.id) (sym graph) refers.is))
     named_begun f i k (by_set number here placed loads) owned = absurd (no_set number here placed)
     named_begun f i k (by_scan scan target shading) owned = absurd (cc (shading, advancing))
+    named_begun f i k (by_spine s spreading) owned = absurd (cc (spreading, advancing))
 
     -- so what is marked is inside
     marked_begun : (f i k : ℕ) → now.owner f ≡ Kept i k → IsMarked now.colour f → inside (id_at now.made i) ≡ true

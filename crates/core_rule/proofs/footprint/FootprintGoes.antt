@@ -41,6 +41,7 @@ module _ (heap : Heap) (state new : State) (book now : Book) (added : List Entry
   -- what was said of a stage
   pub stage_goes : (stage : Stage) → StageStandsInside heap book.made begun inside book.owner most stage → StageStandsInside heap now.made begun inside now.owner (most + taken) stage
   stage_goes (stages.Shading scan target next) stands = λ i k owned. inside_from heap state new book now rule after goes begun reach target i k owned (λ was below. stands i k was)
+  stage_goes (stages.Spreading s target) stands = λ i k owned. inside_from heap state new book now rule after goes begun reach target i k owned (λ was below. stands i k was)
   stage_goes (stages.Clearing group kept) stands =
       cleared_goes_on heap book.made now.made book.owner now.owner goes.owners goes.made within begun (new_apart heap state new book now rule after goes begun reach)
       book.history added rule.heap_stands.used used_now most group kept stands

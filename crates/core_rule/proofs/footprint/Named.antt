@@ -18,7 +18,7 @@ use Rattle.core_rule.specs.Footprint.{Footprint, StageStandsInside, is_inside}
 use Rattle.core_rule.specs.Objects.{node_in}
 use Rattle.core_rule.specs.Owners.{Kept}
 use Rattle.core_rule.specs.Rule.{Rule}
-use Rattle.core_rule.proofs.footprint.BookGoing.{IsNamed, by_register, by_set, by_scan}
+use Rattle.core_rule.proofs.footprint.BookGoing.{IsNamed, by_register, by_set, by_scan, by_spine}
 use Rattle.core_rule.proofs.footprint.Closed.{registers_inside, cells_inside}
 use Rattle.core_rule.proofs.graph.Numbering.{id_at-number_of}
 use Rattle.core_rule.proofs.ways.LoadedObjects.{RefersTo, CellRefers}
@@ -62,3 +62,4 @@ module _ (heap : Heap) (state : State) (book : Book) (rule : Rule heap state boo
   named_inside most foot f i k (by_register number r refers) owned = register_inside number r f i k refers owned
   named_inside most foot f i k (by_set number here placed loads) owned = foot.olds number f i k here placed loads owned
   named_inside most foot f i k (by_scan scan next shading) owned = subst (StageStandsInside heap book.made begun inside book.owner most) shading foot.stage i k owned
+  named_inside most foot f i k (by_spine s spreading) owned = subst (StageStandsInside heap book.made begun inside book.owner most) spreading foot.stage i k owned

@@ -9,7 +9,7 @@ use Rattle.heap_model.specs.declared.heap.Heap.{Heap}
 use Rattle.heap_model.specs.declared.reply.Reply.{Reply}
 use Rattle.core_machine.specs.declared.place.Access.TheVariants.{LoadingMeta, Walking, Locating, Indexing, Getting, Naming, LoadingOld, ShadingOld, ShadingNew, Swapping}
 use Rattle.core_machine.specs.declared.place.Leaving.TheVariants.{Emptying, Parting}
-use Rattle.core_machine.specs.declared.place.Making.TheVariants.{Granting, Withdrawing, Placing, Listing, Gathering, Returning, Refusing, Storing, Bearing}
+use Rattle.core_machine.specs.declared.place.Making.TheVariants.{Granting, Withdrawing, Gathering, Returning, Refusing, Placing, Listing, Storing, Bearing}
 use Rattle.core_machine.specs.declared.place.Place.{Place}
 use Rattle.core_machine.specs.declared.place.Place.TheVariants as places
 use Rattle.core_machine.specs.declared.place.Collecting.TheVariants.{Looking, Asking, Comparing, Noting}
@@ -18,13 +18,13 @@ use Rattle.core_machine.specs.declared.seat.register.Register.{Register}
 use Rattle.core_machine.specs.declared.seat.register.Register.TheVariants as registers
 use Rattle.core_machine.specs.machine.Machine.{after_begin}
 use Rattle.core_machine.specs.Moves.{move_at, is_last_birth, last_birth_move, birth_move, seat_after_due, seat_after}
-use Rattle.core_machine.specs.seat.Access.{has_barrier_of, field_place_of, way_place_of, after_link, after_walk, at_access, with_field_place, after_length, at_payload, after_meta, after_get, new_place_of, access_start}
+use Rattle.core_machine.specs.seat.Access.{has_barrier_of, field_place_of, way_place_of, after_link, after_walk, at_access, with_field_place, after_length, after_meta, at_payload, after_get, new_place_of, access_start}
 use Rattle.core_machine.specs.seat.Handshake.{answer_next, after_phase_load, polling_over}
 use Rattle.core_machine.specs.seat.Making.{gather_next, next_group_of, after_claim, after_budget}
+use Rattle.core_machine.specs.table.Decode.{array_length_of}
 use Rattle.core_machine.specs.table.Fragments.{clear_in}
 use Rattle.core_machine.specs.seat.Registers.{register_in}
 use Rattle.core_machine.specs.seat.Seat.{Seat, spine_need}
-use Rattle.core_machine.specs.table.Decode.{array_length_of}
 use Rattle.core_machine.proofs.seat_lemmas.Fitting.{goes_on_cases}
 use Rattle.core_rule.proofs.entries.PhasesTold.{over_cases}
 

@@ -10,20 +10,22 @@ use Rattle.heap_model.specs.account.Windows.{up_to_cycle}
 use Rattle.heap_model.specs.graph.Graph.{Graph}
 use Rattle.heap_model.specs.graph.Reach.{IsReach}
 use Rattle.core_machine.specs.collector.Collector.{turn_at, first_work, after_last_look, after_counted_look, after_look, has_answered_of}
-use Rattle.core_machine.specs.collector.FitsTurns.{IsScanning, IsClearing}
-use Rattle.core_machine.specs.collector.Marking.{after_last_group, after_pass, scan_step, scan_at, after_scan_load}
+use Rattle.core_machine.specs.collector.FitsTurns.{IsScanning, IsIndexing, IsClearing}
+use Rattle.core_machine.specs.collector.Marking.{after_last_group, after_pass, scan_step, scan_at, after_scan_load, after_first_load, spine_step, spine_scan_at}
 use Rattle.core_machine.specs.collector.Sweeping.{after_swept, after_examined, after_cleared, taken_count_of, next_place_of, dead_bits_of}
 use Rattle.core_machine.specs.declared.collector.stage.Scan.{Scan}
+use Rattle.core_machine.specs.declared.collector.stage.SpineScan.{SpineScan}
 use Rattle.core_machine.specs.declared.collector.stage.Stage.{Stage}
 use Rattle.core_machine.specs.declared.collector.stage.Stage.TheVariants as stages
 use Rattle.core_machine.specs.declared.table.address.Address.TheVariants.{Control, Word}
 use Rattle.core_machine.specs.machine.Machine.{State, found_by}
-use Rattle.core_machine.specs.table.Decode.{pointer_in}
-use Rattle.core_machine.specs.table.Layout.{at}
-use Rattle.core_rule.specs.Book.{Book, id_at}
+use Rattle.core_machine.specs.table.Decode.{pointer_in, payload_in}
+use Rattle.core_machine.specs.table.Layout.{at, spine_place}
+use Rattle.core_machine.proofs.collector_lemmas.SpineTurns.{spine_cases}
+use Rattle.core_rule.specs.Book.{Book, Grey, id_at}
 use Rattle.core_rule.specs.Colours.{WordPointsTo}
 use Rattle.core_rule.specs.Footprint.{Footprint, StageStandsInside, ClearedWithin, is_inside}
-use Rattle.core_rule.specs.Marking.{IsSeen, IsPart}
+use Rattle.core_rule.specs.Marking.{IsPart, ScanStands}
 use Rattle.core_rule.specs.Owners.{Kept}
 use Rattle.core_rule.specs.Rule.{Rule}
 use Rattle.core_rule.proofs.colours.SourceCases.{word_leads}
@@ -31,6 +33,7 @@ use Rattle.core_rule.proofs.footprint.Clears.{clears_on, clears_begin}
 use Rattle.core_rule.proofs.footprint.Named.{cell_inside}
 use Rattle.core_rule.proofs.marking.Marks.{settled_phase}
 use Rattle.core_rule.proofs.marking.ObjectEdges.{kept_refers, part_owned}
+use Rattle.core_rule.proofs.marking.Scans.{spine_points}
 use Rattle.core_rule.proofs.marking.SweepMarks.{after_swept_either, after_cleared_either}
 
 module _ (heap : Heap) (state : State) (book : Book) (rule : Rule heap state book) (begun : List Id) (reach : IsReach (graph_of heap (up_to_cycle book.history)) begun) (most : ℕ)
@@ -97,27 +100,42 @@ module _ (heap : Heap) (state : State) (book : Book) (rule : Rule heap state boo
       by true = tt
       by false = tt
 
-  -- what a scanned word leads to is inside, since its fragment's object is
-  leads_inside : (scan : Scan) → state.collector.stage ≡ stages.Scanning scan → (target : ℕ) → pointer_in scan.part (at heap state.words (Word scan.fragment scan.part)) ≡ Some target
-      → (i k : ℕ) → book.owner target ≡ Kept i k → inside (id_at book.made i) ≡ true
-  leads_inside scan scanning target leads i k owned =
-      let fits : IsScanning heap state.collector.phase state.collector.looked scan = rw scanning at rule.machine.collector_fit.at_stage in
-      let seen : IsSeen heap state.words book.colour scan.fragment scan.part = rw scanning at rule.marks_stand.heap_marks.scan in
-      let part : IsPart book.owner scan.fragment = rule.marks_stand.heap_marks.grey scan.fragment seen.grey in
-      let holder = foot.kept scan.fragment part.index part.place part.kept (inl (λ white. absurd (let grey = seen.grey in cc (grey, white)))) in
-      elim (kept_refers heap state book rule scan.fragment part.index part.place part.kept scan.part target
-      (word_leads heap state.words scan.fragment scan.part target fits.fragment_within fits.part_within leads)) as (λ _. inside (id_at book.made i) ≡ true) [
+  spine_at_inside : (s : SpineScan) → Inside (spine_scan_at s)
+  spine_at_inside s = spine_cases Inside s (λ more. tt) (λ done. tt)
+
+  -- what a grey fragment leads to is inside, since its object is
+  leads_inside : (f source target : ℕ) → book.colour f ≡ Grey → WordPointsTo heap state.words f source target → (i k : ℕ) → book.owner target ≡ Kept i k → inside (id_at book.made i) ≡ true
+  leads_inside f source target grey leads i k owned =
+      let part : IsPart book.owner f = rule.marks_stand.heap_marks.grey f grey in
+      let holder = foot.kept f part.index part.place part.kept (inl (λ white. absurd (cc (grey, white)))) in
+      elim (kept_refers heap state book rule f part.index part.place part.kept source target leads) as (λ _. inside (id_at book.made i) ≡ true) [
         | inl its ↦
-            let same : Kept part.index its.place ≡ Kept i k = sym (part_owned heap state book rule scan.fragment part.index part.place part.kept target its) ∙ owned in
+            let same : Kept part.index its.place ≡ Kept i k = sym (part_owned heap state book rule f part.index part.place part.kept target its) ∙ owned in
             let index : part.index ≡ i = cc in
             subst (λ n. inside (id_at book.made n) ≡ true) index holder
         | inr cell ↦ cell_inside heap state book rule begun reach part.index target i k holder cell owned
       ]
 
-  scan_inside : (scan : Scan) → state.collector.stage ≡ stages.Scanning scan → (next : ℕ) (found : Option ℕ) → pointer_in scan.part (at heap state.words (Word scan.fragment scan.part)) ≡ found
+  -- so is what a scanned word leads to
+  word_inside : (scan : Scan) → state.collector.stage ≡ stages.Scanning scan → (next : ℕ) (found : Option ℕ) → pointer_in scan.part (at heap state.words (Word scan.fragment scan.part)) ≡ found
       → Inside (after_scan_load scan next found)
-  scan_inside scan scanning next None is = at_inside (scan_step scan) next
-  scan_inside scan scanning next (Some target) is = leads_inside scan scanning target is
+  word_inside scan scanning next None is = at_inside (scan_step scan) next
+  word_inside scan scanning next (Some target) is =
+      let fits : IsScanning heap state.collector.phase state.collector.looked scan = rw scanning at rule.machine.collector_fit.at_stage in
+      let stands = subst (ScanStands heap state.words book.owner book.colour book.fragments) scanning rule.marks_stand.heap_marks.scan in
+      leads_inside scan.fragment scan.part target stands.0.grey (word_leads heap state.words scan.fragment scan.part target fits.fragment_within fits.part_within is)
+
+  scan_inside : (scan : Scan) → state.collector.stage ≡ stages.Scanning scan → (length : Option ℕ) (next : ℕ)
+      → Inside (after_first_load scan length next (pointer_in scan.part (at heap state.words (Word scan.fragment scan.part))))
+  scan_inside scan scanning None next = word_inside scan scanning next (pointer_in scan.part (at heap state.words (Word scan.fragment scan.part))) refl
+  scan_inside scan scanning (Some cells) next = tt
+
+  -- and what a word of a spine names
+  index_inside : (s : SpineScan) → state.collector.stage ≡ stages.Indexing s → Inside (stages.Spreading (spine_step s) (payload_in (at heap state.words (spine_place s.spine s.index))))
+  index_inside s indexing =
+      let fits : IsIndexing heap state.collector.phase state.collector.looked s = rw indexing at rule.machine.collector_fit.at_stage in
+      let stands = subst (ScanStands heap state.words book.owner book.colour book.fragments) indexing rule.marks_stand.heap_marks.scan in
+      leads_inside s.scan.fragment (4 + s.index) _ stands.0.grey (spine_points heap state.words s stands.1 fits.fragment_within fits.index_within)
 
   -- after a group of the sweep
   swept_inside : (group : ℕ) → Inside (after_swept heap group)
@@ -145,8 +163,11 @@ module _ (heap : Heap) (state : State) (book : Book) (rule : Rule heap state boo
   pub turn_inside : (stage : Stage) → state.collector.stage ≡ stage → Inside ((turn_at heap state.collector stage).told (found_by heap state (turn_at heap state.collector stage).step)).stage
   turn_inside stages.Looking is = look_inside _
   turn_inside (stages.Passing group found) is = pass_inside group found _
-  turn_inside (stages.Scanning scan) is = scan_inside scan is _ _ refl
+  turn_inside (stages.Scanning scan) is = scan_inside scan is _ _
   turn_inside (stages.Shading scan target next) is = at_inside (scan_step scan) next
+  turn_inside (stages.Locating scan count) is = spine_at_inside _
+  turn_inside (stages.Indexing s) is = index_inside s is
+  turn_inside (stages.Spreading s target) is = spine_at_inside _
   turn_inside (stages.Blackening scan) is = tt
   turn_inside (stages.Sweeping group) is =
       let dead : ℕ = dead_bits_of (at heap state.words (Control group)) in

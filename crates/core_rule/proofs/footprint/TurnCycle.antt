@@ -119,6 +119,9 @@ module _ (heap : Heap) (state : State) (book : Book) (stands : Stands heap state
   turn_cycle (stages.Passing group found) is keeps = mute_stands (stages.Passing group found) is tt keeps
   turn_cycle (stages.Scanning scan) is keeps = mute_stands (stages.Scanning scan) is tt keeps
   turn_cycle (stages.Shading scan target next) is keeps = mute_stands (stages.Shading scan target next) is tt keeps
+  turn_cycle (stages.Locating scan count) is keeps = mute_stands (stages.Locating scan count) is tt keeps
+  turn_cycle (stages.Indexing s) is keeps = mute_stands (stages.Indexing s) is tt keeps
+  turn_cycle (stages.Spreading s target) is keeps = mute_stands (stages.Spreading s target) is tt keeps
   turn_cycle (stages.Blackening scan) is keeps = mute_stands (stages.Blackening scan) is tt keeps
   turn_cycle (stages.Sweeping group) is keeps = mute_stands (stages.Sweeping group) is tt keeps
   turn_cycle (stages.Examining group dead place) is keeps = mute_stands (stages.Examining group dead place) is tt keeps

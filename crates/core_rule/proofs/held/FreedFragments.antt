@@ -96,6 +96,7 @@ module _ (heap : Heap) (state : State) (book : Book) (rule : Rule heap state boo
   turn_keeps_taken stages.Advancing is = same_keeps _ (at-put_apart heap words Phase (Control (f / 16)) _ (λ e. omega (arith, e)))
   turn_keeps_taken (stages.Ending kept) is = same_keeps _ (at-put_apart heap words Phase (Control (f / 16)) _ (λ e. omega (arith, e)))
   turn_keeps_taken (stages.Shading scan target next) is = or_keeps _ _
+  turn_keeps_taken (stages.Spreading s target) is = or_keeps _ _
   turn_keeps_taken (stages.Blackening scan) is = or_keeps _ _
   turn_keeps_taken (stages.Freeing group dead) is = free_spares group dead is
   turn_keeps_taken (stages.Clearing group kept) is = clear_keeps_taken group

@@ -9,20 +9,20 @@ use Rattle.heap_model.specs.declared.entry.Entry.TheVariants as entries
 use Rattle.heap_model.specs.declared.heap.Heap.{Heap}
 use Rattle.heap_model.specs.declared.reply.Reply.{Reply}
 use Rattle.heap_model.specs.account.Windows.{is_reply_to}
-use Rattle.core_machine.specs.declared.place.Access.TheVariants.{LoadingMeta, Walking, Getting, Naming, LoadingOld, ShadingOld, ShadingNew, Swapping}
+use Rattle.core_machine.specs.declared.place.Access.TheVariants.{LoadingMeta, Walking, Locating, Indexing, Getting, Naming, LoadingOld, ShadingOld, ShadingNew, Swapping}
 use Rattle.core_machine.specs.declared.place.Collecting.TheVariants.{Looking, Comparing, Noting}
 use Rattle.core_machine.specs.declared.place.Collecting.TheVariants as collecting
 use Rattle.core_machine.specs.declared.place.Leaving.TheVariants.{Emptying, Parting}
-use Rattle.core_machine.specs.declared.place.Making.TheVariants.{Gathering, Returning, Refusing, Storing, Bearing}
+use Rattle.core_machine.specs.declared.place.Making.TheVariants.{Granting, Withdrawing, Gathering, Returning, Refusing, Placing, Listing, Storing, Bearing}
 use Rattle.core_machine.specs.declared.place.Place.{Place}
 use Rattle.core_machine.specs.declared.place.Place.TheVariants as places
 use Rattle.core_machine.specs.declared.place.Polling.TheVariants.{Asking, Shading, Answering}
 use Rattle.core_machine.specs.machine.Machine.{State, seat_at, found_by}
 use Rattle.core_machine.specs.Moves.{Move, move_at, is_last_birth, last_birth_move, birth_move, seat_after, takes_some}
 use Rattle.core_machine.specs.declared.table.address.Address.TheVariants.{Word}
-use Rattle.core_machine.specs.table.Decode.{head_of}
+use Rattle.core_machine.specs.table.Decode.{head_of, array_length_of}
 use Rattle.core_machine.specs.table.Layout.{at}
-use Rattle.core_machine.specs.seat.Access.{meta_reply_of, with_field_place, after_meta, after_get, after_old_load}
+use Rattle.core_machine.specs.seat.Access.{meta_reply_of, after_meta, after_get, after_old_load}
 use Rattle.core_machine.specs.seat.AccessMoves.{got_shows, reply_entries_if}
 use Rattle.core_machine.specs.seat.Handshake.{answer_next, polling_over}
 use Rattle.core_machine.specs.seat.HandshakeMoves.{phase_told}
@@ -33,7 +33,7 @@ use Rattle.core_rule.specs.Looks.{LooksStand}
 use Rattle.core_rule.specs.Rule.{Rule}
 use Rattle.core_rule.proofs.entries.Others.{of_other}
 use Rattle.core_rule.proofs.looks.Finding.{looks_looked, looks_asked, looks_compared}
-use Rattle.core_rule.proofs.looks.Ways.{StaysFound, IsNote, elsewhere_unnoted, stays_claim, stays_walk}
+use Rattle.core_rule.proofs.looks.Ways.{StaysFound, IsNote, elsewhere_unnoted, stays_claim, stays_budget, stays_walk, stays_length}
 use Rattle.core_rule.proofs.looks.Growth.{NoneOf, IsElsewhere, looks_on, looks_elsewhere, looks_forgotten, looks_awaiting}
 
 -- none of the entries is a reply to another seat
@@ -118,7 +118,7 @@ module _ (heap : Heap) (state : State) (book : Book) (rule : Rule heap state boo
 
   metas : (found : ℕ) (reply : Option Reply) → seat.place ≡ places.Access LoadingMeta → (adds : List Entry) → Goes (record (after_meta seat found reply) { mine = adds }) (reply_entries_if number seat reply)
   metas found None placed adds =
-      let stays = stays_walk (with_field_place seat) found in
+      let stays = stays_length seat found (array_length_of found) in
       on_way _ (λ named. cc (placed, named)) record { looks = stays.looks; elsewhere = stays.elsewhere }
   metas found (Some reply) placed adds = tells _ reply refl refl
 
@@ -152,6 +152,12 @@ module _ (heap : Heap) (state : State) (book : Book) (rule : Rule heap state boo
   -- by the place
   pub goes_at : (place : Place) → GoesAt place
   goes_at places.Idle placed = tt
+  goes_at (places.Making Granting) placed =
+      let stays = stays_budget heap seat _ in
+      on_way _ (λ named. cc (placed, named)) record { looks = stays.looks; elsewhere = stays.elsewhere }
+  goes_at (places.Making Withdrawing) placed = tells _ _ refl refl
+  goes_at (places.Making Placing) placed = on_way _ (λ named. cc (placed, named)) record { looks = refl; elsewhere = tt }
+  goes_at (places.Making Listing) placed = on_way _ (λ named. cc (placed, named)) record { looks = refl; elsewhere = tt }
   goes_at (places.Making Gathering) placed =
       let stays = stays_claim heap seat _ in
       quiet heap number book.history seat _ _ (λ named. cc (placed, named)) (none_claimed number _) record { looks = stays.looks; elsewhere = stays.elsewhere }
@@ -164,6 +170,8 @@ module _ (heap : Heap) (state : State) (book : Book) (rule : Rule heap state boo
   goes_at (places.Access Walking) placed =
       let stays = stays_walk seat (at heap state.words (Word seat.reached 0)) in
       on_way _ (λ named. cc (placed, named)) record { looks = stays.looks; elsewhere = stays.elsewhere }
+  goes_at (places.Access Locating) placed = on_way _ (λ named. cc (placed, named)) record { looks = refl; elsewhere = tt }
+  goes_at (places.Access Indexing) placed = on_way _ (λ named. cc (placed, named)) record { looks = refl; elsewhere = tt }
   goes_at (places.Access Getting) placed = gets (at heap state.words (Word seat.reached seat.part)) (head_of (at heap state.words (Word seat.reached seat.part))) _
   goes_at (places.Access Naming) placed = ends heap number book.history seat _ [] refl refl (λ r apart. refl)
   goes_at (places.Access LoadingOld) placed = olds _ _ _ (λ named. cc (placed, named))

@@ -1,19 +1,20 @@
 -- What a seat has found it keeps on its ways, and as a call begins.
-use Rattle.std.specs.Prelude.{if◌then◌else◌}
+use Rattle.std.specs.Prelude.{if◌then◌else◌, nat_lt, Option, Some, None}
 use Rattle.std.proofs.Common.{◌≡◌, ◌==◌, ◌++◌, ℕ, ◌+◌, Bool, true, false, refl, sym, subst}
 use Rattle.heap_model.specs.declared.command.Command.{Command}
 use Rattle.heap_model.specs.declared.command.Command.TheVariants as commands
 use Rattle.heap_model.specs.declared.heap.Heap.{Heap}
 use Rattle.core_machine.specs.declared.place.Collecting.TheVariants.{Noting}
+use Rattle.core_machine.specs.declared.place.Making.TheVariants.{Withdrawing}
 use Rattle.core_machine.specs.declared.place.Place.{Place}
 use Rattle.core_machine.specs.declared.place.Place.TheVariants as places
 use Rattle.core_machine.specs.declared.seat.register.Register.{Register}
 use Rattle.core_machine.specs.declared.seat.register.Register.TheVariants as registers
 use Rattle.core_machine.specs.machine.Machine.{after_begin}
-use Rattle.core_machine.specs.seat.Access.{way_place_of, after_link, after_walk, at_access, access_start}
-use Rattle.core_machine.specs.seat.Making.{gather_next, next_group_of, after_claim}
+use Rattle.core_machine.specs.seat.Access.{way_place_of, after_link, after_walk, with_field_place, after_length, at_access, access_start}
+use Rattle.core_machine.specs.seat.Making.{gather_next, next_group_of, after_claim, after_budget}
 use Rattle.core_machine.specs.seat.Registers.{register_in}
-use Rattle.core_machine.specs.seat.Seat.{Seat}
+use Rattle.core_machine.specs.seat.Seat.{Seat, spine_need}
 use Rattle.core_machine.specs.table.Fragments.{clear_in}
 use Rattle.core_machine.proofs.seat_lemmas.Fitting.{goes_on_cases}
 use Rattle.core_rule.proofs.looks.Growth.{IsElsewhere}
@@ -41,12 +42,23 @@ stays_claim heap seat found =
     let stays = stays_gather heap (record seat { hand = seat.hand ++ clear_in (next_group_of heap seat) found; tried = seat.tried + 1 }) in
     record { looks = stays.looks; elsewhere = stays.elsewhere }
 
+pub stays_budget : (heap : Heap) (seat : Seat) (found : ℕ) → StaysFound seat (after_budget heap seat found)
+stays_budget heap seat found = by (nat_lt heap.spine (found + spine_need seat))
+  where
+    by : (b : Bool) → StaysFound seat (if b then record seat { used = found; place = places.Making Withdrawing } else gather_next heap seat)
+    by true = record { looks = refl; elsewhere = tt }
+    by false = stays_gather heap seat
+
 pub stays_walk : (seat : Seat) (found : ℕ) → StaysFound seat (after_walk seat found)
 stays_walk seat found = by (seat.links == 0)
   where
     by : (b : Bool) → StaysFound seat (if b then at_access seat (way_place_of seat) else at_access (after_link seat found) (way_place_of (after_link seat found)))
     by true = record { looks = refl; elsewhere = tt }
     by false = record { looks = refl; elsewhere = tt }
+
+pub stays_length : (seat : Seat) (found : ℕ) (length : Option ℕ) → StaysFound seat (after_length seat found length)
+stays_length seat found None = let stays = stays_walk (with_field_place seat) found in record { looks = stays.looks; elsewhere = stays.elsewhere }
+stays_length seat found (Some cells) = record { looks = refl; elsewhere = tt }
 
 pub stays_start : (seat : Seat) (held : Register) → StaysFound seat (access_start seat held)
 stays_start seat (registers.Object head id) = record { looks = refl; elsewhere = tt }
@@ -57,7 +69,7 @@ stays_start seat (registers.Number n) = record { looks = refl; elsewhere = tt }
 pub begin_stays : (heap : Heap) (seat : Seat) (command : Command) → seat.place ≡ places.Idle → StaysFound seat (after_begin heap seat command)
 begin_stays heap seat (commands.New d fields) idle =
     let stays = stays_gather heap (record seat { command = commands.New d fields }) in record { looks = stays.looks; elsewhere = stays.elsewhere }
-begin_stays heap seat (commands.Array d cells) idle = record { looks = refl; elsewhere = subst IsElsewhere (sym idle) tt }
+begin_stays heap seat (commands.Array d cells) idle = record { looks = refl; elsewhere = tt }
 begin_stays heap seat commands.Collect idle = record { looks = refl; elsewhere = subst IsElsewhere (sym idle) tt }
 begin_stays heap seat (commands.Get d r i) idle =
     let stays = stays_start (record seat { command = commands.Get d r i }) (register_in seat.registers r) in record { looks = stays.looks; elsewhere = stays.elsewhere }

@@ -9,6 +9,7 @@ use Rattle.core_rule.specs.Book.{Colour, White, Grey, Black, fragment_at}
 use Rattle.core_rule.specs.Colours.{IsMarked, WordPointsTo}
 use Rattle.core_rule.specs.Flight.{DeletionBarrier}
 use Rattle.core_rule.specs.Marking.{IsPart, MayMark, IsSeen, IsSeenWhole, IsSpineOf, ComesAfter, ScanStands, PassStands, AfterMarking, MarkingStands}
+use Rattle.core_rule.specs.Sources.{HasNoSpine}
 use Rattle.core_rule.specs.Sweep.{IsSettled, AreFreed, AreDead, AreCleared, SweepStands}
 use Rattle.core_rule.specs.Owners.{Owner, Kept, Dead, born_bit, dead_bit}
 use Rattle.core_rule.specs.Paths.{IsWhite, Edge, IsReached}
@@ -41,12 +42,6 @@ OnlyMarks marks (stages.Indexing s) = marks × (s.index < s.words)
 OnlyMarks marks (stages.Spreading s target) = marks × (s.index < s.words)
 OnlyMarks marks (stages.Blackening scan) = marks
 OnlyMarks marks _ = Unit {0}
-
--- a scan in a spine stands before one of its words
-abbrev pub IsWithinSpine : Stage → Type 0
-IsWithinSpine (stages.Indexing s) = s.index < s.words
-IsWithinSpine (stages.Spreading s target) = s.index < s.words
-IsWithinSpine _ = Unit {0}
 
 -- and this while marks are cleared
 abbrev pub OnlyClears : Type 0 → Stage → Type 0
@@ -133,6 +128,9 @@ module _ (heap : Heap) (words now : List ℕ) (owner later : ℕ → Owner) (col
       | inr past ↦ inr (past.0, past.1, (past.2.0, (leaves.kept f past.2.0 0 past.2.1).0))
     ]
 
+    none_on : (f : ℕ) → colour f ≡ Grey → HasNoSpine heap words f → HasNoSpine heap now f
+    none_on f grey none = (leaves.spine is_marking f (grey_born f grey)).as_many ∙ none
+
     spine_on : (s : SpineScan) → colour s.scan.fragment ≡ Grey → s.index < s.words → IsSpineOf heap words s → IsSpineOf heap now s
     spine_on s grey within is =
         let stays = leaves.spine is_marking s.scan.fragment (grey_born s.scan.fragment grey) in
@@ -169,9 +167,15 @@ module _ (heap : Heap) (words now : List ℕ) (owner later : ℕ → Owner) (col
   }
 
   scan_stays : (stage : Stage) → OnlyMarks marks stage → ScanStands heap words owner colour fragments stage → ScanStands heap now later coloured bodies stage
-  scan_stays (stages.Scanning scan) is stands = seen_on is scan.fragment scan.part stands
-  scan_stays (stages.Shading scan target next) is stands =
-      (seen_on is scan.fragment scan.part stands.0, finds_on is scan.fragment scan.part (Some target) stands.0.grey stands.1, may_on target stands.2, after_on is scan.fragment scan.part next stands.3)
+  scan_stays (stages.Scanning scan) is stands =
+      (seen_on is scan.fragment scan.part stands.0, λ later. none_on is scan.fragment stands.0.grey (stands.1 later))
+  scan_stays (stages.Shading scan target next) is stands = (
+    seen_on is scan.fragment scan.part stands.0,
+    finds_on is scan.fragment scan.part (Some target) stands.0.grey stands.1,
+    may_on target stands.2,
+    after_on is scan.fragment scan.part next stands.3,
+    none_on is scan.fragment stands.0.grey stands.4,
+  )
   scan_stays (stages.Locating scan count) is stands =
       (seen_on is scan.fragment 4 stands.0, stands.1 ∙ sym (leaves.spine is scan.fragment (grey_born scan.fragment stands.0.grey)).as_many)
   scan_stays (stages.Indexing s) is stands = (seen_on is.0 s.scan.fragment (4 + s.index) stands.0, spine_on is.0 s stands.0.grey is.1 stands.1)

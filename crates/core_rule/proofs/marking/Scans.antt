@@ -2,36 +2,44 @@
 use Rattle.std.specs.Prelude.{if◌then◌else◌}
 use Rattle.std.proofs.lemmas.Bool.{false≢true}
 use Rattle.std.proofs.lemmas.Bool.Decides.{nat_tests}
-use Rattle.std.proofs.Common.{get_or, ◌≡◌, ◌≢◌, ℕ, zero, suc, ◌+◌, ◌-◌, ◌*◌, ◌<◌, ◌≤◌, ◌^◌, eqb, Bool, true, false, List, length, slice_get, None, inl, inr, refl, sym, ap, ◌∙◌, subst, arith}
+use Rattle.std.proofs.Common.{get_or, ◌≡◌, ◌≢◌, ℕ, zero, suc, ◌+◌, ◌-◌, ◌*◌, ◌<◌, ◌≤◌, ◌^◌, eqb, Bool, true, false, List, length, slice_get, Option, Some, None, inl, inr, refl, sym, ap, ◌∙◌, subst, arith}
 use Rattle.std.proofs.lemmas.Bool.Decides.{eqb_tells, leb_tells}
 use Rattle.heap_words.specs.declared.cell.Cell.{Cell}
+use Rattle.heap_words.specs.declared.kind.Kind.{Kind}
 use Rattle.heap_words.specs.declared.kind.Kind.TheVariants as kinds
 use Rattle.heap_words.specs.declared.name.Name.{Name}
+use Rattle.heap_words.specs.declared.spot.Spot.{Spot}
+use Rattle.heap_words.specs.Cell.{cell_of}
 use Rattle.heap_model.specs.declared.heap.Heap.{Heap}
 use Rattle.heap_model.specs.account.Cycles.{graph_of}
 use Rattle.heap_model.specs.account.PhaseCounts.{phase}
 use Rattle.heap_model.specs.graph.Graph.{Graph, Node}
-use Rattle.core_machine.specs.collector.Marking.{part_after, scan_at}
+use Rattle.core_machine.specs.collector.Marking.{part_after, scan_at, spine_scan_at}
 use Rattle.core_machine.specs.declared.collector.stage.Scan.{Scan}
+use Rattle.core_machine.specs.declared.collector.stage.SpineScan.{SpineScan}
 use Rattle.core_machine.specs.declared.collector.stage.Stage.{Stage}
 use Rattle.core_machine.specs.declared.collector.stage.Stage.TheVariants as stages
 use Rattle.core_machine.specs.declared.table.address.Address.TheVariants.{Word}
 use Rattle.core_machine.specs.machine.Machine.{State}
-use Rattle.core_machine.specs.table.Decode.{pointer_in, is_meta, is_fixed}
-use Rattle.core_machine.specs.table.Layout.{at}
+use Rattle.core_machine.specs.table.Decode.{pointer_in, payload_in, is_meta, is_fixed, array_length_in, array_length_of}
+use Rattle.core_machine.specs.table.Layout.{at, spine_place}
 use Rattle.core_machine.specs.table.Newborn.{link_after}
 use Rattle.core_rule.specs.Book.{Book, Colour, Grey, fragment_at, id_at, object_head}
 use Rattle.core_rule.specs.Colours.{IsMarked, WordPointsTo, IsBetween}
-use Rattle.core_rule.specs.Marking.{IsPart, MayMark, IsSeen, IsSeenWhole, ComesAfter, ScanStands, PassStands}
+use Rattle.core_rule.specs.Marking.{IsPart, MayMark, IsSeen, IsSeenWhole, IsSpineOf, ComesAfter, ScanStands, PassStands}
 use Rattle.core_rule.specs.Sweep.{SweepStands}
 use Rattle.core_rule.specs.Objects.{IsKept, KeptObject, name_of, is_cell, node_at}
 use Rattle.core_rule.specs.Owners.{Owner, Kept}
 use Rattle.core_rule.specs.Rule.{Rule}
+use Rattle.core_rule.specs.Sources.{source_pointer}
 use Rattle.core_rule.proofs.colours.NewbornLeads.{link_word_at}
-use Rattle.core_rule.proofs.colours.SourceCases.{HasNoSpine, word_alone}
+use Rattle.core_rule.proofs.colours.SourceCases.{HasNoSpine, word_alone, lead_cases, lead_of_word, spine_source, spine_to, spine_cases}
 use Rattle.core_rule.proofs.marking.ObjectEdges.{name_small, small, found_cases, cell_no_meta, kept_leads, part_owned}
 use Rattle.core_rule.proofs.objects.ObjectWords.{name_at}
-use Rattle.core_rule.proofs.ways.ArrayWords.{fixed_no_head}
+use Rattle.core_rule.proofs.objects.SpinePlaces.{spine_placed}
+use Rattle.core_rule.proofs.ways.ArrayWords.{fixed_no_head, sentinel_nowhere}
+use Rattle.core_rule.proofs.ways.KeptWords.{sized_few, array_length_found}
+use Rattle.core_machine.proofs.collector_lemmas.SpineTurns.{spine_cases as spine_places}
 use Rattle.core_machine.proofs.table_lemmas.CellWords.{cell_of-cell_word}
 
 -- a scan that comes to a word stands before it, or has seen to all four
@@ -51,7 +59,7 @@ seen_whole heap words colour f part none behind seen = record {
 -- so what it has seen is right, of a pass nothing is asked, and marking hasn't ended
 pub scan_stands : (heap : Heap) (words : List ℕ) (owner : ℕ → Owner) (colour : ℕ → Colour) (fragments : ℕ → List ℕ) (scan : Scan) (part : ℕ) → HasNoSpine heap words scan.fragment
     → IsSeen heap words colour scan.fragment part → ScanStands heap words owner colour fragments (scan_at scan part)
-scan_stands heap words owner colour fragments scan part none seen = scan_cases (ScanStands heap words owner colour fragments) scan part seen
+scan_stands heap words owner colour fragments scan part none seen = scan_cases (ScanStands heap words owner colour fragments) scan part (seen, λ later. none)
     (λ behind. seen_whole heap words colour scan.fragment part none behind seen)
 
 pub scan_passes : (colour : ℕ → Colour) (scan : Scan) (part : ℕ) → PassStands colour (scan_at scan part)
@@ -63,6 +71,56 @@ scan_sweeps heap owner colour phase scan part = scan_cases (SweepStands heap own
 pub scan_on_marks : (scan : Scan) (part : ℕ) → scan_at scan part ≢ stages.Advancing
 scan_on_marks scan part = scan_cases (λ stage. stage ≢ stages.Advancing) scan part (λ e. cc) (λ behind e. cc)
 
+-- behind the last word of its spine an array's first fragment is seen whole
+seen_to_end : (heap : Heap) (words : List ℕ) (colour : ℕ → Colour) (s : SpineScan) → IsSpineOf heap words s → s.words ≤ s.index → IsSeen heap words colour s.scan.fragment (4 + s.index)
+    → IsSeenWhole heap words colour s.scan.fragment
+seen_to_end heap words colour s is done seen = record {
+  grey = seen.grey;
+  seen = λ source g leads. seen.seen source g (before source g leads) leads;
+}
+  where
+    before : (source g : ℕ) → WordPointsTo heap words s.scan.fragment source g → source < 4 + s.index
+    before source g = lead_cases heap words s.scan.fragment (source < 4 + s.index) source g
+        (λ first to. omega (arith, first))
+        (λ behind to. let within = (spine_cases heap words s.scan.fragment (source - 4) g to).0 in omega (arith, within, behind, is.as_many, done))
+
+-- so a scan of a spine is right wherever it comes to, of a pass nothing is asked, and marking hasn't ended
+pub spine_stands : (heap : Heap) (words : List ℕ) (owner : ℕ → Owner) (colour : ℕ → Colour) (fragments : ℕ → List ℕ) (s : SpineScan) → IsSpineOf heap words s
+    → IsSeen heap words colour s.scan.fragment (4 + s.index) → ScanStands heap words owner colour fragments (spine_scan_at s)
+spine_stands heap words owner colour fragments s is seen = spine_places (ScanStands heap words owner colour fragments) s (λ more. (seen, is)) (λ done. seen_to_end heap words colour s is done seen)
+
+pub spine_passes : (colour : ℕ → Colour) (s : SpineScan) → PassStands colour (spine_scan_at s)
+spine_passes colour s = spine_places (PassStands colour) s (λ more. tt) (λ done. tt)
+
+pub spine_sweeps : (heap : Heap) (owner : ℕ → Owner) (colour : ℕ → Colour) (phase : ℕ) (s : SpineScan) → SweepStands heap owner colour phase (spine_scan_at s)
+spine_sweeps heap owner colour phase s = spine_places (SweepStands heap owner colour phase) s (λ more. tt) (λ done. tt)
+
+pub spine_on_marks : (s : SpineScan) → spine_scan_at s ≢ stages.Advancing
+spine_on_marks s = spine_places (λ stage. stage ≢ stages.Advancing) s (λ more e. cc) (λ done e. cc)
+
+-- the word of the spine that the scan is at leads to the fragment that it names
+pub spine_points : (heap : Heap) (words : List ℕ) (s : SpineScan) → IsSpineOf heap words s → s.scan.fragment < 16 * heap.groups → s.index < s.words
+    → WordPointsTo heap words s.scan.fragment (4 + s.index) (payload_in (at heap words (spine_place s.spine s.index)))
+spine_points heap words s is inside more = record {
+  within = inside;
+  to = spine_source heap words s.scan.fragment s.index ∙ spine_to heap words s.scan.fragment s.index (omega (arith, more, is.as_many))
+      ∙ ap (λ (spot : Spot). Some (payload_in (at heap words (spine_place spot s.index)))) (sym is.there);
+}
+
+-- once that is marked one more word is seen to
+pub seen_spread : (heap : Heap) (words : List ℕ) (colour : ℕ → Colour) (f index target : ℕ) → IsSeen heap words colour f (4 + index) → WordPointsTo heap words f (4 + index) target
+    → IsMarked colour target → IsSeen heap words colour f (4 + (index + 1))
+seen_spread heap words colour f index target seen points marked = record { grey = seen.grey; seen = each }
+  where
+    each : (p g : ℕ) → p < 4 + (index + 1) → WordPointsTo heap words f p g → IsMarked colour g
+    each p g below leads = elim (eqb_tells p (4 + index)) as (λ _. IsMarked colour g) [
+      | inl same ↦
+          let both : Some target ≡ Some g = sym points.to ∙ subst (λ x. source_pointer heap words f x ≡ Some g) same.1 leads.to in
+          let it : target ≡ g = cc in
+          subst (IsMarked colour) it marked
+      | inr other ↦ seen.seen p g (omega (arith, below, other.1)) leads
+    ]
+
 -- a first word is no cell
 no_cell : (n : ℕ) → is_cell (suc n) 0 ≢ true
 no_cell n is = grind (arith, nat_tests, is)
@@ -73,6 +131,13 @@ link_no_meta fragments n small = elim (leb_tells (suc (n + 1)) (length fragments
   | inl more ↦ rw more.0 (ap (λ (c : Cell). is_fixed c.kind) (cell_of-cell_word kinds.Reference (get_or fragments (n + 1) 0) 0 (small (n + 1) (omega (arith, more.1))) (omega arith)))
   | inr last ↦ rw last.0 refl
 ]
+
+-- a word that tells an array's length is a meta
+told_meta : (kind : Kind) (cell : Cell) (cells : ℕ) → array_length_in kind cell ≡ Some cells → is_fixed kind ≡ true
+told_meta kinds.Fixed cell cells told = refl
+told_meta kinds.Nil cell cells told = absurd (cc told)
+told_meta kinds.Number cell cells told = absurd (cc told)
+told_meta kinds.Reference cell cells told = absurd (cc told)
 
 module _ (heap : Heap) (state : State) (book : Book) (rule : Rule heap state book) (f : ℕ) (part_of : IsPart book.owner f) where
   abbrev i : ℕ
@@ -128,6 +193,44 @@ module _ (heap : Heap) (state : State) (book : Book) (rule : Rule heap state boo
       (λ kind behind. cell_no_meta heap state.words g book.made book.owner book.fragments rule.machine.limits rule.heap_stands.control_words rule.heap_stands.ids rule.heap_stands.objects i there.0 there.1
       (4 * (suc n - 1) + 0) (slice_get object.cells (4 * (suc n - 1) + 0)) refl) in
       absurd (false≢true (sym no_meta ∙ meta))
+
+  -- where it tells an array's length, that is its object's, which is an array
+  pub array_first : (cells : ℕ) → array_length_of (at heap state.words (Word f 0)) ≡ Some cells → (k ≡ 0) × (object.array ≡ true) × (length object.cells ≡ cells)
+  array_first cells told =
+      let g : Graph = graph_of heap book.history in
+      let first = meta_first k refl (told_meta (cell_of (at heap state.words (Word f 0))).kind (cell_of (at heap state.words (Word f 0))) cells told) in
+      let head : f ≡ fragment_at (book.fragments i) 0 = there.3 ∙ ap (fragment_at (book.fragments i)) first in
+      let found = array_length_found heap state.words g book.made book.owner book.fragments rule.machine.limits rule.heap_stands.control_words rule.heap_stands.ids rule.heap_stands.objects i there.0 there.1 in
+      let both : (if object.array then Some (length object.cells) else None) ≡ Some cells = sym found ∙ ap (λ x. array_length_of (at heap state.words (Word x 0))) (sym head) ∙ told in
+      let its = by object.array both in
+      (first, its.0, its.1)
+    where
+      by : (array : Bool) → (if array then Some (length object.cells) else None) ≡ Some cells → (array ≡ true) × (length object.cells ≡ cells)
+      by true same = (refl, cc same)
+      by false same = absurd (cc same)
+
+  -- which has few cells
+  pub array_few : object.array ≡ true → length object.cells ≤ 4096
+  array_few kind = (sized_few object.array (length object.cells) the_object.sized).1
+
+  -- none of its four words leads anywhere, so all of them are seen to
+  pub sentinel_seen : book.colour f ≡ Grey → k ≡ 0 → object.array ≡ true → IsSeen heap state.words book.colour f 4
+  sentinel_seen grey first kind = record { grey = grey; seen = λ p g below leads. absurd (nowhere p g below leads) }
+    where
+      nowhere : (p g : ℕ) → p < 4 → ¬ WordPointsTo heap state.words f p g
+      nowhere p g below leads =
+          let made : Graph = graph_of heap book.history in
+          let name : Name = name_of (id_at book.made i) in
+          let fits = name_small (id_at book.made i) (rule.heap_stands.ids.fit i there.0) in
+          let few = sized_few object.array (length object.cells) the_object.sized in
+          let none : pointer_in p (at heap state.words (Word f p)) ≡ None = ap (λ x. pointer_in p (at heap state.words (Word x p))) there.3
+          ∙ found_cases heap state.words made book.made book.owner book.fragments rule.machine.limits rule.heap_stands.control_words rule.heap_stands.ids rule.heap_stands.objects i there.0 there.1
+          (λ w. pointer_in p w ≡ None) k p there.2 below
+          (λ record_kind cell. absurd (cc (kind, record_kind)))
+          (λ record_kind frame. absurd (cc (kind, record_kind)))
+          (λ array head. sentinel_nowhere name (length object.cells) (book.spines i) p fits.0 fits.1 (omega (arith, few.1)) (spine_placed rule i there.0 there.1 kind))
+          (λ array behind. absurd (omega (arith, behind, first))) in
+          absurd (let to = lead_of_word heap state.words f p g below leads in cc (none, to))
 
   -- which word comes next
   pub comes_after : (part : ℕ) → ComesAfter book.owner f part (part_after part (at heap state.words (Word f part)))

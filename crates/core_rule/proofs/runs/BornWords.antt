@@ -3,6 +3,8 @@ use Rattle.std.specs.Int.{bit_at}
 use Rattle.std.proofs.Common.{◌≡◌, ◌≢◌, ℕ, ◌+◌, ◌*◌, ◌/◌, ◌%◌, ◌<◌, Bool, true, false, cond, if◌then◌else◌, max, List, bit_or, inl, inr, Some, refl, sym, ap, ◌∙◌, subst, arith, bit_and}
 use Rattle.std.proofs.lemmas.Bool.Decides.{eqb_tells}
 use Rattle.std.proofs.lemmas.Nat.Bits.{bit_at-lt, bit_at_and}
+use Rattle.heap_model.specs.declared.command.Command.{Command}
+use Rattle.heap_model.specs.declared.command.Command.TheVariants as commands
 use Rattle.heap_model.specs.declared.heap.Heap.{Heap}
 use Rattle.heap_model.specs.account.PhaseCounts.{last_answer}
 use Rattle.heap_model.specs.PhasePlan.{black_births, sweep}
@@ -11,21 +13,22 @@ use Rattle.core_machine.specs.declared.collector.stage.Stage.TheVariants as stag
 use Rattle.core_machine.specs.declared.place.Collecting.TheVariants.{Looking, Comparing, Noting}
 use Rattle.core_machine.specs.declared.place.Collecting.TheVariants as collecting
 use Rattle.core_machine.specs.declared.place.Leaving.TheVariants.{Emptying, Parting}
-use Rattle.core_machine.specs.declared.place.Making.TheVariants.{Gathering, Returning, Storing, Bearing}
+use Rattle.core_machine.specs.declared.place.Making.TheVariants.{Granting, Withdrawing, Gathering, Returning, Refusing, Placing, Listing, Storing, Bearing}
 use Rattle.core_machine.specs.declared.place.Place.{Place}
 use Rattle.core_machine.specs.declared.place.Place.TheVariants as places
 use Rattle.core_machine.specs.declared.place.Polling.TheVariants.{Shading, Answering}
 use Rattle.core_machine.specs.declared.place.Access.TheVariants.{ShadingOld, ShadingNew, Swapping}
 use Rattle.core_machine.specs.declared.table.address.Address.{Address}
-use Rattle.core_machine.specs.declared.table.address.Address.TheVariants.{Phase, Answer, Control}
+use Rattle.core_machine.specs.declared.table.address.Address.TheVariants.{Phase, Answer, Budget, Spot, Control}
 use Rattle.core_machine.specs.collector.Collector.{turn_at}
 use Rattle.core_machine.specs.machine.Machine.{State, seat_at, state_after_due, state_after_turn, Begins, BeginsInner, Steps, Turns}
 use Rattle.core_machine.specs.Moves.{move_at, bears_black_of, is_last_birth, last_birth_move, birth_move, last_part}
 use Rattle.core_machine.specs.seat.Making.{last_group_of}
-use Rattle.core_machine.specs.seat.Seat.{Seat}
+use Rattle.core_machine.specs.seat.MakingMoves.{refusal_step}
+use Rattle.core_machine.specs.seat.Seat.{Seat, spine_need}
 use Rattle.core_machine.specs.table.Fragments.{mask_of}
-use Rattle.core_machine.specs.table.Layout.{at, put}
-use Rattle.core_machine.specs.table.Operation.{birth_bits_of}
+use Rattle.core_machine.specs.table.Layout.{at, put, index_of}
+use Rattle.core_machine.specs.table.Operation.{birth_bits_of, address_of, word_after}
 use Rattle.core_machine.proofs.table_lemmas.Addresses.{put-at}
 use Rattle.core_machine.proofs.table_lemmas.Masks.{mask-lt}
 use Rattle.core_rule.specs.Book.{Book, Colour, White, Grey, Black}
@@ -145,10 +148,28 @@ module _ (heap : Heap) (state : State) (book : Book) (rule : Rule heap state boo
     answer_bears_none : (word : ℕ) → ¬ IsBorn heap (put heap words (Answer number) word) f
     answer_bears_none word = word_bears_none _ (at-put_apart heap words (Answer number) (Control (f / 16)) word (λ e. omega (arith, e, here, rule.machine.limits.seats_fit)))
 
+    -- nor does one that changes the budget, the spot or a spine word
+    spine_bears_none : (a : Address) (word : ℕ) → index_of heap a ≢ index_of heap (Control (f / 16)) → ¬ IsBorn heap (put heap words a word) f
+    spine_bears_none a word apart = word_bears_none _ (at-put_apart heap words a (Control (f / 16)) word (λ e. apart (sym e)))
+
+    budget_bears_none : (word : ℕ) → ¬ IsBorn heap (put heap words Budget word) f
+    budget_bears_none word = spine_bears_none Budget word (λ e. omega (arith, e))
+
+    -- nor a refusal, which changes the budget or loads the phase
+    refusal_bears_none : (command : Command) (count : ℕ)
+        → ¬ IsBorn heap (put heap words (address_of (refusal_step command count)) (word_after (refusal_step command count) (at heap words (address_of (refusal_step command count))))) f
+    refusal_bears_none (commands.Array d cells) count born = budget_bears_none _ born
+    refusal_bears_none _ count born = load_bears_none _ born
+
     -- so does each step of a seat that bears the fragment
     step_colours : (place : Place) → IsBorn heap (state_after_due heap state number (move_at heap number seat place)).words f
         → HasBirthColour heap (state_after_due heap state number (move_at heap number seat place)).words f (last_answer number book.history)
     step_colours places.Idle born = absurd (unborn born)
+    step_colours (places.Making Granting) born = absurd (budget_bears_none _ born)
+    step_colours (places.Making Withdrawing) born = absurd (budget_bears_none _ born)
+    step_colours (places.Making Refusing) born = absurd (refusal_bears_none seat.command (spine_need seat) born)
+    step_colours (places.Making Placing) born = absurd (spine_bears_none Spot _ (λ e. omega (arith, e)) born)
+    step_colours (places.Making Listing) born = absurd (spine_bears_none _ _ (λ e. omega (arith, e, within)) born)
     step_colours (places.Making Gathering) born = absurd (bit_bears_none _ _ (claim_born _ (f % 16) (omega arith)) born)
     step_colours (places.Making Returning) born = absurd (bit_bears_none _ _ (untaken_born _ (f % 16) (omega arith) _ (mask-lt _)) born)
     step_colours (places.Making Storing) born = absurd (word_bears_none _ (control_after_word heap words _ _ _ (f / 16) (omega (arith, within))) born)
@@ -176,6 +197,7 @@ module _ (heap : Heap) (state : State) (book : Book) (rule : Rule heap state boo
   turn_bears_none stages.Advancing born = word_bears_none _ (at-put_apart heap words Phase (Control (f / 16)) _ (λ e. omega (arith, e))) born
   turn_bears_none (stages.Ending kept) born = word_bears_none _ (at-put_apart heap words Phase (Control (f / 16)) _ (λ e. omega (arith, e))) born
   turn_bears_none (stages.Shading scan target next) born = bit_bears_none _ _ (bit_born _ 32 _ f (omega arith)) born
+  turn_bears_none (stages.Spreading s target) born = bit_bears_none _ _ (bit_born _ 32 _ f (omega arith)) born
   turn_bears_none (stages.Freeing group dead) born = masked_bears_none _ _ _ refl born
   turn_bears_none (stages.Clearing group kept) born = masked_bears_none _ _ _ refl born
   turn_bears_none (stages.Blackening scan) born = bit_bears_none _ _ (bit_born _ 48 _ f (omega arith)) born

@@ -12,7 +12,7 @@ use Rattle.core_machine.specs.declared.collector.stage.Stage.TheVariants as stag
 use Rattle.core_machine.specs.declared.place.Collecting.TheVariants.{Looking, Comparing, Noting}
 use Rattle.core_machine.specs.declared.place.Collecting.TheVariants as collecting
 use Rattle.core_machine.specs.declared.place.Leaving.TheVariants.{Emptying, Parting}
-use Rattle.core_machine.specs.declared.place.Making.TheVariants.{Gathering, Returning, Refusing, Bearing}
+use Rattle.core_machine.specs.declared.place.Making.TheVariants.{Withdrawing, Gathering, Returning, Refusing, Bearing}
 use Rattle.core_machine.specs.declared.place.Place.{Place}
 use Rattle.core_machine.specs.declared.place.Place.TheVariants as places
 use Rattle.core_machine.specs.declared.place.Polling.TheVariants.{Asking, Answering}
@@ -67,6 +67,7 @@ module _ (heap : Heap) (state : State) (colour : ℕ → Colour) where
   module _ (number : ℕ) (answers : (seat_at state number).place ≡ places.Polling Answering → (seat_at state number).asked % cycle_phases ≡ marking → (r : ℕ) → IsRootMarked colour (seat_at state number).registers r) where
     -- what a step shows, if it shows an entry
     shown_marked : (place : Place) → (seat_at state number).place ≡ place → AreMarked (entries_shown heap state (move_at heap number (seat_at state number) place))
+    shown_marked (places.Making Withdrawing) placed = one_marked _ tt
     shown_marked (places.Making Gathering) placed = claim_marked number _
     shown_marked (places.Making Returning) placed = one_marked _ tt
     shown_marked (places.Making Refusing) placed = one_marked _ tt

@@ -5,8 +5,12 @@ pub mod PhaseTurn
 pub mod ColourTurn
 pub mod BlackenStep
 pub mod LookStep
+pub mod MarkedTarget
 pub mod MarkShadeStep
 pub mod ScanStep
+pub mod LocateStep
+pub mod IndexStep
+pub mod SpreadStep
 pub mod SweepStep
 pub mod FreeStep
 pub mod ClearStep
@@ -27,6 +31,9 @@ module _ (heap : Heap) (state : State) (book : Book) (rule : Rule heap state boo
   turn_keeps_at stages.Looking is = LookStep.look_keeps heap state book rule is
   turn_keeps_at (stages.Scanning scan) is = ScanStep.scan_keeps scan heap state book rule is
   turn_keeps_at (stages.Shading scan target next) is = MarkShadeStep.mark_shade_keeps scan target next heap state book rule is
+  turn_keeps_at (stages.Locating scan count) is = LocateStep.locate_keeps scan count heap state book rule is
+  turn_keeps_at (stages.Indexing s) is = IndexStep.index_keeps s heap state book rule is
+  turn_keeps_at (stages.Spreading s target) is = SpreadStep.spread_keeps s target heap state book rule is
   turn_keeps_at (stages.Blackening scan) is = BlackenStep.blacken_keeps scan heap state book rule is
   turn_keeps_at stages.Advancing is = AdvanceStep.advance_keeps heap state book rule is
   turn_keeps_at (stages.Passing group found) is = PassStep.pass_keeps group found heap state book rule is

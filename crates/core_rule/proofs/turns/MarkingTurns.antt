@@ -16,14 +16,14 @@ use Rattle.core_machine.proofs.table_lemmas.Addresses.{put-at}
 use Rattle.core_machine.proofs.table_lemmas.Grey.{grey_within}
 use Rattle.core_rule.specs.Book.{Book, Grey}
 use Rattle.core_rule.specs.Colours.{Marks}
-use Rattle.core_rule.specs.Marking.{IsSeenWhole}
+use Rattle.core_rule.specs.Marking.{IsSeenWhole, IsFewWords}
 use Rattle.core_rule.specs.Rule.{Rule}
 use Rattle.core_rule.specs.TurnsLeft.{scanned_count, next_pass, marking_left, scanning_left, stage_left}
 use Rattle.core_rule.proofs.colours.BlackenColours.{with_scan, marks_blacken}
 use Rattle.core_rule.proofs.colours.ShadeColours.{with_mark, marks_shade}
 use Rattle.core_rule.proofs.marking.GreyPlaces.{lowest_is_grey}
 use Rattle.core_rule.proofs.marking.Scans.{scan_cases}
-use Rattle.core_rule.proofs.turns.Lefts.{IsFewWords, StageLeavesFewer, fewer_at}
+use Rattle.core_rule.proofs.turns.Lefts.{StageLeavesFewer, fewer_at}
 use Rattle.core_rule.proofs.turns.ScannedCounts.{scanned_black, black_same, black_more, black_fewer}
 
 -- a scan begins: one fragment more counts as seen, which is more than the scan and the next pass take

@@ -12,8 +12,9 @@ use Rattle.core_machine.specs.table.Decode.{payload_in}
 use Rattle.core_machine.specs.table.Layout.{at, put}
 use Rattle.core_machine.proofs.collector_lemmas.SpineTurns.{spine_cases}
 use Rattle.core_machine.proofs.table_lemmas.Addresses.{put-at}
+use Rattle.core_rule.specs.Marking.{IsFewWords}
 use Rattle.core_rule.specs.TurnsLeft.{marking_left, scanning_left, stage_left}
-use Rattle.core_rule.proofs.turns.Lefts.{IsFewWords, StageLeavesFewer, fewer_at}
+use Rattle.core_rule.proofs.turns.Lefts.{StageLeavesFewer, fewer_at}
 use Rattle.core_rule.proofs.turns.MarkingTurns.{scan_goes_on, shaded_count}
 
 -- wherever it goes on, a step more is made

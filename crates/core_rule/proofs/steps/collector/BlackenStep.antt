@@ -76,7 +76,7 @@ module _ (heap : Heap) (state : State) (book : Book) (rule : Rule heap state boo
 
   marks : MarkingStands heap words book.owner coloured book.fragments state.collector.phase (stages.Passing (f / 16) true)
   marks = marks_at heap words book.owner coloured book.fragments state.collector.phase (stages.Passing (f / 16) true) fits.marks.for_marking (λ e. cc)
-      (λ x grey. rule.marks_stand.heap_marks.grey x (scan_grey book.colour f x grey)) tt tt tt (none_dead heap state book rule fits.marks.for_marking (λ ended. absurd (cc (blackening, ended))))
+      (λ x grey. rule.marks_stand.heap_marks.grey x (scan_grey book.colour f x grey)) tt tt tt tt (none_dead heap state book rule fits.marks.for_marking (λ ended. absurd (cc (blackening, ended))))
 
 pub blacken_keeps : (scan : Scan) → StageKeeps (stages.Blackening scan)
 blacken_keeps scan heap state book rule blackening machine =

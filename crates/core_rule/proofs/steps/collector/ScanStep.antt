@@ -1,27 +1,31 @@
 -- The load of a word of a grey fragment keeps the rule.
-use Rattle.std.proofs.Common.{◌≡◌, ◌≢◌, ℕ, Option, Some, None, inl, refl, sym, ◌∙◌, arith}
+use Rattle.std.specs.Option.{option_map_or}
+use Rattle.std.proofs.Common.{◌≡◌, ◌≢◌, ℕ, ◌<◌, ◌≤◌, Option, Some, None, inl, inr, refl, sym, ap, ◌∙◌, subst, arith}
+use Rattle.std.proofs.lemmas.Bool.Decides.{eqb_tells}
 use Rattle.heap_model.specs.declared.heap.Heap.{Heap}
+use Rattle.heap_model.specs.Needs.{array_words}
 use Rattle.heap_model.specs.account.PhaseCounts.{phase}
-use Rattle.core_machine.specs.collector.Marking.{part_after, scan_step, after_scan_load}
+use Rattle.core_machine.specs.collector.Marking.{part_after, scan_step, after_scan_load, array_at, after_first_load}
 use Rattle.core_machine.specs.collector.FitsTurns.{IsScanning}
 use Rattle.core_machine.specs.declared.collector.stage.Scan.{Scan}
 use Rattle.core_machine.specs.declared.collector.stage.Stage.{Stage}
 use Rattle.core_machine.specs.declared.collector.stage.Stage.TheVariants as stages
 use Rattle.core_machine.specs.declared.table.address.Address.TheVariants.{Word}
 use Rattle.core_machine.specs.machine.Machine.{State}
-use Rattle.core_machine.specs.table.Decode.{pointer_in}
+use Rattle.core_machine.specs.table.Decode.{pointer_in, array_length_of}
 use Rattle.core_machine.specs.table.Layout.{at}
 use Rattle.core_rule.specs.Book.{Book}
 use Rattle.core_rule.specs.Colours.{WordPointsTo, IsBetween}
-use Rattle.core_rule.specs.Marking.{IsSeen, IsPart, ScanStands, PassStands, MarkingStands}
+use Rattle.core_rule.specs.Marking.{IsSeen, IsPart, ScanStands, IsFewWords, PassStands, MarkingStands}
 use Rattle.core_rule.specs.Sweep.{SweepStands}
 use Rattle.core_rule.specs.Rule.{Rule}
+use Rattle.core_rule.specs.Sources.{HasNoSpine}
 use Rattle.core_rule.proofs.colours.SourceCases.{word_leads, lead_of_word}
 use Rattle.core_rule.proofs.marking.Marks.{marks_at, none_dead}
-use Rattle.core_rule.proofs.marking.ObjectEdges.{kept_no_spine}
-use Rattle.core_rule.proofs.marking.Scans.{scan_stands, scan_passes, scan_sweeps, scan_on_marks, may_mark, comes_after, seen_next}
+use Rattle.core_rule.proofs.marking.Scans.{scan_stands, scan_passes, scan_sweeps, scan_on_marks, may_mark, comes_after, seen_next, array_first, array_few, sentinel_seen}
 use Rattle.core_rule.proofs.steps.collector.ColourTurn.{load_turns_on}
 use Rattle.core_rule.proofs.steps.TurnSteps.{StageKeeps}
+use Rattle.core_rule.proofs.turns.FewWords.{few_at}
 
 module _ (heap : Heap) (state : State) (book : Book) (rule : Rule heap state book) (scan : Scan) (scanning : state.collector.stage ≡ stages.Scanning scan) where
   abbrev f : ℕ
@@ -36,8 +40,14 @@ module _ (heap : Heap) (state : State) (book : Book) (rule : Rule heap state boo
   fits : IsScanning heap state.collector.phase state.collector.looked scan
   fits = rw scanning at rule.machine.collector_fit.at_stage
 
+  scanned : IsSeen heap state.words book.colour f scan.part × (0 < scan.part → HasNoSpine heap state.words f)
+  scanned = rw scanning at rule.marks_stand.heap_marks.scan
+
   seen : IsSeen heap state.words book.colour f scan.part
-  seen = rw scanning at rule.marks_stand.heap_marks.scan
+  seen = scanned.0
+
+  none_there : 0 < scan.part → HasNoSpine heap state.words f
+  none_there = scanned.1
 
   part_of : IsPart book.owner f
   part_of = rule.marks_stand.heap_marks.grey f seen.grey
@@ -46,29 +56,62 @@ module _ (heap : Heap) (state : State) (book : Book) (rule : Rule heap state boo
   cycle = let third = fits.marks.for_marking in let same = rule.collector_stands.phase_told in record { from = omega (arith, third, same); upto = omega (arith, third, same) }
 
   -- the pass and what was born stand, wherever the scan goes on
-  marks_after : (stage : Stage) → stage ≢ stages.Advancing → ScanStands heap state.words book.owner book.colour book.fragments stage → PassStands book.colour stage
+  marks_after : (stage : Stage) → stage ≢ stages.Advancing → ScanStands heap state.words book.owner book.colour book.fragments stage → IsFewWords stage → PassStands book.colour stage
       → SweepStands heap book.owner book.colour state.collector.phase stage → MarkingStands heap state.words book.owner book.colour book.fragments state.collector.phase stage
-  marks_after stage goes scans passes sweeps = marks_at heap state.words book.owner book.colour book.fragments state.collector.phase stage fits.marks.for_marking goes
-      rule.marks_stand.heap_marks.grey scans passes sweeps (none_dead heap state book rule fits.marks.for_marking (λ ended. absurd (cc (scanning, ended))))
+  marks_after stage goes scans few passes sweeps = marks_at heap state.words book.owner book.colour book.fragments state.collector.phase stage fits.marks.for_marking goes
+      rule.marks_stand.heap_marks.grey scans few passes sweeps (none_dead heap state book rule fits.marks.for_marking (λ ended. absurd (cc (scanning, ended))))
 
   lead : (g : ℕ) → WordPointsTo heap state.words f scan.part g → pointer_in scan.part word ≡ Some g
   lead g leads = lead_of_word heap state.words f scan.part g fits.part_within leads
 
-  -- what the word leads to, if it leads anywhere, is marked next
-  loaded : (found : Option ℕ) → pointer_in scan.part word ≡ found → MarkingStands heap state.words book.owner book.colour book.fragments state.collector.phase (after_scan_load scan next found)
-  loaded None is = marks_after (after_scan_load scan next None) (scan_on_marks (scan_step scan) next)
-      (scan_stands heap state.words book.owner book.colour book.fragments (scan_step scan) next (kept_no_spine heap state book rule f part_of.index part_of.place part_of.kept)
+  few_steps : scan.steps ≤ 6
+  few_steps = omega (arith, fits.few_steps, fits.part_within)
+
+  -- what the word of a fragment without a spine leads to, if it leads anywhere, is marked next
+  loaded : HasNoSpine heap state.words f → (found : Option ℕ) → pointer_in scan.part word ≡ found
+      → MarkingStands heap state.words book.owner book.colour book.fragments state.collector.phase (after_scan_load scan next found)
+  loaded none None is = marks_after (after_scan_load scan next None) (scan_on_marks (scan_step scan) next)
+      (scan_stands heap state.words book.owner book.colour book.fragments (scan_step scan) next none
       (seen_next heap state book rule f part_of state.words book.colour scan.part next (λ p g leads. leads) seen (λ g leads. absurd (cc (is, lead g leads))) (comes_after heap state book rule f part_of scan.part)))
+      (few_at (scan_step scan) next (omega (arith, few_steps)))
       (scan_passes book.colour (scan_step scan) next) (scan_sweeps heap book.owner book.colour state.collector.phase (scan_step scan) next)
-  loaded (Some m) is = marks_after (stages.Shading (scan_step scan) m next) (λ e. cc) (
+  loaded none (Some m) is = marks_after (stages.Shading (scan_step scan) m next) (λ e. cc) (
     seen,
     (λ g leads. inl (sym is ∙ lead g leads)),
     may_mark heap state book rule f part_of cycle seen.grey scan.part m (word_leads heap state.words f scan.part m fits.fragment_within fits.part_within is),
     comes_after heap state book rule f part_of scan.part,
+    none,
   )
-      tt tt
+      tt tt tt
+
+  -- of a fragment whose first word is an array's meta the place of its spine is loaded next
+  located : (cells : ℕ) → array_length_of (at heap state.words (Word f 0)) ≡ Some cells
+      → MarkingStands heap state.words book.owner book.colour book.fragments state.collector.phase (stages.Locating (scan_step scan) (array_words cells))
+  located cells told =
+      let first = array_first heap state book rule f part_of cells told in
+      marks_after (stages.Locating (scan_step scan) (array_words cells)) (λ e. cc)
+      (sentinel_seen heap state book rule f part_of seen.grey first.0 first.1, ap (λ length. option_map_or array_words length 0) (sym told))
+      (omega (arith, array_few heap state book rule f part_of first.1, first.2)) tt tt
+
+  abbrev MarksAt : Option ℕ → Type 0
+  MarksAt length = MarkingStands heap state.words book.owner book.colour book.fragments state.collector.phase (after_first_load scan length next (pointer_in scan.part word))
+
+  -- so it is where the word is the fragment's first one
+  at_first : (length : Option ℕ) → array_length_of (at heap state.words (Word f 0)) ≡ length → MarksAt length
+  at_first None told = loaded (ap (λ length. option_map_or array_words length 0) told) (pointer_in scan.part word) refl
+  at_first (Some cells) told = located cells told
+
+  -- and behind that one
+  goes_on : MarksAt (array_at scan.part word)
+  goes_on = elim (eqb_tells scan.part 0) as (λ _. MarksAt (array_at scan.part word)) [
+    | inl first ↦
+        let same : array_at scan.part word ≡ array_length_of (at heap state.words (Word f 0)) = rw first.0 (ap (λ p. array_length_of (at heap state.words (Word f p))) first.1) in
+        subst MarksAt (sym same) (at_first (array_length_of (at heap state.words (Word f 0))) refl)
+    | inr later ↦
+        let none : array_at scan.part word ≡ None = rw later.0 refl in
+        subst MarksAt (sym none) (loaded (none_there (omega (arith, later.1))) (pointer_in scan.part word) refl)
+  ]
 
 pub scan_keeps : (scan : Scan) → StageKeeps (stages.Scanning scan)
 scan_keeps scan heap state book rule scanning machine =
-    load_turns_on heap state book rule (stages.Scanning scan) _ scanning (Word scan.fragment scan.part) machine
-    (loaded heap state book rule scan scanning (pointer_in scan.part (at heap state.words (Word scan.fragment scan.part))) refl) (λ e. cc)
+    load_turns_on heap state book rule (stages.Scanning scan) _ scanning (Word scan.fragment scan.part) machine (goes_on heap state book rule scan scanning) (λ e. cc)

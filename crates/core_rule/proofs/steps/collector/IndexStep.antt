@@ -1,0 +1,54 @@
+-- The load of a word of an array's spine keeps the rule.
+use Rattle.std.proofs.Common.{◌≡◌, ℕ, ◌+◌, ◌%◌, ◌≤◌, sym, ◌∙◌, subst, arith}
+use Rattle.heap_model.specs.declared.heap.Heap.{Heap}
+use Rattle.heap_model.specs.account.PhaseCounts.{phase}
+use Rattle.core_machine.specs.collector.FitsTurns.{IsIndexing}
+use Rattle.core_machine.specs.collector.Marking.{spine_step}
+use Rattle.core_machine.specs.declared.collector.stage.SpineScan.{SpineScan}
+use Rattle.core_machine.specs.declared.collector.stage.Stage.TheVariants as stages
+use Rattle.core_machine.specs.declared.table.address.Address.TheVariants.{Spine}
+use Rattle.core_machine.specs.machine.Machine.{State}
+use Rattle.core_machine.specs.table.Decode.{payload_in}
+use Rattle.core_machine.specs.table.Layout.{at}
+use Rattle.core_rule.specs.Book.{Book}
+use Rattle.core_rule.specs.Colours.{WordPointsTo, IsBetween}
+use Rattle.core_rule.specs.Marking.{IsSeen, IsSpineOf, IsFewWords, MarkingStands}
+use Rattle.core_rule.specs.Rule.{Rule}
+use Rattle.core_rule.proofs.marking.Marks.{marks_at, none_dead}
+use Rattle.core_rule.proofs.marking.Scans.{may_mark, spine_points}
+use Rattle.core_rule.proofs.steps.collector.ColourTurn.{load_turns_on}
+use Rattle.core_rule.proofs.steps.TurnSteps.{StageKeeps}
+
+module _ (heap : Heap) (state : State) (book : Book) (rule : Rule heap state book) (s : SpineScan) (indexing : state.collector.stage ≡ stages.Indexing s) where
+  abbrev f : ℕ
+  f = s.scan.fragment
+
+  -- the fragment that the word names
+  abbrev target : ℕ
+  target = payload_in (at heap state.words (Spine s.spine.half (s.spine.offset + s.index)))
+
+  fits : IsIndexing heap state.collector.phase state.collector.looked s
+  fits = rw indexing at rule.machine.collector_fit.at_stage
+
+  seen : IsSeen heap state.words book.colour f (4 + s.index) × IsSpineOf heap state.words s
+  seen = rw indexing at rule.marks_stand.heap_marks.scan
+
+  few : s.words ≤ 1024
+  few = subst IsFewWords indexing rule.marks_stand.heap_marks.few
+
+  cycle : IsBetween 1 5 (phase book.history)
+  cycle = let third = fits.marks.for_marking in let same = rule.collector_stands.phase_told in record { from = omega (arith, third, same); upto = omega (arith, third, same) }
+
+  points : WordPointsTo heap state.words f (4 + s.index) target
+  points = spine_points heap state.words s seen.1 fits.fragment_within fits.index_within
+
+  marks : MarkingStands heap state.words book.owner book.colour book.fragments state.collector.phase (stages.Spreading (spine_step s) target)
+  marks = marks_at heap state.words book.owner book.colour book.fragments state.collector.phase (stages.Spreading (spine_step s) target) fits.marks.for_marking (λ e. cc)
+      rule.marks_stand.heap_marks.grey
+      (seen.0, record { as_many = seen.1.as_many; there = seen.1.there }, points,
+      may_mark heap state book rule f (rule.marks_stand.heap_marks.grey f seen.0.grey) cycle seen.0.grey (4 + s.index) target points)
+      few tt tt (none_dead heap state book rule fits.marks.for_marking (λ ended. absurd (cc (indexing, ended))))
+
+pub index_keeps : (s : SpineScan) → StageKeeps (stages.Indexing s)
+index_keeps s heap state book rule indexing machine =
+    load_turns_on heap state book rule (stages.Indexing s) _ indexing (Spine s.spine.half (s.spine.offset + s.index)) machine (marks heap state book rule s indexing) (λ e. cc)

@@ -1,0 +1,45 @@
+-- What the collector's scan led to is marked: the new colours are right.
+use Rattle.std.proofs.Common.{◌≡◌, ℕ, ◌*◌, ◌<◌, ◌%◌, inl, inr, sym, ap, ◌∙◌, subst, arith}
+use Rattle.heap_model.specs.declared.heap.Heap.{Heap}
+use Rattle.heap_model.specs.account.PhaseCounts.{phase}
+use Rattle.core_machine.specs.machine.Machine.{State}
+use Rattle.core_rule.specs.Book.{Book, Colour, fragment_at}
+use Rattle.core_rule.specs.Colours.{IsMarked}
+use Rattle.core_rule.specs.Marking.{MayMark, IsPart}
+use Rattle.core_rule.specs.Owners.{Borne, Kept}
+use Rattle.core_rule.specs.Rule.{Rule}
+use Rattle.core_rule.proofs.colours.OneBit.{bits_marked}
+use Rattle.core_rule.proofs.colours.ShadeColours.{with_mark, mark_keeps, mark_marks, mark_away, marks_shade, coloured_shade}
+use Rattle.core_rule.proofs.frames.Recoloured.{Recolours}
+use Rattle.core_rule.proofs.marking.SeatShades.{words_marked}
+
+module _ (heap : Heap) (state : State) (book : Book) (rule : Rule heap state book) (marks : state.collector.phase % 7 ≡ 3) (m : ℕ) (within : m < 16 * heap.groups)
+    (may : MayMark book.owner book.colour book.fragments m) where
+  abbrev coloured : ℕ → Colour
+  coloured = with_mark book.colour m
+
+  abbrev part_of : IsPart book.owner m
+  part_of = may.part
+
+  third : phase book.history % 7 ≡ 3
+  third = ap (λ p. p % 7) (sym rule.collector_stands.phase_told) ∙ marks
+
+  -- the object's first fragment is marked then
+  first : IsMarked coloured (fragment_at (book.fragments part_of.index) 0)
+  first = elim may.first as (λ _. IsMarked coloured (fragment_at (book.fragments part_of.index) 0)) [
+    | inl head ↦ subst (IsMarked coloured) ((rule.heap_stands.objects.back m part_of.index part_of.place part_of.kept).3 ∙ ap (fragment_at (book.fragments part_of.index)) head) (mark_marks book.colour m)
+    | inr marked ↦ mark_keeps book.colour m _ marked
+  ]
+
+  pub target_recolours : Recolours heap (words_marked heap state book rule m within) book coloured
+  target_recolours = record {
+    bits = bits_marked heap state.words book.owner 32 m rule.machine.table within (omega arith) rule.heap_stands.control_words;
+    marks = marks_shade heap state.words book.owner book.colour m rule.machine.table within rule.heap_stands.cycle.marks;
+    right = coloured_shade heap state.words book.owner book.colour m rule.machine.table within book.fragments (phase book.history) part_of.index part_of.place part_of.kept first
+        (λ rests. omega (arith, third, rests)) rule.heap_stands.cycle.coloured;
+    keeps = mark_keeps book.colour m;
+    births = λ r x borne. mark_away book.colour m x (λ same. apart r (sym borne ∙ ap book.owner same ∙ part_of.kept));
+  }
+    where
+      apart : (r : ℕ) {i k : ℕ} → Borne r ≡ Kept i k → ⊥
+      apart r e = cc
