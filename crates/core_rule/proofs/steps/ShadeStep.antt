@@ -101,8 +101,12 @@ module _ (heap : Heap) (state : State) (book : Book) (number : ℕ) (rule : Rule
       seat_steps heap state book number words_shaded new now [] rule here machine (sym (append-nil book.history)) refl
       (heap_recoloured heap state book rule (f / 16) _ group_below (with_mark book.colour f) (recolours runs))
       record {
-        own = record { holding = stands.own.holding; stored = stored_control heap state.words number seat (f / 16) _ group_below stands.own.stored; together = stands.own.together;
-            spine = spine_away heap state.words words_shaded book.spine_owner number seat new (none_has_place seat seat.place before) (none_has_place new place after) stands.own.spine };
+        own = record {
+          holding = stands.own.holding;
+          stored = stored_control heap state.words number seat (f / 16) _ group_below stands.own.stored;
+          together = stands.own.together;
+          spine = spine_away heap state.words words_shaded book.spine_owner number seat new (none_has_place seat seat.place before) (none_has_place new place after) stands.own.spine;
+        };
         names = record { registers = held; way = way; ahead = ahead };
         told = record {
           list = list;

@@ -140,7 +140,6 @@ pub open_keeps : StepKeeps (places.Access LoadingMeta) (λ heap. open_move)
 open_keeps heap state book number rule here place machine =
     let seat : Seat = seat_at state number in
     let g : Graph = graph_of heap book.history in
-    let stands = rule.seats_stand number here in
     let found : ℕ = at heap state.words (Word seat.reached 0) in
     let opens : SeatIsAtHead seat = rw place at (seat_fits rule number here).way_at_place in
     let out = set_out heap state book number rule here place in
