@@ -22,7 +22,6 @@ pub mod NoneNew
 pub mod FootprintGoes
 pub mod CarryCycle
 pub mod Shown
-pub mod OldLoads
 pub mod SeatCycle
 pub mod StagesInside
 pub mod CycleBegins

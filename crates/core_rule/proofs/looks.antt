@@ -1,7 +1,8 @@
--- What seats find by the inner calls of their collects, as histories grow.
+-- What seats find by the inner calls of their collects, as histories grow; and from where seats come to two of their places.
 pub mod Words
 pub mod Growth
 pub mod Finding
 pub mod Ways
+pub mod Origins
 pub mod Moves
 pub mod Stays

@@ -39,7 +39,7 @@ use Rattle.core_rule.proofs.footprint.CarryCycle.{carry_cycle}
 use Rattle.core_rule.proofs.footprint.Closed.{registers_inside}
 use Rattle.core_rule.proofs.footprint.FootprintGoes.{footprint_goes, stage_goes, old_goes}
 use Rattle.core_rule.proofs.footprint.Named.{cell_inside}
-use Rattle.core_rule.proofs.footprint.OldLoads.{IsOld, only_loads, begin_old, inner_old}
+use Rattle.core_rule.proofs.looks.Origins.{ComesFrom, comes_from, IsOld, begin_old, inner_old}
 use Rattle.core_rule.proofs.looks.Stays.{step_looks, begin_looks, inner_looks}
 use Rattle.core_machine.specs.seat.Collecting.{inner_place}
 use Rattle.heap_model.specs.declared.calls.collect.Inner.{Inner}
@@ -142,8 +142,8 @@ module _ (heap : Heap) (state : State) (book : Book) (stands : Stands heap state
       own same =
           let moved = due_own heap state number (next_move heap number seat) seated in
           let is_now : (seat_at after number).place ≡ places.Access ShadingOld = subst (λ n. (seat_at after n).place ≡ places.Access ShadingOld) same placed in
-          let old : IsOld (seat_after_due seat (move_at heap number seat seat.place) moved.0).place = subst IsOld (sym is_now ∙ ap (λ (s : Seat). s.place) moved.1) tt in
-          let before : seat.place ≡ places.Access LoadingOld = only_loads heap number seat moved.0 seat.place refl old in
+          let old : (seat_after_due seat (move_at heap number seat seat.place) moved.0).place ≡ places.Access ShadingOld = sym (ap (λ (s : Seat). s.place) moved.1) ∙ is_now in
+          let before : seat.place ≡ places.Access LoadingOld = subst (ComesFrom seat.place) old (comes_from heap number seat moved.0 seat.place refl) in
           let loaded : head_of (seat_at after number).loaded ≡ Some f = subst (λ n. head_of (seat_at after n).loaded ≡ Some f) same loads in
           loads_inside begun reach before f i k (sym (ap head_of (found_now before)) ∙ loaded)
         where

@@ -80,6 +80,7 @@ get_mute heap number seat words found (Some head) = one_mute _ refl refl
 module _ (heap : Heap) (state : State) (number : ℕ) where
   -- what a seat's step shows
   pub shown_mute : (place : Place) → AreMute (entries_shown heap state (move_at heap number (seat_at state number) place))
+  shown_mute (places.Making Withdrawing) = one_mute _ refl refl
   shown_mute (places.Making Gathering) = claim_mute number _
   shown_mute (places.Making Withdrawing) = one_mute _ refl refl
   shown_mute (places.Making Returning) = one_mute _ refl refl

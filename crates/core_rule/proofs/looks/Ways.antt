@@ -1,11 +1,10 @@
 -- What a seat has found it keeps on its ways, and as a call begins.
-use Rattle.std.specs.Prelude.{if◌then◌else◌, nat_lt, Option, Some, None}
+use Rattle.std.specs.Prelude.{if◌then◌else◌, Option, Some, None}
 use Rattle.std.proofs.Common.{◌≡◌, ◌==◌, ◌++◌, ℕ, ◌+◌, Bool, true, false, refl, sym, subst}
 use Rattle.heap_model.specs.declared.command.Command.{Command}
 use Rattle.heap_model.specs.declared.command.Command.TheVariants as commands
 use Rattle.heap_model.specs.declared.heap.Heap.{Heap}
 use Rattle.core_machine.specs.declared.place.Collecting.TheVariants.{Noting}
-use Rattle.core_machine.specs.declared.place.Making.TheVariants.{Withdrawing}
 use Rattle.core_machine.specs.declared.place.Place.{Place}
 use Rattle.core_machine.specs.declared.place.Place.TheVariants as places
 use Rattle.core_machine.specs.declared.seat.register.Register.{Register}
@@ -14,9 +13,9 @@ use Rattle.core_machine.specs.machine.Machine.{after_begin}
 use Rattle.core_machine.specs.seat.Access.{way_place_of, after_link, after_walk, with_field_place, after_length, at_access, access_start}
 use Rattle.core_machine.specs.seat.Making.{gather_next, next_group_of, after_claim, after_budget}
 use Rattle.core_machine.specs.seat.Registers.{register_in}
-use Rattle.core_machine.specs.seat.Seat.{Seat, spine_need}
+use Rattle.core_machine.specs.seat.Seat.{Seat}
 use Rattle.core_machine.specs.table.Fragments.{clear_in}
-use Rattle.core_machine.proofs.seat_lemmas.Fitting.{goes_on_cases}
+use Rattle.core_machine.proofs.seat_lemmas.Fitting.{goes_on_cases, budget_cases}
 use Rattle.core_rule.proofs.looks.Growth.{IsElsewhere}
 
 -- the seat keeps what it has found, and stands at no inner call's own place
@@ -43,11 +42,7 @@ stays_claim heap seat found =
     record { looks = stays.looks; elsewhere = stays.elsewhere }
 
 pub stays_budget : (heap : Heap) (seat : Seat) (found : ℕ) → StaysFound seat (after_budget heap seat found)
-stays_budget heap seat found = by (nat_lt heap.spine (found + spine_need seat))
-  where
-    by : (b : Bool) → StaysFound seat (if b then record seat { used = found; place = places.Making Withdrawing } else gather_next heap seat)
-    by true = record { looks = refl; elsewhere = tt }
-    by false = stays_gather heap seat
+stays_budget heap seat found = budget_cases (λ s. StaysFound seat s) heap seat found (λ many. record { looks = refl; elsewhere = tt }) (λ few. stays_gather heap seat)
 
 pub stays_walk : (seat : Seat) (found : ℕ) → StaysFound seat (after_walk seat found)
 stays_walk seat found = by (seat.links == 0)

@@ -1,7 +1,7 @@
 -- What a step adds to the history may stand in a play, where no other seat made a step since the call began.
 use Rattle.std.specs.List.{list_all}
 use Rattle.std.specs.Prelude.{if◌then◌else◌, Option, None, Some, IfSome}
-use Rattle.std.proofs.Common.{◌≡◌, ◌≢◌, ◌==◌, ℕ, ◌+◌, ◌<◌, Bool, true, false, inl, inr, List, [], ◌∷◌, ◌++◌, length, drop, refl, sym, ◌∙◌, subst, arith}
+use Rattle.std.proofs.Common.{◌≡◌, ◌≢◌, ◌==◌, ℕ, ◌+◌, ◌%◌, ◌^◌, ◌<◌, ◌≤◌, Bool, true, false, inl, inr, List, [], ◌∷◌, ◌++◌, length, drop, refl, sym, ◌∙◌, subst, arith}
 use Rattle.std.proofs.lemmas.Bool.{eq-eqb}
 use Rattle.std.proofs.lemmas.Bool.Decides.{eqb_tells}
 use Rattle.heap_model.specs.declared.command.Command.{Command}
@@ -14,7 +14,7 @@ use Rattle.heap_model.specs.declared.reply.Reply.TheVariants as replies
 use Rattle.heap_model.specs.account.Account.{KeepsSpaceBy, ButSpine}
 use Rattle.heap_model.specs.account.Effects.{is_of}
 use Rattle.heap_model.specs.account.Refusals.{FindsSpace}
-use Rattle.heap_model.specs.account.Space.{taken_of, spent_of}
+use Rattle.heap_model.specs.account.Space.{taken_of, spent_of, words_granted}
 use Rattle.core_machine.specs.declared.table.address.Address.TheVariants.{Word, Phase}
 use Rattle.heap_model.specs.account.PhaseCounts.{phase}
 use Rattle.heap_model.specs.account.Phases.{IsBehind, SawBehind, ShowsPhases}
@@ -23,7 +23,7 @@ use Rattle.core_machine.specs.declared.place.Collecting.TheVariants.{Looking, Co
 use Rattle.core_machine.specs.declared.place.Collecting.TheVariants as collecting
 use Rattle.core_machine.specs.seat.HandshakeMoves.{phase_told}
 use Rattle.core_machine.specs.declared.place.Leaving.TheVariants.{Emptying, Parting}
-use Rattle.core_machine.specs.declared.place.Making.TheVariants.{Gathering, Returning, Refusing, Storing, Bearing}
+use Rattle.core_machine.specs.declared.place.Making.TheVariants.{Withdrawing, Gathering, Returning, Refusing, Storing, Bearing}
 use Rattle.core_machine.specs.declared.place.Place.{Place}
 use Rattle.core_machine.specs.declared.place.Place.TheVariants as places
 use Rattle.core_machine.specs.declared.place.Polling.TheVariants.{Asking, Answering}
@@ -35,11 +35,11 @@ use Rattle.core_machine.specs.table.Layout.{at}
 use Rattle.core_machine.specs.table.Decode.{head_of}
 use Rattle.core_machine.specs.machine.Machine.{State, seat_at, entries_shown, found_by}
 use Rattle.core_machine.specs.seat.Making.{last_group_of, next_object_id}
-use Rattle.core_machine.specs.Moves.{move_at, takes_some, full_entry, last_birth_move, birth_move}
+use Rattle.core_machine.specs.Moves.{move_at, takes_some, full_entry, spine_full_entry, last_birth_move, birth_move}
 use Rattle.core_machine.specs.seat.Access.{meta_reply_of}
 use Rattle.core_machine.specs.seat.AccessMoves.{reply_entries_if, got_shows}
 use Rattle.core_machine.specs.seat.Registers.{register_in, value_of, is_same_value}
-use Rattle.core_machine.specs.seat.Seat.{Seat, need}
+use Rattle.core_machine.specs.seat.Seat.{Seat, need, spine_need}
 use Rattle.core_machine.specs.seat.Local.{answer_of, local_reply_of}
 use Rattle.core_rule.specs.Book.{Book}
 use Rattle.core_rule.specs.Gathers.{GathersRight}
@@ -49,13 +49,14 @@ use Rattle.core_rule.proofs.entries.AtRest.{seat_fits}
 use Rattle.core_rule.proofs.hand.Bodies.{bare_hand}
 use Rattle.core_rule.proofs.entries.PhasesTold.{told_cases, told_if}
 use Rattle.core_rule.proofs.looks.Words.{word_below}
-use Rattle.core_rule.proofs.runs.Plays.{behind_keeps, IsPlainReply, MayPlay, taking, giving, answering, saying, plain_keeps, finds_in_play}
+use Rattle.core_rule.proofs.runs.Plays.{behind_keeps, spine_keeps, IsPlainReply, MayPlay, taking, giving, answering, saying, plain_keeps, finds_in_play}
 use Rattle.core_rule.proofs.entries.MakingCommands.{full_keeps}
 
--- a seat that is about to be noted stands behind by its word
-abbrev pub NotedNow : Heap → List ℕ → Place → Type 0
-NotedNow heap words (places.Collecting (Noting (notes.Waits other answer p))) = IsBehindNow heap words other answer p
-NotedNow heap words _ = Unit {0}
+-- what a seat has found is so now: one that it is about to note stands behind by its word, and as many spine words are granted as its refusal tells
+abbrev pub FoundNow : Heap → List ℕ → List Entry → Seat → Place → Type 0
+FoundNow heap words history seat (places.Collecting (Noting (notes.Waits other answer p))) = IsBehindNow heap words other answer p
+FoundNow heap words history seat (places.Making Withdrawing) = words_granted history ≡ seat.used
+FoundNow heap words history seat _ = Unit {0}
 
 -- the entries are the seat's, and may stand in a play where they may in a run
 pub record AddsPlay (heap : Heap) (before : List Entry) (number : ℕ) (added : List Entry) : Type 0 where
@@ -140,6 +141,15 @@ refusal heap state book number rule here placed alone =
     (λ run. full_keeps seat.command refuses.0.makes.an_object heap true book.history number (length seat.reserve + seat.given)
     (omega (arith, own)) (omega (arith, own, fits.own.small_reserve)) less finds)
 
+spine_refusal : (heap : Heap) (state : State) (book : Book) (number : ℕ) → Rule heap state book → words_granted book.history ≡ (seat_at state number).used
+    → AddsPlay heap book.history number (spine_full_entry number (seat_at state number) ∷ [])
+spine_refusal heap state book number rule found =
+    let seat : Seat = seat_at state number in
+    let few : words_granted book.history ≤ heap.spine = omega (arith, rule.budgets.told, rule.budgets.low) in
+    let shown : seat.used % 2 ^ 32 ≡ seat.used = omega (arith, few, found, rule.machine.limits.spine_fits) in
+    one heap book.history number (spine_full_entry number seat) (eq-eqb number number refl)
+    (spine_keeps heap book.history number seat.command (spine_need seat) (seat.used % 2 ^ 32) (omega (arith, shown, found, rule.budgets.none_returned)))
+
 -- where a seat that is noted stands behind by its word, it does so by the history
 noted_behind : (heap : Heap) (state : State) (book : Book) (number : ℕ) → Rule heap state book → (other answer p : ℕ) → IsBehindNow heap state.words other answer p → (command : Command)
     → ShowsPhases heap false book.history number command (replies.Waits other answer p) → command ≡ commands.Collect → IsBehind other answer p book.history
@@ -153,9 +163,10 @@ noted_behind heap state book number rule other answer p now command shows collec
 
 -- what the step due of a seat adds, where all entries since its call began are its own
 pub adds_play : (heap : Heap) (state : State) (book : Book) (number : ℕ) (place : Place) → Rule heap state book → number < heap.seats → (seat_at state number).place ≡ place
-    → list_all (is_of number) (drop (book.begun number) book.history) ≡ true → NotedNow heap state.words place
+    → list_all (is_of number) (drop (book.begun number) book.history) ≡ true → FoundNow heap state.words book.history (seat_at state number) place
     → AddsPlay heap book.history number (entries_shown heap state (move_at heap number (seat_at state number) place))
 adds_play heap state book number places.Idle rule here placed alone now = nothing heap book.history number
+adds_play heap state book number (places.Making Withdrawing) rule here placed alone now = spine_refusal heap state book number rule now
 adds_play heap state book number (places.Making Gathering) rule here placed alone now = took heap book.history number _
 adds_play heap state book number (places.Making Returning) rule here placed alone now = gave heap book.history number _
 adds_play heap state book number (places.Making Storing) rule here placed alone now = nothing heap book.history number

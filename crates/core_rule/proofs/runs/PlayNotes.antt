@@ -1,73 +1,127 @@
--- Which seat is about to note one that stands behind by its word, in a run of whole calls.
+-- What a seat has found, in a run of whole calls: one that it notes stands behind by its word, and so many spine words are granted as it tells.
 use Rattle.std.specs.Prelude.{Option, None, Some}
-use Rattle.std.proofs.Common.{◌≡◌, ◌≢◌, ℕ, ◌<◌, inl, inr, List, length, refl, sym, ap, ◌∙◌, subst}
+use Rattle.std.proofs.Common.{◌≡◌, ◌≢◌, ◌++◌, ℕ, ◌<◌, inl, inr, List, length, refl, sym, ap, ◌∙◌, subst, arith}
 use Rattle.std.proofs.lemmas.Bool.Decides.{eqb_tells}
-use Rattle.std.proofs.lemmas.List.{get_or-set_same}
+use Rattle.std.proofs.lemmas.List.{append-nil, get_or-set_same}
 use Rattle.heap_model.specs.declared.command.Command.{Command}
+use Rattle.heap_model.specs.declared.entry.Entry.{Entry}
 use Rattle.heap_model.specs.declared.heap.Heap.{Heap}
+use Rattle.heap_model.specs.account.Space.{words_granted}
 use Rattle.core_machine.specs.declared.place.Collecting.TheVariants.{Looking, Asking, Comparing, Noting}
+use Rattle.core_machine.specs.declared.place.Making.TheVariants.{Granting, Withdrawing}
 use Rattle.core_machine.specs.declared.place.Place.{Place}
 use Rattle.core_machine.specs.declared.place.Place.TheVariants as places
 use Rattle.heap_model.specs.declared.calls.collect.Inner.{Inner}
 use Rattle.heap_model.specs.declared.calls.collect.Inner.TheVariants as inners
 use Rattle.heap_model.specs.declared.calls.collect.CollectReply.TheVariants as notes
+use Rattle.core_machine.specs.declared.table.address.Address.TheVariants.{Budget}
+use Rattle.core_machine.specs.table.Layout.{at}
+use Rattle.core_machine.proofs.table_lemmas.Free.{sum_zero}
 use Rattle.core_machine.specs.machine.Opening.{IsOpening}
 use Rattle.core_machine.specs.seat.Collecting.{inner_place}
 use Rattle.core_rule.specs.Rule.{Rule}
-use Rattle.core_machine.specs.machine.Machine.{State, seat_at, state_after_due, Begins, Steps, Can, state_after, after_begin}
-use Rattle.core_machine.specs.Moves.{Move, next_move}
+use Rattle.core_machine.specs.machine.Machine.{State, seat_at, state_after_due, Begins, Steps, Can, state_after, after_begin, entries, entries_shown, found_by}
+use Rattle.core_machine.specs.Moves.{Move, move_at, next_move, seat_after, seat_after_due}
 use Rattle.core_machine.specs.seat.Seat.{Seat, absent_seat}
 use Rattle.core_rule.specs.Book.{Book}
+use Rattle.core_rule.specs.Budgets.{granted_at, refused_at, of_seats}
 use Rattle.core_rule.specs.Laws.{IsAlone, NotesNow}
-use Rattle.core_rule.proofs.runs.PlayEntries.{NotedNow}
+use Rattle.core_rule.proofs.runs.PlayEntries.{FoundNow}
 use Rattle.core_rule.proofs.looks.Moves.{GoesBy, goes_at}
+use Rattle.core_rule.proofs.looks.Origins.{IsUsual, ComesFrom, comes_from, grant_finds, begin_usual}
 use Rattle.core_rule.proofs.looks.Ways.{IsNote, elsewhere_unnoted, begin_stays}
 use Rattle.core_rule.proofs.runs.OpeningStands.{opening_seat_at}
 
--- a seat without a call in flight is about to note nothing
-pub idle_noted : (heap : Heap) (words : List ℕ) (place : Place) → place ≡ places.Idle → NotedNow heap words place
-idle_noted heap words place idle = subst (NotedNow heap words) (sym idle) tt
+-- a seat without a call in flight has found nothing
+pub idle_noted : (heap : Heap) (words : List ℕ) (history : List Entry) (seat : Seat) → seat.place ≡ places.Idle → FoundNow heap words history seat seat.place
+idle_noted heap words history seat idle = subst (FoundNow heap words history seat) (sym idle) tt
 
-pub noted_alone : (heap : Heap) (state new : State) (number : ℕ) → IsAlone state number → length state.seats ≡ heap.seats → ((r : ℕ) → r ≢ number → seat_at new r ≡ seat_at state r)
-    → NotedNow heap new.words (seat_at new number).place → (r : ℕ) → r < heap.seats → NotedNow heap new.words (seat_at new r).place
-noted_alone heap state new number alone all stay own r below =
-    elim (eqb_tells r number) as (λ _. NotedNow heap new.words (seat_at new r).place) [
-      | inl same ↦ subst (λ n. NotedNow heap new.words (seat_at new n).place) (sym same.1) own
-      | inr apart ↦ idle_noted heap new.words (seat_at new r).place (ap (λ s. s.place) (stay r apart.1) ∙ alone r (rw all below) apart.1)
+pub noted_alone : (heap : Heap) (state new : State) (history : List Entry) (number : ℕ) → IsAlone state number → length state.seats ≡ heap.seats → ((r : ℕ) → r ≢ number → seat_at new r ≡ seat_at state r)
+    → FoundNow heap new.words history (seat_at new number) (seat_at new number).place → (r : ℕ) → r < heap.seats → FoundNow heap new.words history (seat_at new r) (seat_at new r).place
+noted_alone heap state new history number alone all stay own r below =
+    elim (eqb_tells r number) as (λ _. FoundNow heap new.words history (seat_at new r) (seat_at new r).place) [
+      | inl same ↦ subst (λ n. FoundNow heap new.words history (seat_at new n) (seat_at new n).place) (sym same.1) own
+      | inr apart ↦ idle_noted heap new.words history (seat_at new r) (ap (λ s. s.place) (stay r apart.1) ∙ alone r (rw all below) apart.1)
     ]
 
--- nor is one that stands at no note
-elsewhere_noted : (heap : Heap) (words : List ℕ) (place : Place) → ¬ IsNote place → NotedNow heap words place
-elsewhere_noted heap words (places.Collecting (Noting reply)) none = absurd (none tt)
-elsewhere_noted heap words (places.Collecting Looking) none = tt
-elsewhere_noted heap words (places.Collecting (Asking other)) none = tt
-elsewhere_noted heap words (places.Collecting (Comparing other p)) none = tt
-elsewhere_noted heap words _ none = tt
+-- nor has one that stands at no note, and takes no spine words back
+elsewhere_noted : (heap : Heap) (words : List ℕ) (history : List Entry) (seat : Seat) (place : Place) → ¬ IsNote place → (place ≡ places.Making Withdrawing → words_granted history ≡ seat.used)
+    → FoundNow heap words history seat place
+elsewhere_noted heap words history seat (places.Collecting (Noting reply)) none granted = absurd (none tt)
+elsewhere_noted heap words history seat (places.Collecting Looking) none granted = tt
+elsewhere_noted heap words history seat (places.Collecting (Asking other)) none granted = tt
+elsewhere_noted heap words history seat (places.Collecting (Comparing other p)) none granted = tt
+elsewhere_noted heap words history seat (places.Making Withdrawing) none granted = granted refl
+elsewhere_noted heap words history seat _ none granted = tt
 
--- and no step or begin of a call comes to one
-pub step_noted : (heap : Heap) (state : State) (book : Book) (number : ℕ) → Rule heap state book → number < length state.seats → NotedNow heap state.words (seat_at state number).place
-    → NotedNow heap (state_after heap state (Steps number)).words (seat_at (state_after heap state (Steps number)) number).place
-step_noted heap state book number rule here was = moves (next_move heap number (seat_at state number)) (goes_at heap state book rule number (seat_at state number).place refl)
-  where
-    moves : (move : Option Move) → GoesBy heap state book rule number move → NotedNow heap (state_after_due heap state number move).words (seat_at (state_after_due heap state number move) number).place
-    moves None goes = was
-    moves (Some move) goes = subst (λ (s : Seat). NotedNow heap (state_after_due heap state number (Some move)).words s.place) (sym (get_or-set_same state.seats number _ absent_seat here))
-        (elsewhere_noted heap _ _ goes.unnoted)
+module _ (heap : Heap) (state : State) (book : Book) (number : ℕ) (rule : Rule heap state book) (alone : IsAlone state number) where
+  abbrev seat : Seat
+  seat = seat_at state number
 
-pub begin_noted : (heap : Heap) (state : State) (number : ℕ) (command : Command) → Can heap state (Begins number command)
-    → NotedNow heap state.words (seat_at (state_after heap state (Begins number command)) number).place
-begin_noted heap state number command can =
-    subst (λ (s : Seat). NotedNow heap state.words s.place) (sym (get_or-set_same state.seats number (after_begin heap (seat_at state number) command) absent_seat can.0))
-    (elsewhere_noted heap state.words (after_begin heap (seat_at state number) command).place
-    (elsewhere_unnoted (after_begin heap (seat_at state number) command).place (begin_stays heap (seat_at state number) command can.1.idle).elsewhere))
+  -- a number of each seat is that of this one alone, where it is none without a call in flight
+  none_summed : (weight : Seat → Place → ℕ) → ((s : Seat) → weight s places.Idle ≡ 0) → weight seat seat.place ≡ 0 → of_seats heap state weight ≡ 0
+  none_summed weight idle own = sum_zero heap.seats (λ r. weight (seat_at state r) (seat_at state r).place) (λ r below. elim (eqb_tells r number) as (λ _. weight (seat_at state r) (seat_at state r).place ≡ 0) [
+    | inl same ↦ subst (λ n. weight (seat_at state n) (seat_at state n).place ≡ 0) (sym same.1) own
+    | inr apart ↦ ap (weight (seat_at state r)) (alone r (rw rule.machine.seated below) apart.1) ∙ idle (seat_at state r)
+  ])
+
+  -- so a grant finds what is granted
+  grant_tells : seat.place ≡ places.Making Granting → at heap state.words Budget ≡ words_granted book.history
+  grant_tells placed =
+      let refused : of_seats heap state refused_at ≡ 0 = none_summed refused_at (λ s. refl) (ap (refused_at seat) placed) in
+      let others : of_seats heap state granted_at ≡ 0 = none_summed granted_at (λ s. refl) (ap (granted_at seat) placed) in
+      omega (arith, rule.budgets.word, rule.budgets.told, refused, others)
+
+  -- where a step comes to take spine words back it has found them
+  abbrev TellsBy : Option Move → Type 0
+  TellsBy None = Unit {0}
+  TellsBy (Some move) = (seat_after move (found_by heap state move.step)).place ≡ places.Making Withdrawing
+      → words_granted (book.history ++ move.shows state.words (found_by heap state move.step)) ≡ (seat_after move (found_by heap state move.step)).used
+
+  no_grant : (place : Place) → place ≢ places.Making Granting → (move : Option Move) → ((found : ℕ) → ComesFrom place (seat_after_due seat move found).place) → TellsBy move
+  no_grant place apart None comes = tt
+  no_grant place apart (Some move) comes = λ is. absurd (apart (subst (ComesFrom place) is (comes (found_by heap state move.step))))
+
+  tells_at : (place : Place) → seat.place ≡ place → TellsBy (move_at heap number seat place)
+  tells_at (places.Making Granting) placed = λ is.
+      ap words_granted (append-nil book.history) ∙ sym (grant_tells placed) ∙ sym (grant_finds heap seat (at heap state.words Budget) is)
+  tells_at place placed = no_grant place (λ e. cc) (move_at heap number seat place) (λ found. comes_from heap number seat found place placed)
+
+  -- so what a seat has found is so after its step
+  pub step_noted : number < length state.seats → FoundNow heap state.words book.history seat seat.place
+      → FoundNow heap (state_after heap state (Steps number)).words (book.history ++ entries heap state (Steps number)) (seat_at (state_after heap state (Steps number)) number)
+      (seat_at (state_after heap state (Steps number)) number).place
+  step_noted here was = moves (next_move heap number seat) (goes_at heap state book rule number seat.place refl) (tells_at seat.place refl)
+    where
+      moves : (move : Option Move) → GoesBy heap state book rule number move → TellsBy move
+          → FoundNow heap (state_after_due heap state number move).words (book.history ++ entries_shown heap state move) (seat_at (state_after_due heap state number move) number)
+          (seat_at (state_after_due heap state number move) number).place
+      moves None goes tells = subst (λ es. FoundNow heap state.words es seat seat.place) (sym (append-nil book.history)) was
+      moves (Some move) goes tells =
+          let next : Seat = seat_after move (found_by heap state move.step) in
+          let now : List Entry = book.history ++ move.shows state.words (found_by heap state move.step) in
+          subst (λ (s : Seat). FoundNow heap (state_after_due heap state number (Some move)).words now s s.place) (sym (get_or-set_same state.seats number next absent_seat here))
+          (elsewhere_noted heap (state_after_due heap state number (Some move)).words now next next.place goes.unnoted tells)
+
+-- no call begins with something found
+pub begin_noted : (heap : Heap) (state : State) (history : List Entry) (number : ℕ) (command : Command) → Can heap state (Begins number command)
+    → FoundNow heap state.words history (seat_at (state_after heap state (Begins number command)) number) (seat_at (state_after heap state (Begins number command)) number).place
+begin_noted heap state history number command can =
+    let begun : Seat = after_begin heap (seat_at state number) command in
+    subst (λ (s : Seat). FoundNow heap state.words history s s.place) (sym (get_or-set_same state.seats number begun absent_seat can.0))
+    (elsewhere_noted heap state.words history begun begun.place
+    (elsewhere_unnoted begun.place (begin_stays heap (seat_at state number) command can.1.idle).elsewhere)
+    (λ is. absurd (subst IsUsual is (begin_usual heap (seat_at state number) command can.1.idle))))
 
 -- an inner call does where what it notes is so now
-pub inner_noted : (heap : Heap) (state : State) (inner : Inner) → NotesNow heap state inner → NotedNow heap state.words (inner_place inner)
-inner_noted heap state inners.Look now = tt
-inner_noted heap state inners.Answer now = tt
-inner_noted heap state (inners.Behind other) now = tt
-inner_noted heap state (inners.Note (notes.Cycle j)) now = tt
-inner_noted heap state (inners.Note (notes.Waits other answer p)) now = now
+pub inner_noted : (heap : Heap) (state : State) (history : List Entry) (begun : Seat) (inner : Inner) → NotesNow heap state inner → FoundNow heap state.words history begun (inner_place inner)
+inner_noted heap state history begun inners.Look now = tt
+inner_noted heap state history begun inners.Answer now = tt
+inner_noted heap state history begun (inners.Behind other) now = tt
+inner_noted heap state history begun (inners.Note (notes.Cycle j)) now = tt
+inner_noted heap state history begun (inners.Note (notes.Waits other answer p)) now = now
 
-pub opening_noted : (heap : Heap) (state : State) → IsOpening heap state → (number : ℕ) → number < heap.seats → NotedNow heap state.words (seat_at state number).place
-opening_noted heap state opens number below = idle_noted heap state.words (seat_at state number).place (ap (λ (s : Seat). s.place) (opening_seat_at heap state number opens below))
+pub opening_noted : (heap : Heap) (state : State) (history : List Entry) → IsOpening heap state → (number : ℕ) → number < heap.seats
+    → FoundNow heap state.words history (seat_at state number) (seat_at state number).place
+opening_noted heap state history opens number below =
+    idle_noted heap state.words history (seat_at state number) (ap (λ (s : Seat). s.place) (opening_seat_at heap state number opens below))

@@ -30,16 +30,16 @@ use Rattle.core_rule.proofs.footprint.EndsRightly.{ends_rightly}
 use Rattle.core_rule.proofs.footprint.SeatCycle.{step_cycle, begin_cycle, inner_cycle}
 use Rattle.core_rule.proofs.footprint.TurnCycle.{turn_cycle}
 use Rattle.core_rule.proofs.steps.Assemble.{Keeps}
-use Rattle.core_rule.proofs.runs.PlayEntries.{AddsPlay, NotedNow, adds_play}
+use Rattle.core_rule.proofs.runs.PlayEntries.{AddsPlay, FoundNow, adds_play}
 use Rattle.core_rule.proofs.runs.PlayNotes.{idle_noted, noted_alone, step_noted, begin_noted, inner_noted, opening_noted}
 use Rattle.core_rule.proofs.runs.Plays.{MayPlay, play_more, advancing, freeing, ending, plain_keeps}
 use Rattle.core_rule.proofs.runs.Runs.{MachineStays, OpeningStands, EachStepKeeps, EachBeginKeeps, EachInnerKeeps, EachTurnKeeps, seat_of_step}
 
--- the history is a play's, a seat that is about to be noted stands behind, and since the call of a seat began all entries are its own
+-- the history is a play's, what a seat has found is so, and since the call of a seat began all entries are its own
 pub record PlaysOn (heap : Heap) (state : State) (book : Book) : Type 0 where
   pub stands : Stands heap state book
   pub legal : IsLegalBy ButSpine heap true book.history
-  pub noted : (number : ℕ) → number < heap.seats → NotedNow heap state.words (seat_at state number).place
+  pub noted : (number : ℕ) → number < heap.seats → FoundNow heap state.words book.history (seat_at state number) (seat_at state number).place
   pub own : (number : ℕ) → number < heap.seats → (seat_at state number).place ≢ places.Idle → list_all (is_of number) (drop (book.begun number) book.history) ≡ true
 
 own_more : (number begun : ℕ) (before added : List Entry) → begun ≤ length before → list_all (is_of number) (drop begun before) ≡ true → list_all (is_of number) added ≡ true
@@ -71,14 +71,14 @@ own_alone heap state new now number alone all stay own r below active =
 
 -- so it is after the rule is kept, where what is added may stand in a play
 plays_next : {heap : Heap} {before new : State} {book : Book} {begun : ℕ → ℕ} {added : List Entry} (keeps : Keeps heap before new book begun added) → Stands heap new keeps.now → MayPlay heap book.history added → IsLegalBy ButSpine heap true book.history
-    → ((r : ℕ) → r < heap.seats → NotedNow heap new.words (seat_at new r).place)
+    → ((r : ℕ) → r < heap.seats → FoundNow heap new.words (book.history ++ added) (seat_at new r) (seat_at new r).place)
     → ((r : ℕ) → r < heap.seats → (seat_at new r).place ≢ places.Idle → list_all (is_of r) (drop (keeps.now.begun r) keeps.now.history) ≡ true) → PlaysNext heap new book.history added
 plays_next {heap} {before} {new} {book} {begun} {added} keeps stands may legal noted own =
     let run : IsLegalBy ButSpine heap false (book.history ++ added) = subst (IsLegalBy ButSpine heap false) keeps.grown keeps.rule.heap_stands.legal in
     record {
       now = keeps.now;
       grown = keeps.grown;
-      plays = record { stands = stands; legal = subst (IsLegalBy ButSpine heap true) (sym keeps.grown) (play_more heap book.history added may legal run); noted = noted; own = own };
+      plays = record { stands = stands; legal = subst (IsLegalBy ButSpine heap true) (sym keeps.grown) (play_more heap book.history added may legal run); noted = λ r below. subst (λ es. FoundNow heap new.words es (seat_at new r) (seat_at new r).place) (sym keeps.grown) (noted r below); own = own };
     }
 
 step_plays : MachineStays → EachStepKeeps → (heap : Heap) (state : State) (book : Book) (number : ℕ) → PlaysOn heap state book → IsAlone state number → Can heap state (Steps number)
@@ -93,8 +93,8 @@ step_plays stays steps heap state book number plays alone can =
     let earlier : book.begun number ≤ length book.history = (plays.stands.rule.seats_stand number here).told.began.earlier in
     let own_now : list_all (is_of number) (drop (keeps.now.begun number) keeps.now.history) ≡ true
     = rw (keeps.calls, keeps.grown) (own_more number (book.begun number) book.history (entries heap state (Steps number)) earlier (plays.own number here active) adds.own) in
-    plays_next keeps (step_cycle heap state book plays.stands number here keeps) adds.may plays.legal (noted_alone heap state (state_after heap state (Steps number)) number alone plays.stands.rule.machine.seated
-    (λ r apart. moved_other heap state number r (next_move heap number (seat_at state number)) apart) (step_noted heap state book number plays.stands.rule here_seated (plays.noted number here))) (own_alone heap state (state_after heap state (Steps number)) keeps.now number alone plays.stands.rule.machine.seated
+    plays_next keeps (step_cycle heap state book plays.stands number here keeps) adds.may plays.legal (noted_alone heap state (state_after heap state (Steps number)) (book.history ++ entries heap state (Steps number)) number alone plays.stands.rule.machine.seated
+    (λ r apart. moved_other heap state number r (next_move heap number (seat_at state number)) apart) (step_noted heap state book number plays.stands.rule alone here_seated (plays.noted number here))) (own_alone heap state (state_after heap state (Steps number)) keeps.now number alone plays.stands.rule.machine.seated
     (λ r apart. moved_other heap state number r (next_move heap number (seat_at state number)) apart) own_now)
 
 nothing_since : (number : ℕ) (history : List Entry) → list_all (is_of number) (drop (length history) history) ≡ true
@@ -109,8 +109,8 @@ begin_plays stays begin heap state book number command plays alone can =
     let first : begins number (length book.history) book.begun number ≡ length book.history = rw (eq-eqb number number refl) refl in
     let own_now : list_all (is_of number) (drop (keeps.now.begun number) keeps.now.history) ≡ true
     = rw (keeps.calls, same, first) (nothing_since number book.history) in
-    plays_next keeps (begin_cycle heap state book plays.stands number (rw (← plays.stands.rule.machine.seated) can.0) command (begins number (length book.history) book.begun) can keeps) tt plays.legal (noted_alone heap state (state_after heap state (Begins number command)) number alone plays.stands.rule.machine.seated
-    (λ r apart. get_or-set_other state.seats number r _ absent_seat apart) (begin_noted heap state number command can)) (own_alone heap state (state_after heap state (Begins number command)) keeps.now number alone plays.stands.rule.machine.seated
+    plays_next keeps (begin_cycle heap state book plays.stands number (rw (← plays.stands.rule.machine.seated) can.0) command (begins number (length book.history) book.begun) can keeps) tt plays.legal (noted_alone heap state (state_after heap state (Begins number command)) (book.history ++ []) number alone plays.stands.rule.machine.seated
+    (λ r apart. get_or-set_other state.seats number r _ absent_seat apart) (begin_noted heap state (book.history ++ []) number command can)) (own_alone heap state (state_after heap state (Begins number command)) keeps.now number alone plays.stands.rule.machine.seated
     (λ r apart. get_or-set_other state.seats number r _ absent_seat apart) own_now)
 
 inner_plays : MachineStays → EachInnerKeeps → (heap : Heap) (state : State) (book : Book) (number : ℕ) (inner : Inner) → PlaysOn heap state book → IsAlone state number → NotesNow heap state inner
@@ -122,8 +122,8 @@ inner_plays stays inners heap state book number inner plays alone now can =
     let own_now : list_all (is_of number) (drop (keeps.now.begun number) keeps.now.history) ≡ true
     = rw (keeps.calls, same, first) (nothing_since number book.history) in
     plays_next keeps (inner_cycle heap state book plays.stands number (rw (← plays.stands.rule.machine.seated) can.0) inner (begins number (length book.history) book.begun) can keeps) tt plays.legal
-    (noted_alone heap state (state_after heap state (BeginsInner number inner)) number alone plays.stands.rule.machine.seated (λ r apart. get_or-set_other state.seats number r _ absent_seat apart)
-    (subst (λ (s : Seat). NotedNow heap state.words s.place) (sym (get_or-set_same state.seats number (after_inner_begin (seat_at state number) inner) absent_seat can.0)) (inner_noted heap state inner now)))
+    (noted_alone heap state (state_after heap state (BeginsInner number inner)) (book.history ++ []) number alone plays.stands.rule.machine.seated (λ r apart. get_or-set_other state.seats number r _ absent_seat apart)
+    (subst (λ (s : Seat). FoundNow heap state.words (book.history ++ []) s s.place) (sym (get_or-set_same state.seats number (after_inner_begin (seat_at state number) inner) absent_seat can.0)) (inner_noted heap state (book.history ++ []) (after_inner_begin (seat_at state number) inner) inner now)))
     (own_alone heap state (state_after heap state (BeginsInner number inner)) keeps.now number alone plays.stands.rule.machine.seated
     (λ r apart. get_or-set_other state.seats number r _ absent_seat apart) own_now)
 
@@ -138,7 +138,7 @@ turn_plays : MachineStays → EachTurnKeeps → (heap : Heap) (state : State) (b
     → PlaysNext heap (state_after heap state Turns) book.history (entries heap state Turns)
 turn_plays stays turn heap state book plays idle can =
     let keeps = turn heap state book plays.stands.rule (ends_rightly heap state book plays.stands) can (stays heap state Turns plays.stands.rule.machine can) in
-    plays_next keeps (turn_cycle heap state book plays.stands state.collector.stage refl keeps) (turn_may heap book.history state.collector state.collector.stage) plays.legal (λ r below. idle_noted heap (state_after heap state Turns).words (seat_at state r).place (idle r (rw plays.stands.rule.machine.seated below))) (λ r below active. absurd (active (idle r (rw plays.stands.rule.machine.seated below))))
+    plays_next keeps (turn_cycle heap state book plays.stands state.collector.stage refl keeps) (turn_may heap book.history state.collector state.collector.stage) plays.legal (λ r below. idle_noted heap (state_after heap state Turns).words (book.history ++ entries heap state Turns) (seat_at state r) (idle r (rw plays.stands.rule.machine.seated below))) (λ r below active. absurd (active (idle r (rw plays.stands.rule.machine.seated below))))
 
 module _ (stays : MachineStays) (steps : EachStepKeeps) (begin : EachBeginKeeps) (inners_keep : EachInnerKeeps) (turn : EachTurnKeeps) where
   event_plays : (heap : Heap) (state : State) (book : Book) (event : Event) → PlaysOn heap state book → HappensAlone heap state event → Can heap state event
@@ -166,7 +166,7 @@ module _ (stays : MachineStays) (steps : EachStepKeeps) (begin : EachBeginKeeps)
       record {
         stands = first.stands;
         legal = subst (IsLegalBy ButSpine heap true) (sym first.grown) record { objects = tt; space = tt };
-        noted = λ number below. opening_noted heap state opening number below;
+        noted = λ number below. opening_noted heap state first.book.history opening number below;
         own = λ number below active. rw first.grown (own_of_none number (first.book.begun number));
       } run alone)
     where

@@ -14,7 +14,7 @@ use Rattle.heap_model.specs.declared.reply.Reply.TheVariants as replies
 use Rattle.heap_model.specs.account.Account.{KeepsSpaceBy, KeepsSpaceAfterBy, IsLegalBy, Judged, ButSpine}
 use Rattle.heap_model.specs.account.Effects.{effect_of, is_of}
 use Rattle.heap_model.specs.account.Phases.{IsBehind, ShowsPhases}
-use Rattle.heap_model.specs.account.Refusals.{FindsSpace, ShowsSpace, ShowsSpine}
+use Rattle.heap_model.specs.account.Refusals.{FindsSpace, FindsSpine, ShowsSpace, ShowsSpine}
 use Rattle.heap_model.specs.account.Space.{taken_of, spent_of, total, total_but}
 use Rattle.heap_model.proofs.Histories.{KeepsSpaceAfter-more}
 use Rattle.core_rule.specs.Counts.{AreUsed}
@@ -92,6 +92,26 @@ behind_keeps heap before number command other answer p behind keeps = record {
   sweeps = tt;
   ends = tt;
   shows = shows_behind heap before number command other answer p (behind keeps.shows) keeps.shows;
+}
+
+-- a seat whose array is refused for want of spine words shows those in use
+shows_full : (heap : Heap) (before : List Entry) (number : ℕ) (command : Command) (need shown : ℕ) → ShowsPhases heap false before number command (replies.SpineFull need shown)
+    → ShowsPhases heap true before number command (replies.SpineFull need shown)
+shows_full heap before number commands.Collect need shown shows = shows
+shows_full heap before number _ need shown shows = shows
+
+pub spine_keeps : (heap : Heap) (before : List Entry) (number : ℕ) (command : Command) (need shown : ℕ) → FindsSpine heap true before number shown
+    → KeepsSpaceBy ButSpine heap false before (entries.Said number command (replies.SpineFull need shown)) → KeepsSpaceBy ButSpine heap true before (entries.Said number command (replies.SpineFull need shown))
+spine_keeps heap before number command need shown finds keeps = record {
+  takes = tt;
+  makes = keeps.makes;
+  refuses = tt;
+  refuses_spine = (keeps.refuses_spine.0, keeps.refuses_spine.1, finds);
+  answers = tt;
+  begins = tt;
+  sweeps = tt;
+  ends = tt;
+  shows = shows_full heap before number command need shown keeps.shows;
 }
 
 -- each entry of a legal history keeps the rules after those before it
