@@ -82,7 +82,6 @@ module _ (heap : Heap) (state : State) (number : ℕ) where
   pub shown_mute : (place : Place) → AreMute (entries_shown heap state (move_at heap number (seat_at state number) place))
   shown_mute (places.Making Withdrawing) = one_mute _ refl refl
   shown_mute (places.Making Gathering) = claim_mute number _
-  shown_mute (places.Making Withdrawing) = one_mute _ refl refl
   shown_mute (places.Making Returning) = one_mute _ refl refl
   shown_mute (places.Making Refusing) = one_mute _ refl refl
   shown_mute (places.Making Bearing) = by (is_last_birth (seat_at state number))
