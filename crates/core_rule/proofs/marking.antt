@@ -11,6 +11,7 @@ pub mod RegisterRoots
 pub mod LastBirthMarks
 pub mod GoneRoots
 pub mod ObjectEdges
+pub mod KeptSources
 pub mod Settled
 pub mod Ended
 pub mod SettledObjects

@@ -12,6 +12,7 @@ use Rattle.core_rule.specs.Book.{Book, Grey, Black, White}
 use Rattle.core_rule.specs.Colours.{IsBetween}
 use Rattle.core_rule.specs.Owners.{Owner, Kept, Dead, born_bit, owner_after}
 use Rattle.core_rule.specs.Phases.{IsNear}
+use Rattle.core_rule.specs.Roots.{IsInMarking}
 use Rattle.core_rule.specs.Rule.{Rule}
 use Rattle.core_rule.proofs.colours.BirthColours.{painted, painted_in, painted_cases}
 use Rattle.core_rule.proofs.colours.Births.{birth_colour}
@@ -53,7 +54,7 @@ white_then seat last = by (bears_black_of seat) refl
 
 module _ (heap : Heap) (state : State) (book : Book) (rule : Rule heap state book) where
   abbrev marks : Type 0
-  marks = state.collector.phase % 7 ≡ 3
+  marks = IsInMarking state.collector
 
   abbrev settles : Type 0
   settles = IsBetween 3 5 state.collector.phase

@@ -17,8 +17,8 @@ use Rattle.core_rule.proofs.colours.SpineStays.{SpineStays}
 use Rattle.core_rule.proofs.marking.Paths.{path_stays}
 use Rattle.core_rule.proofs.owners.OwnerLemmas.{born_once, dead_once, is_dead, bits_same}
 
--- the born fragments have their colours, and stay born; what is kept stays so, and nothing more is to be freed; none that wasn't born is grey; in the
--- phase of marking the sources of born fragments lead where they led but for what is marked, and spines stay; from then to the end of the sweep what is born now is black;
+-- the born fragments have their colours, and stay born; what is kept stays so, and nothing more is to be freed; none that wasn't born is grey; until
+-- marking has ended the sources of born fragments lead where they led but for what is marked, and spines stay; from then to the end of the sweep what is born now is black;
 -- and while marks are cleared what is white stays so
 pub record LeavesMarking (heap : Heap) (words now : List ℕ) (owner later : ℕ → Owner) (colour coloured : ℕ → Colour) (fragments bodies : ℕ → List ℕ) (marks settles clears : Type 0) : Type 0 where
   pub born : (f : ℕ) → born_bit (owner f) ≡ 1 → (born_bit (later f) ≡ 1) × (coloured f ≡ colour f)

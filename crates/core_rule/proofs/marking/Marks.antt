@@ -20,7 +20,7 @@ use Rattle.core_rule.specs.Flight.{WhileAccess}
 use Rattle.core_rule.specs.Marking.{IsPart, ScanStands, IsFewWords, PassStands, MarkingStands}
 use Rattle.core_rule.specs.Roots.{IsInMarking, AtCall, OfRoots, RootsAreReached}
 use Rattle.core_rule.specs.Sweep.{SweepStands, IsSettled}
-use Rattle.core_rule.specs.Owners.{Owner, Dead, born_bit}
+use Rattle.core_rule.specs.Owners.{Owner, Free, Taken, Borne, Kept, Dead, born_bit}
 use Rattle.core_rule.specs.Paths.{IsReached}
 use Rattle.core_rule.specs.Rule.{Rule}
 use Rattle.core_rule.proofs.colours.LeadsFrames.{SameSources, leads_same, same_leads}
@@ -112,16 +112,16 @@ module _ (heap : Heap) (state : State) (book : Book) (rule : Rule heap state boo
   pub none_dead : state.collector.phase % 7 ≡ 3 → state.collector.stage ≢ stages.Advancing → (f i k : ℕ) → book.owner f ≢ Dead i k
   none_dead third goes = rule.marks_stand.heap_marks.alive (unsettled state.collector.phase state.collector.stage third goes)
 
-  -- what is true at a stage of marking is true in its phase alone
-  only_marks : (stage : Stage) → FitsStage heap state.collector.phase state.collector.looked stage → OnlyMarks (state.collector.phase % 7 ≡ 3) stage
-  only_marks (stages.Passing group found) fits = fits.marks.for_marking
-  only_marks (stages.Scanning scan) fits = fits.marks.for_marking
-  only_marks (stages.Shading scan target next) fits = fits.marks.for_marking
-  only_marks (stages.Locating scan count) fits = fits.marks.for_marking
-  only_marks (stages.Indexing s) fits = (fits.marks.for_marking, fits.index_within)
-  only_marks (stages.Spreading s target) fits = (fits.marks.for_marking, fits.index_within)
-  only_marks (stages.Blackening scan) fits = fits.marks.for_marking
-  only_marks _ fits = tt
+  -- what is true at a stage of marking is true in its phase alone, until marking has ended
+  only_marks : (stage : Stage) → state.collector.stage ≡ stage → FitsStage heap state.collector.phase state.collector.looked stage → OnlyMarks (IsInMarking state.collector) stage
+  only_marks (stages.Passing group found) is fits = record { phase = fits.marks.for_marking; goes_on = λ ended. absurd (cc (is, ended)) }
+  only_marks (stages.Scanning scan) is fits = record { phase = fits.marks.for_marking; goes_on = λ ended. absurd (cc (is, ended)) }
+  only_marks (stages.Shading scan target next) is fits = record { phase = fits.marks.for_marking; goes_on = λ ended. absurd (cc (is, ended)) }
+  only_marks (stages.Locating scan count) is fits = record { phase = fits.marks.for_marking; goes_on = λ ended. absurd (cc (is, ended)) }
+  only_marks (stages.Indexing s) is fits = (record { phase = fits.marks.for_marking; goes_on = λ ended. absurd (cc (is, ended)) }, fits.index_within)
+  only_marks (stages.Spreading s target) is fits = (record { phase = fits.marks.for_marking; goes_on = λ ended. absurd (cc (is, ended)) }, fits.index_within)
+  only_marks (stages.Blackening scan) is fits = record { phase = fits.marks.for_marking; goes_on = λ ended. absurd (cc (is, ended)) }
+  only_marks _ is fits = tt
 
   -- and what is true while marks are cleared in the last phase, which all have answered
   only_clears : (stage : Stage) → FitsStage heap state.collector.phase state.collector.looked stage → OnlyClears (IsLastAnswered heap state.collector) stage
@@ -157,12 +157,12 @@ module _ (heap : Heap) (state : State) (book : Book) (rule : Rule heap state boo
 
   -- what a step leaves of marking that marks no object's fragment
   abbrev pub Leaves : List ℕ → Book → Type 0
-  Leaves words now = LeavesMarking heap state.words words book.owner now.owner book.colour now.colour book.fragments now.fragments (state.collector.phase % 7 ≡ 3)
+  Leaves words now = LeavesMarking heap state.words words book.owner now.owner book.colour now.colour book.fragments now.fragments (IsInMarking state.collector)
       (IsBetween 3 5 state.collector.phase) (IsLastAnswered heap state.collector)
 
-  -- all that is born is as it was, and the sources are the same
-  pub leaves_words : (words : List ℕ) → ((f : ℕ) → SameSources heap state.words words f) → Leaves words book
-  leaves_words words same = record {
+  -- all that is born is as it was, and until marking has ended the sources of what is born are the same
+  leaves_born : (words : List ℕ) → (IsInMarking state.collector → (f : ℕ) → born_bit (book.owner f) ≡ 1 → SameSources heap state.words words f) → Leaves words book
+  leaves_born words same = record {
     born = λ f born. (born, refl);
     kept = λ f i k kept. (kept, refl);
     dead = λ f i k dead. dead;
@@ -170,28 +170,44 @@ module _ (heap : Heap) (state : State) (book : Book) (rule : Rule heap state boo
     fresh = λ f unborn grey. unborn_grey f unborn grey;
     dark = λ known f unborn born. absurd (omega (arith, unborn, born));
     light = λ clears f white. white;
-    back = λ marks f source g born leads. inl (leads_same heap state.words words f (same f) source g leads);
-    on = λ marks f source g born leads. inl (same_leads heap state.words words f (same f) source g leads);
-    spine = λ marks f born. same_spine heap state.words words f (same f);
+    back = λ marks f source g born leads. inl (leads_same heap state.words words f (same marks f born) source g leads);
+    on = λ marks f source g born leads. inl (same_leads heap state.words words f (same marks f born) source g leads);
+    spine = λ marks f born. same_spine heap state.words words f (same marks f born);
   }
     where
       unborn_grey : (f : ℕ) → born_bit (book.owner f) ≡ 0 → book.colour f ≢ Grey
       unborn_grey f unborn grey = let born = rule.heap_stands.cycle.coloured.born f (λ white. absurd (cc (grey, white))) in omega (arith, unborn, born)
 
+  -- so it is where no source changes
+  pub leaves_words : (words : List ℕ) → ((f : ℕ) → SameSources heap state.words words f) → Leaves words book
+  leaves_words words same = leaves_born words (λ marks f born. same f)
+
+  -- and where none of what is kept or borne does: until marking has ended nothing is to be freed
+  pub leaves_alive : (words : List ℕ) → ((f i k : ℕ) → book.owner f ≡ Kept i k → SameSources heap state.words words f) → ((f r : ℕ) → book.owner f ≡ Borne r → SameSources heap state.words words f)
+      → Leaves words book
+  leaves_alive words kept borne = leaves_born words (λ marks f born. by marks f (book.owner f) refl born)
+    where
+      by : IsInMarking state.collector → (f : ℕ) (o : Owner) → book.owner f ≡ o → born_bit o ≡ 1 → SameSources heap state.words words f
+      by marks f Free is born = absurd (omega (arith, born))
+      by marks f (Taken number) is born = absurd (omega (arith, born))
+      by marks f (Borne number) is born = borne f number is
+      by marks f (Kept i k) is born = kept f i k is
+      by marks f (Dead i k) is born = absurd (none_dead marks.phase marks.goes_on f i k is)
+
   module _ (words : List ℕ) (now : Book) (leaves : Leaves words now) where
     -- so the heap's part of marking stands
     pub heap_marks_on : MarkingStands heap words now.owner now.colour now.fragments state.collector.phase state.collector.stage
     heap_marks_on =
-        marking_stays heap state.words words book.owner now.owner book.colour now.colour book.fragments now.fragments (state.collector.phase % 7 ≡ 3)
+        marking_stays heap state.words words book.owner now.owner book.colour now.colour book.fragments now.fragments (IsInMarking state.collector)
         (IsBetween 3 5 state.collector.phase) (IsLastAnswered heap state.collector) leaves rule.heap_stands.cycle.coloured.born state.collector.phase state.collector.stage
-        (only_marks state.collector.stage rule.machine.collector_fit.at_stage) (only_clears state.collector.stage rule.machine.collector_fit.at_stage)
+        (only_marks state.collector.stage refl rule.machine.collector_fit.at_stage) (only_clears state.collector.stage rule.machine.collector_fit.at_stage)
         (settled_phase state.collector.phase state.collector.stage) rule.marks_stand.heap_marks
 
     -- and marking comes to what it came to
     pub comes_on : IsInMarking state.collector → (f : ℕ) → IsReached heap state.words book.owner book.colour f → IsReached heap words now.owner now.colour f
     comes_on marks =
-        reached_stays heap state.words words book.owner now.owner book.colour now.colour book.fragments now.fragments (state.collector.phase % 7 ≡ 3)
-        (IsBetween 3 5 state.collector.phase) (IsLastAnswered heap state.collector) leaves rule.heap_stands.cycle.coloured.born marks.phase
+        reached_stays heap state.words words book.owner now.owner book.colour now.colour book.fragments now.fragments (IsInMarking state.collector)
+        (IsBetween 3 5 state.collector.phase) (IsLastAnswered heap state.collector) leaves rule.heap_stands.cycle.coloured.born marks
 
   module _ (number : ℕ) (here : number < heap.seats) where
     -- the roots of a seat that goes on are among those that marking came to

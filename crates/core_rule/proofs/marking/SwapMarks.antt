@@ -69,9 +69,9 @@ module _ (heap : Heap) (state : State) (book : Book) (number : ℕ) (rule : Rule
           fresh = before.fresh;
           dark = before.dark;
           light = before.light;
-          back = λ marking f source g born leads. leads_now heap state book number rule here place value stamp holds names small word is_word
-              record { from = omega (arith, same, marking); upto = omega (arith, same, marking) } f source g born leads;
-          on = λ marking f source g born leads. leads_later marking f source g leads;
+          back = λ marking f source g born leads. let third = marking.phase in leads_now heap state book number rule here place value stamp holds names small word is_word
+              record { from = omega (arith, same, third); upto = omega (arith, same, third) } f source g born leads;
+          on = λ marking f source g born leads. leads_later marking.phase f source g leads;
           spine = λ marking f born. elim (cases_eq f seat.reached) as (λ _. SpineStays heap state.words now f) [
             | inl same ↦ subst (SpineStays heap state.words now) (sym same) (no_spine_stays heap state.words now seat.reached (swap_no_spine heap state book number rule here place)
                 (swapped_no_spine heap state book number rule here place value stamp holds names small word is_word))

@@ -17,9 +17,8 @@ use Rattle.core_rule.specs.Paths.{IsReached}
 use Rattle.core_rule.specs.Phases.{CollectorAgrees}
 use Rattle.core_rule.specs.Rule.{Rule}
 use Rattle.core_rule.proofs.footprint.BookGoing.{ColoursGoOn, colours_go}
-use Rattle.core_rule.proofs.frames.Recoloured.{Recolours, heap_recoloured, seat_recoloured}
+use Rattle.core_rule.proofs.frames.Recoloured.{Recolours, leaves_spines, heap_recoloured, seat_recoloured}
 use Rattle.core_rule.proofs.marking.Marks.{roots_more}
-use Rattle.core_rule.proofs.spines.OtherWords.{spines_left_control}
 use Rattle.core_rule.proofs.steps.Assemble.{Keeps}
 use Rattle.core_rule.proofs.steps.TurnSteps.{after_turn, quiet, turn_steps, turn_budgets, load_turns}
 
@@ -56,7 +55,8 @@ module _ (heap : Heap) (state : State) (book : Book) (rule : Rule heap state boo
       (agrees_at heap state book rule stage)
       record { heap_marks = marks; roots = roots_at (put heap state.words (Control g) n) coloured goes reached }
       (turn_budgets heap state book rule (put heap state.words (Control g) n) (quiet (at_stage state.collector stage)) (record book { colour = coloured })
-      (spines_left_control heap state.words n g below) record { told = refl; returned = refl; kept = refl; gone = refl }) (colours_go heap state book coloured named)
+      (leaves_spines heap state book rule g n below coloured new) record { told = refl; returned = refl; kept = refl; gone = refl })
+      (colours_go heap state book coloured named)
 
   -- a turn that loads
   pub load_turns_on : (a : Address) → IsMachine heap (after_turn state (put heap state.words a (at heap state.words a)) (quiet (at_stage state.collector stage)))
