@@ -2,6 +2,7 @@
 pub mod BeginStep
 pub mod ClaimStep
 pub mod GiveBackStep
+pub mod ToldRefusal
 pub mod RefusalStep
 pub mod StoreStep
 pub mod BirthStep
