@@ -1,5 +1,5 @@
 -- What stays of a cycle where the phase, the answers, the control words, the fragments' words and the places of spines are as before, as where the budget is written.
-use Rattle.std.proofs.Common.{◌≡◌, ◌≢◌, ℕ, ◌<◌, List, inl, refl, ◌∙◌, arith}
+use Rattle.std.proofs.Common.{◌≡◌, ℕ, ◌<◌, List, inl, refl, ◌∙◌, arith}
 use Rattle.heap_model.specs.declared.heap.Heap.{Heap}
 use Rattle.core_machine.specs.declared.table.address.Address.TheVariants.{Phase, Answer, Budget}
 use Rattle.core_machine.specs.table.Layout.{at, put}

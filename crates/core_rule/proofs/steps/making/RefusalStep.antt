@@ -1,5 +1,5 @@
 -- A refusal that is told keeps the rule: of a record at a load, of an array where its spine words are taken back.
-use Rattle.std.proofs.Common.{◌≡◌, ℕ, ◌+◌, ◌-◌, ◌%◌, ◌^◌, ◌<◌, ◌≤◌, false, List, [], ◌∷◌, ◌++◌, length, drop, slice_set, refl, sym, ◌∙◌, subst, arith, ap}
+use Rattle.std.proofs.Common.{◌≡◌, ℕ, ◌+◌, ◌-◌, ◌%◌, ◌^◌, ◌<◌, ◌≤◌, false, List, [], ◌∷◌, ◌++◌, length, drop, refl, sym, ◌∙◌, subst, arith, ap}
 use Rattle.heap_words.specs.Spot.{spot_in}
 use Rattle.heap_model.specs.declared.command.Command.{Command}
 use Rattle.heap_model.specs.declared.command.Command.TheVariants as commands
@@ -12,9 +12,9 @@ use Rattle.heap_model.specs.account.Account.{IsLegalBy, ButSpine}
 use Rattle.heap_model.specs.account.Cycles.{graph_of}
 use Rattle.heap_model.specs.account.Refusals.{FindsSpace}
 use Rattle.heap_model.specs.account.Space.{taken_of, spent_of}
-use Rattle.heap_model.specs.graph.Graph.{Graph, opening}
+use Rattle.heap_model.specs.graph.Graph.{opening}
 use Rattle.heap_model.proofs.Histories.{graph_after-more}
-use Rattle.core_machine.specs.declared.table.address.Address.TheVariants.{Phase, Budget, Spot}
+use Rattle.core_machine.specs.declared.table.address.Address.TheVariants.{Phase, Budget}
 use Rattle.core_machine.specs.declared.place.Making.TheVariants.{Refusing}
 use Rattle.core_machine.specs.declared.place.Place.TheVariants as places
 use Rattle.core_machine.specs.declared.step.Step.{Step}
@@ -29,7 +29,7 @@ use Rattle.core_machine.specs.seat.Seat.{Seat, need, spine_need, after_call, sea
 use Rattle.core_machine.specs.machine.Value.{IsMachine}
 use Rattle.core_machine.proofs.table_lemmas.Addresses.{put-at, at-put_same}
 use Rattle.core_rule.specs.Book.{Book}
-use Rattle.core_rule.specs.Budgets.{BudgetsStand, granted_at}
+use Rattle.core_rule.specs.Budgets.{granted_at}
 use Rattle.core_rule.specs.Gathers.{GathersRight}
 use Rattle.core_rule.specs.Rule.{Rule, SeatStands}
 use Rattle.core_rule.specs.Spines.{HasPlace}
@@ -44,7 +44,6 @@ use Rattle.core_rule.proofs.gather.Refusals.{finds_in_run}
 use Rattle.core_rule.proofs.spines.BudgetFrames.{stepped, seats_change}
 use Rattle.core_rule.proofs.spines.BudgetSteps.{budgets_change, budget_small, budget_falls}
 use Rattle.core_rule.proofs.spines.OtherWords.{spines_left_none}
-use Rattle.core_rule.proofs.spines.WeightSums.{need_few}
 
 -- a record's refusal is told at a load, an array's at the step that takes its spine words back
 refusal_cases : (P : Step → Type 0) (command : Command) (words : ℕ) → MakesObject command → (spine_need_of command ≡ 0 → P steps.PollLoad) → P (steps.Spine (BudgetTakeBack words)) → P (refusal_step command words)
