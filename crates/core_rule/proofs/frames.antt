@@ -1,5 +1,6 @@
 -- What a step leaves of the heap and of other seats.
 pub mod SeatFrames
+pub mod BesideFrames
 pub mod EntryFrames
 pub mod Replying
 pub mod GivingBack

@@ -101,29 +101,38 @@ leaves_same heap words owner colour phase number = record {
 abbrev pub WatchesBorn : (ℕ → Owner) → Seat → Type 0
 WatchesBorn owner seat = (reaching : Access) → seat.place ≡ places.Access reaching → IsWatching reaching → born_bit (owner seat.reached) ≡ 1
 
--- so its part stands
-pub cycle_stays : (heap : Heap) (words now : List ℕ) (owner later : ℕ → Owner) (colour coloured : ℕ → Colour) (phase answers : ℕ) (gone : Bool) (number : ℕ) (seat : Seat)
-    → LeavesCycle heap words now owner later colour coloured phase number → WatchesBorn owner seat
+-- its part stands where its answer does, what is marked and what it bears, and where its field leads whose old value a set has loaded
+pub cycle_watched : (heap : Heap) (words now : List ℕ) (owner later : ℕ → Owner) (colour coloured : ℕ → Colour) (phase answers : ℕ) (gone : Bool) (number : ℕ) (seat : Seat)
+    → at heap now (Answer number) ≡ at heap words (Answer number) → ((f : ℕ) → IsMarked colour f → IsMarked coloured f)
+    → ((f : ℕ) → later f ≡ Borne number → (owner f ≡ Borne number) × (coloured f ≡ colour f))
+    → (IsBetween 2 5 phase → (reaching : Access) → seat.place ≡ places.Access reaching → IsWatching reaching → (g : ℕ) → WordPointsTo heap now seat.reached seat.part g
+    → WordPointsTo heap words seat.reached seat.part g ⊎ IsMarked coloured g)
     → SeatInCycle heap words phase answers gone owner colour number seat → SeatInCycle heap now phase answers gone later coloured number seat
-cycle_stays heap words now owner later colour coloured phase answers gone number seat leaves watched cycle = record {
+cycle_watched heap words now owner later colour coloured phase answers gone number seat answer marks births watches cycle = record {
   answers_told = record {
     told = cycle.answers_told.told;
     leaves = cycle.answers_told.leaves;
-    word = leaves.answer ∙ cycle.answers_told.word;
+    word = answer ∙ cycle.answers_told.word;
     near = cycle.answers_told.near;
     loaded = cycle.answers_told.loaded;
   };
   answer = cycle.answer;
   flight = record {
     set = λ marking snapped. access_at (FieldStands heap words colour seat) (FieldStands heap now coloured seat) seat.place
-        (λ reaching is. field_stays heap words now colour coloured seat leaves.marks reaching (λ watching g lead. leaves.leads marking _ _ g (watched reaching is watching) lead))
-        (cycle.flight.set marking snapped);
-    shaded = λ marking. while_access (ShadedStands colour seat) (ShadedStands coloured seat)
-        (shaded_stays heap words now colour coloured seat leaves.marks) seat.place (cycle.flight.shaded marking);
-    roots = λ begins. while_polling (RootsStand colour seat) (RootsStand coloured seat) (roots_stay colour coloured seat leaves.marks) seat.place (cycle.flight.roots begins);
+        (λ reaching is. field_stays heap words now colour coloured seat marks reaching (watches marking reaching is)) (cycle.flight.set marking snapped);
+    shaded = λ marking. while_access (ShadedStands colour seat) (ShadedStands coloured seat) (shaded_stays heap words now colour coloured seat marks) seat.place (cycle.flight.shaded marking);
+    roots = λ begins. while_polling (RootsStand colour seat) (RootsStand coloured seat) (roots_stay colour coloured seat marks) seat.place (cycle.flight.roots begins);
   };
-  births = births_stay owner later colour coloured number seat.answered leaves.births cycle.births;
+  births = births_stay owner later colour coloured number seat.answered births cycle.births;
 }
+
+-- so it does where a step leaves all of it
+pub cycle_stays : (heap : Heap) (words now : List ℕ) (owner later : ℕ → Owner) (colour coloured : ℕ → Colour) (phase answers : ℕ) (gone : Bool) (number : ℕ) (seat : Seat)
+    → LeavesCycle heap words now owner later colour coloured phase number → WatchesBorn owner seat
+    → SeatInCycle heap words phase answers gone owner colour number seat → SeatInCycle heap now phase answers gone later coloured number seat
+cycle_stays heap words now owner later colour coloured phase answers gone number seat leaves watched =
+    cycle_watched heap words now owner later colour coloured phase answers gone number seat leaves.answer leaves.marks leaves.births
+    (λ marking reaching is watching g lead. leaves.leads marking _ _ g (watched reaching is watching) lead)
 
 -- what it has answered, and whether it has left, is as before
 pub record SameAnswer (seat next : Seat) : Type 0 where

@@ -50,7 +50,7 @@ module _ (heap : Heap) (state : State) (book : Book) (rule : Rule heap state boo
       cc (held, bears)
 
   -- so the seat stands at a birth, and has stored each word of the object and of its spine
-  bearing : (place : Place) → FitsPlace heap seat place
+  pub bearing : (place : Place) → FitsPlace heap seat place
       → HasBody seat × (seat.stored ≡ 4 * length seat.body) × IsListed seat.command seat.spine seat.listed × (IsArray seat.command → HasPlace seat place)
   bearing (places.Making Granting) fits = absurd (some_body fits.0.no_body)
   bearing (places.Making Withdrawing) fits = absurd (some_body fits.rests.no_body)

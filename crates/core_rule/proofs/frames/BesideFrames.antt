@@ -1,0 +1,132 @@
+-- What stands of the heap and of the seats at a step on the budget, the spot or a spine word: no fragment's word changes, no control word and no answer.
+use Rattle.std.proofs.Common.{◌≡◌, ◌≢◌, ℕ, ◌*◌, ◌/◌, ◌%◌, ◌+◌, ◌<◌, ◌≤◌, List, length, inl, refl, sym, ap, ◌∙◌, subst, arith}
+use Rattle.heap_model.specs.declared.heap.Heap.{Heap}
+use Rattle.heap_model.specs.account.Cycles.{graph_of}
+use Rattle.heap_model.specs.account.PhaseCounts.{phase, last_answer, has_left}
+use Rattle.heap_model.specs.graph.Graph.{Graph, Node}
+use Rattle.heap_model.specs.graph.Sizes.{spine_words_of}
+use Rattle.core_machine.specs.declared.table.address.Address.{Address}
+use Rattle.core_machine.specs.declared.table.address.Address.TheVariants.{Phase, Answer, Control, Word}
+use Rattle.core_machine.specs.machine.Machine.{State, seat_at}
+use Rattle.core_machine.specs.seat.Seat.{Seat}
+use Rattle.core_machine.specs.table.Layout.{at, put, index_of, spine_place}
+use Rattle.core_rule.specs.Book.{Book, Black, fragment_at}
+use Rattle.core_rule.specs.Colours.{WordPointsTo, IsMarked}
+use Rattle.core_rule.specs.Cycle.{HeapInCycle, SeatInCycle}
+use Rattle.core_rule.specs.Holding.{IsStored}
+use Rattle.core_rule.specs.Objects.{IsKept, node_at}
+use Rattle.core_rule.specs.Owners.{SpineOwner}
+use Rattle.core_rule.specs.Rule.{Rule, HeapStands, SeatStands}
+use Rattle.core_rule.specs.Spines.{SpinesStand}
+use Rattle.core_rule.proofs.colours.LeadsFrames.{SameSources, leads_same, same_ahead}
+use Rattle.core_rule.proofs.colours.MarkWords.{marks_same}
+use Rattle.core_rule.proofs.cycle.CycleFrames.{cycle_watched}
+use Rattle.core_rule.proofs.cycle.FieldFrames.{watched_part}
+use Rattle.core_rule.proofs.entries.AtRest.{seat_fits}
+use Rattle.core_rule.proofs.entries.InFlight.{stored_within}
+use Rattle.core_rule.proofs.frames.SeatFrames.{same_party, told_nothing, kept_owners, seat_left}
+use Rattle.core_rule.proofs.hand.HandMoves.{same_hand}
+use Rattle.core_rule.proofs.marking.KeptSources.{kept_sources}
+use Rattle.core_rule.proofs.objects.ObjectFrames.{objects_words}
+use Rattle.core_rule.proofs.spines.SpineFrames.{same_kept, SpinesLeft, SpineIsStored}
+use Rattle.core_rule.proofs.ways.KeptWords.{kept_within}
+use Rattle.core_rule.proofs.words.Addresses.{at-put_apart}
+use Rattle.core_rule.proofs.words.ControlLemmas.{bits_same}
+
+-- the control words, the fragments' words, the phase and the answers are as before
+pub record LeavesBeside (heap : Heap) (words now : List ℕ) : Type 0 where
+  pub controls : (group : ℕ) → group < heap.groups → at heap now (Control group) ≡ at heap words (Control group)
+  pub parts : (f part : ℕ) → f < 16 * heap.groups → part < 4 → at heap now (Word f part) ≡ at heap words (Word f part)
+  pub phase_word : at heap now Phase ≡ at heap words Phase
+  pub answers : (r : ℕ) → r < 16 → at heap now (Answer r) ≡ at heap words (Answer r)
+
+-- so they are where a word behind the answers is written that is none of the fragments' and no control word
+pub beside_aside : (heap : Heap) (words : List ℕ) (a : Address) (n : ℕ) → 17 ≤ index_of heap a → index_of heap a < 19 → LeavesBeside heap words (put heap words a n)
+beside_aside heap words a n behind ahead = record {
+  controls = λ group below. at-put_apart heap words a (Control group) n (λ e. omega (arith, e, ahead));
+  parts = λ f part within fits. at-put_apart heap words a (Word f part) n (λ e. omega (arith, e, ahead));
+  phase_word = at-put_apart heap words a Phase n (λ e. omega (arith, e, behind));
+  answers = λ r few. at-put_apart heap words a (Answer r) n (λ e. omega (arith, e, behind, few));
+}
+
+pub beside_spine : (heap : Heap) (words : List ℕ) (a : Address) (n : ℕ) → 19 + 65 * heap.groups ≤ index_of heap a → LeavesBeside heap words (put heap words a n)
+beside_spine heap words a n behind = record {
+  controls = λ group below. at-put_apart heap words a (Control group) n (λ e. omega (arith, e, behind, below));
+  parts = λ f part within fits. at-put_apart heap words a (Word f part) n (λ e. omega (arith, e, behind, within, fits));
+  phase_word = at-put_apart heap words a Phase n (λ e. omega (arith, e, behind));
+  answers = λ r few. at-put_apart heap words a (Answer r) n (λ e. omega (arith, e, behind, few));
+}
+
+module _ (heap : Heap) (state : State) (book : Book) (rule : Rule heap state book) (now : List ℕ) (beside : LeavesBeside heap state.words now)
+    (spines : (i j : ℕ) → i < length book.made → IsKept book.owner book.fragments i → j < spine_words_of (node_at (graph_of heap book.history) book.made i)
+    → at heap now (spine_place (book.spines i) j) ≡ at heap state.words (spine_place (book.spines i) j)) where
+  abbrev g : Graph
+  g = graph_of heap book.history
+
+  -- the book with other owners of spine words
+  abbrev pub with_spine_owner : (ℕ → ℕ → SpineOwner) → Book
+  with_spine_owner spine_owner = record book { spine_owner = spine_owner }
+
+  -- the heap stands, where black fragments lead where they led, and the spine words stand
+  pub heap_beside : (spine_owner : ℕ → ℕ → SpineOwner) → ((f source x : ℕ) → book.colour f ≡ Black → WordPointsTo heap now f source x → WordPointsTo heap state.words f source x)
+      → SpinesStand heap now heap.seats (length book.made) (node_at g book.made) book.owner book.fragments book.spines spine_owner → HeapStands heap now (with_spine_owner spine_owner)
+  heap_beside spine_owner black spines_stand =
+      let stands = rule.heap_stands in
+      let coloured = stands.cycle.coloured in
+      record {
+        control_words = bits_same heap state.words now book.owner beside.controls stands.control_words;
+        owners = stands.owners;
+        ids = stands.ids;
+        objects = objects_words heap state.words now g book.made book.owner book.fragments book.spines
+            (λ f i k part is fits. beside.parts f part (kept_within heap state.words book.owner f i k stands.control_words is) fits) spines stands.objects;
+        spines = spines_stand;
+        used = stands.used;
+        cycle = record {
+          word = beside.phase_word ∙ stands.cycle.word;
+          marks = marks_same heap state.words now book.colour beside.controls stands.cycle.marks;
+          coloured = record {
+            rest = coloured.rest;
+            early = coloured.early;
+            born = coloured.born;
+            black = λ making f source x dark leads. coloured.black making f source x dark (black f source x dark leads);
+            first = coloured.first;
+          };
+        };
+        legal = stands.legal;
+      }
+
+  -- a seat has its part in the cycle
+  pub cycle_beside : (r : ℕ) → r < heap.seats → SeatInCycle heap now (phase book.history) (last_answer r book.history) (has_left r book.history) book.owner book.colour r (seat_at state r)
+  cycle_beside r below =
+      cycle_watched heap state.words now book.owner book.owner book.colour book.colour (phase book.history) (last_answer r book.history) (has_left r book.history) r (seat_at state r)
+      (beside.answers r (omega (arith, below, rule.machine.limits.seats_fit))) (λ f marked. marked) (λ f borne. (borne, refl))
+      (λ making reaching is watching x leads.
+      let part = watched_part heap state book rule r below reaching is watching in
+      inl (leads_same heap state.words now (seat_at state r).reached (kept_sources heap state book rule now beside.parts spines (seat_at state r).reached part.index part.place part.kept) (seat_at state r).part x leads))
+      (rule.seats_stand r below).cycle
+
+  -- what it has stored into its object stands
+  pub stored_beside : (r : ℕ) → r < heap.seats → IsStored heap now r (seat_at state r)
+  stored_beside r below u less =
+      let seat : Seat = seat_at state r in
+      let fits = seat_fits rule r below in
+      let row : u / 4 < length seat.body = omega (arith, less, stored_within heap seat seat.place fits.at_place) in
+      beside.parts (fragment_at seat.body (u / 4)) (u % 4) (fits.hand.body_within (u / 4) 0 row) (omega arith) ∙ (rule.seats_stand r below).own.stored u less
+
+  -- and so does all of a seat that has its spine words
+  pub seat_beside : (spine_owner : ℕ → ℕ → SpineOwner) (r : ℕ) → r < heap.seats → SpinesLeft r book.spine_owner spine_owner → SpineIsStored heap now (seat_at state r)
+      → SeatStands heap now (with_spine_owner spine_owner) r (seat_at state r)
+  seat_beside spine_owner r below left stored =
+      let stands = rule.seats_stand r below in
+      seat_left heap state.words now book (with_spine_owner spine_owner) r (seat_at state r) record {
+        calls = refl;
+        party = same_party g g r refl;
+        told = told_nothing r book.history;
+        kept = kept_owners g book.made book.owner book.owner book.fragments (same_kept book.owner);
+        hand = same_hand r book.owner;
+        stored = stored_beside r below;
+        spines = left;
+        spine_stored = stored;
+        gathers = stands.told.gathers;
+        cycle = cycle_beside r below;
+      } stands
