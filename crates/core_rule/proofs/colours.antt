@@ -4,6 +4,7 @@ pub mod SourceCases
 pub mod LeadsFrames
 pub mod NoSpines
 pub mod NewbornLeads
+pub mod NewbornArrays
 pub mod Births
 pub mod BirthColours
 pub mod BirthAhead

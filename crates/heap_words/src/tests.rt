@@ -83,6 +83,20 @@ fn reads_and_packs_spots(rt: HostRuntime) {
 }
 
 #[test]
+fn tells_spots_and_lengths_of_any_word(rt: HostRuntime) {
+    for (word, half, offset, length) in [
+        (0xc000_0001_0000_0006, 1, 6, None),
+        (0xc000_0003_8000_0006, 1, 6, None), // the half and the offset have a bit too many
+        (0xe000_0008_0000_0000, 0, 0, Some(8)), // the meta of an array
+        (0xc000_0020_0000_0001, 0, 1, None), // the meta of a record
+    ] {
+        assert_eq!(rt; Spot::told(word), Spot { half, offset }, "at {word:#x}");
+        let told = Meta::array_length(&Cell::read(word));
+        assert_eq!(rt; told, length, "at {word:#x}");
+    }
+}
+
+#[test]
 fn reads_and_packs_groups(rt: HostRuntime) {
     for (word, taken, born, marked, scanned) in [
         (0x0000_0000_07ff_07ff, 0x07ff, 0x07ff, 0, 0),

@@ -1,33 +1,35 @@
 -- What a birth leaves of the heap's part in a cycle: its fragments get the colour of the seat's births.
-use Rattle.std.proofs.Common.{◌≡◌, ℕ, ◌*◌, ◌<◌, ◌≤◌, Bool, List, length, bit_or, ap, ◌∙◌, subst, arith, ◌+◌}
+use Rattle.std.proofs.Common.{◌≡◌, ℕ, ◌*◌, ◌<◌, ◌≤◌, Bool, List, length, bit_or, ap, ◌∙◌, sym, subst, arith, ◌+◌}
 use Rattle.heap_model.specs.declared.heap.Heap.{Heap}
 use Rattle.heap_model.specs.account.PhaseCounts.{phase}
 use Rattle.core_machine.specs.declared.table.address.Address.TheVariants.{Control}
 use Rattle.core_machine.specs.declared.place.Making.TheVariants.{Bearing}
 use Rattle.core_machine.specs.declared.place.Place.TheVariants as places
-use Rattle.core_machine.specs.seat.Fits.{HasBody}
-use Rattle.core_machine.specs.table.Fragments.{mask_of, tally}
-use Rattle.core_machine.specs.table.Layout.{at, put}
+use Rattle.core_machine.specs.seat.Fits.{HasBody, IsListed}
+use Rattle.core_machine.specs.table.Fragments.{part_in, part_out, mask_of, tally}
+use Rattle.core_machine.specs.table.Layout.{at, put, spine_place}
+use Rattle.core_machine.specs.table.Newborn.{spine_word}
 use Rattle.core_machine.specs.machine.Machine.{State, seat_at}
-use Rattle.core_machine.specs.seat.Making.{last_group_of, newborn_word_of}
+use Rattle.core_machine.specs.seat.Making.{last_group_of, before_run, newborn_word_of}
 use Rattle.core_machine.specs.Moves.{bears_black_of, last_part}
 use Rattle.core_machine.specs.table.Operation.{birth_bits_of}
-use Rattle.core_machine.specs.seat.Seat.{Seat}
+use Rattle.core_machine.specs.seat.Seat.{Seat, spine_need}
 use Rattle.core_rule.specs.Book.{Book, Colour, fragment_at}
 use Rattle.core_rule.specs.Colours.{IsMarked, IsBetween}
 use Rattle.core_rule.specs.Cycle.{HeapInCycle}
 use Rattle.core_rule.specs.Owners.{born_bit, Owner, Kept as KeepsPart}
 use Rattle.core_rule.specs.Rule.{Rule, SeatStands}
+use Rattle.core_rule.specs.Spines.{HasPlace}
 use Rattle.core_rule.proofs.entries.AtRest.{seat_fits}
 use Rattle.core_rule.proofs.colours.BirthAhead.{born_ahead}
 use Rattle.core_rule.proofs.colours.Births.{birth_colour, AreBorne, births_are}
 use Rattle.core_rule.proofs.colours.BirthColours.{painted, was_white, marks_stay, birth_coloured, marks_birth}
-use Rattle.core_rule.proofs.hand.ClaimOrder.{born_in_order}
+use Rattle.core_rule.proofs.hand.ClaimOrder.{born_in_order, last_run_is, before_last_is}
 use Rattle.core_rule.proofs.hand.HandMoves.{hand_once, part_held}
 use Rattle.core_rule.proofs.objects.LastBirth.{all_stored}
 use Rattle.core_rule.proofs.colours.LeadsFrames.{leads_control}
 use Rattle.core_rule.proofs.cycle.MakingCycle.{phase_after_control}
-use Rattle.core_rule.proofs.hand.MakingSeats.{bears_late, last_within, few_fields}
+use Rattle.core_rule.proofs.hand.MakingSeats.{bears_late, last_within, spine_listed}
 
 module _ (heap : Heap) (state : State) (book : Book) (number : ℕ) (rule : Rule heap state book) (here : number < heap.seats) (place : (seat_at state number).place ≡ places.Making Bearing) where
   abbrev seat : Seat
@@ -36,16 +38,19 @@ module _ (heap : Heap) (state : State) (book : Book) (number : ℕ) (rule : Rule
   abbrev g : ℕ
   g = last_group_of seat.hand
 
+  abbrev part : List ℕ
+  part = part_in g seat.hand
+
   abbrev pub words_born : List ℕ
-  words_born = put heap state.words (Control g) (bit_or (at heap state.words (Control g)) (birth_bits_of (bears_black_of seat) (mask_of (last_part seat))))
+  words_born = put heap state.words (Control g) (bit_or (at heap state.words (Control g)) (birth_bits_of (bears_black_of seat) (mask_of part)))
 
   abbrev pub colours_born : ℕ → Colour
-  colours_born = painted (birth_colour (bears_black_of seat)) book.colour (last_part seat)
+  colours_born = painted (birth_colour (bears_black_of seat)) book.colour part
 
   stands : SeatStands heap state.words book number seat
   stands = rule.seats_stand number here
 
-  at_place : HasBody seat × (0 < length seat.hand) × (length seat.hand ≤ length seat.body) × (seat.stored ≡ 4 * length seat.body)
+  at_place : HasBody seat × (0 < length seat.hand) × (length seat.hand ≤ length seat.body) × (seat.stored ≡ 4 * length seat.body) × IsListed seat.command seat.spine seat.listed
   at_place = rw place at (seat_fits rule number here).at_place
 
   -- the group is the heap's, and the object's fragments are chosen
@@ -55,16 +60,27 @@ module _ (heap : Heap) (state : State) (book : Book) (number : ℕ) (rule : Rule
   pub some_born : 1 ≤ length seat.body
   some_born = omega (arith, at_place.1, at_place.2)
 
+  -- the last fragments of the hand are all that it has of the group, and the others are the rest
+  pub run_born : last_part seat ≡ part
+  run_born = last_run_is heap seat.cursor seat.tried seat.hand seat.body (seat_fits rule number here).hand.hand_within some_born stands.own.together
+
+  pub rest_born : before_run seat.hand ≡ part_out g seat.hand
+  rest_born = before_last_is heap seat.cursor seat.tried seat.hand seat.body (seat_fits rule number here).hand.hand_within some_born stands.own.together
+
+  -- each word of the spine names a payload fragment
+  pub words_listed : (j : ℕ) → j < spine_need seat → at heap state.words (spine_place seat.spine j) ≡ spine_word (fragment_at seat.body (j + 1))
+  words_listed = spine_listed heap state.words book.spine_owner number seat stands.own.spine (λ an_array. subst (HasPlace seat) (sym place) an_array) at_place.0.makes.an_object at_place.4
+
   -- nothing of the part was born
-  unborn : (f : ℕ) → 1 ≤ tally f (last_part seat) → born_bit (book.owner f) ≡ 0
+  unborn : (f : ℕ) → 1 ≤ tally f (part) → born_bit (book.owner f) ≡ 0
   unborn f there = ap born_bit (part_held book.owner number seat.reserve seat.hand seat.body stands.own.holding g f there)
 
   -- what was marked stays so
   pub marks_born : (f : ℕ) → IsMarked book.colour f → IsMarked colours_born f
-  marks_born = marks_stay heap state.words words_born book.owner book.owner book.colour (last_part seat) (bears_black_of seat) unborn rule.heap_stands.cycle.coloured.born
+  marks_born = marks_stay heap state.words words_born book.owner book.owner book.colour (part) (bears_black_of seat) unborn rule.heap_stands.cycle.coloured.born
 
   -- the heap's part stands
-  pub heap_born : (later : ℕ → Owner) (fragments : ℕ → List ℕ) → ((f : ℕ) → born_bit (later f) ≡ born_bit (book.owner f) + tally f (last_part seat))
+  pub heap_born : (later : ℕ → Owner) (fragments : ℕ → List ℕ) → ((f : ℕ) → born_bit (later f) ≡ born_bit (book.owner f) + tally f (part))
       → (IsBetween 1 5 (phase book.history) → (f i k : ℕ) → later f ≡ KeepsPart i k → IsMarked colours_born f → IsMarked colours_born (fragment_at (fragments i) 0))
       → HeapInCycle heap words_born (phase book.history) later colours_born fragments
   heap_born later fragments bears first =
@@ -73,12 +89,12 @@ module _ (heap : Heap) (state : State) (book : Book) (number : ℕ) (rule : Rule
       record {
         word = phase_after_control heap state.words _ g ∙ cycle.word;
         marks = marks_birth heap state.words book.colour g seat.hand black rule.machine.table group_born (hand_once book.owner number seat.reserve seat.hand seat.body stands.own.holding)
-            (was_white heap state.words words_born book.owner later book.colour (last_part seat) black unborn cycle.coloured.born) cycle.marks;
-        coloured = birth_coloured heap state.words words_born book.owner later book.colour (last_part seat) black unborn cycle.coloured.born book.fragments fragments (phase book.history)
+            (was_white heap state.words words_born book.owner later book.colour (part) black unborn cycle.coloured.born) cycle.marks;
+        coloured = birth_coloured heap state.words words_born book.owner later book.colour (part) black unborn cycle.coloured.born book.fragments fragments (phase book.history)
             (bears_late heap state book number Bearing rule here place) bears
             (λ f k x leads. leads_control heap state.words g _ group_born f k x leads)
-            (λ dark. born_ahead heap state.words book.owner number seat rule.machine.limits here at_place.0.makes.numbered (few_fields seat at_place.0) some_born (seat_fits rule number here).hand.body_within stands.own.holding
-            (all_stored heap state.words seat.body (newborn_word_of number seat) seat.stored at_place.3 stands.own.stored)
+            (λ dark. born_ahead heap state.words book.owner number seat rule.machine.limits here at_place.0 (seat_fits rule number here).hand stands.own.holding
+            (all_stored heap state.words seat.body (newborn_word_of number seat) seat.stored at_place.3 stands.own.stored) words_listed
             book.colour (subst (AreBorne book.owner book.colour number) dark (births_are book.owner book.colour number seat stands.cycle.births))
             g (born_in_order heap seat.cursor seat.tried seat.hand seat.body (seat_fits rule number here).hand.hand_within some_born stands.own.together))
             first cycle.coloured;

@@ -9,7 +9,7 @@ use Rattle.heap_model.specs.graph.Objects.{graph_seat}
 use Rattle.heap_model.specs.account.PhaseCounts.{phase, last_answer, has_left}
 use Rattle.heap_model.specs.graph.Graph.{Graph}
 use Rattle.heap_model.proofs.Histories.{total-more}
-use Rattle.core_machine.specs.declared.table.address.Address.TheVariants.{Phase, Control, Word}
+use Rattle.core_machine.specs.declared.table.address.Address.TheVariants.{Phase, Budget, Control, Word}
 use Rattle.core_machine.specs.table.Layout.{at, put}
 use Rattle.core_machine.specs.seat.Seat.{Seat}
 use Rattle.core_rule.specs.Book.{Book}
@@ -22,25 +22,33 @@ use Rattle.core_rule.proofs.objects.ObjectFrames.{objects_words}
 use Rattle.core_rule.proofs.graph.SameNodes.{SameNodes, ids_stay, objects_stay, shapes_stay}
 use Rattle.core_rule.proofs.frames.SeatFrames.{with_entry, seat_stays, same_party}
 use Rattle.core_rule.proofs.spines.BudgetFrames.{SameGrants, none_granted_by, none_returned_by, kept_alike}
-use Rattle.core_rule.proofs.spines.OtherWords.{LeavesSpines, spines_left_none, spines_left_phase}
-use Rattle.core_rule.proofs.spines.SpineFrames.{same_kept, spines_stay}
+use Rattle.core_rule.proofs.spines.OtherWords.{LeavesPlaces, places_of, spines_left_none, spines_left_phase, places_left_budget}
+use Rattle.core_rule.proofs.spines.SpineFrames.{same_kept, spines_at_places}
 
 -- the control words and the fragments' words are as before
 pub record SameFragments (heap : Heap) (words now : List ℕ) : Type 0 where
   pub controls : (group : ℕ) → group < heap.groups → at heap now (Control group) ≡ at heap words (Control group)
   pub parts : (f part : ℕ) → at heap now (Word f part) ≡ at heap words (Word f part)
-  pub spines : LeavesSpines heap words now
+  pub spines : LeavesPlaces heap words now
 
 -- so they are where no word changes
 pub fragments_same : (heap : Heap) (words : List ℕ) → SameFragments heap words words
-fragments_same heap words = record { controls = λ group below. refl; parts = λ f part. refl; spines = spines_left_none heap words }
+fragments_same heap words = record { controls = λ group below. refl; parts = λ f part. refl; spines = places_of heap words words (spines_left_none heap words) }
 
--- and where the phase is written
+-- where the budget is written
+pub fragments_budget : (heap : Heap) (words : List ℕ) (n : ℕ) → SameFragments heap words (put heap words Budget n)
+fragments_budget heap words n = record {
+  controls = λ group below. at-put_apart heap words Budget (Control group) n (λ e. omega (arith, e));
+  parts = λ f part. at-put_apart heap words Budget (Word f part) n (λ e. omega (arith, e));
+  spines = places_left_budget heap words n;
+}
+
+-- and where the phase is
 pub fragments_phase : (heap : Heap) (words : List ℕ) (n : ℕ) → SameFragments heap words (put heap words Phase n)
 fragments_phase heap words n = record {
   controls = λ group below. at-put_apart heap words Phase (Control group) n (λ e. omega (arith, e));
   parts = λ f part. at-put_apart heap words Phase (Word f part) n (λ e. omega (arith, e));
-  spines = spines_left_phase heap words n;
+  spines = places_of heap words (put heap words Phase n) (spines_left_phase heap words n);
 }
 
 -- the entry takes, gives and frees nothing, and no spine words
@@ -71,7 +79,7 @@ module _ (heap : Heap) (words now : List ℕ) (same : SameFragments heap words n
     ids = ids_stay before after book.made nodes stands.ids;
     objects = objects_stay before after book.made nodes book.owner book.fragments book.spines heap now
         (objects_words heap words now before book.made book.owner book.fragments book.spines (λ f i k part keeps within. same.parts f part) (λ i j below is within. same.spines.spines _ _) stands.objects);
-    spines = spines_stay heap words now same.spines heap.seats (length book.made) book.spines book.fragments book.spine_owner (node_at before book.made) (node_at after book.made)
+    spines = spines_at_places heap words now same.spines heap.seats (length book.made) book.spines book.fragments book.spine_owner (node_at before book.made) (node_at after book.made)
         book.owner book.owner (same_kept book.owner) (shapes_stay before after book.made nodes) stands.spines;
     used = rw (total-more (λ e. e.given) book.history entry, total-more (λ e. e.freed) book.history entry, total-more (λ e. e.taken) book.history entry)
         (omega (arith, stands.used, uses.taken, uses.given, uses.freed));
@@ -85,7 +93,7 @@ module _ (heap : Heap) (words now : List ℕ) (same : SameFragments heap words n
       → SeatStands heap words book r seat → SeatStands heap now later r seat
   seat_past r seat other graph_seat cycle stands =
       seat_stays heap words now book entry r seat other (same_party before after r graph_seat)
-      (shapes_stay before after book.made nodes) (λ u less. same.parts _ _ ∙ stands.own.stored u less) same.spines cycle stands
+      (shapes_stay before after book.made nodes) (λ u less. same.parts _ _ ∙ stands.own.stored u less) same.spines.spines cycle stands
 
   -- and as many spine words are granted
   pub grants_past : UsesNothing entry → SameGrants heap book later

@@ -30,10 +30,10 @@ use Rattle.core_rule.proofs.entries.SeatLists.{list_stays, NamesStay, holds_stay
 use Rattle.core_rule.proofs.hand.HandMoves.{SameHand, same_hand, holding_stays}
 use Rattle.core_rule.proofs.graph.SameNodes.{SameShape, shape_same}
 use Rattle.core_rule.proofs.objects.ObjectFrames.{SameKept, names_kept}
-use Rattle.core_rule.proofs.spines.OtherWords.{LeavesSpines}
-use Rattle.core_rule.proofs.spines.SpineFrames.{SpineIsStored, spine_stored, SpinesLeft, spines_left, spine_stays, word_ahead_stays}
+use Rattle.core_rule.proofs.spines.SpineFrames.{SpineIsStored, spine_words_stay, SpinesLeft, spines_left, spine_stays, word_ahead_stays}
 use Rattle.core_rule.proofs.spines.UsedWords.{used_other}
 use Rattle.core_rule.proofs.ways.WayFrames.{ObjectStays, ways_stay}
+use Rattle.core_rule.proofs.words.Addresses.{SameSpines}
 
 -- the graph's party has the same registers, and as many objects and sets, and has left where it had
 pub record SameParty (g now : Graph) (r : ℕ) : Type 0 where
@@ -160,7 +160,7 @@ with_entry book entry = record book { history = book.history ++ entry ∷ [] }
 pub seat_stays : (heap : Heap) (words now : List ℕ) (book : Book) (entry : Entry) (r : ℕ) (seat : Seat) → is_of r entry ≡ false
     → SameParty (graph_of heap book.history) (graph_of heap (book.history ++ entry ∷ [])) r
     → ((i : ℕ) → SameShape (node_at (graph_of heap (book.history ++ entry ∷ [])) book.made i) (node_at (graph_of heap book.history) book.made i))
-    → IsStored heap now r seat → LeavesSpines heap words now
+    → IsStored heap now r seat → SameSpines heap words now
     → SeatInCycle heap now (phase (book.history ++ entry ∷ [])) (last_answer r (book.history ++ entry ∷ [])) (has_left r (book.history ++ entry ∷ [])) book.owner book.colour r seat
     → SeatStands heap words book r seat → SeatStands heap now (with_entry book entry) r seat
 seat_stays heap words now book entry r seat other same shapes stored spines cycle old = seat_left heap words now book (with_entry book entry) r seat record {
@@ -171,7 +171,7 @@ seat_stays heap words now book entry r seat other same shapes stored spines cycl
   hand = same_hand r book.owner;
   stored = stored;
   spines = spines_left r book.spine_owner;
-  spine_stored = spine_stored heap words now seat spines old.own.spine.stored;
+  spine_stored = spine_words_stay heap words now seat spines old.own.spine.stored;
   gathers = gathers_stay heap book.owner r book.history (book.begun r) entry seat.cursor seat.tried seat.given old.told.began.earlier old.told.gathers;
   cycle = cycle;
 } old

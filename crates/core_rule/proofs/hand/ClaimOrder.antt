@@ -1,14 +1,15 @@
 -- The order of claims in what a seat gathers, and in the body of its object.
 use Rattle.std.proofs.Common.{◌≡◌, ℕ, ◌+◌, ◌-◌, ◌*◌, ◌/◌, ◌%◌, ◌<◌, ◌≤◌, inl, inr, List, [], ◌++◌, length, take, drop, get_or, All, AllPairs, refl, sym, ap, ◌∙◌, subst, arith}
-use Rattle.std.proofs.lemmas.Bool.{cases_lt}
-use Rattle.std.proofs.lemmas.List.{append-nil, append_assoc, take-append-drop}
-use Rattle.std.proofs.lemmas.List.Elements.{All-append, All-filter, All-weaker}
+use Rattle.std.proofs.lemmas.Bool.{cases_lt, not-true}
+use Rattle.std.proofs.lemmas.List.{append-nil, append_assoc, take-append-drop, take_at, drop_at, length-append, get_or_append_left, get_or-append_right}
+use Rattle.std.proofs.lemmas.List.Elements.{All-append, All-filter, All-weaker, filter_passes}
 use Rattle.std.proofs.lemmas.List.Kept.{AllPairs-filter}
+use Rattle.std.proofs.lemmas.List.Sums.{suffix_len_is}
 use Rattle.std.proofs.Math.Nat.{mod-eq_of_lt, add-mod_right}
 use Rattle.heap_model.specs.declared.heap.Heap.{Heap}
 use Rattle.core_machine.specs.seat.Fits.{AreFragments}
-use Rattle.core_machine.specs.table.Fragments.{out_of_group, part_in, part_out}
-use Rattle.core_machine.specs.seat.Making.{last_group_of, fragments_gathered, last_claimed, gather_next}
+use Rattle.core_machine.specs.table.Fragments.{in_group, out_of_group, part_in, part_out}
+use Rattle.core_machine.specs.seat.Making.{last_group_of, last_run, run_of, before_run, fragments_gathered, last_claimed, gather_next}
 use Rattle.core_machine.specs.seat.Seat.{Seat, need}
 use Rattle.core_machine.proofs.seat_lemmas.Fitting.{goes_on_cases}
 use Rattle.core_rule.specs.Together.{claim_rank, InClaims, IsInOrder, AreTogether}
@@ -132,15 +133,46 @@ module _ (heap : Heap) where
     last_parted : part_out (last_group_of hand) hand ++ part_in (last_group_of hand) hand ≡ hand
     last_parted = group_last (last_group_of hand) hand behind_last
 
+    -- as many as stand behind the others
+    run_length : length hand - last_run hand ≡ length (part_out (last_group_of hand) hand)
+    run_length =
+        let group : ℕ = last_group_of hand in
+        let front : List ℕ = part_out group hand in
+        let back : List ℕ = part_in group hand in
+        let long : length hand ≡ length front + length back = ap length (sym last_parted) ∙ length-append front back in
+        let run : last_run hand ≡ length hand - length front =
+        suffix_len_is (in_group group) hand (length front) 0 (omega (arith, long))
+        (λ k past within. ap (λ xs. in_group group (get_or xs k 0)) (sym last_parted) ∙ ap (in_group group) (get_or-append_right front back (length front) k 0 refl past)
+        ∙ filter_passes (in_group group) hand (k - length front) 0 (omega (arith, past, within, long)))
+        (λ some. ap (λ xs. in_group group (get_or xs (length front - 1) 0)) (sym last_parted) ∙ ap (in_group group) (get_or_append_left front back 0 (length front - 1) (omega (arith, some)))
+        ∙ not-true _ (filter_passes (out_of_group group) hand (length front - 1) 0 (omega (arith, some)))) in
+        omega (arith, run, long)
+
+    -- they are the last run, and the others those before it
+    run_is : run_of hand ≡ part_in (last_group_of hand) hand
+    run_is = rw run_length (ap (drop _) (sym last_parted) ∙ drop_at (part_out (last_group_of hand) hand) (part_in (last_group_of hand) hand) _ refl)
+
+    before_is : before_run hand ≡ part_out (last_group_of hand) hand
+    before_is = rw run_length (ap (take _) (sym last_parted) ∙ take_at (part_out (last_group_of hand) hand) (part_in (last_group_of hand) hand) _ refl)
+
   module _ (cursor tried : ℕ) (hand body : List ℕ) (within : AreFragments heap hand) (some : 1 ≤ length body) (together : AreTogether heap cursor tried hand body) where
     in_order : IsInOrder heap hand body
     in_order = together.chosen (λ none. let empty : length body ≡ 0 = ap length none in omega (arith, some, empty))
 
+    in_claims : InClaims heap in_order.start hand
+    in_claims = pairs_front (λ f h. claim_rank heap in_order.start f ≤ claim_rank heap in_order.start h) hand in_order.born (subst (InClaims heap in_order.start) in_order.front in_order.ordered)
+
+    -- the last run of the hand is what it has of its last group
+    pub last_run_is : run_of hand ≡ part_in (last_group_of hand) hand
+    last_run_is = run_is in_order.start hand in_order.below within in_claims
+
+    pub before_last_is : before_run hand ≡ part_out (last_group_of hand) hand
+    before_last_is = before_is in_order.start hand in_order.below within in_claims
+
     -- the others are the first of the body, which stays in order
     pub born_in_order : IsInOrder heap (part_out (last_group_of hand) hand) body
     born_in_order =
-        let parts = last_parted in_order.start hand in_order.below within
-        (pairs_front (λ f h. claim_rank heap in_order.start f ≤ claim_rank heap in_order.start h) hand in_order.born (subst (InClaims heap in_order.start) in_order.front in_order.ordered)) in
+        let parts = last_parted in_order.start hand in_order.below within in_claims in
         record {
           start = in_order.start;
           below = in_order.below;

@@ -2,17 +2,23 @@
 use Rattle.std.proofs.Common.{◌≡◌, ◌∙◌, subst, ℕ, ◌+◌, List, [], length, take, drop, refl, sym, ap, arith}
 use Rattle.std.proofs.lemmas.List.{length-append, take-append-drop}
 use Rattle.heap_model.specs.declared.entry.Entry.{Entry}
+use Rattle.heap_model.specs.declared.command.Command.{Command}
+use Rattle.heap_model.specs.declared.command.Command.TheVariants as commands
 use Rattle.heap_model.specs.declared.heap.Heap.{Heap}
+use Rattle.heap_model.specs.Needs.{spine_need_of}
 use Rattle.core_machine.specs.declared.place.Making.{Making}
-use Rattle.core_machine.specs.declared.place.Making.TheVariants.{Gathering, Storing}
+use Rattle.core_machine.specs.declared.place.Making.TheVariants.{Gathering}
 use Rattle.core_machine.specs.declared.place.Place.TheVariants as places
 use Rattle.core_machine.specs.table.Fragments.{tally}
-use Rattle.core_machine.specs.seat.Making.{fragments_gathered, gather_next, last_claimed, refusal_place}
-use Rattle.core_machine.specs.seat.Seat.{Seat, need}
-use Rattle.core_machine.proofs.seat_lemmas.Fitting.{goes_on_cases}
+use Rattle.core_machine.specs.seat.Making.{fragments_gathered, gather_next, last_claimed, refusal_place, settled_place}
+use Rattle.core_machine.specs.seat.Commands.{MakesObject, IsArray}
+use Rattle.core_machine.specs.seat.Seat.{Seat, need, spine_need}
+use Rattle.core_machine.proofs.seat_lemmas.Fitting.{goes_on_cases, returning_cases, settled_cases}
+use Rattle.core_rule.specs.Budgets.{granted_at, unplaced_at, refused_at, UsedStands}
 use Rattle.core_rule.specs.Gathers.{GathersRight}
 use Rattle.core_rule.specs.Holding.{Holding, fragments_in_hand}
 use Rattle.core_rule.specs.Owners.{Owner, bears_bit}
+use Rattle.core_rule.specs.Spines.{HasPlace}
 use Rattle.core_rule.proofs.entries.Begins.{SameData, same_data}
 use Rattle.core_rule.proofs.hand.Bodies.{whole_same}
 use Rattle.core_rule.proofs.gather.GatherMoves.{nothing_tried}
@@ -66,6 +72,45 @@ pub record StaysMaking (old new : Seat) : Type 0 where
 pub same_goes_on : (heap : Heap) (seat : Seat) → StaysMaking seat (gather_next heap seat)
 same_goes_on heap seat =
     goes_on_cases (λ s. StaysMaking seat s) heap seat
-    (λ enough. record { same = same_data seat _ _ _ _ _ _ _ _ _; making = Storing; placed = refl })
+    (λ enough. record { same = same_data seat _ _ _ _ _ _ _ _ _; making = settled_place seat.command; placed = refl })
     (λ few left. record { same = same_data seat _ _ _ _ _ _ _ _ _; making = Gathering; placed = refl })
     (λ few tried. record { same = same_data seat _ _ _ _ _ _ _ _ _; making = refusal_place seat.hand; placed = refl })
+
+-- the spine words that the seat's call needs are granted, and have no place yet; and it found none to be in use
+pub record IsUnplaced (words : ℕ) (seat : Seat) : Type 0 where
+  pub granted : granted_at seat seat.place ≡ words
+  pub unplaced : unplaced_at seat seat.place ≡ words
+  pub refused : refused_at seat seat.place ≡ 0
+  pub no_place : ¬ HasPlace seat seat.place
+  pub none_used : (heap : Heap) (history : List Entry) (number : ℕ) → UsedStands heap history number seat seat.place
+
+-- a record has no spine words
+record_no_words : (command : Command) → MakesObject command → (IsArray command → ⊥) → spine_need_of command ≡ 0
+record_no_words (commands.New d fields) made other = refl
+record_no_words (commands.Array d cells) made other = absurd (other tt)
+record_no_words _ made other = absurd made
+
+-- so it is where what was claimed is to be given back
+pub unplaced_refusing : (seat : Seat) (hand : List ℕ) → seat.place ≡ places.Making (refusal_place hand) → IsUnplaced (spine_need seat) seat
+unplaced_refusing seat hand placed =
+    returning_cases (λ m. seat.place ≡ places.Making m → IsUnplaced (spine_need seat) seat) hand
+    (λ none is. rw is record { granted = refl; unplaced = refl; refused = refl; no_place = λ has. has; none_used = λ heap history number. tt })
+    (λ some is. rw is record { granted = refl; unplaced = refl; refused = refl; no_place = λ has. has; none_used = λ heap history number. tt })
+    placed
+
+-- and on each way on
+pub unplaced_goes_on : (heap : Heap) (seat : Seat) → MakesObject seat.command → IsUnplaced (spine_need seat) (gather_next heap seat)
+unplaced_goes_on heap seat made =
+    goes_on_cases (IsUnplaced (spine_need seat)) heap seat
+    (λ enough. settled_cases (λ m. (next : Seat) → next.command ≡ seat.command → next.place ≡ places.Making m → IsUnplaced (spine_need seat) next) seat.command
+    (λ an_array next is placed. rw (placed, is) record { granted = refl; unplaced = refl; refused = refl; no_place = λ has. has; none_used = λ heap history number. tt })
+    (λ other next is placed. rw (placed, is) record {
+      granted = refl;
+      unplaced = sym (record_no_words seat.command made other);
+      refused = refl;
+      no_place = other;
+      none_used = λ heap history number. tt;
+    })
+    _ refl refl)
+    (λ few left. record { granted = refl; unplaced = refl; refused = refl; no_place = λ has. has; none_used = λ heap history number. tt })
+    (λ few tried. unplaced_refusing _ seat.hand refl)

@@ -1,21 +1,33 @@
 -- What is true of a seat that makes an object.
-use Rattle.std.proofs.Common.{◌≡◌, ℕ, ◌-◌, ◌%◌, ◌<◌, ◌≤◌, false, length, arith}
+use Rattle.std.proofs.Common.{◌≡◌, ℕ, ◌+◌, ◌-◌, ◌%◌, ◌<◌, ◌≤◌, false, List, length, refl, ◌∙◌, arith}
+use Rattle.heap_words.specs.declared.name.Name.{Name}
+use Rattle.heap_words.specs.declared.spot.Spot.{Spot}
+use Rattle.heap_model.specs.declared.command.Command.{Command}
+use Rattle.heap_model.specs.declared.command.Command.TheVariants as commands
 use Rattle.heap_model.specs.declared.heap.Heap.{Heap}
+use Rattle.heap_model.specs.Needs.{spine_need_of}
 use Rattle.heap_model.specs.account.PhaseCounts.{phase}
 use Rattle.core_machine.specs.declared.place.Making.{Making}
 use Rattle.core_machine.specs.declared.place.Place.TheVariants as places
-use Rattle.core_machine.specs.seat.Commands.{fields_of}
-use Rattle.core_machine.specs.seat.Fits.{Fits, HasBody}
+use Rattle.core_machine.specs.seat.Commands.{MakesObject, IsArray}
+use Rattle.core_machine.specs.seat.Fits.{Fits, HasBody, IsListed}
 use Rattle.core_machine.specs.machine.Machine.{State, seat_at}
-use Rattle.core_machine.specs.seat.Making.{last_group_of, first_group_of}
+use Rattle.core_machine.specs.seat.Making.{last_group_of, first_group_of, newborn_word}
 use Rattle.core_machine.specs.Moves.{bears_black_of}
-use Rattle.core_machine.specs.seat.Seat.{Seat}
+use Rattle.core_machine.specs.seat.Seat.{Seat, spine_need}
+use Rattle.core_machine.specs.table.Layout.{at, spine_place}
+use Rattle.core_machine.specs.table.Newborn.{spine_word}
 use Rattle.core_machine.proofs.table_lemmas.Owned.{group_within}
-use Rattle.core_rule.specs.Book.{Book}
+use Rattle.core_rule.specs.Book.{Book, fragment_at}
+use Rattle.core_rule.specs.Objects.{IsSized}
+use Rattle.core_rule.specs.Owners.{SpineOwner}
 use Rattle.core_rule.specs.Rule.{Rule}
+use Rattle.core_rule.specs.Spines.{SpineInHand, HasPlace}
 use Rattle.core_rule.proofs.entries.AtRest.{in_flight}
 use Rattle.core_rule.proofs.colours.BirthColours.{white_early}
-use Rattle.core_rule.proofs.entries.MakingCommands.{ranges_made}
+use Rattle.core_rule.proofs.entries.MakingCommands.{makes_array, size_made, need_made, ranges_made}
+use Rattle.core_rule.proofs.objects.Newborn.{fresh_word}
+use Rattle.core_rule.proofs.objects.ObjectsGrowth.{fresh_fragments, body_some}
 
 -- a seat that makes an object bears no black fragments at rest and in the first phase
 pub bears_late : (heap : Heap) (state : State) (book : Book) (number : ℕ) (making : Making) → Rule heap state book → number < heap.seats → (seat_at state number).place ≡ places.Making making
@@ -31,6 +43,34 @@ first_within heap seat fits some = group_within heap seat.hand 0 some fits.hand.
 pub last_within : (heap : Heap) (seat : Seat) → Fits heap seat → 0 < length seat.hand → last_group_of seat.hand < heap.groups
 last_within heap seat fits some = group_within heap seat.hand (length seat.hand - 1) (omega (arith, some)) fits.hand.hand_within
 
--- a record that is made has few fields
-pub few_fields : (seat : Seat) → HasBody seat → fields_of seat.command ≤ 47
-few_fields seat has = (ranges_made seat.command has.makes.a_record has.makes.in_range).3
+-- an object that has its fragments has as many as it needs, and no more cells than fit
+module _ (seat : Seat) (has : HasBody seat) where
+  pub made_sized : IsSized (makes_array seat.command) (size_made seat.command)
+  made_sized = (ranges_made seat.command has.makes.an_object has.makes.in_range).2
+
+  pub made_whole : length seat.body ≡ fresh_fragments (makes_array seat.command) (size_made seat.command)
+  made_whole = has.whole ∙ need_made seat.command has.makes.an_object
+
+  pub made_some : 1 ≤ length seat.body
+  made_some = body_some (makes_array seat.command) (size_made seat.command) seat.body made_whole
+
+-- its words are those of a record or an array whose cells were never set
+pub newborn_fresh : (command : Command) → MakesObject command → (name : Name) (spine : Spot) (fragments : List ℕ) (k part : ℕ)
+    → newborn_word command name spine fragments k part ≡ fresh_word (makes_array command) name (size_made command) spine fragments k part
+newborn_fresh (commands.New d fields) made name spine fragments k part = refl
+newborn_fresh (commands.Array d cells) made name spine fragments k part = refl
+newborn_fresh _ made name spine fragments k part = absurd made
+
+-- once the words of its spine are stored, they are all that it needs
+pub listed_within : (command : Command) (spine : Spot) (listed j : ℕ) → MakesObject command → IsListed command spine listed → j < spine_need_of command → (IsArray command) × (j < listed)
+listed_within (commands.New d fields) spine listed j made all within = absurd (omega (arith, within))
+listed_within (commands.Array d cells) spine listed j made all within = (tt, omega (arith, all, within))
+listed_within _ spine listed j made all within = absurd made
+
+-- where the object's words are to be stored or its fragments to be born, each word of its spine names a payload fragment
+pub spine_listed : (heap : Heap) (words : List ℕ) (spine_owner : ℕ → ℕ → SpineOwner) (number : ℕ) (seat : Seat) → SpineInHand heap words spine_owner number seat
+    → (IsArray seat.command → HasPlace seat seat.place) → MakesObject seat.command → IsListed seat.command seat.spine seat.listed
+    → (j : ℕ) → j < spine_need seat → at heap words (spine_place seat.spine j) ≡ spine_word (fragment_at seat.body (j + 1))
+spine_listed heap words spine_owner number seat hand placed made all j within =
+    let there = listed_within seat.command seat.spine seat.listed j made all within in
+    hand.stored (placed there.0) j there.1

@@ -1,11 +1,12 @@
 -- Where the sources of what a seat has borne lead: to its own new object.
 use Rattle.std.proofs.Common.{◌≡◌, ◌≢◌, ℕ, ◌+◌, ◌*◌, ◌<◌, ◌≤◌, [], length, sym, subst, arith}
 use Rattle.heap_model.specs.declared.heap.Heap.{Heap}
-use Rattle.core_machine.specs.declared.place.Making.TheVariants.{Gathering, Returning, Refusing, Storing, Bearing}
+use Rattle.core_machine.specs.declared.place.Making.TheVariants.{Granting, Withdrawing, Gathering, Returning, Refusing, Placing, Listing, Storing, Bearing}
 use Rattle.core_machine.specs.declared.place.Place.{Place}
 use Rattle.core_machine.specs.declared.place.Place.TheVariants as places
 use Rattle.core_machine.specs.machine.Machine.{State, seat_at}
-use Rattle.core_machine.specs.seat.Fits.{FitsPlace, HasBody}
+use Rattle.core_machine.specs.seat.Commands.{IsArray}
+use Rattle.core_machine.specs.seat.Fits.{FitsPlace, HasBody, IsListed}
 use Rattle.core_machine.specs.seat.Making.{newborn_word_of}
 use Rattle.core_machine.specs.seat.Seat.{Seat}
 use Rattle.core_machine.specs.table.Fragments.{tally}
@@ -13,11 +14,12 @@ use Rattle.core_rule.specs.Book.{Book}
 use Rattle.core_rule.specs.Colours.{WordPointsTo}
 use Rattle.core_rule.specs.Owners.{Taken, Borne}
 use Rattle.core_rule.specs.Rule.{Rule, SeatStands}
+use Rattle.core_rule.specs.Spines.{HasPlace}
 use Rattle.core_rule.proofs.colours.BirthAhead.{body_leads}
 use Rattle.core_rule.proofs.entries.AtRest.{seat_fits}
 use Rattle.core_rule.proofs.hand.Bodies.{body_at-own}
 use Rattle.core_rule.proofs.hand.HandMoves.{bears_nothing, hand_held}
-use Rattle.core_rule.proofs.hand.MakingSeats.{few_fields}
+use Rattle.core_rule.proofs.hand.MakingSeats.{spine_listed}
 use Rattle.core_rule.proofs.held.Alive.{IsAlive, own_alive}
 use Rattle.core_rule.proofs.lists.Members.{place_of, place_within}
 use Rattle.core_rule.proofs.objects.LastBirth.{all_stored}
@@ -47,13 +49,18 @@ module _ (heap : Heap) (state : State) (book : Book) (rule : Rule heap state boo
       = hand_held book.owner number seat.reserve seat.hand seat.body stands.own.holding f (subst (λ fs. 1 ≤ tally f fs) (sym all) in_body) in
       cc (held, bears)
 
-  -- so the seat stands at a birth, and has stored each word
-  bearing : (place : Place) → FitsPlace heap seat place → HasBody seat × (seat.stored ≡ 4 * length seat.body)
+  -- so the seat stands at a birth, and has stored each word of the object and of its spine
+  bearing : (place : Place) → FitsPlace heap seat place
+      → HasBody seat × (seat.stored ≡ 4 * length seat.body) × IsListed seat.command seat.spine seat.listed × (IsArray seat.command → HasPlace seat place)
+  bearing (places.Making Granting) fits = absurd (some_body fits.0.no_body)
+  bearing (places.Making Withdrawing) fits = absurd (some_body fits.rests.no_body)
   bearing (places.Making Gathering) fits = absurd (some_body fits.no_body)
   bearing (places.Making Returning) fits = absurd (some_body fits.0.no_body)
   bearing (places.Making Refusing) fits = absurd (some_body fits.0.no_body)
+  bearing (places.Making Placing) fits = absurd (some_borne fits.0.2.all_unborn)
+  bearing (places.Making Listing) fits = absurd (some_borne fits.0.2.all_unborn)
   bearing (places.Making Storing) fits = absurd (some_borne fits.1)
-  bearing (places.Making Bearing) fits = (fits.0, fits.3)
+  bearing (places.Making Bearing) fits = (fits.0, fits.3, fits.4, λ an_array. an_array)
   bearing places.Idle fits = absurd (some_body fits.no_body)
   bearing places.Local fits = absurd (some_body fits.0.no_body)
   bearing (places.Access place) fits = absurd (some_body fits.no_body)
@@ -68,8 +75,9 @@ module _ (heap : Heap) (state : State) (book : Book) (rule : Rule heap state boo
       let has = bearing seat.place fits.at_place in
       let place = place_within f seat.body in_body in
       let k : ℕ = place_of f seat.body in
-      let next = body_leads heap state.words book.owner number seat rule.machine.limits here has.0.makes.numbered (few_fields seat has.0) (omega (arith, place.0)) fits.hand.body_within stands.own.holding
+      let next = body_leads heap state.words book.owner number seat rule.machine.limits here has.0 fits.hand stands.own.holding
       (all_stored heap state.words seat.body (newborn_word_of number seat) seat.stored has.1 stands.own.stored)
+      (spine_listed heap state.words book.spine_owner number seat stands.own.spine has.3 has.0.makes.an_object has.2)
       k source x place.0 (subst (λ y. WordPointsTo heap state.words y source x) (sym place.1) leads) in
-      let own = body_at-own book.owner number seat.reserve seat.hand seat.body stands.own.holding (k + 1) next.0 in
-      own_alive number (book.owner x) (subst (λ y. IsOwn number (book.owner y)) (sym next.1) own)
+      let own = body_at-own book.owner number seat.reserve seat.hand seat.body stands.own.holding next.place next.within in
+      own_alive number (book.owner x) (subst (λ y. IsOwn number (book.owner y)) (sym next.is) own)

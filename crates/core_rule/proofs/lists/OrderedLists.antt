@@ -65,15 +65,15 @@ module _ (g : ℕ) where
   ]
 
 -- what stands behind one that isn't of the front isn't either
-pub past_front : (front rest body : List ℕ) (k : ℕ) → body ≡ front ++ rest → ((f : ℕ) → tally f body ≤ 1) → k + 1 < length body
-    → tally (fragment_at body k) front ≡ 0 → tally (fragment_at body (k + 1)) front ≡ 0
-past_front front rest body k parted once below away = not_there (tally (fragment_at body (k + 1)) front) (λ there.
-    let place = place_within (fragment_at body (k + 1)) front there in
+pub past_front : (front rest body : List ℕ) (k m : ℕ) → body ≡ front ++ rest → ((f : ℕ) → tally f body ≤ 1) → k < m → m < length body
+    → tally (fragment_at body k) front ≡ 0 → tally (fragment_at body m) front ≡ 0
+past_front front rest body k m parted once behind below away = not_there (tally (fragment_at body m) front) (λ there.
+    let place = place_within (fragment_at body m) front there in
     let long : length body ≡ length front + length rest = ap length parted ∙ length-append front rest in
     let read : (i : ℕ) → i < length front → get_or body i 0 ≡ get_or front i 0 = λ i less. ap (λ xs. get_or xs i 0) parted ∙ get_or_append_left front rest 0 i less in
-    let same : place_of (fragment_at body (k + 1)) front ≡ k + 1
-    = same_place body (place_of (fragment_at body (k + 1)) front) (k + 1) once (omega (arith, long, place.0)) below (read _ place.0 ∙ place.1) in
-    let less : k < length front = omega (arith, same, place.0) in
+    let same : place_of (fragment_at body m) front ≡ m
+    = same_place body (place_of (fragment_at body m) front) m once (omega (arith, long, place.0)) below (read _ place.0 ∙ place.1) in
+    let less : k < length front = omega (arith, same, place.0, behind) in
     let some : 1 ≤ tally (get_or front k 0) front = tally_at front k less in
     let none : tally (get_or front k 0) front ≡ 0 = ap (λ f. tally f front) (sym (read k less)) ∙ away in
     omega (arith, some, none))

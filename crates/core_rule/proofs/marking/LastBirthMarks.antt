@@ -4,13 +4,13 @@ use Rattle.heap_model.specs.declared.heap.Heap.{Heap}
 use Rattle.core_machine.specs.declared.place.Making.TheVariants.{Bearing}
 use Rattle.core_machine.specs.declared.place.Place.TheVariants as places
 use Rattle.core_machine.specs.machine.Machine.{State, seat_at}
-use Rattle.core_machine.specs.Moves.{bears_black_of, last_part, made_entry, seat_after, is_last_birth, last_birth_move}
+use Rattle.core_machine.specs.Moves.{bears_black_of, made_entry, seat_after, is_last_birth, last_birth_move}
 use Rattle.core_machine.specs.seat.Commands.{target_of}
 use Rattle.core_machine.specs.seat.Making.{last_group_of, next_object_id}
 use Rattle.core_machine.specs.seat.Registers.{register_in, register_head}
 use Rattle.core_machine.specs.seat.Seat.{Seat}
-use Rattle.core_machine.specs.seat.Fits.{HasBody}
-use Rattle.core_machine.specs.table.Fragments.{tally}
+use Rattle.core_machine.specs.seat.Fits.{HasBody, IsListed}
+use Rattle.core_machine.specs.table.Fragments.{tally, part_in}
 use Rattle.core_rule.specs.Book.{Book, Black, fragment_at}
 use Rattle.core_rule.specs.Colours.{IsMarked}
 use Rattle.core_rule.specs.Owners.{Owner, Dead, holds_bit, bears_bit, born_bit}
@@ -40,7 +40,7 @@ book_born book number seat = record book {
   made = book.made ++ next_object_id number seat ∷ [];
   owner = kept_by (length book.made) seat.body book.owner;
   fragments = with_object book.fragments (length book.made) seat.body;
-  colour = painted (birth_colour (bears_black_of seat)) book.colour (last_part seat);
+  colour = painted (birth_colour (bears_black_of seat)) book.colour (part_in (last_group_of seat.hand) seat.hand);
 }
 
 -- what a seat has isn't to be freed
@@ -58,7 +58,7 @@ module _ (heap : Heap) (state : State) (book : Book) (number : ℕ) (rule : Rule
   abbrev words : List ℕ
   words = words_born heap state book number rule here place
 
-  at_place : HasBody seat × (0 < length seat.hand) × (length seat.hand ≤ length seat.body) × (seat.stored ≡ 4 * length seat.body)
+  at_place : HasBody seat × (0 < length seat.hand) × (length seat.hand ≤ length seat.body) × (seat.stored ≡ 4 * length seat.body) × IsListed seat.command seat.spine seat.listed
   at_place = rw place at (seat_fits rule number here).at_place
 
   own : (f : ℕ) → 1 ≤ tally f seat.body → IsOwn number (book.owner f)
@@ -72,7 +72,7 @@ module _ (heap : Heap) (state : State) (book : Book) (number : ℕ) (rule : Rule
 
   leaves : Leaves heap state book rule words now
   leaves =
-      leaves_kept heap state book rule (last_group_of seat.hand) _ (group_born heap state book number rule here place) (length book.made) seat.body (last_part seat) (bears_black_of seat)
+      leaves_kept heap state book rule (last_group_of seat.hand) _ (group_born heap state book number rule here place) (length book.made) seat.body (part_in (last_group_of seat.hand) seat.hand) (bears_black_of seat)
       (dark_now heap state book rule number here present) (pale_now heap state book rule number here present)
       (kept_bears book.owner book.colour number seat.reserve seat.hand seat.body (rule.seats_stand number here).own.holding (some_born heap state book number rule here place)
       (last_group_of seat.hand) (length book.made) last (bears_black_of seat) births)
@@ -96,7 +96,7 @@ module _ (heap : Heap) (state : State) (book : Book) (number : ℕ) (rule : Rule
     reached_on = comes_on heap state book rule words now leaves;
     own_on = λ marks answered. record {
       registers = heads_put (IsReached heap words now.owner now.colour) seat.registers (target_of seat.command) _
-          (omega (arith, (seat_fits rule number here).own.registers_whole, (ranges_made seat.command at_place.0.makes.a_record at_place.0.makes.in_range).1))
+          (omega (arith, (seat_fits rule number here).own.registers_whole, (ranges_made seat.command at_place.0.makes.an_object at_place.0.makes.in_range).1))
           (inl (head_marked marks.phase))
           (λ r. if_some (IsReached heap state.words book.owner book.colour) (IsReached heap words now.owner now.colour) (comes_on heap state book rule words now leaves marks)
           (register_head (register_in seat.registers r)) ((rule.marks_stand.roots number here marks answered).registers r));

@@ -7,11 +7,19 @@ use Rattle.core_machine.specs.table.Layout.{index_of, at, put}
 use Rattle.core_machine.proofs.table_lemmas.Addresses.{put-at}
 use Rattle.core_rule.proofs.words.Addresses.{at-put_apart, SameSpines, spines_elsewhere}
 
--- each spine word, the budget and the spot are as before
+-- each spine word and the spot are as before
+pub record LeavesPlaces (heap : Heap) (words now : List ℕ) : Type 0 where
+  pub spines : SameSpines heap words now
+  pub spot : at heap now addresses.Spot ≡ at heap words addresses.Spot
+
+-- and so is the budget
 pub record LeavesSpines (heap : Heap) (words now : List ℕ) : Type 0 where
   pub spines : SameSpines heap words now
   pub spot : at heap now addresses.Spot ≡ at heap words addresses.Spot
   pub budget : at heap now addresses.Budget ≡ at heap words addresses.Budget
+
+pub places_of : (heap : Heap) (words now : List ℕ) → LeavesSpines heap words now → LeavesPlaces heap words now
+places_of heap words now leaves = record { spines = leaves.spines; spot = leaves.spot }
 
 -- so they are where no word changes
 pub spines_left_none : (heap : Heap) (words : List ℕ) → LeavesSpines heap words words
@@ -38,6 +46,13 @@ module _ (heap : Heap) (words : List ℕ) (n : ℕ) where
 
   pub spines_left_phase : LeavesSpines heap words (put heap words addresses.Phase n)
   spines_left_phase = left_elsewhere addresses.Phase (omega arith) (λ e. omega (arith, e)) (λ e. omega (arith, e))
+
+  -- the budget changes
+  pub places_left_budget : LeavesPlaces heap words (put heap words addresses.Budget n)
+  places_left_budget = record {
+    spines = spines_elsewhere heap words n addresses.Budget (omega arith);
+    spot = at-put_apart heap words addresses.Budget addresses.Spot n (λ e. omega (arith, e));
+  }
 
   pub spines_left_answer : (r : ℕ) → r < 16 → LeavesSpines heap words (put heap words (addresses.Answer r) n)
   spines_left_answer r below = left_elsewhere (addresses.Answer r) (omega (arith, below)) (λ e. omega (arith, e, below)) (λ e. omega (arith, e, below))

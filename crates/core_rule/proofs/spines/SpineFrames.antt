@@ -20,8 +20,9 @@ use Rattle.core_rule.specs.Spines.{SpinesStand, SpineInHand, HasPlace, WordStand
 use Rattle.core_rule.specs.Ways.{Locates, WayStands}
 use Rattle.core_rule.proofs.graph.SameNodes.{SameShape, shape_words, shape_same}
 use Rattle.core_rule.proofs.objects.ObjectFrames.{SameKept}
-use Rattle.core_rule.proofs.spines.OtherWords.{LeavesSpines, spines_left_none}
+use Rattle.core_rule.proofs.spines.OtherWords.{LeavesPlaces, LeavesSpines, places_of}
 use Rattle.core_rule.proofs.ways.WayFrames.{ObjectStays}
+use Rattle.core_rule.proofs.words.Addresses.{SameSpines}
 
 -- the same fragments are kept where whose they are is as before
 pub same_kept : (owner : ℕ → Owner) → SameKept owner owner
@@ -32,11 +33,11 @@ pub same_shapes : (nodes : ℕ → Node) (i : ℕ) → SameShape (nodes i) (node
 same_shapes nodes i = shape_same (nodes i) (nodes i) refl
 
 
-module _ (heap : Heap) (words now : List ℕ) (leaves : LeavesSpines heap words now) (seats made : ℕ) (spines : ℕ → Spot) (fragments : ℕ → List ℕ) (spine_owner : ℕ → ℕ → SpineOwner) where
+module _ (heap : Heap) (words now : List ℕ) (leaves : LeavesPlaces heap words now) (seats made : ℕ) (spines : ℕ → Spot) (fragments : ℕ → List ℕ) (spine_owner : ℕ → ℕ → SpineOwner) where
   -- the same are kept, and have as many spine words
-  pub spines_stay : (nodes now_nodes : ℕ → Node) (owner now_owner : ℕ → Owner) → SameKept owner now_owner → ((i : ℕ) → SameShape (now_nodes i) (nodes i))
+  pub spines_at_places : (nodes now_nodes : ℕ → Node) (owner now_owner : ℕ → Owner) → SameKept owner now_owner → ((i : ℕ) → SameShape (now_nodes i) (nodes i))
       → SpinesStand heap words seats made nodes owner fragments spines spine_owner → SpinesStand heap now seats made now_nodes now_owner fragments spines spine_owner
-  spines_stay nodes now_nodes owner now_owner kept shapes old =
+  spines_at_places nodes now_nodes owner now_owner kept shapes old =
       let words_of : (i : ℕ) → spine_words_of (now_nodes i) ≡ spine_words_of (nodes i) = λ i. shape_words (now_nodes i) (nodes i) (shapes i) in
       record {
         spot = rw leaves.spot old.spot;
@@ -45,6 +46,12 @@ module _ (heap : Heap) (words now : List ℕ) (leaves : LeavesSpines heap words 
         kept = λ i j below is within. old.kept i j below (kept.was _ _ _ is) (subst (λ n. j < n) (words_of i) within);
         back = λ half offset i j is. let one = old.back half offset i j is in (one.0, kept.stays _ _ _ one.1, subst (λ n. j < n) (sym (words_of i)) one.2, one.3);
       }
+
+module _ (heap : Heap) (words now : List ℕ) (leaves : LeavesSpines heap words now) (seats made : ℕ) (spines : ℕ → Spot) (fragments : ℕ → List ℕ) (spine_owner : ℕ → ℕ → SpineOwner) where
+  -- so it is where the budget is as before too
+  pub spines_stay : (nodes now_nodes : ℕ → Node) (owner now_owner : ℕ → Owner) → SameKept owner now_owner → ((i : ℕ) → SameShape (now_nodes i) (nodes i))
+      → SpinesStand heap words seats made nodes owner fragments spines spine_owner → SpinesStand heap now seats made now_nodes now_owner fragments spines spine_owner
+  spines_stay = spines_at_places heap words now (places_of heap words now leaves) seats made spines fragments spine_owner
 
   -- no more than words change
   pub spines_words : (nodes : ℕ → Node) (owner : ℕ → Owner)
@@ -55,8 +62,11 @@ module _ (heap : Heap) (words now : List ℕ) (leaves : LeavesSpines heap words 
 abbrev pub SpineIsStored : Heap → List ℕ → Seat → Type 0
 SpineIsStored heap words seat = HasPlace seat seat.place → (j : ℕ) → j < seat.listed → at heap words (spine_place seat.spine j) ≡ spine_word (fragment_at seat.body (j + 1))
 
+pub spine_words_stay : (heap : Heap) (words now : List ℕ) (seat : Seat) → SameSpines heap words now → SpineIsStored heap words seat → SpineIsStored heap now seat
+spine_words_stay heap words now seat same stored = λ has j less. same _ _ ∙ stored has j less
+
 pub spine_stored : (heap : Heap) (words now : List ℕ) (seat : Seat) → LeavesSpines heap words now → SpineIsStored heap words seat → SpineIsStored heap now seat
-spine_stored heap words now seat leaves stored = λ has j less. leaves.spines _ _ ∙ stored has j less
+spine_stored heap words now seat leaves = spine_words_stay heap words now seat leaves.spines
 
 -- the seat has the spine words that it had, and those of arrays are theirs
 pub record SpinesLeft (r : ℕ) (was now : ℕ → ℕ → SpineOwner) : Type 0 where

@@ -129,7 +129,7 @@ module _ (heap : Heap) (state : State) (book : Book) (number : ℕ) (words : Lis
       (rw graph (grows.others r apart))
       (rw graph grows.shapes)
       (stored_stays heap book.owner state.words words r (seat_at state r) same other.own.holding (stored_within heap (seat_at state r) (seat_at state r).place (seat_fits rule r below).at_place) other.own.stored)
-      same.spines
+      same.spines.spines
       (cycle_other heap words book.owner book.colour book.history entry refl r (seat_at state r)
       (cycle_stays heap state.words words book.owner book.owner book.colour book.colour (phase book.history) (last_answer r book.history) (has_left r book.history) r (seat_at state r)
       (leaves r below apart) (watched_born heap state book rule r below) other.cycle) (of_other number r apart))

@@ -39,6 +39,7 @@ use Rattle.core_rule.specs.Rule.{Rule, HeapStands, OwnStands, SeatStands}
 use Rattle.core_rule.specs.Registers.{HoldsValue}
 use Rattle.heap_model.specs.graph.Objects.{register_value}
 use Rattle.core_rule.proofs.colours.LeadsFrames.{same_ahead}
+use Rattle.core_rule.proofs.spines.OtherWords.{spines_left_answer}
 use Rattle.core_rule.proofs.lists.Options.{if_some}
 use Rattle.core_rule.specs.Colours.{IsMarked}
 use Rattle.core_rule.specs.Flight.{RootsStand, WhilePolling}
@@ -230,7 +231,7 @@ module _ (heap : Heap) (state : State) (book : Book) (number : ℕ) (rule : Rule
         cycle = own_cycle seat.looks (first ∷ []);
       }
       other_middle (marks_on middle.history seat.looks (first ∷ []))
-      (step_budgets heap state book number rule here words now middle same.spines (none_weights seat now makes tt) grants_middle)
+      (step_budgets heap state book number rule here words now middle (spines_left_answer heap state.words p number small) (none_weights seat now makes tt) grants_middle)
       (book_stays heap state book middle.history book.begun)
 
   -- and that of a poll with its reply
@@ -287,7 +288,7 @@ module _ (heap : Heap) (state : State) (book : Book) (number : ℕ) (rule : Rule
   poll_kept : MoveKeeps heap state book number (answering number seat commands.Poll)
   poll_kept machine = seat_steps heap state book number words now later (first ∷ second ∷ []) rule here machine (append_assoc book.history (first ∷ []) (second ∷ [])) refl heap_later own_stands other_stands
       (marks_on later.history (forgotten seat.looks) (first ∷ second ∷ []))
-      (step_budgets heap state book number rule here words now later same.spines (none_weights seat now makes tt)
+      (step_budgets heap state book number rule here words now later (spines_left_answer heap state.words p number small) (none_weights seat now makes tt)
       (grants_on heap book middle later grants_middle (grants_told heap words middle second refl nodes_then)))
       (book_stays heap state book later.history book.begun)
 

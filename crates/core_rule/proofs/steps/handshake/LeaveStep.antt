@@ -32,6 +32,7 @@ use Rattle.core_rule.specs.Objects.{Objects}
 use Rattle.core_rule.specs.Registers as regs
 use Rattle.core_rule.specs.Paths.{IsReached}
 use Rattle.core_rule.proofs.colours.LeadsFrames.{same_ahead}
+use Rattle.core_rule.proofs.spines.OtherWords.{spines_left_answer}
 use Rattle.std.specs.Prelude.{IfSome}
 use Rattle.core_machine.specs.declared.seat.register.Register.{Register}
 use Rattle.core_machine.specs.seat.Registers.{register_head}
@@ -85,7 +86,7 @@ leave_keeps heap state book number rule here place machine =
     (present, subst IsCommand (sym at_place.1) tt, subst (λ c. Says g number c replies.Done) (sym at_place.1) refl)
     (keeps_said heap false book.history number seat.command replies.Done refl tt tt (subst (λ c. ShowsPhases heap false book.history number c replies.Done) (sym at_place.1) tt)
     (spent_own heap state book number rule here at_place.0) (omega (arith, empty, own_reserve heap state book number rule here at_place.0))))
-    record { controls = same.controls; unkept = λ f part free within. same.parts f part; spines = same.spines }
+    record { controls = same.controls; unkept = λ f part free within. same.parts f part; spines = spines_left_answer heap state.words LEFT number small }
     (graph_replies g now number changes heap words book rule.heap_stands.ids objects)
     record {
       idle = refl;

@@ -1,7 +1,9 @@
 -- The begin of a call that makes a record keeps the rule.
-use Rattle.std.proofs.Common.{slice_set, ℕ, ◌<◌, [], length, drop, refl, ◌∙◌}
+use Rattle.std.proofs.Common.{slice_set, ℕ, ◌<◌, [], length, drop, refl, sym, ◌≡◌, subst, ◌∙◌}
 use Rattle.heap_model.specs.declared.command.Command.{Command}
+use Rattle.heap_model.specs.declared.command.Command.TheVariants as commands
 use Rattle.heap_model.specs.declared.heap.Heap.{Heap}
+use Rattle.heap_model.specs.Needs.{spine_need_of}
 use Rattle.heap_model.specs.account.Cycles.{graph_of}
 use Rattle.heap_model.specs.account.PhaseCounts.{phase, last_answer, has_left}
 use Rattle.core_machine.specs.declared.place.Place.TheVariants as places
@@ -11,6 +13,7 @@ use Rattle.core_machine.specs.machine.Machine.{State, seat_at, MayBegin}
 use Rattle.core_machine.specs.seat.Making.{gather_next}
 use Rattle.core_machine.specs.seat.Seat.{Seat}
 use Rattle.core_machine.specs.machine.Value.{IsMachine}
+use Rattle.core_machine.proofs.seat_lemmas.Fitting.{record_makes}
 use Rattle.core_rule.specs.Book.{Book}
 use Rattle.core_rule.specs.Rule.{Rule}
 use Rattle.core_rule.specs.Paths.{IsReached}
@@ -20,10 +23,17 @@ use Rattle.core_rule.proofs.entries.AtRest.{seat_fits, none_awaited}
 use Rattle.core_rule.proofs.entries.Begins.{begins, began_now}
 use Rattle.core_rule.proofs.hand.ClaimOrder.{together_goes_on}
 use Rattle.core_rule.proofs.hand.EmptyHand.{nothing_together, none_stored, gathers_none}
-use Rattle.core_rule.proofs.hand.GoesOn.{holding_goes_on, length_goes_on, gathers_goes_on, same_goes_on}
+use Rattle.core_rule.proofs.hand.GoesOn.{holding_goes_on, length_goes_on, gathers_goes_on, same_goes_on, IsUnplaced, unplaced_goes_on}
 use Rattle.core_rule.proofs.cycle.MakingCycle.{cycle_goes_on}
 use Rattle.core_rule.proofs.entries.OwnEntries.{counts_same}
 use Rattle.core_rule.proofs.entries.SeatLists.{list_of_making, idle_list}
+use Rattle.core_rule.proofs.spines.NoneMade.{MakesNone, none_has_place, none_granted, none_unplaced, none_refused}
+use Rattle.core_rule.proofs.spines.SpineFrames.{spine_away}
+
+-- a record has no spine words
+needs_none : (command : Command) → IsRecord command → spine_need_of command ≡ 0
+needs_none (commands.New d fields) a_record = refl
+needs_none _ a_record = absurd a_record
 
 -- the begin of a call keeps the rule
 pub begin_keeps : (heap : Heap) (state : State) (book : Book) (number : ℕ) (command : Command) → Rule heap state book → number < heap.seats
@@ -34,24 +44,29 @@ begin_keeps heap state book number command rule here may a_record machine =
     let next : Seat = gather_next heap seat in
     let stands = rule.seats_stand number here in
     let rest : IsAtRest (seat_at state number) = rw may.idle at (seat_fits rule number here).at_place in
+    let before : MakesNone (seat_at state number).place = rw may.idle tt in
+    let unplaced : IsUnplaced 0 next = subst (λ n. IsUnplaced n next) (needs_none command a_record) (unplaced_goes_on heap seat (record_makes command a_record)) in
     let stays = same_goes_on heap seat in
     let same = stays.same in
     seat_begins heap state book number next rule here machine record {
       own = record {
         holding = holding_goes_on heap book.owner number seat rest.no_body stands.own.holding;
         stored = none_stored heap state.words number next (same.stored ∙ rest.none_stored);
+        spine = spine_away heap state.words state.words book.spine_owner number (seat_at state number) next (none_has_place (seat_at state number) (seat_at state number).place before) unplaced.no_place stands.own.spine;
         together = together_goes_on heap seat rest.no_body (seat_fits rule number here).own.cursor_within (seat_fits rule number here).own.reserve_of_cursor
             (nothing_together heap seat.cursor seat.tried seat.hand seat.body rest.empty_hand rest.no_body);
       };
       names = record {
         registers = rw same.registers (λ r fresh. stands.names.registers r (none_awaited (seat_at state number).place places.Idle (target_of (seat_at state number).command) r may.idle (λ none. none)));
         way = rw stays.placed tt;
+        ahead = rw stays.placed tt;
       };
       told = record {
         list = list_of_making (graph_of heap book.history) book.history book.made book.owner book.fragments number next stays.making stays.placed
             (same.mine ∙ idle_list (graph_of heap book.history) book.history book.made book.owner book.fragments number (seat_at state number) may.idle stands.told.list);
         counts = counts_same (graph_of heap book.history) book.history number (seat_at state number) next same.made same.sets same.left (length_goes_on heap seat rest.no_body) stands.told.counts;
         began = began_now heap state.words book number next.place;
+        used = unplaced.none_used heap book.history number;
         gathers = gathers_goes_on heap book.owner number (drop (begins number (length book.history) book.begun number) book.history) seat rest.none_given
             (gathers_none heap book.owner number (drop (begins number (length book.history) book.begun number) book.history) seat.cursor seat.tried seat.given rest.none_tried rest.none_given);
       };
@@ -59,4 +74,9 @@ begin_keeps heap state book number command rule here may a_record machine =
           record { answered = same.answered; left = same.left; asked = same.asked } (rw stays.placed tt) refl (λ f borne. borne) stands.cycle;
     }
     same.answered
+    record {
+      granted = unplaced.granted ∙ sym (none_granted (seat_at state number) (seat_at state number).place before);
+      unplaced = unplaced.unplaced ∙ sym (none_unplaced (seat_at state number) (seat_at state number).place before);
+      refused = unplaced.refused ∙ sym (none_refused (seat_at state number) (seat_at state number).place before);
+    }
     (λ marks. roots_off_way (IsReached heap state.words book.owner book.colour) (seat_at state number) next same.registers (rw stays.placed tt))

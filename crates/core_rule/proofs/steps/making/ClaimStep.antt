@@ -8,7 +8,7 @@ use Rattle.heap_model.specs.declared.heap.Heap.{Heap}
 use Rattle.heap_model.specs.account.Cycles.{graph_of}
 use Rattle.heap_model.specs.graph.Objects.{graph_seat}
 use Rattle.heap_model.specs.account.PhaseCounts.{phase, last_answer, has_left}
-use Rattle.heap_model.specs.graph.Graph.{Graph}
+use Rattle.heap_model.specs.graph.Graph.{Graph, Node}
 use Rattle.core_machine.specs.declared.table.address.Address.TheVariants.{Control}
 use Rattle.core_machine.specs.declared.place.Making.TheVariants.{Gathering}
 use Rattle.core_machine.specs.declared.place.Place.TheVariants as places
@@ -27,6 +27,7 @@ use Rattle.core_rule.specs.ControlWords.{Bits}
 use Rattle.core_rule.specs.Counts.{AreUsed}
 use Rattle.core_rule.specs.Gathers.{GathersRight}
 use Rattle.core_rule.specs.Holding.{fragments_in_hand}
+use Rattle.core_rule.specs.Objects.{node_at}
 use Rattle.core_rule.specs.Owners.{Owner, Free, Taken, Borne, Kept as KeepsPart, free_bit, born_bit, owner_after}
 use Rattle.core_rule.specs.Together.{AreTogether}
 use Rattle.core_rule.proofs.cycle.FieldFrames.{watched_born}
@@ -35,7 +36,10 @@ use Rattle.core_rule.proofs.footprint.OwnersGo.{claim_goes}
 use Rattle.core_rule.proofs.frames.SeatFrames.{same_party, kept_owners, seat_left, registers_owners}
 use Rattle.core_rule.proofs.marking.MakingMarks.{leaves_handed}
 use Rattle.core_rule.proofs.marking.Marks.{marks_off_way}
-use Rattle.core_rule.proofs.steps.Assemble.{present_at, seat_steps, StepKeeps, seat_fits}
+use Rattle.core_rule.proofs.spines.BudgetFrames.{kept_owned}
+use Rattle.core_rule.proofs.spines.OtherWords.{spines_left_control}
+use Rattle.core_rule.proofs.spines.SpineFrames.{spines_stay, same_shapes, spine_away, spines_left, spine_stored}
+use Rattle.core_rule.proofs.steps.Assemble.{present_at, seat_steps, step_budgets, StepKeeps, seat_fits}
 use Rattle.core_rule.proofs.colours.BirthColours.{marks_claim}
 use Rattle.core_rule.proofs.hand.Bodies.{whole_empty}
 use Rattle.core_rule.proofs.hand.ClaimOrder.{together_goes_on, together_claims}
@@ -45,7 +49,7 @@ use Rattle.core_rule.proofs.words.ControlLemmas.{found_taken}
 use Rattle.core_rule.proofs.words.ControlSteps.{claim_bits, clear_is_free}
 use Rattle.core_rule.proofs.counts.CountMoves.{claim_frees}
 use Rattle.core_rule.proofs.hand.EmptyHand.{none_stored}
-use Rattle.core_rule.proofs.hand.GoesOn.{holding_goes_on, length_goes_on, gathers_goes_on, same_goes_on}
+use Rattle.core_rule.proofs.hand.GoesOn.{holding_goes_on, length_goes_on, gathers_goes_on, same_goes_on, unplaced_goes_on}
 use Rattle.core_rule.proofs.hand.HandMoves.{holding_claims, hand_claimed}
 use Rattle.core_rule.proofs.entries.InFlight.{awaits_none, is_busy}
 use Rattle.core_rule.proofs.cycle.MakingCycle.{answer_after_control, cycle_control, cycle_goes_on, heap_hands, borne_before}
@@ -108,6 +112,9 @@ claim_keeps heap state book number rule here place machine =
     let inside = clear_within heap state.words book.owner g rule.machine.table below heap_stands.control_words in
     let free = clear_is_free heap state.words book.owner g rule.machine.table below heap_stands.control_words in
     let kept = handed_kept (Taken number) book.owner fs (holds_keeps_none number) (λ f i k there. free_kept book.owner f i k (free f there)) in
+    let nodes : ℕ → Node = node_at g_of book.made in
+    let leaves = spines_left_control heap state.words word g below in
+    let unplaced = unplaced_goes_on heap mid gathers.makes.an_object in
     let stays = same_goes_on heap mid in
     let same = stays.same in
     let present = present_at heap state book number Gathering rule here place in
@@ -120,8 +127,9 @@ claim_keeps heap state book number rule here place machine =
       control_words = claim_bits heap state.words book.owner g rule.machine.table below heap_stands.control_words number;
       owners = owners_handed heap.seats book.owner heap_stands.owners (Taken number) fs here (λ there. no_board_free (book.owner 0) (board_kept heap state book number rule here present (awaits_none Gathering seat.place (target_of seat.command) 0 place)) (free 0 there));
       ids = rw tells.graph heap_stands.ids;
-      objects = rw tells.graph (objects_owners book.owner owner kept book.made book.fragments heap words g_of
-          (objects_control heap state.words g_of book.made book.owner book.fragments g word below heap_stands.objects));
+      objects = rw tells.graph (objects_owners book.owner owner kept book.made book.fragments book.spines heap words g_of
+          (objects_control heap state.words g_of book.made book.owner book.fragments book.spines g word below heap_stands.objects));
+      spines = rw tells.graph (spines_stay heap state.words words leaves heap.seats (length book.made) book.spines book.fragments book.spine_owner nodes nodes book.owner owner kept (same_shapes nodes) heap_stands.spines);
       used = tells.used;
       legal = tells.legal;
       cycle = tells.phases words owner book.colour book.fragments (heap_hands heap state.words book.owner book.colour book.fragments (phase book.history) g word (Taken number) fs below
@@ -132,6 +140,7 @@ claim_keeps heap state book number rule here place machine =
         holding = holding_goes_on heap owner number mid gathers.no_body
             (holding_claims book.owner number seat.reserve seat.hand seat.body stands.own.holding fs once free gathers.no_body);
         stored = none_stored heap words number next (same.stored ∙ gathers.none_stored);
+        spine = spine_away heap state.words words book.spine_owner number seat next (λ has. rw place at has) unplaced.no_place stands.own.spine;
         together = together_goes_on heap mid gathers.no_body (seat_fits rule number here).own.cursor_within (seat_fits rule number here).own.reserve_of_cursor
             (subst (λ b. AreTogether heap seat.cursor (seat.tried + 1) (seat.hand ++ fs) b) (sym gathers.no_body)
             (together_claims heap seat.cursor seat.tried seat.hand fs (seat_fits rule number here).own.cursor_within gathers.groups_left (clear_in-group g found)
@@ -140,12 +149,14 @@ claim_keeps heap state book number rule here place machine =
       names = record {
         registers = rw (tells.graph, same.registers) (λ r fresh. registers_owners book.owner owner kept book.made book.fragments g_of number seat.registers seat.place (target_of seat.command) stands.names.registers r (awaits_none Gathering seat.place (target_of seat.command) r place));
         way = rw stays.placed tt;
+        ahead = rw stays.placed tt;
       };
       told = record {
         list = list_of_making (graph_of heap history) history book.made owner book.fragments number next stays.making stays.placed (ap (λ m. m ++ added) same.mine ∙ tells.own seat.mine list);
         counts = rw tells.graph (tells.counts next same.made same.sets same.left
             (length_goes_on heap mid gathers.no_body ∙ more_in_hand seat.reserve seat.hand seat.body fs gathers.no_body));
         began = tells.began next.place;
+        used = unplaced.none_used heap history number;
         gathers = gathers_goes_on heap owner number (drop (book.begun number) history) mid gathers.none_given
             (subst (λ n. GathersRight heap owner number (drop (book.begun number) history) seat.cursor (seat.tried + 1) n) (sym gathers.none_given) tells.gathers);
       };
@@ -162,6 +173,8 @@ claim_keeps heap state book number rule here place machine =
       kept = rw tells.graph (kept_owners g_of book.made book.owner owner book.fragments kept);
       hand = hand_claimed book.owner r number fs apart free;
       stored = stored_control heap state.words r (seat_at state r) g word below other.own.stored;
+      spines = spines_left r book.spine_owner;
+      spine_stored = spine_stored heap state.words words (seat_at state r) leaves other.own.spine.stored;
       gathers = tells.other_gathers r under apart;
       cycle = tells.cycles words owner book.colour r (seat_at state r)
           (cycle_control heap state.words book.owner owner book.colour book.colour (phase book.history) (last_answer r book.history) (has_left r book.history) r (seat_at state r) g word below
@@ -169,4 +182,11 @@ claim_keeps heap state book number rule here place machine =
     } other)
     (marks_off_way heap state book rule number here words (record book { history = history; owner = owner }) next
     (leaves_handed heap state book rule g word below (Taken number) fs (λ f there. ap born_bit (free f there)) (λ i k e. cc) refl) same.answered same.registers (rw stays.placed tt))
+    (step_budgets heap state book number rule here words next (record book { history = history; owner = owner }) leaves
+    record {
+      granted = unplaced.granted ∙ sym (rw place refl);
+      unplaced = unplaced.unplaced ∙ sym (rw place refl);
+      refused = unplaced.refused ∙ sym (rw place refl);
+    }
+    record { told = tells.granted; returned = tells.returned; kept = rw tells.graph (kept_owned (length book.made) nodes book.owner owner book.fragments kept); gone = refl })
     (owners_go heap state book history book.begun owner (claim_goes (length book.made) book.owner fs number free))

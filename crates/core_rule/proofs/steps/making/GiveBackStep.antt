@@ -1,5 +1,5 @@
 -- A give back keeps the rule.
-use Rattle.std.proofs.Common.{◌≡◌, ℕ, ◌+◌, ◌<◌, List, [], ◌∷◌, length, refl, arith}
+use Rattle.std.proofs.Common.{◌≡◌, ℕ, ◌+◌, ◌<◌, List, [], ◌∷◌, length, refl, sym, ◌∙◌, arith}
 use Rattle.std.proofs.lemmas.Bool.{eq-eqb}
 use Rattle.heap_model.specs.declared.entry.Entry.{Entry}
 use Rattle.heap_model.specs.declared.entry.Entry.TheVariants as entries
@@ -21,12 +21,14 @@ use Rattle.core_rule.specs.Holding.{fragments_in_hand}
 use Rattle.core_rule.proofs.footprint.BookGoing.{owners_go}
 use Rattle.core_rule.proofs.footprint.OwnersGo.{give_goes}
 use Rattle.core_rule.proofs.frames.SeatFrames.{registers_owners}
-use Rattle.core_rule.proofs.steps.Assemble.{present_at, seat_steps, StepKeeps, seat_fits}
+use Rattle.core_rule.proofs.spines.SpineFrames.{spine_away}
+use Rattle.core_rule.proofs.steps.Assemble.{present_at, seat_steps, step_budgets, StepKeeps, seat_fits}
 use Rattle.core_rule.proofs.hand.Bodies.{whole_empty}
 use Rattle.core_rule.proofs.hand.ClaimOrder.{together_gives}
 use Rattle.core_rule.proofs.words.ControlSteps.{give_back_bits}
+use Rattle.core_rule.proofs.hand.GoesOn.{unplaced_refusing}
 use Rattle.core_rule.proofs.gather.GatherSteps.{own_gives}
-use Rattle.core_rule.proofs.frames.GivingBack.{words_given, book_given, graph_given, kept_given, heap_given, cycle_given, other_given, marks_given}
+use Rattle.core_rule.proofs.frames.GivingBack.{words_given, book_given, graph_given, kept_given, heap_given, cycle_given, other_given, marks_given, leaves_spines, grants_given}
 use Rattle.core_rule.proofs.hand.HandMoves.{hand_held, hand_once, part_held, part_once, held_within, holding_gives}
 use Rattle.core_rule.proofs.entries.InFlight.{awaits_none, tried_within, began_past, is_busy}
 use Rattle.core_rule.proofs.hand.MakingSeats.{first_within}
@@ -59,6 +61,7 @@ give_back_keeps heap state book number rule here place machine =
     let list = making_list before book.history book.made book.owner book.fragments number seat Returning place stands.told.list in
     let graph = graph_given heap state book number rule here g part below held once in
     let kept = kept_given heap state book number rule here g part below held once in
+    let unplaced = unplaced_refusing now (part_out g seat.hand) refl in
     let later : Book = book_given heap state book number rule here g part below held once in
     seat_steps heap state book number (words_given heap state book number rule here g part below held once) now later (entry ∷ []) rule here machine refl refl
     (heap_given heap state book number rule here g part below held once
@@ -69,18 +72,21 @@ give_back_keeps heap state book number rule here place machine =
       own = record {
         holding = holding_gives book.owner number seat.reserve seat.hand seat.body stands.own.holding g refuses.no_body;
         stored = stored_control heap state.words number seat g _ below stands.own.stored;
+        spine = spine_away heap state.words (words_given heap state book number rule here g part below held once) book.spine_owner number seat now (λ has. rw place at has) unplaced.no_place stands.own.spine;
         together = together_gives heap seat.cursor seat.tried g seat.hand seat.body refuses.no_body stands.own.together;
       };
       names = record {
         registers = rw graph (λ r fresh. registers_owners book.owner later.owner kept book.made book.fragments before number seat.registers seat.place (target_of seat.command) stands.names.registers r
             (awaits_none Returning seat.place (target_of seat.command) r place));
         way = tt;
+        ahead = tt;
       };
       told = record {
         list = whole_list (graph_of heap later.history) later.history book.made later.owner book.fragments number now refl (own_grows number book.history seat.mine entry (eq-eqb number number refl) list);
         counts = rw graph (counts_own before before book.history number seat now stands.told.counts entry (eq-eqb number number refl)
             stands.told.counts.numbered stands.told.counts.stamped stands.told.counts.leaves (omega (arith, left_of_hand seat.reserve seat.hand seat.body g refuses.no_body)));
         began = began_past book.history entry number (book.begun number) seat.place (places.Making (refusal_place (part_out g seat.hand))) refl (λ still. is_busy Returning seat.place place) stands.told.began;
+        used = unplaced.none_used heap later.history number;
         gathers = own_gives heap book.owner book.history number part once (held_within heap state.words book.owner rule.heap_stands.control_words number part held) rule.heap_stands.used
             (book.begun number) stands.told.began.earlier seat.cursor seat.tried seat.given held
             (seat_fits rule number here).own.cursor_within (tried_within heap seat seat.place (seat_fits rule number here).at_place) stands.told.gathers;
@@ -89,4 +95,11 @@ give_back_keeps heap state book number rule here place machine =
     }
     (other_given heap state book number rule here g part below held once)
     (marks_given heap state book number rule here g part below held once now refl refl tt)
+    (step_budgets heap state book number rule here (words_given heap state book number rule here g part below held once) now later
+    (leaves_spines heap state book number rule here g part below held once)
+    record {
+      granted = unplaced.granted ∙ sym (rw place refl);
+      unplaced = unplaced.unplaced ∙ sym (rw place refl);
+      refused = unplaced.refused ∙ sym (rw place refl);
+    } (grants_given heap state book number rule here g part below held once))
     (owners_go heap state book later.history book.begun later.owner (give_goes (length book.made) book.owner part number held))
