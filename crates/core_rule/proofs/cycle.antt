@@ -9,5 +9,6 @@ pub mod MakingCycle
 pub mod BirthCycle
 pub mod FieldFrames
 pub mod AnswerWords
+pub mod AheadWords
 pub mod SwapCycle
 pub mod NextPhase

@@ -1,5 +1,5 @@
 -- Where the sources of what a seat has borne lead: to its own new object.
-use Rattle.std.proofs.Common.{◌≡◌, ◌≢◌, ℕ, ◌+◌, ◌*◌, ◌<◌, ◌≤◌, [], length, sym, subst, arith}
+use Rattle.std.proofs.Common.{◌≡◌, ◌≢◌, ℕ, ◌*◌, ◌<◌, ◌≤◌, [], length, sym, subst}
 use Rattle.heap_model.specs.declared.heap.Heap.{Heap}
 use Rattle.core_machine.specs.declared.place.Making.TheVariants.{Granting, Withdrawing, Gathering, Returning, Refusing, Placing, Listing, Storing, Bearing}
 use Rattle.core_machine.specs.declared.place.Place.{Place}

@@ -30,16 +30,20 @@ use Rattle.core_rule.proofs.hand.HandMoves.{part_held}
 use Rattle.core_rule.proofs.lists.Members.{tally_at}
 use Rattle.core_rule.proofs.lists.Options.{if_some}
 use Rattle.core_rule.proofs.objects.NamesGrowth.{old_apart}
+use Rattle.core_rule.proofs.objects.ObjectsGrowth.{with_spine}
+use Rattle.core_rule.proofs.spines.SpineBirths.{born_words}
 use Rattle.core_rule.proofs.owners.Keeping.{kept_by, with_object}
 use Rattle.core_rule.proofs.owners.OwnerLemmas.{IsOwn, own_keeps_none}
 
--- the book after it: the object keeps its fragments, and has a number
+-- the book after it: the object keeps its fragments and its spine, and has a number
 abbrev pub book_born : Book → ℕ → Seat → Book
 book_born book number seat = record book {
   history = book.history ++ made_entry number seat ∷ [];
   made = book.made ++ next_object_id number seat ∷ [];
   owner = kept_by (length book.made) seat.body book.owner;
   fragments = with_object book.fragments (length book.made) seat.body;
+  spines = with_spine book.spines (length book.made) seat.spine;
+  spine_owner = born_words number (length book.made) book.spine_owner;
   colour = painted (birth_colour (bears_black_of seat)) book.colour (part_in (last_group_of seat.hand) seat.hand);
 }
 

@@ -1,5 +1,5 @@
 -- A fragment of a kept object is marked: what stays of marking.
-use Rattle.std.proofs.Common.{◌⊎◌, ◌≡◌, ℕ, ◌+◌, ◌<◌, ◌≤◌, ◌/◌, List, Some, false, inl, inr, refl, sym, ap, ◌∙◌, subst, arith}
+use Rattle.std.proofs.Common.{◌⊎◌, ◌≡◌, ℕ, ◌+◌, ◌≤◌, ◌/◌, List, Some, false, inl, inr, refl, sym, ap, ◌∙◌, subst, arith}
 use Rattle.std.proofs.lemmas.Bool.Decides.{eqb_tells}
 use Rattle.heap_words.specs.Spot.{spot_in}
 use Rattle.heap_model.specs.declared.heap.Heap.{Heap}

@@ -83,10 +83,11 @@ module _ (heap : Heap) (words : List ℕ) (g now : Graph) (made : List Id) (id :
   kept_at i x y object now_object fs gs s t e c f h kept =
       subst (λ z. IsKeptNow i y now_object gs z) h (subst (λ z. IsKeptNow i y now_object z s) f (subst (λ z. IsKeptNow i y z fs s) c (subst (λ z. IsKeptNow i z object fs s) e kept)))
 
-  node_old : (i : ℕ) → i < length made → node_at now now_made i ≡ node_at g made i
+  -- the nodes of the old objects are as before, and that of the new one is fresh
+  pub node_old : (i : ℕ) → i < length made → node_at now now_made i ≡ node_at g made i
   node_old i below = ap node_in (node_before g now made id (fresh array cells) ids more i below)
 
-  node_new : node_at now now_made (length made) ≡ fresh array cells
+  pub node_new : node_at now now_made (length made) ≡ fresh array cells
   node_new = ap (λ x. node_in (node now x)) (id_at-new made id) ∙ ap node_in more.new
 
   old_kept : (i : ℕ) → i < length made → IsKept now_owner now_fragments i → IsKeptNow i (id_at now_made i) (node_at now now_made i) (now_fragments i) (now_spines i)

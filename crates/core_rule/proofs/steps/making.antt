@@ -4,6 +4,7 @@ pub mod GrantStep
 pub mod WithdrawStep
 pub mod ClaimStep
 pub mod GiveBackStep
+pub mod ToldRefusal
 pub mod RefusalStep
 pub mod PlacingStep
 pub mod ListingStep

@@ -1,5 +1,5 @@
 -- The load of a word of an array's spine keeps the rule.
-use Rattle.std.proofs.Common.{◌≡◌, ℕ, ◌+◌, ◌%◌, ◌≤◌, sym, ◌∙◌, subst, arith}
+use Rattle.std.proofs.Common.{◌≡◌, ℕ, ◌+◌, ◌≤◌, subst, arith}
 use Rattle.heap_model.specs.declared.heap.Heap.{Heap}
 use Rattle.heap_model.specs.account.PhaseCounts.{phase}
 use Rattle.core_machine.specs.collector.FitsTurns.{IsIndexing}
@@ -44,9 +44,12 @@ module _ (heap : Heap) (state : State) (book : Book) (rule : Rule heap state boo
 
   marks : MarkingStands heap state.words book.owner book.colour book.fragments state.collector.phase (stages.Spreading (spine_step s) target)
   marks = marks_at heap state.words book.owner book.colour book.fragments state.collector.phase (stages.Spreading (spine_step s) target) fits.marks.for_marking (λ e. cc)
-      rule.marks_stand.heap_marks.grey
-      (seen.0, record { as_many = seen.1.as_many; there = seen.1.there }, points,
-      may_mark heap state book rule f (rule.marks_stand.heap_marks.grey f seen.0.grey) cycle seen.0.grey (4 + s.index) target points)
+      rule.marks_stand.heap_marks.grey (
+        seen.0,
+        record { as_many = seen.1.as_many; there = seen.1.there },
+        points,
+        may_mark heap state book rule f (rule.marks_stand.heap_marks.grey f seen.0.grey) cycle seen.0.grey (4 + s.index) target points,
+      )
       few tt tt (none_dead heap state book rule fits.marks.for_marking (λ ended. absurd (cc (indexing, ended))))
 
 pub index_keeps : (s : SpineScan) → StageKeeps (stages.Indexing s)

@@ -82,9 +82,10 @@ module _ (heap : Heap) (state : State) (book : Book) (rule : Rule heap state boo
 
   passes_on : (place : Option ℕ) → lowest_grey_of word ≡ place → KeepsAt (after_pass heap group found place)
   passes_on None is = after_none is
-  passes_on (Some place) is = goes_further (stages.Scanning (record { fragment = 16 * group + place; part = 0; steps = 0 })) (λ e. cc)
-      (scan_anew heap state.words book.colour (16 * group + place) (lowest_is_grey heap state.words book.colour group rule.machine.table passes.group_within rule.heap_stands.cycle.marks place is),
-      λ later. absurd (omega (arith, later))) tt tt tt
+  passes_on (Some place) is = goes_further (stages.Scanning (record { fragment = 16 * group + place; part = 0; steps = 0 })) (λ e. cc) (
+    scan_anew heap state.words book.colour (16 * group + place) (lowest_is_grey heap state.words book.colour group rule.machine.table passes.group_within rule.heap_stands.cycle.marks place is),
+    λ later. absurd (omega (arith, later)),
+  ) tt tt tt
 
 pub pass_keeps : (group : ℕ) (found : Bool) → StageKeeps (stages.Passing group found)
 pass_keeps group found heap state book rule passing machine = passes_on heap state book rule group found passing (lowest_grey_of (at heap state.words (Control group))) refl machine

@@ -1,5 +1,6 @@
 -- The last birth of an object keeps the rule.
-use Rattle.std.proofs.Common.{eq-eqb, ◌≡◌, ℕ, ◌*◌, ◌<◌, ◌≤◌, Bool, false, List, [], ◌∷◌, length, drop, bit_or, refl, sym, ap, ◌∙◌, subst, arith, true}
+use Rattle.std.proofs.Common.{eq-eqb, ◌≡◌, ℕ, ◌+◌, ◌*◌, ◌<◌, ◌≤◌, Bool, false, List, [], ◌∷◌, length, drop, bit_or, refl, sym, ap, ◌∙◌, subst, arith, true, length-append}
+use Rattle.std.proofs.lemmas.List.{length-replicate}
 use Rattle.heap_model.specs.declared.entry.Entry.{Entry}
 use Rattle.heap_model.specs.declared.heap.Heap.{Heap}
 use Rattle.heap_model.specs.declared.id.Id.{Id}
@@ -7,27 +8,34 @@ use Rattle.heap_model.specs.declared.id.Id.TheVariants.{Made}
 use Rattle.heap_model.specs.graph.Changes.{add}
 use Rattle.heap_model.specs.account.Cycles.{graph_of}
 use Rattle.heap_model.specs.account.PhaseCounts.{phase, last_answer, has_left}
-use Rattle.heap_model.specs.graph.Graph.{Graph, fresh}
+use Rattle.heap_model.specs.graph.Graph.{Graph, Node, fresh, unset}
+use Rattle.heap_model.specs.graph.Sizes.{spine_words_of}
+use Rattle.heap_model.specs.Needs.{array_words}
+use Rattle.heap_model.proofs.Histories.{total-more}
 use Rattle.core_machine.specs.declared.table.address.Address.TheVariants.{Control}
 use Rattle.core_machine.specs.declared.place.Making.TheVariants.{Bearing}
 use Rattle.core_machine.specs.declared.place.Place.TheVariants as places
-use Rattle.core_machine.specs.seat.Commands.{target_of, fields_of, IsRecord}
-use Rattle.core_machine.specs.seat.Fits.{HasBody, IsSilent}
-use Rattle.core_machine.specs.table.Fragments.{mask_of, tally}
+use Rattle.core_machine.specs.seat.Commands.{target_of, MakesObject}
+use Rattle.core_machine.specs.seat.Fits.{HasBody, IsListed, IsSilent}
+use Rattle.core_machine.specs.table.Fragments.{part_in, mask_of, tally}
 use Rattle.core_machine.specs.table.Layout.{at}
 use Rattle.core_machine.specs.machine.Machine.{State, seat_at}
-use Rattle.core_machine.specs.seat.Making.{last_group_of, next_object_id, newborn_word_of}
-use Rattle.core_machine.specs.Moves.{bears_black_of, last_birth_move, last_part, made_entry, seat_after, is_last_birth}
+use Rattle.core_machine.specs.seat.Making.{last_group_of, next_object_id, next_name, newborn_word_of, after_last_birth}
+use Rattle.core_machine.specs.Moves.{Move, plain_move, bears_black_of, last_birth_move, made_entry, seat_after, is_last_birth}
+use Rattle.core_machine.specs.declared.step.Step.TheVariants as steps
+use Rattle.core_machine.specs.declared.step.MakingStep.TheVariants.{LastBirth}
 use Rattle.core_machine.specs.table.Operation.{birth_bits_of}
-use Rattle.core_machine.specs.seat.Seat.{Seat}
+use Rattle.core_machine.specs.seat.Seat.{Seat, spine_need}
 use Rattle.core_rule.specs.Book.{Book}
-use Rattle.core_rule.specs.Objects.{AreMade}
+use Rattle.core_rule.specs.Objects.{AreMade, node_at}
+use Rattle.core_rule.specs.Budgets.{kept_words}
 use Rattle.core_rule.specs.Rule.{Rule}
+use Rattle.core_rule.specs.Spines.{HasPlace}
 use Rattle.core_rule.proofs.cycle.FieldFrames.{watched_born}
 use Rattle.core_rule.proofs.marking.LastBirthMarks.{book_born, marks_made}
 use Rattle.core_rule.proofs.steps.Assemble.{present_at, seat_steps, MoveKeeps, seat_fits}
 use Rattle.core_rule.proofs.colours.Births.{birth_colour, AreBorne, births_are, are_births}
-use Rattle.core_rule.proofs.cycle.BirthCycle.{words_born, group_born, some_born, marks_born, heap_born}
+use Rattle.core_rule.proofs.cycle.BirthCycle.{words_born, group_born, some_born, marks_born, heap_born, run_born, words_listed}
 use Rattle.core_rule.proofs.hand.Bodies.{body_once, body_own}
 use Rattle.core_rule.proofs.counts.CountMoves.{used_same}
 use Rattle.core_rule.proofs.cycle.CycleHistory.{heap_cycle_more, cycle_own, cycle_other}
@@ -40,8 +48,10 @@ use Rattle.core_rule.proofs.entries.InFlight.{awaits_none, began_idle}
 use Rattle.core_rule.proofs.footprint.BirthsGo.{painted_goes}
 use Rattle.core_rule.proofs.footprint.OwnersGo.{parts_go}
 use Rattle.core_rule.proofs.graph.Numbering.{id_at-append}
+use Rattle.core_rule.proofs.graph.SameNodes.{SameShape, shape_same}
 use Rattle.core_rule.proofs.hand.HandMoves.{part_held}
-use Rattle.core_rule.proofs.owners.Keeping.{kept_was}
+use Rattle.core_rule.proofs.hand.MakingSeats.{made_sized, made_whole, newborn_fresh, listed_within}
+use Rattle.core_rule.proofs.owners.Keeping.{kept_was, kept_part}
 use Rattle.core_rule.proofs.owners.KeptOwners.{kept_free, kept_taken, kept_holding, kept_others, kept_bits}
 use Rattle.core_rule.proofs.objects.LastBirth.{one_more, all_stored, registers_own}
 use Rattle.core_rule.proofs.colours.LastColours.{kept_bears, kept_own, kept_borne, kept_first}
@@ -49,27 +59,45 @@ use Rattle.core_rule.proofs.entries.MadeEntry.{graph_grown, used_made, counts_ma
 use Rattle.core_rule.proofs.cycle.MakingCycle.{answer_after_control, cycle_control}
 use Rattle.core_rule.proofs.objects.NamesGrowth.{names_grown, object_grows, old_apart}
 use Rattle.core_rule.proofs.objects.ObjectFrames.{objects_control}
-use Rattle.core_rule.proofs.objects.ObjectsGrowth.{NewBody, objects_grown}
+use Rattle.core_rule.proofs.objects.ObjectsGrowth.{NewBody, objects_grown, node_old, node_new, fresh_words}
 use Rattle.core_rule.proofs.entries.Others.{gathers_stay, of_other}
 use Rattle.core_rule.proofs.entries.OwnEntries.{own_grows}
 use Rattle.core_rule.proofs.owners.OwnerFrames.{owners_kept}
 use Rattle.core_rule.proofs.owners.OwnerLemmas.{own_keeps_none, own_not_boards}
 use Rattle.core_rule.proofs.entries.PhaseEntries.{no_leave_told}
-use Rattle.core_rule.proofs.entries.MakingCommands.{need_made, ranges_made}
+use Rattle.core_rule.proofs.entries.MakingCommands.{makes_array, size_made, words_made, ranges_made}
 use Rattle.core_rule.proofs.frames.SeatFrames.{same_party, told_other, seat_left}
 use Rattle.core_rule.proofs.entries.SeatLists.{making_list, whole_list}
+use Rattle.core_rule.proofs.spines.BudgetFrames.{none_returned_by}
+use Rattle.core_rule.proofs.spines.BudgetSteps.{budgets_born}
+use Rattle.core_rule.proofs.spines.OtherWords.{spines_left_control}
+use Rattle.core_rule.proofs.spines.SpineBirths.{spine_born, spines_born, born_leaves}
+use Rattle.core_rule.proofs.spines.SpineBirths as spine_births
+use Rattle.core_rule.proofs.spines.SpineFrames.{spine_stored}
 use Rattle.core_rule.proofs.hand.StoredFrames.{stored_control}
 use Rattle.core_rule.proofs.cycle.Unwatched.{cycle_apart}
 
--- the last birth keeps the rule
-pub last_birth_keeps : (heap : Heap) (state : State) (book : Book) (number : ℕ) → Rule heap state book → number < heap.seats
-    → (seat_at state number).place ≡ places.Making Bearing → is_last_birth (seat_at state number) ≡ true → MoveKeeps heap state book number (last_birth_move number (seat_at state number))
-last_birth_keeps heap state book number rule here place last machine =
+-- an object of so many cells has as many spine words
+fresh_has_words : (array : Bool) (cells : ℕ) → spine_words_of (fresh array cells) ≡ fresh_words array cells
+fresh_has_words true cells = ap array_words (length-replicate cells unset)
+fresh_has_words false cells = refl
+
+-- the step that bears this part of the hand, by which the object is made
+abbrev last_birth_of : ℕ → Seat → List ℕ → Move
+last_birth_of number seat part =
+    plain_move (steps.Making (LastBirth (last_group_of seat.hand) (mask_of part) (bears_black_of seat))) (λ found. after_last_birth number seat) (λ found. made_entry number seat ∷ [])
+
+-- the birth of what the hand has of its last group keeps the rule, where that is all
+part_keeps : (heap : Heap) (state : State) (book : Book) (number : ℕ) → Rule heap state book → number < heap.seats
+    → (seat_at state number).place ≡ places.Making Bearing → is_last_birth (seat_at state number) ≡ true
+    → MoveKeeps heap state book number (last_birth_of number (seat_at state number) (part_in (last_group_of (seat_at state number).hand) (seat_at state number).hand))
+part_keeps heap state book number rule here place last machine =
     let seat : Seat = seat_at state number in
     let body : List ℕ = seat.body in
     let group : ℕ = last_group_of seat.hand in
+    let part : List ℕ = part_in group seat.hand in
     let found : ℕ = at heap state.words (Control group) in
-    let word : ℕ = bit_or found (birth_bits_of (bears_black_of seat) (mask_of (last_part seat))) in
+    let word : ℕ = bit_or found (birth_bits_of (bears_black_of seat) (mask_of part)) in
     let words : List ℕ = words_born heap state book number rule here place in
     let entry : Entry = made_entry number seat in
     let id : Id = next_object_id number seat in
@@ -77,29 +105,44 @@ last_birth_keeps heap state book number rule here place last machine =
     let stands = rule.seats_stand number here in
     let present = present_at heap state book number Bearing rule here place in
     let list = making_list (graph_of heap book.history) book.history book.made book.owner book.fragments number seat Bearing place stands.told.list in
-    let at_place : HasBody seat × (0 < length seat.hand) × (length seat.hand ≤ length body) × (seat.stored ≡ 4 * length body) = rw place at (seat_fits rule number here).at_place in
+    let at_place : HasBody seat × (0 < length seat.hand) × (length seat.hand ≤ length body) × (seat.stored ≡ 4 * length body) × IsListed seat.command seat.spine seat.listed = rw place at (seat_fits rule number here).at_place in
     let has = at_place.0 in
     let silent : IsSilent seat = rw place at (seat_fits rule number here).answer_at_place in
     let below = group_born heap state book number rule here place in
     let some = some_born heap state book number rule here place in
     let d : ℕ = target_of seat.command in
-    let fields : ℕ = fields_of seat.command in
-    let ranges = ranges_made seat.command has.makes.a_record has.makes.in_range in
+    let array : Bool = makes_array seat.command in
+    let cells : ℕ = size_made seat.command in
+    let ranges = ranges_made seat.command has.makes.an_object has.makes.in_range in
     let g : Graph = graph_of heap book.history in
-    let grown : Graph = add g number d (fresh false fields) in
-    let graph : graph_of heap now.history ≡ grown = graph_grown heap book.history number seat has.makes.a_record in
+    let grown : Graph = add g number d (fresh array cells) in
+    let graph : graph_of heap now.history ≡ grown = graph_grown heap book.history number seat has.makes.an_object in
     let ids : AreMade g book.made = rule.heap_stands.ids in
-    let more : OneMore g grown id (fresh false fields) = one_more g number d (fresh false fields) seat.made present stands.told.counts.numbered in
+    let more : OneMore g grown id (fresh array cells) = one_more g number d (fresh array cells) seat.made present stands.told.counts.numbered in
     let once = body_once book.owner number seat.reserve seat.hand body stands.own.holding some in
     let unkept = λ (f i k : ℕ) (there : 1 ≤ tally f body). own_keeps_none number i k (book.owner f) (body_own book.owner number seat.reserve seat.hand body stands.own.holding f there) in
     let stored = all_stored heap state.words body (newborn_word_of number seat) seat.stored at_place.3 stands.own.stored in
-    let new : NewBody heap state.words book.owner id fields body = record {
-      sized = (ranges.2, ranges.3);
-      whole = has.whole ∙ need_made seat.command has.makes.a_record;
+    let words_needed = words_made seat.command has.makes.an_object in
+    let new : NewBody heap state.words book.owner id array cells body seat.spine = record {
+      sized = made_sized seat has;
+      whole = made_whole seat has;
       once = once;
       unkept = unkept;
-      newborn = stored;
+      newborn = λ k part less within. stored k part less within ∙ newborn_fresh seat.command has.makes.an_object (next_name number seat) seat.spine body k part;
+      listed = λ j within. words_listed heap state book number rule here place j (subst (λ n. j < n) (sym words_needed) within);
     } in
+    let count : ℕ = length book.made in
+    let longer : length now.made ≡ count + 1 = length-append book.made (id ∷ []) in
+    let nodes : ℕ → Node = node_at g book.made in
+    let now_nodes : ℕ → Node = node_at grown now.made in
+    let fresh_node = node_new heap state.words g grown book.made id book.owner book.fragments book.spines array cells body seat.spine ids more new rule.heap_stands.objects in
+    let shapes : (i : ℕ) → i < count → SameShape (now_nodes i) (nodes i)
+    = λ i less. shape_same (now_nodes i) (nodes i) (node_old heap state.words g grown book.made id book.owner book.fragments book.spines array cells body seat.spine ids more new rule.heap_stands.objects i less) in
+    let as_many : spine_words_of (now_nodes count) ≡ spine_need seat = ap spine_words_of fresh_node ∙ fresh_has_words array cells ∙ sym words_needed in
+    let has_place : 0 < spine_need seat → HasPlace seat seat.place
+    = λ some_words. subst (HasPlace seat) (sym place) (listed_within seat.command seat.spine seat.listed 0 has.makes.an_object at_place.4 some_words).0 in
+    let leaves = spines_left_control heap state.words word group below in
+    let after : Seat = seat_after (last_birth_of number seat part) found in
     let black : Bool = bears_black_of seat in
     let births : AreBorne book.owner book.colour number black = births_are book.owner book.colour number seat stands.cycle.births in
     let marks = marks_born heap state book number rule here place in
@@ -109,12 +152,14 @@ last_birth_keeps heap state book number rule here place last machine =
           rule.heap_stands.control_words stands.own.holding some last;
       owners = owners_kept heap.seats book.owner rule.heap_stands.owners (length book.made) body
           (λ there. own_not_boards number (book.owner 0) (body_own book.owner number seat.reserve seat.hand body stands.own.holding 0 there) rule.heap_stands.owners.board);
-      ids = rw graph (ids_grown g grown book.made id (fresh false fields) ids more (omega (arith, here, rule.machine.limits.seats_fit), omega (arith, has.makes.numbered)));
-      objects = rw graph (objects_control heap state.words grown now.made now.owner now.fragments group word below
-          (objects_grown heap state.words g grown book.made id book.owner book.fragments fields body ids more new rule.heap_stands.objects));
+      ids = rw graph (ids_grown g grown book.made id (fresh array cells) ids more (omega (arith, here, rule.machine.limits.seats_fit), omega (arith, has.makes.numbered)));
+      objects = rw graph (objects_control heap state.words grown now.made now.owner now.fragments now.spines group word below
+          (objects_grown heap state.words g grown book.made id book.owner book.fragments book.spines array cells body seat.spine ids more new rule.heap_stands.objects));
+      spines = rw (graph, longer) (spines_born count nodes now_nodes book.owner book.fragments body some unkept shapes heap state.words words heap.seats book.spines book.spine_owner number seat
+          leaves stands.own.spine as_many has_place (kept_part count body book.owner once 0 some) rule.heap_stands.spines);
       used = used_made heap now.owner book.history number seat (used_same heap book.owner now.owner book.history
           (kept_taken book.owner number seat.reserve seat.hand body stands.own.holding some (length book.made)) rule.heap_stands.used);
-      legal = made_legal g book.history number seat stands.told.counts has.whole some present heap refl has.makes.a_record has.makes.in_range (seat_fits rule number here).own.small_reserve rule.heap_stands.legal;
+      legal = made_legal g book.history number seat stands.told.counts has.whole some present heap refl has.makes.an_object has.makes.in_range (seat_fits rule number here).own.small_reserve rule.heap_stands.legal;
       cycle = heap_cycle_more heap words now.owner now.colour book.history entry refl now.fragments
           (heap_born heap state book number rule here place now.owner now.fragments
           (kept_bears book.owner book.colour number seat.reserve seat.hand body stands.own.holding some group (length book.made) last black births)
@@ -126,19 +171,22 @@ last_birth_keeps heap state book number rule here place last machine =
         holding = kept_holding book.owner number seat.reserve seat.hand body stands.own.holding some (length book.made);
         stored = λ u none. absurd (omega (arith, none));
         together = nothing_together heap seat.cursor 0 [] [] refl refl;
+        spine = spine_born heap words book.spine_owner number count after (λ none. none);
       };
       names = record {
-        registers = rw graph (λ r still. registers_own g number d (fresh false fields) present book.made id book.owner book.fragments body unkept once some
-            (number_new g grown book.made id (fresh false fields) ids more) seat.registers (omega (arith, (seat_fits rule number here).own.registers_whole, ranges.1))
+        registers = rw graph (λ r still. registers_own g number d (fresh array cells) present book.made id book.owner book.fragments body unkept once some
+            (number_new g grown book.made id (fresh array cells) ids more) seat.registers (omega (arith, (seat_fits rule number here).own.registers_whole, ranges.1))
             (omega (arith, registers_length heap book.history number present, ranges.1)) (ap (Made number) stands.told.counts.numbered)
             (λ i. stands.names.registers i (awaits_none Bearing seat.place d i place)) r);
         way = tt;
+        ahead = tt;
       };
       told = record {
         list = whole_list (graph_of heap now.history) now.history now.made now.owner now.fragments number (seat_after (last_birth_move number seat) found) refl
             (own_grows number book.history seat.mine entry (eq-eqb number number refl) list);
-        counts = rw graph (counts_made g book.history number seat stands.told.counts has.whole some present d (fresh false fields) found);
+        counts = rw graph (counts_made g book.history number seat stands.told.counts has.whole some present d (fresh array cells) found);
         began = began_idle book.history entry number (book.begun number) seat.place stands.told.began;
+        used = tt;
         gathers = nothing_tried heap now.owner number (drop (book.begun number) now.history) seat.cursor;
       };
       cycle = cycle_own heap words now.owner now.colour book.history entry refl number (seat_after (last_birth_move number seat) found)
@@ -146,18 +194,20 @@ last_birth_keeps heap state book number rule here place last machine =
           seat (seat_after (last_birth_move number seat) found) record { answered = refl; left = refl; asked = sym silent.none_asked } tt
           (answer_after_control heap state.words word group number (omega (arith, here, rule.machine.limits.seats_fit)))
           (are_births now.owner now.colour number seat (kept_own book.owner book.colour number seat.reserve seat.hand body stands.own.holding some group (length book.made) last black births)) stands.cycle)
-          refl (no_leave_told number number seat.command _ (λ leaves. subst IsRecord leaves has.makes.a_record));
+          refl (no_leave_told number number seat.command _ (λ leaving. subst MakesObject leaving has.makes.an_object));
     }
     (λ r less apart other. seat_left heap state.words words book now r (seat_at state r) record {
       calls = refl;
-      party = rw graph (same_party g grown r (party_other g number d (fresh false fields) present r apart));
+      party = rw graph (same_party g grown r (party_other g number d (fresh array cells) present r apart));
       told = told_other r book.history entry (of_other number r apart);
       kept = rw graph record {
         names = names_grown book.made id book.owner book.fragments body unkept;
-        objects = object_grows g grown book.made id book.owner book.fragments (fresh false fields) body unkept ids more;
+        objects = object_grows g grown book.made id book.owner book.fragments (fresh array cells) body unkept ids more;
       };
       hand = kept_others book.owner number seat.reserve seat.hand body stands.own.holding some (length book.made) r apart;
       stored = stored_control heap state.words r (seat_at state r) group word below other.own.stored;
+      spines = born_leaves number count book.spine_owner r apart;
+      spine_stored = spine_stored heap state.words words (seat_at state r) leaves other.own.spine.stored;
       gathers = gathers_stay heap now.owner r book.history (book.begun r) entry (seat_at state r).cursor (seat_at state r).tried (seat_at state r).given other.told.began.earlier
           (gathers_same heap book.owner now.owner r (drop (book.begun r) book.history) (seat_at state r).cursor (seat_at state r).tried (seat_at state r).given
           (kept_free book.owner number seat.reserve seat.hand body stands.own.holding some (length book.made)) other.told.gathers);
@@ -167,9 +217,19 @@ last_birth_keeps heap state book number rule here place last machine =
           (kept_borne book.owner book.colour number seat.reserve seat.hand body stands.own.holding some group (length book.made) last black births r) (watched_born heap state book rule r less) other.cycle) (of_other number r apart);
     } other)
     (marks_made heap state book number rule here place last found)
+    (budgets_born heap state book number here rule.machine.seated words after (spine_need seat) 0 0 record { given_is = rw place refl; unplaced_is = rw place refl; refused_is = rw place refl }
+    0 0 0 record { given_is = refl; unplaced_is = refl; refused_is = refl } now refl refl refl (total-more (λ e. e.words) book.history entry) (none_returned_by book.history entry refl)
+    (rw (graph, longer) (spine_births.words_born count nodes now_nodes book.owner book.fragments body some unkept shapes ∙ ap (λ n. kept_words count nodes book.owner book.fragments + n) as_many))
+    refl leaves.spot leaves.budget rule.budgets)
     record {
       made = λ i less. id_at-append book.made id i less;
       owners = parts_go (length book.made) book.owner body number (λ f there. body_own book.owner number seat.reserve seat.hand body stands.own.holding f there);
-      marked = painted_goes heap state book now.owner (birth_colour black) (last_part seat) number (part_held book.owner number seat.reserve seat.hand body stands.own.holding group)
+      marked = painted_goes heap state book now.owner (birth_colour black) part number (part_held book.owner number seat.reserve seat.hand body stands.own.holding group)
           (λ f i k keeps less. kept_was (length book.made) body book.owner f i k (λ same. omega (arith, same, less)) keeps);
     }
+
+-- so does the birth of its last fragments, which are all of these
+pub last_birth_keeps : (heap : Heap) (state : State) (book : Book) (number : ℕ) → Rule heap state book → number < heap.seats
+    → (seat_at state number).place ≡ places.Making Bearing → is_last_birth (seat_at state number) ≡ true → MoveKeeps heap state book number (last_birth_move number (seat_at state number))
+last_birth_keeps heap state book number rule here place last =
+    subst (λ fs. MoveKeeps heap state book number (last_birth_of number (seat_at state number) fs)) (sym (run_born heap state book number rule here place)) (part_keeps heap state book number rule here place last)

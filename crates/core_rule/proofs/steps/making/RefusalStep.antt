@@ -1,102 +1,141 @@
--- Local a refusal keeps the rule.
-use Rattle.std.proofs.Common.{◌≡◌, ◌+◌, ◌<◌, false, List, [], ◌∷◌, ◌++◌, length, drop, slice_set, refl, sym, ◌∙◌, subst, arith, ap}
-use Rattle.std.proofs.lemmas.Bool.{eq-eqb}
+-- A refusal that is told keeps the rule: of a record at a load, of an array where its spine words are taken back.
+use Rattle.std.proofs.Common.{◌≡◌, ℕ, ◌+◌, ◌-◌, ◌%◌, ◌^◌, ◌<◌, ◌≤◌, false, List, [], ◌∷◌, ◌++◌, length, drop, refl, sym, ◌∙◌, subst, arith, ap}
+use Rattle.heap_words.specs.Spot.{spot_in}
+use Rattle.heap_model.specs.declared.command.Command.{Command}
+use Rattle.heap_model.specs.declared.command.Command.TheVariants as commands
 use Rattle.heap_model.specs.declared.entry.Entry.{Entry}
+use Rattle.heap_model.specs.declared.heap.Heap.{Heap}
+use Rattle.heap_model.specs.declared.reply.Reply.{Reply}
+use Rattle.heap_model.specs.declared.reply.Reply.TheVariants.{Full}
+use Rattle.heap_model.specs.Needs.{spine_need_of}
+use Rattle.heap_model.specs.account.Account.{IsLegalBy, ButSpine}
 use Rattle.heap_model.specs.account.Cycles.{graph_of}
-use Rattle.heap_model.specs.graph.Objects.{graph_seat}
-use Rattle.heap_model.specs.account.PhaseCounts.{phase, last_answer, has_left}
 use Rattle.heap_model.specs.account.Refusals.{FindsSpace}
 use Rattle.heap_model.specs.account.Space.{taken_of, spent_of}
-use Rattle.heap_model.specs.graph.Graph.{Graph, opening}
+use Rattle.heap_model.specs.graph.Graph.{opening}
 use Rattle.heap_model.proofs.Histories.{graph_after-more}
-use Rattle.core_machine.specs.declared.table.address.Address.TheVariants.{Phase}
+use Rattle.core_machine.specs.declared.table.address.Address.TheVariants.{Phase, Budget}
 use Rattle.core_machine.specs.declared.place.Making.TheVariants.{Refusing}
 use Rattle.core_machine.specs.declared.place.Place.TheVariants as places
-use Rattle.core_machine.specs.seat.Commands.{target_of, IsRecord}
-use Rattle.core_machine.specs.seat.Fits.{SeatIsRefusing, IsSilent}
-use Rattle.core_machine.specs.table.Layout.{at}
-use Rattle.core_machine.specs.machine.Machine.{seat_at}
-use Rattle.core_machine.specs.Moves.{refusal_move, full_entry, seat_after}
-use Rattle.core_machine.specs.seat.Seat.{Seat, need}
+use Rattle.core_machine.specs.declared.step.Step.{Step}
+use Rattle.core_machine.specs.declared.step.Step.TheVariants as steps
+use Rattle.core_machine.specs.declared.step.SpineStep.TheVariants.{BudgetTakeBack}
+use Rattle.core_machine.specs.seat.Commands.{MakesObject}
+use Rattle.core_machine.specs.seat.Fits.{SeatIsRefusing}
+use Rattle.core_machine.specs.table.Layout.{at, put}
+use Rattle.core_machine.specs.machine.Machine.{State, seat_at}
+use Rattle.core_machine.specs.Moves.{Move, plain_move, refusal_step, refusal_move, full_entry}
+use Rattle.core_machine.specs.seat.Seat.{Seat, need, spine_need, after_call, seat_after_reply}
 use Rattle.core_machine.specs.machine.Value.{IsMachine}
-use Rattle.core_machine.proofs.table_lemmas.Addresses.{put-at}
+use Rattle.core_machine.proofs.table_lemmas.Addresses.{put-at, at-put_same}
+use Rattle.core_rule.specs.Book.{Book}
+use Rattle.core_rule.specs.Budgets.{granted_at}
 use Rattle.core_rule.specs.Gathers.{GathersRight}
-use Rattle.core_rule.proofs.colours.SpineStays.{same_sources}
-use Rattle.core_rule.proofs.marking.Marks.{leaves_words, marks_off_way}
-use Rattle.core_rule.proofs.footprint.BookGoing.{book_stays}
-use Rattle.core_rule.proofs.steps.Assemble.{present_at, Keeps, seat_steps, StepKeeps, seat_fits}
+use Rattle.core_rule.specs.Rule.{Rule, SeatStands}
+use Rattle.core_rule.specs.Spines.{HasPlace}
+use Rattle.core_rule.proofs.cycle.AheadWords.{ahead_none, ahead_budget}
+use Rattle.core_rule.proofs.steps.Assemble.{present_at, Keeps, MoveKeeps, StepKeeps, seat_fits, step_budgets}
+use Rattle.core_rule.proofs.steps.making.ToldRefusal.{book_refused, grants_refused, told_refusal}
 use Rattle.core_rule.proofs.hand.Bodies.{bare_hand}
-use Rattle.core_rule.proofs.cycle.CycleHistory.{heap_cycle_more, cycle_own, cycle_other}
-use Rattle.core_rule.proofs.hand.EmptyHand.{nothing_together, none_stored, holding_as}
-use Rattle.core_rule.proofs.frames.EntryFrames.{heap_past, seat_past, fragments_same}
-use Rattle.core_rule.proofs.gather.GatherMoves.{nothing_tried}
-use Rattle.core_rule.proofs.entries.InFlight.{awaits_none, is_busy, began_idle}
+use Rattle.core_rule.proofs.entries.InFlight.{is_busy}
 use Rattle.core_rule.proofs.entries.Legality.{legal_more}
-use Rattle.core_rule.proofs.cycle.MakingCycle.{cycle_goes_on}
-use Rattle.core_rule.proofs.entries.Others.{of_other}
-use Rattle.core_rule.proofs.entries.OwnEntries.{own_grows, counts_own}
-use Rattle.core_rule.proofs.entries.PhaseEntries.{no_leave_told}
 use Rattle.core_rule.proofs.entries.MakingCommands.{graph_full, accepts_full, full_keeps}
 use Rattle.core_rule.proofs.gather.Refusals.{finds_in_run}
-use Rattle.core_rule.proofs.graph.SameNodes.{nodes_same}
-use Rattle.core_rule.proofs.entries.SeatLists.{making_list, whole_list}
+use Rattle.core_rule.proofs.spines.BudgetFrames.{stepped, seats_change}
+use Rattle.core_rule.proofs.spines.BudgetSteps.{budgets_change, budget_small, budget_falls}
+use Rattle.core_rule.proofs.spines.OtherWords.{spines_left_none}
+
+-- a record's refusal is told at a load, an array's at the step that takes its spine words back
+refusal_cases : (P : Step → Type 0) (command : Command) (words : ℕ) → MakesObject command → (spine_need_of command ≡ 0 → P steps.PollLoad) → P (steps.Spine (BudgetTakeBack words)) → P (refusal_step command words)
+refusal_cases P (commands.New d fields) words makes a_record an_array = a_record refl
+refusal_cases P (commands.Array d cells) words makes a_record an_array = an_array
+refusal_cases P _ words makes a_record an_array = absurd makes
+
+-- the move by which it is told at this step
+abbrev refusal_at : ℕ → Seat → Step → Move
+refusal_at number seat step = plain_move step (λ found. after_call seat) (λ found. full_entry number seat ∷ [])
+
+module _ (heap : Heap) (state : State) (book : Book) (number : ℕ) (rule : Rule heap state book) (here : number < heap.seats) (place : (seat_at state number).place ≡ places.Making Refusing) where
+  abbrev seat : Seat
+  seat = seat_at state number
+
+  abbrev found : ℕ
+  found = length seat.reserve + seat.given
+
+  abbrev reply : Reply
+  reply = Full (need seat) found
+
+  abbrev entry : Entry
+  entry = full_entry number seat
+
+  abbrev refused : Seat
+  refused = seat_after_reply number seat reply
+
+  stands : SeatStands heap state.words book number seat
+  stands = rule.seats_stand number here
+
+  at_place : SeatIsRefusing heap seat × (seat.hand ≡ [])
+  at_place = rw place at (seat_fits rule number here).at_place
+
+  makes : MakesObject seat.command
+  makes = at_place.0.makes.an_object
+
+  graph : graph_of heap (book.history ++ entry ∷ []) ≡ graph_of heap book.history
+  graph = graph_after-more (opening heap) book.history entry ∙ graph_full seat.command makes (graph_of heap book.history) number (need seat) found
+
+  -- what the seat has is what is to be found
+  own : length seat.reserve + spent_of number book.history ≡ taken_of number book.history
+  own = bare_hand seat.reserve seat.hand seat.body (spent_of number book.history) (taken_of number book.history) at_place.1 at_place.0.no_body stands.told.counts.unborn
+
+  finds : FindsSpace heap false book.history number found
+  finds = finds_in_run heap book.owner book.history number (book.begun number) seat.cursor seat.given (length seat.reserve) (seat_fits rule number here).own.cursor_within
+      rule.heap_stands.used own (stands.told.began.unanswered (is_busy Refusing seat.place place))
+      (subst (λ n. GathersRight heap book.owner number (drop (book.begun number) book.history) seat.cursor n seat.given) at_place.0.all_tried stands.told.gathers)
+
+  legal : IsLegalBy ButSpine heap false (book.history ++ entry ∷ [])
+  legal = legal_more heap false book.history entry rule.heap_stands.legal
+      (accepts_full seat.command makes (graph_of heap book.history) number (need seat) found at_place.0.makes.in_range (present_at heap state book number Refusing rule here place))
+      (full_keeps seat.command makes heap false book.history number found (omega (arith, own)) (omega (arith, own, (seat_fits rule number here).own.small_reserve))
+      (omega (arith, at_place.0.too_few)) finds)
+
+  no_place : ¬ HasPlace seat seat.place
+  no_place has = rw place at has
+
+  -- at a load, where the call needs no spine words
+  at_load : spine_need seat ≡ 0 → MoveKeeps heap state book number (refusal_at number seat steps.PollLoad)
+  at_load none machine =
+      let words_stay : put heap state.words Phase (at heap state.words Phase) ≡ state.words = put-at heap state.words Phase in
+      subst (λ words. Keeps heap state (stepped state number words refused) book book.begun (entry ∷ [])) (sym words_stay)
+      (told_refusal heap state book number rule here Refusing place reply makes refl graph state.words (ahead_none heap state.words) refl at_place.1 at_place.0.no_body no_place legal
+      (step_budgets heap state book number rule here state.words refused (book_refused heap state book number rule here Refusing place reply makes refl graph) (spines_left_none heap state.words)
+      record { granted = sym (rw place none); unplaced = sym (rw place none); refused = sym (rw place refl) }
+      (grants_refused heap state book number rule here Refusing place reply makes refl graph state.words (ahead_none heap state.words) refl))
+      (subst (λ words. IsMachine heap (stepped state number words refused)) words_stay machine))
+
+  -- and where the spine words are taken back
+  at_budget : MoveKeeps heap state book number (refusal_at number seat (steps.Spine (BudgetTakeBack (spine_need seat))))
+  at_budget machine =
+      let was : ℕ = at heap state.words Budget in
+      let word : ℕ = (was + 2 ^ 64 - spine_need seat) % 2 ^ 64 in
+      let words : List ℕ = put heap state.words Budget word in
+      let ahead = ahead_budget heap state.words word in
+      let old = rule.budgets in
+      let given : granted_at seat seat.place ≡ spine_need seat = rw place refl in
+      let grants = grants_refused heap state book number rule here Refusing place reply makes refl graph words ahead refl in
+      let change = seats_change heap state number words refused granted_at here rule.machine.seated in
+      let spot = ap (λ w. (spot_in w).offset) ahead.fragments.spines.spot in
+      let there : spine_need seat ≤ was = omega (arith, old.word, change, given) in
+      let falls = budget_falls was (spine_need seat) (budget_small heap state book rule.machine old) there in
+      let now : at heap words Budget ≡ word = at-put_same heap state.words Budget word rule.machine.table tt in
+      told_refusal heap state book number rule here Refusing place reply makes refl graph words ahead refl at_place.1 at_place.0.no_body no_place legal
+      (budgets_change heap state book number here rule.machine.seated words refused (spine_need seat) (spine_need seat) 0
+      record { given_is = given; unplaced_is = rw place refl; refused_is = rw place refl } 0 0 0 record { given_is = refl; unplaced_is = refl; refused_is = refl }
+      (book_refused heap state book number rule here Refusing place reply makes refl graph) grants (omega (arith, spot)) (omega (arith, now, falls))
+      (λ less. omega (arith, less, old.low, grants.kept, grants.gone)) old)
+      machine
 
 -- a refusal that is told keeps the rule
 pub refusal_keeps : StepKeeps (places.Making Refusing) (λ heap. refusal_move)
-refusal_keeps heap state book number rule here place machine =
-    let seat : Seat = seat_at state number in
-    let entry : Entry = full_entry number seat in
-    let stands = rule.seats_stand number here in
-    let fits = seat_fits rule number here in
-    let at_place : SeatIsRefusing heap seat × (seat.hand ≡ []) = rw place at fits.at_place in
-    let refuses = at_place.0 in
-    let silent : IsSilent seat = rw place at fits.answer_at_place in
-    let g : Graph = graph_of heap book.history in
-    let history : List Entry = book.history ++ entry ∷ [] in
-    let graph : graph_of heap history ≡ g
-    = graph_after-more (opening heap) book.history entry ∙ graph_full seat.command refuses.makes.a_record g number (need seat) (length seat.reserve + seat.given) in
-    let nodes = nodes_same g (graph_of heap history) graph in
-    let own : length seat.reserve + spent_of number book.history ≡ taken_of number book.history
-    = bare_hand seat.reserve seat.hand seat.body (spent_of number book.history) (taken_of number book.history) at_place.1 refuses.no_body stands.told.counts.unborn in
-    let finds : FindsSpace heap false book.history number (length seat.reserve + seat.given)
-    = finds_in_run heap book.owner book.history number (book.begun number) seat.cursor seat.given (length seat.reserve) fits.own.cursor_within
-    rule.heap_stands.used own (stands.told.began.unanswered (is_busy Refusing seat.place place)) (subst (λ n. GathersRight heap book.owner number (drop (book.begun number) book.history) seat.cursor n seat.given) refuses.all_tried stands.told.gathers) in
-    let present = present_at heap state book number Refusing rule here place in
-    let list = making_list g book.history book.made book.owner book.fragments number seat Refusing place stands.told.list in
-    let whole : IsMachine heap (record state { words = state.words; seats = slice_set state.seats number (seat_after (refusal_move number seat) (at heap state.words Phase)) })
-    = subst (λ words. IsMachine heap (record state { words = words; seats = slice_set state.seats number (seat_after (refusal_move number seat) (at heap state.words Phase)) })) (put-at heap state.words Phase) machine in
-    let less : length seat.reserve + seat.given < need seat = omega (arith, refuses.too_few) in
-    let legal = legal_more heap false book.history entry rule.heap_stands.legal
-    (accepts_full seat.command refuses.makes.a_record g number (need seat) (length seat.reserve + seat.given) refuses.makes.in_range present)
-    (full_keeps seat.command refuses.makes.a_record heap false book.history number (length seat.reserve + seat.given)
-    (omega (arith, own)) (omega (arith, own, fits.own.small_reserve)) less finds) in
-    subst (λ words. Keeps heap state (record state { words = words; seats = slice_set state.seats number (seat_after (refusal_move number seat) (at heap state.words Phase)) }) book book.begun (entry ∷ []))
-    (sym (put-at heap state.words Phase))
-    (seat_steps heap state book number state.words (seat_after (refusal_move number seat) (at heap state.words Phase)) (record book { history = history }) (entry ∷ [])
-    rule here whole refl refl
-    (heap_past heap state.words state.words (fragments_same heap state.words) book entry nodes record { taken = refl; given = refl; freed = refl; words = refl; returned = refl } legal
-    (heap_cycle_more heap state.words book.owner book.colour book.history entry refl book.fragments rule.heap_stands.cycle) rule.heap_stands)
-    record {
-      own = record {
-        holding = holding_as book.owner number seat.reserve seat.hand seat.body seat.reserve [] [] refl (sym at_place.1) (sym refuses.no_body) stands.own.holding;
-        stored = none_stored heap state.words number (seat_after (refusal_move number seat) (at heap state.words Phase)) refl;
-        together = nothing_together heap seat.cursor 0 [] [] refl refl;
-      };
-      names = record { registers = rw graph (λ r fresh. stands.names.registers r (awaits_none Refusing seat.place (target_of seat.command) r place)); way = tt };
-      told = record {
-        list = whole_list (graph_of heap history) history book.made book.owner book.fragments number (seat_after (refusal_move number seat) (at heap state.words Phase)) refl (own_grows number book.history seat.mine entry (eq-eqb number number refl) list);
-        counts = rw graph (counts_own g g book.history number seat (seat_after (refusal_move number seat) (at heap state.words Phase)) stands.told.counts entry (eq-eqb number number refl)
-            stands.told.counts.numbered stands.told.counts.stamped stands.told.counts.leaves (omega arith));
-        began = began_idle book.history entry number (book.begun number) seat.place stands.told.began;
-        gathers = nothing_tried heap book.owner number (drop (book.begun number) history) seat.cursor;
-      };
-      cycle = cycle_own heap state.words book.owner book.colour book.history entry refl number (seat_after (refusal_move number seat) (at heap state.words Phase))
-          (cycle_goes_on heap state.words state.words book.owner book.owner book.colour (phase book.history) (last_answer number book.history) (has_left number book.history) number seat
-          (seat_after (refusal_move number seat) (at heap state.words Phase)) record { answered = refl; left = refl; asked = sym silent.none_asked } tt
-          refl (λ f borne. borne) stands.cycle) refl (no_leave_told number number seat.command _ (λ leaves. subst IsRecord leaves refuses.makes.a_record));
-    }
-    (λ r below apart other. seat_past heap state.words state.words (fragments_same heap state.words) book entry nodes r (seat_at state r) (of_other number r apart) (ap (λ (x : Graph). graph_seat x r) graph)
-    (cycle_other heap state.words book.owner book.colour book.history entry refl r (seat_at state r) other.cycle (of_other number r apart)) other)
-    (marks_off_way heap state book rule number here state.words (record book { history = history }) (seat_after (refusal_move number seat) (at heap state.words Phase))
-    (leaves_words heap state book rule state.words (same_sources heap state.words)) refl refl tt)
-    (book_stays heap state book history book.begun))
+refusal_keeps heap state book number rule here place =
+    refusal_cases (λ step. MoveKeeps heap state book number (refusal_at number (seat_at state number) step)) (seat_at state number).command (spine_need (seat_at state number))
+    (makes heap state book number rule here place) (at_load heap state book number rule here place) (at_budget heap state book number rule here place)
