@@ -46,7 +46,8 @@ use Rattle.core_rule.proofs.spines.BudgetSteps.{budgets_change, budget_small, bu
 use Rattle.core_rule.proofs.spines.OtherWords.{spines_left_none}
 
 -- a record's refusal is told at a load, an array's at the step that takes its spine words back
-refusal_cases : (P : Step → Type 0) (command : Command) (words : ℕ) → MakesObject command → (spine_need_of command ≡ 0 → P steps.PollLoad) → P (steps.Spine (BudgetTakeBack words)) → P (refusal_step command words)
+refusal_cases : (P : Step → Type 0) (command : Command) (words : ℕ) → MakesObject command → (spine_need_of command ≡ 0 → P steps.PollLoad)
+    → P (steps.Spine (BudgetTakeBack words)) → P (refusal_step command words)
 refusal_cases P (commands.New d fields) words makes a_record an_array = a_record refl
 refusal_cases P (commands.Array d cells) words makes a_record an_array = an_array
 refusal_cases P _ words makes a_record an_array = absurd makes
