@@ -14,7 +14,7 @@ use Rattle.core_machine.specs.machine.Machine.{State, seat_at}
 use Rattle.core_machine.specs.table.Decode.{head_of}
 use Rattle.core_rule.specs.Book.{Book, Colour}
 use Rattle.core_rule.specs.Colours.{IsMarked}
-use Rattle.core_rule.specs.Owners.{Owner, Kept}
+use Rattle.core_rule.specs.Owners.{Owner, Kept, SpineOwner}
 use Rattle.core_rule.proofs.colours.ShadeColours.{with_mark, mark_away}
 use Rattle.core_rule.proofs.footprint.Going.{stays, OwnersGoOn, MadeGoesOn}
 use Rattle.core_rule.proofs.ways.LoadedObjects.{RefersTo}
@@ -49,6 +49,10 @@ module _ (heap : Heap) (state : State) (book : Book) where
   -- where nothing of the book changes but for what was told
   pub book_stays : (history : List Entry) (begun : ℕ → ℕ) → BookGoesOn heap state book (record book { history = history; begun = begun })
   book_stays history begun = owners_go history begun book.owner (owners_stay (length book.made) book.owner)
+
+  -- where spine words get other owners alone
+  pub spines_go : (spine_owner : ℕ → ℕ → SpineOwner) → BookGoesOn heap state book (record book { spine_owner = spine_owner })
+  spines_go spine_owner = record { made = λ i below. refl; owners = owners_stay (length book.made) book.owner; marked = λ f i k owned below marked. inl marked }
 
   -- where the colours go on, and whose the fragments are stays so
   pub colours_go : (colour : ℕ → Colour) → ColoursGoOn heap state book book.owner colour → BookGoesOn heap state book (record book { colour = colour })

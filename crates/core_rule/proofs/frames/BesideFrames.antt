@@ -30,7 +30,7 @@ use Rattle.core_rule.proofs.marking.KeptSources.{kept_sources}
 use Rattle.core_rule.proofs.objects.ObjectFrames.{objects_words}
 use Rattle.core_rule.proofs.spines.SpineFrames.{same_kept, SpinesLeft, SpineIsStored}
 use Rattle.core_rule.proofs.ways.KeptWords.{kept_within}
-use Rattle.core_rule.proofs.words.Addresses.{at-put_apart}
+use Rattle.core_rule.proofs.words.Addresses.{at-put_apart, SameSpines}
 use Rattle.core_rule.proofs.words.ControlLemmas.{bits_same}
 
 -- the control words, the fragments' words, the phase and the answers are as before
@@ -57,9 +57,16 @@ beside_spine heap words a n behind = record {
   answers = λ r few. at-put_apart heap words a (Answer r) n (λ e. omega (arith, e, behind, few));
 }
 
-module _ (heap : Heap) (state : State) (book : Book) (rule : Rule heap state book) (now : List ℕ) (beside : LeavesBeside heap state.words now)
-    (spines : (i j : ℕ) → i < length book.made → IsKept book.owner book.fragments i → j < spine_words_of (node_at (graph_of heap book.history) book.made i)
-    → at heap now (spine_place (book.spines i) j) ≡ at heap state.words (spine_place (book.spines i) j)) where
+-- the words of kept arrays' spines are as before
+abbrev pub ArraysStay : Heap → List ℕ → List ℕ → Book → Type 0
+ArraysStay heap words now book = (i j : ℕ) → i < length book.made → IsKept book.owner book.fragments i → j < spine_words_of (node_at (graph_of heap book.history) book.made i)
+    → at heap now (spine_place (book.spines i) j) ≡ at heap words (spine_place (book.spines i) j)
+
+-- so they are where every spine word is
+pub arrays_stay : (heap : Heap) (words now : List ℕ) (book : Book) → SameSpines heap words now → ArraysStay heap words now book
+arrays_stay heap words now book same i j below kept within = same _ _
+
+module _ (heap : Heap) (state : State) (book : Book) (rule : Rule heap state book) (now : List ℕ) (beside : LeavesBeside heap state.words now) (spines : ArraysStay heap state.words now book) where
   abbrev g : Graph
   g = graph_of heap book.history
 

@@ -33,20 +33,20 @@ module _ (heap : Heap) (state : State) (book : Book) (number : ℕ) (here : numb
   unplaced_change : of_seats heap (stepped state number words seat) unplaced_at + unplaced ≡ of_seats heap state unplaced_at + new_unplaced
   unplaced_change = omega (arith, seats_change heap state number words seat unplaced_at here seated, was.unplaced_is, is.unplaced_is)
 
-  refused_change : of_seats heap (stepped state number words seat) refused_at + refused ≡ of_seats heap state refused_at + new_refused
+  pub refused_change : of_seats heap (stepped state number words seat) refused_at + refused ≡ of_seats heap state refused_at + new_refused
   refused_change = omega (arith, seats_change heap state number words seat refused_at here seated, was.refused_is, is.refused_is)
 
   -- where the words and what the seat has granted, without a place and refused change together, and what is granted goes on to be little
   pub budgets_change : (now : Book) → SameGrants heap book now
       → (next_spine heap words).offset + new_unplaced + given ≡ (next_spine heap state.words).offset + unplaced + new_given
       → at heap words addresses.Budget + given + refused ≡ at heap state.words addresses.Budget + new_given + new_refused
-      → (of_seats heap (stepped state number words seat) granted_at + given ≡ of_seats heap state granted_at + new_given → granted heap (stepped state number words seat) now ≤ heap.spine)
+      → granted heap state book + new_given ≤ heap.spine + given
       → BudgetsStand heap state book → BudgetsStand heap (stepped state number words seat) now
   budgets_change now grants spot budget low old = record {
     exact = omega (arith, old.exact, given_change, unplaced_change, spot, grants.kept, grants.gone);
     word = omega (arith, old.word, given_change, refused_change, budget, grants.kept, grants.gone);
     told = omega (arith, old.told, given_change, grants.told, grants.kept, grants.gone);
-    low = low given_change;
+    low = omega (arith, low, given_change, grants.kept, grants.gone);
     none_returned = grants.returned ∙ old.none_returned;
   }
 

@@ -1,0 +1,176 @@
+-- A step that asks for an array's spine words keeps the rule: they are granted, or found to be too many.
+use Rattle.std.specs.Prelude.{if◌then◌else◌}
+use Rattle.std.proofs.Common.{◌≡◌, ℕ, ◌+◌, ◌%◌, ◌^◌, ◌<◌, ◌≤◌, suc, Bool, true, false, nat_lt, inl, inr, List, [], length, drop, slice_set, refl, sym, ap, ◌∙◌, subst, arith}
+use Rattle.std.proofs.lemmas.Bool.Decides.{leb_tells}
+use Rattle.std.proofs.lemmas.List.{append-nil}
+use Rattle.heap_words.specs.Spot.{spot_in}
+use Rattle.heap_model.specs.declared.heap.Heap.{Heap}
+use Rattle.heap_model.specs.account.Cycles.{graph_of}
+use Rattle.heap_model.specs.account.PhaseCounts.{phase, last_answer, has_left}
+use Rattle.heap_model.specs.graph.Graph.{Graph}
+use Rattle.core_machine.specs.declared.place.Making.TheVariants.{Granting, Withdrawing}
+use Rattle.core_machine.specs.declared.place.Place.TheVariants as places
+use Rattle.core_machine.specs.declared.table.address.Address.TheVariants.{Budget}
+use Rattle.core_machine.specs.machine.Machine.{State, seat_at}
+use Rattle.core_machine.specs.machine.Value.{IsMachine}
+use Rattle.core_machine.specs.Moves.{grant_move, seat_after}
+use Rattle.core_machine.specs.seat.Commands.{IsArray, target_of}
+use Rattle.core_machine.specs.seat.Fits.{IsAtRest, MakesNext}
+use Rattle.core_machine.specs.seat.Making.{gather_next, after_budget}
+use Rattle.core_machine.specs.seat.Seat.{Seat, spine_need, with_entries}
+use Rattle.core_machine.specs.table.Layout.{at, put}
+use Rattle.core_machine.proofs.table_lemmas.Addresses.{at-put_same}
+use Rattle.core_rule.specs.Book.{Book}
+use Rattle.core_rule.specs.Budgets.{BudgetsStand, UsedStands}
+use Rattle.core_rule.specs.Gathers.{GathersRight}
+use Rattle.core_rule.specs.Holding.{Holding, fragments_in_hand}
+use Rattle.core_rule.specs.Objects.{node_at}
+use Rattle.core_rule.specs.Rule.{Rule, SeatStands}
+use Rattle.core_rule.specs.Spines.{HasPlace, next_spine}
+use Rattle.core_rule.specs.Together.{AreTogether}
+use Rattle.core_rule.proofs.colours.LeadsFrames.{leads_same, same_ahead}
+use Rattle.core_rule.proofs.cycle.MakingCycle.{cycle_goes_on}
+use Rattle.core_rule.proofs.entries.InFlight.{awaits_none, began_on, is_busy}
+use Rattle.core_rule.proofs.entries.OwnEntries.{counts_same}
+use Rattle.core_rule.proofs.entries.SeatLists.{making_list, list_of_making}
+use Rattle.core_rule.proofs.footprint.BookGoing.{book_stays}
+use Rattle.core_rule.proofs.frames.BesideFrames.{beside_aside, arrays_stay, heap_beside, seat_beside}
+use Rattle.core_rule.proofs.hand.ClaimOrder.{together_goes_on}
+use Rattle.core_rule.proofs.hand.EmptyHand.{none_stored}
+use Rattle.core_rule.proofs.hand.GoesOn.{StaysMaking, holding_goes_on, length_goes_on, gathers_goes_on, same_goes_on, unplaced_goes_on}
+use Rattle.core_rule.proofs.marking.Marks.{leaves_words, marks_off_way}
+use Rattle.core_rule.proofs.spines.BudgetSteps.{HasWeights, budgets_change, budget_small, budget_grows}
+use Rattle.core_rule.proofs.spines.OtherWords.{LeavesPlaces, places_left_budget}
+use Rattle.core_rule.proofs.spines.SpineFrames.{same_kept, same_shapes, spines_at_places, spine_words_stay, spines_left, spine_away}
+use Rattle.core_rule.proofs.spines.UsedFound.{finds_budget}
+use Rattle.core_rule.proofs.spines.WeightSums.{need_few}
+use Rattle.core_rule.proofs.steps.Assemble.{Keeps, seat_steps, StepKeeps, seat_fits}
+
+module _ (heap : Heap) (state : State) (book : Book) (number : ℕ) (rule : Rule heap state book) (here : number < heap.seats) (place : (seat_at state number).place ≡ places.Making Granting) where
+  abbrev seat : Seat
+  seat = seat_at state number
+
+  abbrev found : ℕ
+  found = at heap state.words Budget
+
+  abbrev needs : ℕ
+  needs = spine_need seat
+
+  abbrev words : List ℕ
+  words = put heap state.words Budget ((found + needs) % 2 ^ 64)
+
+  abbrev g : Graph
+  g = graph_of heap book.history
+
+  stands : SeatStands heap state.words book number seat
+  stands = rule.seats_stand number here
+
+  fits : IsAtRest seat × MakesNext seat.command seat.made × IsArray seat.command
+  fits = rw place at (seat_fits rule number here).at_place
+
+  leaves : LeavesPlaces heap state.words words
+  leaves = places_left_budget heap state.words _
+
+  -- nothing is granted to the seat yet
+  nothing : HasWeights seat 0 0 0
+  nothing = record { given_is = rw place refl; unplaced_is = rw place refl; refused_is = rw place refl }
+
+  -- what it asks for is added to the budget
+  grown : at heap words Budget ≡ found + needs
+  grown = at-put_same heap state.words Budget _ rule.machine.table tt
+      ∙ budget_grows found needs (budget_small heap state book rule.machine rule.budgets) (need_few seat.command fits.1.in_range)
+
+  same_place : (next_spine heap words).offset ≡ (next_spine heap state.words).offset
+  same_place = ap (λ w. (spot_in w).offset) leaves.spot
+
+  -- the seat goes on with what it has, where its budget stands
+  goes : (next : Seat) → StaysMaking seat next → Holding book.owner number next.reserve next.hand next.body → AreTogether heap next.cursor next.tried next.hand next.body
+      → length next.reserve + length (fragments_in_hand next.hand next.body) ≡ length seat.reserve + length (fragments_in_hand seat.hand seat.body)
+      → GathersRight heap book.owner number (drop (book.begun number) book.history) next.cursor next.tried next.given
+      → ¬ HasPlace next next.place → UsedStands heap book.history number next next.place
+      → BudgetsStand heap (record state { words = words; seats = slice_set state.seats number (with_entries next []) }) book
+      → IsMachine heap (record state { words = words; seats = slice_set state.seats number (with_entries next []) })
+      → Keeps heap state (record state { words = words; seats = slice_set state.seats number (with_entries next []) }) book book.begun []
+  goes next stays holding together as_many gathers no_place used budgets machine =
+      let new : Seat = with_entries next [] in
+      let same = stays.same in
+      let beside = beside_aside heap state.words Budget ((found + needs) % 2 ^ 64) (omega arith) (omega arith) in
+      let spines = arrays_stay heap state.words words book leaves.spines in
+      let sources = same_ahead heap state.words Budget ((found + needs) % 2 ^ 64) (omega arith) in
+      seat_steps heap state book number words new book [] rule here machine (sym (append-nil book.history)) refl
+      (heap_beside heap state book rule words beside spines book.spine_owner (λ f source x dark leads. leads_same heap state.words words f (sources f) source x leads)
+      (spines_at_places heap state.words words leaves heap.seats (length book.made) book.spines book.fragments book.spine_owner (node_at g book.made) (node_at g book.made)
+      book.owner book.owner (same_kept book.owner) (same_shapes (node_at g book.made)) rule.heap_stands.spines))
+      record {
+        own = record {
+          holding = holding;
+          stored = none_stored heap words number new (same.stored ∙ fits.0.none_stored);
+          together = together;
+          spine = spine_away heap state.words words book.spine_owner number seat new (λ has. rw place at has) no_place stands.own.spine;
+        };
+        names = record {
+          registers = rw same.registers (λ r fresh. stands.names.registers r (awaits_none Granting seat.place (target_of seat.command) r place));
+          way = rw stays.placed tt;
+          ahead = rw stays.placed tt;
+        };
+        told = record {
+          list = list_of_making g book.history book.made book.owner book.fragments number new stays.making stays.placed
+              (append-nil next.mine ∙ same.mine ∙ making_list g book.history book.made book.owner book.fragments number seat Granting place stands.told.list);
+          counts = counts_same g book.history number seat new same.made same.sets same.left as_many stands.told.counts;
+          began = began_on book.history number (book.begun number) seat.place next.place (is_busy Granting seat.place place) stands.told.began;
+          gathers = gathers;
+          used = used;
+        };
+        cycle = cycle_goes_on heap state.words words book.owner book.owner book.colour (phase book.history) (last_answer number book.history) (has_left number book.history) number seat new
+            record { answered = same.answered; left = same.left; asked = same.asked } (rw stays.placed tt) (beside.answers number (omega (arith, here, rule.machine.limits.seats_fit))) (λ f borne. borne) stands.cycle;
+      }
+      (λ r below apart other. seat_beside heap state book rule words beside spines book.spine_owner r below (spines_left r book.spine_owner)
+      (spine_words_stay heap state.words words (seat_at state r) leaves.spines other.own.spine.stored))
+      (marks_off_way heap state book rule number here words book new (leaves_words heap state book rule words sources) same.answered same.registers (rw stays.placed tt))
+      budgets (book_stays heap state book book.history book.begun)
+
+  -- they were too many
+  refused : heap.spine < found + needs → IsMachine heap (record state { words = words; seats = slice_set state.seats number (with_entries (record seat { used = found; place = places.Making Withdrawing }) []) })
+      → Keeps heap state (record state { words = words; seats = slice_set state.seats number (with_entries (record seat { used = found; place = places.Making Withdrawing }) []) }) book book.begun []
+  refused many =
+      let next : Seat = record seat { used = found; place = places.Making Withdrawing } in
+      goes next
+      record {
+        same = record { registers = refl; stored = refl; mine = refl; made = refl; sets = refl; answered = refl; left = refl; asked = refl };
+        making = Withdrawing;
+        placed = refl;
+      }
+      stands.own.holding stands.own.together refl stands.told.gathers (λ has. has) (finds_budget heap state book rule.machine rule.budgets number here nothing)
+      (budgets_change heap state book number here rule.machine.seated words (with_entries next []) 0 0 0 nothing 0 0 needs record { given_is = refl; unplaced_is = refl; refused_is = refl }
+      book record { told = refl; returned = refl; kept = refl; gone = refl } (omega (arith, same_place)) (omega (arith, grown)) (omega (arith, rule.budgets.low)) rule.budgets)
+
+  -- they were granted, and the seat gathers
+  granted : found + needs ≤ heap.spine → IsMachine heap (record state { words = words; seats = slice_set state.seats number (with_entries (gather_next heap seat) []) })
+      → Keeps heap state (record state { words = words; seats = slice_set state.seats number (with_entries (gather_next heap seat) []) }) book book.begun []
+  granted few =
+      let next : Seat = gather_next heap seat in
+      let unplaced = unplaced_goes_on heap seat fits.1.an_object in
+      goes next (same_goes_on heap seat)
+      (holding_goes_on heap book.owner number seat fits.0.no_body stands.own.holding)
+      (together_goes_on heap seat fits.0.no_body (seat_fits rule number here).own.cursor_within (seat_fits rule number here).own.reserve_of_cursor stands.own.together)
+      (length_goes_on heap seat fits.0.no_body)
+      (gathers_goes_on heap book.owner number (drop (book.begun number) book.history) seat fits.0.none_given stands.told.gathers)
+      unplaced.no_place (unplaced.none_used heap book.history number)
+      (budgets_change heap state book number here rule.machine.seated words (with_entries next []) 0 0 0 nothing needs needs 0
+      record { given_is = unplaced.granted; unplaced_is = unplaced.unplaced; refused_is = unplaced.refused }
+      book record { told = refl; returned = refl; kept = refl; gone = refl } (omega (arith, same_place)) (omega (arith, grown))
+      (omega (arith, few, rule.budgets.word)) rule.budgets)
+
+  abbrev Answered : Bool → Type 0
+  Answered many = IsMachine heap (record state { words = words; seats = slice_set state.seats number (with_entries (if many then record seat { used = found; place = places.Making Withdrawing } else gather_next heap seat) []) })
+      → Keeps heap state (record state { words = words; seats = slice_set state.seats number (with_entries (if many then record seat { used = found; place = places.Making Withdrawing } else gather_next heap seat) []) })
+      book book.begun []
+
+  answered : Answered (nat_lt heap.spine (found + needs))
+  answered = elim (leb_tells (suc heap.spine) (found + needs)) as (λ _. Answered (nat_lt heap.spine (found + needs))) [
+    | inl many ↦ subst Answered (sym many.0) (refused (omega (arith, many.1)))
+    | inr few ↦ subst Answered (sym few.0) (granted (omega (arith, few.1)))
+  ]
+
+pub grant_keeps : StepKeeps (places.Making Granting) grant_move
+grant_keeps heap state book number rule here place = answered heap state book number rule here place
