@@ -8,7 +8,7 @@ use Rattle.heap_model.specs.declared.heap.Heap.{Heap}
 use Rattle.core_machine.specs.declared.place.Collecting.TheVariants.{Looking, Comparing, Noting}
 use Rattle.core_machine.specs.declared.place.Collecting.TheVariants as collects
 use Rattle.core_machine.specs.declared.place.Leaving.TheVariants.{Emptying, Parting}
-use Rattle.core_machine.specs.declared.place.Making.TheVariants.{Gathering, Returning, Refusing, Storing, Bearing}
+use Rattle.core_machine.specs.declared.place.Making.TheVariants.{Granting, Withdrawing, Gathering, Returning, Refusing, Placing, Listing, Storing, Bearing}
 use Rattle.core_machine.specs.declared.place.Place.{Place}
 use Rattle.core_machine.specs.declared.place.Place.TheVariants as places
 use Rattle.core_machine.specs.declared.place.Polling.TheVariants.{Asking, Shading, Answering}
@@ -35,9 +35,13 @@ module _ (heap : Heap) (state : State) (book : Book) (number : ℕ) (rule : Rule
   keeps_at : (place : Place) → (seat_at state number).place ≡ place → IsMachine heap (state_after_due heap state number (move_at heap number (seat_at state number) place))
       → Keeps heap state (state_after_due heap state number (move_at heap number (seat_at state number) place)) book book.begun (entries_shown heap state (move_at heap number (seat_at state number) place))
   keeps_at places.Idle placed machine = record { now = book; grown = sym (append-nil book.history); calls = refl; rule = rule; goes = book_stays heap state book book.history book.begun }
+  keeps_at (places.Making Granting) placed machine = making.GrantStep.grant_keeps heap state book number rule here placed machine
+  keeps_at (places.Making Withdrawing) placed machine = making.WithdrawStep.withdraw_keeps heap state book number rule here placed machine
   keeps_at (places.Making Gathering) placed machine = making.ClaimStep.claim_keeps heap state book number rule here placed machine
   keeps_at (places.Making Returning) placed machine = making.GiveBackStep.give_back_keeps heap state book number rule here placed machine
   keeps_at (places.Making Refusing) placed machine = making.RefusalStep.refusal_keeps heap state book number rule here placed machine
+  keeps_at (places.Making Placing) placed machine = making.PlacingStep.placing_keeps heap state book number rule here placed machine
+  keeps_at (places.Making Listing) placed machine = making.ListingStep.listing_keeps heap state book number rule here placed machine
   keeps_at (places.Making Storing) placed machine = making.StoreStep.store_keeps heap state book number rule here placed machine
   keeps_at (places.Making Bearing) placed machine =
       bearing (is_last_birth (seat_at state number)) refl machine

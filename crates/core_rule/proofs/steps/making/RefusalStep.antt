@@ -132,7 +132,7 @@ module _ (heap : Heap) (state : State) (book : Book) (number : ℕ) (rule : Rule
       (budgets_change heap state book number here rule.machine.seated words refused (spine_need seat) (spine_need seat) 0
       record { given_is = given; unplaced_is = rw place refl; refused_is = rw place refl } 0 0 0 record { given_is = refl; unplaced_is = refl; refused_is = refl }
       (book_refused heap state book number rule here Refusing place reply makes refl graph) grants (omega (arith, spot)) (omega (arith, now, falls))
-      (λ less. omega (arith, less, old.low, grants.kept, grants.gone)) old)
+      (omega (arith, old.low)) old)
       machine
 
 -- a refusal that is told keeps the rule
