@@ -52,7 +52,8 @@ begin_keeps heap state book number command rule here may a_record machine =
       own = record {
         holding = holding_goes_on heap book.owner number seat rest.no_body stands.own.holding;
         stored = none_stored heap state.words number next (same.stored ∙ rest.none_stored);
-        spine = spine_away heap state.words state.words book.spine_owner number (seat_at state number) next (none_has_place (seat_at state number) (seat_at state number).place before) unplaced.no_place stands.own.spine;
+        spine = spine_away heap state.words state.words book.spine_owner number (seat_at state number) next
+            (none_has_place (seat_at state number) (seat_at state number).place before) unplaced.no_place stands.own.spine;
         together = together_goes_on heap seat rest.no_body (seat_fits rule number here).own.cursor_within (seat_fits rule number here).own.reserve_of_cursor
             (nothing_together heap seat.cursor seat.tried seat.hand seat.body rest.empty_hand rest.no_body);
       };

@@ -55,13 +55,20 @@ use Rattle.core_rule.proofs.cycle.Unwatched.{cycle_apart}
 abbrev birth_of : Seat → List ℕ → List ℕ → Move
 birth_of seat part rest = plain_move (steps.Making (Birth (last_group_of seat.hand) (mask_of part) (bears_black_of seat))) (λ found. record seat { hand = rest }) (λ found. [])
 
+-- what the hand has of its last group, and the rest of it
+abbrev group_part : Seat → List ℕ
+group_part seat = part_in (last_group_of seat.hand) seat.hand
+
+abbrev group_rest : Seat → List ℕ
+group_rest seat = part_out (last_group_of seat.hand) seat.hand
+
 -- a birth of what the hand has of its last group keeps the rule
 part_keeps : (heap : Heap) (state : State) (book : Book) (number : ℕ) → Rule heap state book → number < heap.seats
     → (seat_at state number).place ≡ places.Making Bearing
-    → MoveKeeps heap state book number (birth_of (seat_at state number) (part_in (last_group_of (seat_at state number).hand) (seat_at state number).hand) (part_out (last_group_of (seat_at state number).hand) (seat_at state number).hand))
+    → MoveKeeps heap state book number (birth_of (seat_at state number) (group_part (seat_at state number)) (group_rest (seat_at state number)))
 part_keeps heap state book number rule here place machine =
     let seat : Seat = seat_at state number in
-    let born : Seat = seat_after (birth_of seat (part_in (last_group_of seat.hand) seat.hand) (part_out (last_group_of seat.hand) seat.hand)) 0 in
+    let born : Seat = seat_after (birth_of seat (group_part seat) (group_rest seat)) 0 in
     let stands = rule.seats_stand number here in
     let heap_stands = rule.heap_stands in
     let g : ℕ = last_group_of seat.hand in
@@ -156,5 +163,5 @@ pub birth_keeps : (heap : Heap) (state : State) (book : Book) (number : ℕ) →
 birth_keeps heap state book number rule here place more =
     let seat : Seat = seat_at state number in
     subst (λ fs. MoveKeeps heap state book number (birth_of seat fs (before_run seat.hand))) (sym (run_born heap state book number rule here place))
-    (subst (λ fs. MoveKeeps heap state book number (birth_of seat (part_in (last_group_of seat.hand) seat.hand) fs)) (sym (rest_born heap state book number rule here place))
+    (subst (λ fs. MoveKeeps heap state book number (birth_of seat (group_part seat) fs)) (sym (rest_born heap state book number rule here place))
     (part_keeps heap state book number rule here place))

@@ -129,7 +129,8 @@ claim_keeps heap state book number rule here place machine =
       ids = rw tells.graph heap_stands.ids;
       objects = rw tells.graph (objects_owners book.owner owner kept book.made book.fragments book.spines heap words g_of
           (objects_control heap state.words g_of book.made book.owner book.fragments book.spines g word below heap_stands.objects));
-      spines = rw tells.graph (spines_stay heap state.words words leaves heap.seats (length book.made) book.spines book.fragments book.spine_owner nodes nodes book.owner owner kept (same_shapes nodes) heap_stands.spines);
+      spines = rw tells.graph (spines_stay heap state.words words leaves heap.seats (length book.made) book.spines book.fragments book.spine_owner nodes nodes
+          book.owner owner kept (same_shapes nodes) heap_stands.spines);
       used = tells.used;
       legal = tells.legal;
       cycle = tells.phases words owner book.colour book.fragments (heap_hands heap state.words book.owner book.colour book.fragments (phase book.history) g word (Taken number) fs below

@@ -72,7 +72,8 @@ give_back_keeps heap state book number rule here place machine =
       own = record {
         holding = holding_gives book.owner number seat.reserve seat.hand seat.body stands.own.holding g refuses.no_body;
         stored = stored_control heap state.words number seat g _ below stands.own.stored;
-        spine = spine_away heap state.words (words_given heap state book number rule here g part below held once) book.spine_owner number seat now (λ has. rw place at has) unplaced.no_place stands.own.spine;
+        spine = spine_away heap state.words (words_given heap state book number rule here g part below held once) book.spine_owner number seat now
+            (λ has. rw place at has) unplaced.no_place stands.own.spine;
         together = together_gives heap seat.cursor seat.tried g seat.hand seat.body refuses.no_body stands.own.together;
       };
       names = record {

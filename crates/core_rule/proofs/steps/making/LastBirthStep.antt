@@ -105,7 +105,8 @@ part_keeps heap state book number rule here place last machine =
     let stands = rule.seats_stand number here in
     let present = present_at heap state book number Bearing rule here place in
     let list = making_list (graph_of heap book.history) book.history book.made book.owner book.fragments number seat Bearing place stands.told.list in
-    let at_place : HasBody seat × (0 < length seat.hand) × (length seat.hand ≤ length body) × (seat.stored ≡ 4 * length body) × IsListed seat.command seat.spine seat.listed = rw place at (seat_fits rule number here).at_place in
+    let at_place : HasBody seat × (0 < length seat.hand) × (length seat.hand ≤ length body) × (seat.stored ≡ 4 * length body) × IsListed seat.command seat.spine seat.listed
+    = rw place at (seat_fits rule number here).at_place in
     let has = at_place.0 in
     let silent : IsSilent seat = rw place at (seat_fits rule number here).answer_at_place in
     let below = group_born heap state book number rule here place in
@@ -137,7 +138,8 @@ part_keeps heap state book number rule here place last machine =
     let now_nodes : ℕ → Node = node_at grown now.made in
     let fresh_node = node_new heap state.words g grown book.made id book.owner book.fragments book.spines array cells body seat.spine ids more new rule.heap_stands.objects in
     let shapes : (i : ℕ) → i < count → SameShape (now_nodes i) (nodes i)
-    = λ i less. shape_same (now_nodes i) (nodes i) (node_old heap state.words g grown book.made id book.owner book.fragments book.spines array cells body seat.spine ids more new rule.heap_stands.objects i less) in
+    = λ i less. shape_same (now_nodes i) (nodes i)
+    (node_old heap state.words g grown book.made id book.owner book.fragments book.spines array cells body seat.spine ids more new rule.heap_stands.objects i less) in
     let as_many : spine_words_of (now_nodes count) ≡ spine_need seat = ap spine_words_of fresh_node ∙ fresh_has_words array cells ∙ sym words_needed in
     let has_place : 0 < spine_need seat → HasPlace seat seat.place
     = λ some_words. subst (HasPlace seat) (sym place) (listed_within seat.command seat.spine seat.listed 0 has.makes.an_object at_place.4 some_words).0 in
@@ -232,4 +234,5 @@ part_keeps heap state book number rule here place last machine =
 pub last_birth_keeps : (heap : Heap) (state : State) (book : Book) (number : ℕ) → Rule heap state book → number < heap.seats
     → (seat_at state number).place ≡ places.Making Bearing → is_last_birth (seat_at state number) ≡ true → MoveKeeps heap state book number (last_birth_move number (seat_at state number))
 last_birth_keeps heap state book number rule here place last =
-    subst (λ fs. MoveKeeps heap state book number (last_birth_of number (seat_at state number) fs)) (sym (run_born heap state book number rule here place)) (part_keeps heap state book number rule here place last)
+    subst (λ fs. MoveKeeps heap state book number (last_birth_of number (seat_at state number) fs)) (sym (run_born heap state book number rule here place))
+    (part_keeps heap state book number rule here place last)

@@ -46,7 +46,8 @@ use Rattle.core_rule.proofs.spines.BudgetSteps.{budgets_change, budget_small, bu
 use Rattle.core_rule.proofs.spines.OtherWords.{spines_left_none}
 
 -- a record's refusal is told at a load, an array's at the step that takes its spine words back
-refusal_cases : (P : Step → Type 0) (command : Command) (words : ℕ) → MakesObject command → (spine_need_of command ≡ 0 → P steps.PollLoad) → P (steps.Spine (BudgetTakeBack words)) → P (refusal_step command words)
+refusal_cases : (P : Step → Type 0) (command : Command) (words : ℕ) → MakesObject command → (spine_need_of command ≡ 0 → P steps.PollLoad)
+    → P (steps.Spine (BudgetTakeBack words)) → P (refusal_step command words)
 refusal_cases P (commands.New d fields) words makes a_record an_array = a_record refl
 refusal_cases P (commands.Array d cells) words makes a_record an_array = an_array
 refusal_cases P _ words makes a_record an_array = absurd makes
@@ -131,7 +132,7 @@ module _ (heap : Heap) (state : State) (book : Book) (number : ℕ) (rule : Rule
       (budgets_change heap state book number here rule.machine.seated words refused (spine_need seat) (spine_need seat) 0
       record { given_is = given; unplaced_is = rw place refl; refused_is = rw place refl } 0 0 0 record { given_is = refl; unplaced_is = refl; refused_is = refl }
       (book_refused heap state book number rule here Refusing place reply makes refl graph) grants (omega (arith, spot)) (omega (arith, now, falls))
-      (λ less. omega (arith, less, old.low, grants.kept, grants.gone)) old)
+      (omega (arith, old.low)) old)
       machine
 
 -- a refusal that is told keeps the rule

@@ -1,5 +1,5 @@
 -- A call that makes an object is refused and over: that keeps the rule, whatever word its last step changed beside the fragments and the places of spines.
-use Rattle.std.proofs.Common.{◌≡◌, false, ℕ, ◌+◌, ◌<◌, List, [], ◌∷◌, ◌++◌, length, drop, refl, sym, subst, arith, ap}
+use Rattle.std.proofs.Common.{◌≡◌, ◌≢◌, false, ℕ, ◌+◌, ◌<◌, List, [], ◌∷◌, ◌++◌, length, drop, refl, sym, subst, arith, ap}
 use Rattle.std.proofs.lemmas.Bool.{eq-eqb}
 use Rattle.heap_model.specs.declared.entry.Entry.{Entry}
 use Rattle.heap_model.specs.declared.entry.Entry.TheVariants.{Said}
@@ -78,9 +78,9 @@ module _ (heap : Heap) (state : State) (book : Book) (number : ℕ) (rule : Rule
     grants_refused = grants_past heap state.words words ahead.fragments book entry nodes uses
 
     -- each other seat stands
-    other_stands : (r : ℕ) → r < heap.seats → (number ≡ r → ⊥) → SeatStands heap state.words book r (seat_at state r) → SeatStands heap words book_refused r (seat_at state r)
+    other_stands : (r : ℕ) → r < heap.seats → r ≢ number → SeatStands heap state.words book r (seat_at state r) → SeatStands heap words book_refused r (seat_at state r)
     other_stands r below apart other =
-        let away = of_other number r (λ e. apart (sym e)) in
+        let away = of_other number r apart in
         seat_past heap state.words words ahead.fragments book entry nodes r (seat_at state r) away (ap (λ (x : Graph). graph_seat x r) graph)
         (cycle_other heap words book.owner book.colour book.history entry refl r (seat_at state r)
         (cycle_stays heap state.words words book.owner book.owner book.colour book.colour (phase book.history) (last_answer r book.history) (has_left r book.history) r (seat_at state r)
@@ -118,9 +118,10 @@ module _ (heap : Heap) (state : State) (book : Book) (number : ℕ) (rule : Rule
           cycle = cycle_own heap words book.owner book.colour book.history entry refl number refused
               (cycle_goes_on heap state.words words book.owner book.owner book.colour (phase book.history) (last_answer number book.history) (has_left number book.history) number seat
               refused record { answered = refl; left = refl; asked = sym silent.none_asked } tt
-              (ahead.answers number (omega (arith, here, rule.machine.limits.seats_fit))) (λ f borne. borne) stands.cycle) refl (no_leave_told number number seat.command _ (λ leaving. subst MakesObject leaving makes));
+              (ahead.answers number (omega (arith, here, rule.machine.limits.seats_fit))) (λ f borne. borne) stands.cycle)
+              refl (no_leave_told number number seat.command _ (λ leaving. subst MakesObject leaving makes));
         }
-        (λ r below apart other. other_stands r below (λ e. apart (sym e)) other)
+        other_stands
         (marks_off_way heap state book rule number here words book_refused refused (leaves_words heap state book rule words ahead.sources) refl refl tt)
         budgets
         (book_stays heap state book book_refused.history book.begun)
