@@ -1,6 +1,7 @@
 -- From the opening on over every run, and over whole calls.
 pub mod OpeningOwners
 pub mod OpeningObjects
+pub mod OpeningSpines
 pub mod OpeningStands
 pub mod Runs
 pub mod Plays

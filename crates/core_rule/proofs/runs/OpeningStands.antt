@@ -8,7 +8,7 @@ use Rattle.heap_model.specs.declared.id.Value.{Value}
 use Rattle.heap_model.specs.declared.id.Value.TheVariants as values
 use Rattle.heap_model.specs.Heap.{IsHeap}
 use Rattle.heap_model.specs.graph.Graph.{GraphSeat, opening}
-use Rattle.core_machine.specs.declared.table.address.Address.TheVariants.{Answer, Phase}
+use Rattle.core_machine.specs.declared.table.address.Address.TheVariants.{Answer, Phase, Budget, Spot}
 use Rattle.core_machine.specs.declared.place.Place.TheVariants as places
 use Rattle.core_machine.specs.declared.seat.register.Register.{Register}
 use Rattle.core_machine.specs.declared.seat.register.Register.TheVariants as registers
@@ -34,11 +34,9 @@ use Rattle.core_rule.proofs.hand.EmptyHand.{nothing_together}
 use Rattle.core_rule.proofs.gather.GatherMoves.{nothing_tried}
 use Rattle.core_rule.proofs.graph.GraphRegisters.{opening_at}
 use Rattle.core_rule.proofs.runs.OpeningObjects.{opening_made, opening_fragments, opening_ids, opening_bits, opening_marks, opening_objects}
+pub use Rattle.core_rule.proofs.runs.OpeningSpines.{opening_book}
+use Rattle.core_rule.proofs.runs.OpeningSpines.{opening_in_hand, opening_spines_stand, opening_budgets}
 use Rattle.core_rule.proofs.runs.OpeningOwners.{opening_owner, opening_cases, opening_seated, opening_used}
-
--- the book when a heap opens: nothing has happened, and there is the board alone
-abbrev pub opening_book : Book
-opening_book = record { history = []; made = opening_made; owner = opening_owner; fragments = opening_fragments; colour = λ f. White; begun = λ number. 0 }
 
 abbrev Now : Register → Value → Type 0
 Now held value = regs.HoldsValue opening_made opening_owner opening_fragments held value
@@ -70,8 +68,9 @@ opening_seat_stands heap words number below none_answered = record {
     };
     stored = λ u none. absurd (omega (arith, none));
     together = nothing_together heap (opening_seat heap number).cursor 0 [] [] refl refl;
+    spine = opening_in_hand heap words number;
   };
-  names = record { registers = opening_registers heap number below; way = tt };
+  names = record { registers = opening_registers heap number below; way = tt; ahead = tt };
   told = record {
     list = record { awaited = []; own = refl; awaits = refl };
     counts = record {
@@ -82,6 +81,7 @@ opening_seat_stands heap words number below none_answered = record {
     };
     began = record { earlier = omega arith; unanswered = λ busy. refl };
     gathers = nothing_tried heap opening_owner number [] (opening_seat heap number).cursor;
+    used = tt;
   };
   cycle = record {
     answers_told = record { told = refl; leaves = refl; word = none_answered; near = λ present. inl refl; loaded = omega arith };
@@ -103,6 +103,7 @@ opening_rule heap state fits machine opens = record {
     owners = opening_seated heap.seats;
     ids = opening_ids heap;
     objects = opening_objects heap state.words fits.some_group opens.words_open;
+    spines = opening_spines_stand heap state.words (opens.words_open Spot tt) heap.seats;
     used = opening_used heap fits.some_group;
     legal = record { objects = tt; space = tt };
     cycle = record {
@@ -126,6 +127,7 @@ opening_rule heap state fits machine opens = record {
     heap_marks = subst (λ (c : Collector). MarkingStands heap state.words opening_owner (λ f. White) opening_fragments c.phase c.stage) (sym opens.nothing_done) record {
       grey = λ f grey. absurd (cc);
       scan = tt;
+      few = tt;
       pass = tt;
       sweep_stands = tt;
       alive = λ goes_on f i k. opening_cases (λ o. o ≢ Dead i k) f (λ less is. cc) (λ past is. cc);
@@ -133,6 +135,7 @@ opening_rule heap state fits machine opens = record {
     };
     roots = λ number below marks. absurd (subst (λ (c : Collector). c.phase % 7 ≢ 3) (sym opens.nothing_done) (λ e. omega (arith, e)) marks.phase);
   };
+  budgets = opening_budgets heap state (λ number below. opening_seat_at heap state number opens below) (opens.words_open Spot tt) (opens.words_open Budget tt);
 }
   where
     never : ¬ IsSettled 0 stages.Looking
