@@ -27,10 +27,10 @@ pub record HasWeights (seat : Seat) (given unplaced refused : ℕ) : Type 0 wher
 module _ (heap : Heap) (state : State) (book : Book) (number : ℕ) (here : number < heap.seats) (seated : length state.seats ≡ heap.seats) (words : List ℕ) (seat : Seat)
     (given unplaced refused : ℕ) (was : HasWeights (seat_at state number) given unplaced refused)
     (new_given new_unplaced new_refused : ℕ) (is : HasWeights seat new_given new_unplaced new_refused) where
-  given_change : of_seats heap (stepped state number words seat) granted_at + given ≡ of_seats heap state granted_at + new_given
+  pub given_change : of_seats heap (stepped state number words seat) granted_at + given ≡ of_seats heap state granted_at + new_given
   given_change = omega (arith, seats_change heap state number words seat granted_at here seated, was.given_is, is.given_is)
 
-  unplaced_change : of_seats heap (stepped state number words seat) unplaced_at + unplaced ≡ of_seats heap state unplaced_at + new_unplaced
+  pub unplaced_change : of_seats heap (stepped state number words seat) unplaced_at + unplaced ≡ of_seats heap state unplaced_at + new_unplaced
   unplaced_change = omega (arith, seats_change heap state number words seat unplaced_at here seated, was.unplaced_is, is.unplaced_is)
 
   pub refused_change : of_seats heap (stepped state number words seat) refused_at + refused ≡ of_seats heap state refused_at + new_refused

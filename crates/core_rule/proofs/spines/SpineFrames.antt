@@ -9,6 +9,7 @@ use Rattle.heap_model.specs.graph.Sizes.{spine_words_of}
 use Rattle.core_machine.specs.declared.place.Access.TheVariants.{Indexing}
 use Rattle.core_machine.specs.declared.place.Place.{Place}
 use Rattle.core_machine.specs.declared.place.Place.TheVariants as places
+use Rattle.core_machine.specs.declared.table.address.Address.TheVariants as addresses
 use Rattle.core_machine.specs.seat.Commands.{field_of}
 use Rattle.core_machine.specs.seat.Seat.{Seat, spine_need}
 use Rattle.core_machine.specs.table.Layout.{at, spine_place}
@@ -33,22 +34,29 @@ pub same_shapes : (nodes : ℕ → Node) (i : ℕ) → SameShape (nodes i) (node
 same_shapes nodes i = shape_same (nodes i) (nodes i) refl
 
 
-module _ (heap : Heap) (words now : List ℕ) (leaves : LeavesPlaces heap words now) (seats made : ℕ) (spines : ℕ → Spot) (fragments : ℕ → List ℕ) (spine_owner : ℕ → ℕ → SpineOwner) where
-  -- the same are kept, and have as many spine words
-  pub spines_at_places : (nodes now_nodes : ℕ → Node) (owner now_owner : ℕ → Owner) → SameKept owner now_owner → ((i : ℕ) → SameShape (now_nodes i) (nodes i))
+module _ (heap : Heap) (words now : List ℕ) (same : at heap now addresses.Spot ≡ at heap words addresses.Spot) (seats made : ℕ) (spines : ℕ → Spot) (fragments : ℕ → List ℕ)
+    (spine_owner : ℕ → ℕ → SpineOwner) where
+  -- the spot is as before, and the same are kept, and have as many spine words
+  pub spines_at_spot : (nodes now_nodes : ℕ → Node) (owner now_owner : ℕ → Owner) → SameKept owner now_owner → ((i : ℕ) → SameShape (now_nodes i) (nodes i))
       → SpinesStand heap words seats made nodes owner fragments spines spine_owner → SpinesStand heap now seats made now_nodes now_owner fragments spines spine_owner
-  spines_at_places nodes now_nodes owner now_owner kept shapes old =
+  spines_at_spot nodes now_nodes owner now_owner kept shapes old =
       let words_of : (i : ℕ) → spine_words_of (now_nodes i) ≡ spine_words_of (nodes i) = λ i. shape_words (now_nodes i) (nodes i) (shapes i) in
       record {
-        spot = rw leaves.spot old.spot;
-        before = λ half offset some. rw leaves.spot (old.before half offset some);
+        spot = rw same old.spot;
+        before = λ half offset some. rw same (old.before half offset some);
         seated = old.seated;
         kept = λ i j below is within. old.kept i j below (kept.was _ _ _ is) (subst (λ n. j < n) (words_of i) within);
         back = λ half offset i j is. let one = old.back half offset i j is in (one.0, kept.stays _ _ _ one.1, subst (λ n. j < n) (sym (words_of i)) one.2, one.3);
       }
 
+-- so it is where each spine word is as before too
+pub spines_at_places : (heap : Heap) (words now : List ℕ) → LeavesPlaces heap words now → (seats made : ℕ) (spines : ℕ → Spot) (fragments : ℕ → List ℕ) (spine_owner : ℕ → ℕ → SpineOwner)
+    (nodes now_nodes : ℕ → Node) (owner now_owner : ℕ → Owner) → SameKept owner now_owner → ((i : ℕ) → SameShape (now_nodes i) (nodes i))
+    → SpinesStand heap words seats made nodes owner fragments spines spine_owner → SpinesStand heap now seats made now_nodes now_owner fragments spines spine_owner
+spines_at_places heap words now leaves = spines_at_spot heap words now leaves.spot
+
 module _ (heap : Heap) (words now : List ℕ) (leaves : LeavesSpines heap words now) (seats made : ℕ) (spines : ℕ → Spot) (fragments : ℕ → List ℕ) (spine_owner : ℕ → ℕ → SpineOwner) where
-  -- so it is where the budget is as before too
+  -- and the budget
   pub spines_stay : (nodes now_nodes : ℕ → Node) (owner now_owner : ℕ → Owner) → SameKept owner now_owner → ((i : ℕ) → SameShape (now_nodes i) (nodes i))
       → SpinesStand heap words seats made nodes owner fragments spines spine_owner → SpinesStand heap now seats made now_nodes now_owner fragments spines spine_owner
   spines_stay = spines_at_places heap words now (places_of heap words now leaves) seats made spines fragments spine_owner

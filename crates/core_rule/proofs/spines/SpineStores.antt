@@ -42,7 +42,7 @@ module _ (heap : Heap) (words : List ℕ) (spine_owner : ℕ → ℕ → SpineOw
   other_word half offset within apart = spine_other heap words n seat.spine.half (seat.spine.offset + seat.listed) half offset small within apart
 
   -- so is one that isn't the seat's next
-  unowned : (half offset : ℕ) → half < 2 → spine_owner half offset ≢ Placed number seat.listed
+  pub unowned : (half offset : ℕ) → half < 2 → spine_owner half offset ≢ Placed number seat.listed
       → at heap words_listed (addresses.Spine half offset) ≡ at heap words (addresses.Spine half offset)
   unowned half offset within apart = other_word half offset within (λ a b. apart (ap (λ h. spine_owner h offset) a ∙ ap (λ o. spine_owner seat.spine.half o) b ∙ mine))
 

@@ -1,0 +1,123 @@
+-- A store of a spine word keeps the rule.
+use Rattle.std.specs.Prelude.{if◌then◌else◌}
+use Rattle.std.proofs.Common.{◌≡◌, ◌≢◌, ℕ, ◌+◌, ◌*◌, ◌<◌, ◌≤◌, Bool, true, false, nat_lt, List, [], length, refl, sym, ap, ◌∙◌, subst, arith}
+use Rattle.std.proofs.lemmas.List.{append-nil}
+use Rattle.heap_words.specs.Spot.{spot_in}
+use Rattle.heap_words.specs.declared.spot.Spot.{Spot as SpinePlace}
+use Rattle.heap_model.specs.declared.command.Command.{Command}
+use Rattle.heap_model.specs.declared.command.Command.TheVariants as commands
+use Rattle.heap_model.specs.declared.entry.Entry.{Entry}
+use Rattle.heap_model.specs.declared.heap.Heap.{Heap}
+use Rattle.heap_model.specs.Needs.{spine_need_of}
+use Rattle.heap_model.specs.account.Cycles.{graph_of}
+use Rattle.heap_model.specs.account.PhaseCounts.{phase, last_answer, has_left}
+use Rattle.heap_model.specs.graph.Graph.{Graph}
+use Rattle.core_machine.specs.declared.place.Making.{Making}
+use Rattle.core_machine.specs.declared.place.Making.TheVariants.{Listing, Storing, Bearing}
+use Rattle.core_machine.specs.declared.place.Place.{Place}
+use Rattle.core_machine.specs.declared.place.Place.TheVariants as places
+use Rattle.core_machine.specs.declared.table.address.Address.TheVariants.{Budget, Spot}
+use Rattle.core_machine.specs.machine.Machine.{State, seat_at}
+use Rattle.core_machine.specs.Moves.{listing_move, seat_after}
+use Rattle.core_machine.specs.seat.Commands.{IsArray, target_of}
+use Rattle.core_machine.specs.seat.Fits.{FitsPlace, IsListed, HasArrayBody}
+use Rattle.core_machine.specs.seat.Making.{list_place}
+use Rattle.core_machine.specs.seat.Seat.{Seat, spine_need}
+use Rattle.core_machine.specs.table.Layout.{at, put, spine_place}
+use Rattle.core_machine.specs.table.Newborn.{spine_word}
+use Rattle.core_rule.specs.Book.{fragment_at}
+use Rattle.core_rule.specs.Budgets.{UsedStands}
+use Rattle.core_rule.specs.Objects.{node_at}
+use Rattle.core_rule.specs.Spines.{HasPlace, next_spine}
+use Rattle.core_rule.proofs.cycle.MakingCycle.{cycle_goes_on}
+use Rattle.core_rule.proofs.entries.InFlight.{awaits_none, began_on, is_busy}
+use Rattle.core_rule.proofs.entries.OwnEntries.{counts_same}
+use Rattle.core_rule.proofs.entries.SeatLists.{making_list, list_of_making}
+use Rattle.core_rule.proofs.footprint.BookGoing.{book_stays}
+use Rattle.core_rule.proofs.frames.BesideFrames.{heap_beside, seat_beside}
+use Rattle.core_rule.proofs.hand.EmptyHand.{none_stored}
+use Rattle.core_rule.proofs.marking.Marks.{leaves_alive, marks_off_way}
+use Rattle.core_rule.proofs.spines.BudgetSteps.{HasWeights, budgets_change}
+use Rattle.core_rule.proofs.spines.ListedSources.{has, words_now, beside_listed, arrays_listed, kept_listed, borne_listed, black_listed}
+use Rattle.core_rule.proofs.spines.SpineFrames.{same_kept, same_shapes, spines_at_spot, spines_left}
+use Rattle.core_rule.proofs.spines.SpineStores.{other_stored, spine_listed, spot_unlisted, budget_unlisted}
+use Rattle.core_rule.proofs.steps.Assemble.{seat_steps, StepKeeps, seat_fits}
+
+-- the next word's turn comes, or the object's words are stored
+list_cases : (P : Making → Type 0) (listed words : ℕ) → P Listing → P Storing → P (list_place listed words)
+list_cases P listed words more done = by (nat_lt listed words)
+  where
+    by : (b : Bool) → P (if b then Listing else Storing)
+    by true = more
+    by false = done
+
+-- an array's listed words are no more than it needs
+listed_all : (command : Command) (spine : SpinePlace) (listed : ℕ) → IsArray command → IsListed command spine listed → listed ≤ spine_need_of command
+listed_all (commands.Array d cells) spine listed array all = omega (arith, all)
+listed_all _ spine listed array all = absurd array
+
+listed_few : (heap : Heap) (seat : Seat) (place : Place) → FitsPlace heap seat place → HasPlace seat place → seat.listed ≤ spine_need seat
+listed_few heap seat (places.Making Listing) fits has = omega (arith, fits.1)
+listed_few heap seat (places.Making Storing) fits has = listed_all seat.command seat.spine seat.listed has fits.3
+listed_few heap seat (places.Making Bearing) fits has = listed_all seat.command seat.spine seat.listed has fits.4
+listed_few heap seat _ fits has = absurd has
+
+-- a store of a spine word keeps the rule
+pub listing_keeps : StepKeeps (places.Making Listing) (λ heap number. listing_move)
+listing_keeps heap state book number rule here place machine =
+    let seat : Seat = seat_at state number in
+    let n : ℕ = spine_word (fragment_at seat.body (seat.listed + 1)) in
+    let words : List ℕ = put heap state.words (spine_place seat.spine seat.listed) n in
+    let new : Seat = seat_after (listing_move seat) (at heap state.words (spine_place seat.spine seat.listed)) in
+    let to : Making = list_place (seat.listed + 1) (spine_need seat) in
+    let g : Graph = graph_of heap book.history in
+    let stands = rule.seats_stand number here in
+    let fits : HasArrayBody seat × (seat.listed < spine_need seat) = rw place at (seat_fits rule number here).at_place in
+    let small : seat.spine.half < 2 = (seat_fits rule number here).hand.spine_within.half_within in
+    let placed : HasPlace seat seat.place = has heap state book rule number here place n in
+    let beside = beside_listed heap state book rule number here place n in
+    let arrays = arrays_listed heap state book rule number here place n in
+    let old = rule.heap_stands.spines in
+    let mine = stands.own.spine.placed placed seat.listed fits.1 in
+    let before = old.before seat.spine.half (seat.spine.offset + seat.listed) (λ none. absurd (cc (mine, none))) in
+    let inside : seat.spine.offset + seat.listed < 2 * heap.spine = omega (arith, before.1, rule.budgets.exact, rule.budgets.low) in
+    let spot = spot_unlisted heap state.words book.spine_owner number seat stands.own.spine placed fits.1 small n in
+    let budget = budget_unlisted heap state.words book.spine_owner number seat stands.own.spine placed fits.1 small n in
+    let next : (next_spine heap words).offset ≡ (next_spine heap state.words).offset = ap (λ w. (spot_in w).offset) spot in
+    let new_has : HasPlace new new.place = list_cases (λ m. HasPlace new (places.Making m)) (seat.listed + 1) (spine_need seat) fits.0.1 fits.0.1 in
+    let weights : HasWeights new (spine_need seat) 0 0
+    = list_cases (λ m. (later : Seat) → later.command ≡ seat.command → later.place ≡ places.Making m → HasWeights later (spine_need seat) 0 0) (seat.listed + 1) (spine_need seat)
+    (λ later same is. rw (is, same) record { given_is = refl; unplaced_is = refl; refused_is = refl })
+    (λ later same is. rw (is, same) record { given_is = refl; unplaced_is = refl; refused_is = refl }) new refl refl in
+    seat_steps heap state book number words new book [] rule here machine (sym (append-nil book.history)) refl
+    (heap_beside heap state book rule words beside arrays book.spine_owner (black_listed heap state book rule number here place n)
+    (spines_at_spot heap state.words words spot heap.seats (length book.made) book.spines book.fragments book.spine_owner (node_at g book.made) (node_at g book.made)
+    book.owner book.owner (same_kept book.owner) (same_shapes (node_at g book.made)) old))
+    record {
+      own = record {
+        holding = stands.own.holding;
+        stored = none_stored heap words number new fits.0.2.none_stored;
+        together = stands.own.together;
+        spine = spine_listed heap state.words book.spine_owner number seat stands.own.spine placed fits.1 small n new rule.machine.table inside refl new_has refl refl refl refl;
+      };
+      names = record { registers = λ r fresh. stands.names.registers r (awaits_none Listing seat.place (target_of seat.command) r place); way = tt; ahead = tt };
+      told = record {
+        list = list_of_making g book.history book.made book.owner book.fragments number new to refl
+            (append-nil seat.mine ∙ making_list g book.history book.made book.owner book.fragments number seat Listing place stands.told.list);
+        counts = counts_same g book.history number seat new refl refl refl refl stands.told.counts;
+        began = began_on book.history number (book.begun number) seat.place new.place (is_busy Listing seat.place place) stands.told.began;
+        gathers = stands.told.gathers;
+        used = list_cases (λ m. UsedStands heap book.history number new (places.Making m)) (seat.listed + 1) (spine_need seat) tt tt;
+      };
+      cycle = cycle_goes_on heap state.words words book.owner book.owner book.colour (phase book.history) (last_answer number book.history) (has_left number book.history) number seat new
+          record { answered = refl; left = refl; asked = refl } tt (beside.answers number (omega (arith, here, rule.machine.limits.seats_fit))) (λ f borne. borne) stands.cycle;
+    }
+    (λ r below apart other. seat_beside heap state book rule words beside arrays book.spine_owner r below (spines_left r book.spine_owner)
+    (other_stored heap state.words book.spine_owner number seat stands.own.spine placed fits.1 small n r (seat_at state r) apart other.own.spine
+    (seat_fits rule r below).hand.spine_within.half_within (listed_few heap (seat_at state r) (seat_at state r).place (seat_fits rule r below).at_place)))
+    (marks_off_way heap state book rule number here words book new
+    (leaves_alive heap state book rule words (kept_listed heap state book rule number here place n) (borne_listed heap state book rule number here place n)) refl refl tt)
+    (budgets_change heap state book number here rule.machine.seated words new (spine_need seat) 0 0 record { given_is = rw place refl; unplaced_is = rw place refl; refused_is = rw place refl }
+    (spine_need seat) 0 0 weights book record { told = refl; returned = refl; kept = refl; gone = refl }
+    (omega (arith, next)) (omega (arith, budget)) (omega (arith, rule.budgets.low)) rule.budgets)
+    (book_stays heap state book book.history book.begun)

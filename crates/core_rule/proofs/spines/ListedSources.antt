@@ -1,0 +1,175 @@
+-- A spine word that is stored is no kept array's, and none of an array that another seat bears: the sources of what is kept or borne are the same.
+use Rattle.std.proofs.lemmas.Bool.{cases_eq}
+use Rattle.std.proofs.Common.{◌≡◌, ◌≢◌, ◌⊎◌, ℕ, zero, suc, ◌+◌, ◌*◌, ◌%◌, ◌^◌, ◌<◌, ◌≤◌, false, eqb, inl, inr, List, length, get_or, refl, sym, ap, ◌∙◌, subst, arith}
+use Rattle.heap_words.specs.declared.name.Name.{Name}
+use Rattle.heap_words.specs.declared.spot.Spot.{Spot}
+use Rattle.heap_words.specs.Spot.{spot_in, spot_word}
+use Rattle.heap_model.specs.declared.command.Command.{Command}
+use Rattle.heap_model.specs.declared.command.Command.TheVariants as commands
+use Rattle.heap_model.specs.declared.heap.Heap.{Heap}
+use Rattle.heap_model.specs.Command.{IsCommand}
+use Rattle.heap_model.specs.Needs.{need_of, spine_need_of}
+use Rattle.heap_model.specs.account.Cycles.{graph_of}
+use Rattle.heap_model.specs.account.PhaseCounts.{phase}
+use Rattle.core_machine.specs.declared.collector.stage.Stage.{Stage}
+use Rattle.core_machine.specs.declared.collector.stage.Stage.TheVariants as stages
+use Rattle.core_machine.specs.declared.place.Making.TheVariants.{Listing}
+use Rattle.core_machine.specs.declared.place.Place.TheVariants as places
+use Rattle.core_machine.specs.declared.table.address.Address.TheVariants.{Word}
+use Rattle.core_machine.specs.machine.Machine.{State, seat_at}
+use Rattle.core_machine.specs.seat.Commands.{MakesObject, IsArray}
+use Rattle.core_machine.specs.seat.Fits.{HasArrayBody, Fits}
+use Rattle.core_machine.specs.seat.Making.{newborn_word, newborn_word_of, next_name}
+use Rattle.core_machine.specs.seat.Seat.{Seat, spine_need}
+use Rattle.core_machine.specs.table.Decode.{spine_words_in}
+use Rattle.core_machine.specs.table.Fragments.{tally}
+use Rattle.core_machine.specs.table.Layout.{at, put, spine_place, FitsSpot}
+use Rattle.core_machine.specs.table.Newborn.{spine_word}
+use Rattle.core_machine.proofs.collector_lemmas.SpineTurns.{told_spot}
+use Rattle.core_rule.specs.Book.{Book, White, Black, fragment_at}
+use Rattle.core_rule.specs.Colours.{WordPointsTo}
+use Rattle.core_rule.specs.Objects.{node_at}
+use Rattle.core_rule.specs.Owners.{Owner, Free, Taken, Borne, Kept, Dead, born_bit, SpineOwner, Placed}
+use Rattle.core_rule.specs.Rule.{Rule, SeatStands}
+use Rattle.core_rule.specs.Spines.{HasPlace, next_spine}
+use Rattle.core_rule.specs.Sweep.{IsSettled}
+use Rattle.core_rule.proofs.colours.LeadsFrames.{SameSources, leads_same}
+use Rattle.core_rule.proofs.colours.NoSpines.{newborn_no_spine}
+use Rattle.core_rule.proofs.entries.AtRest.{seat_fits}
+use Rattle.core_rule.proofs.frames.BesideFrames.{LeavesBeside, beside_spine, ArraysStay}
+use Rattle.core_rule.proofs.hand.Bodies.{body_at-own}
+use Rattle.core_rule.proofs.held.BodyWords.{bearing}
+use Rattle.core_rule.proofs.lists.Members.{place_of, place_within}
+use Rattle.core_rule.proofs.marking.KeptSources.{kept_sources}
+use Rattle.core_rule.proofs.marking.Marks.{unsettled}
+use Rattle.core_rule.proofs.objects.LastBirth.{all_stored}
+use Rattle.core_rule.proofs.owners.Seated.{borne_by_seat}
+use Rattle.core_rule.proofs.spines.SpineStores.{unowned, arrays_stored}
+use Rattle.core_rule.proofs.ways.ArrayWords.{words_in-meta, spot_in-word}
+
+-- an object that makes an array needs a fragment
+needs_some : (command : Command) → IsArray command → 1 ≤ need_of command
+needs_some (commands.Array d cells) array = omega arith
+needs_some _ array = absurd array
+
+-- a newborn object has a spine where it is an array, in its first fragment, which tells where it stands
+module _ (name : Name) (spine : Spot) (body : List ℕ) (small : (i : ℕ) → i < length body → get_or body i 0 < 2 ^ 30) where
+  newborn_spine : (command : Command) → MakesObject command → IsCommand command → (k j : ℕ) → j < spine_words_in (newborn_word command name spine body k 0)
+      → (IsArray command) × (j < spine_need_of command) × (newborn_word command name spine body k 2 ≡ spot_word spine)
+  newborn_spine (commands.New d fields) made range k j less =
+      let none : spine_words_in (newborn_word (commands.New d fields) name spine body k 0) ≡ 0 = newborn_no_spine body small name fields k (omega (arith, range.1.1)) in absurd (omega (arith, less, none))
+  newborn_spine (commands.Array d cells) made range zero j less = (tt, omega (arith, less, words_in-meta cells (omega (arith, range.1.1))), refl)
+  newborn_spine (commands.Array d cells) made range (suc k) j less =
+      let later : eqb (suc k) 0 ≡ false = grind arith in
+      let none : spine_words_in (newborn_word (commands.Array d cells) name spine body (suc k) 0) ≡ 0 = rw later refl in
+      absurd (omega (arith, less, none))
+  newborn_spine _ made range k j less = absurd made
+
+ended_or_not : (stage : Stage) → (stage ≡ stages.Advancing) ⊎ (stage ≢ stages.Advancing)
+ended_or_not stages.Advancing = inl refl
+ended_or_not _ = inr (λ e. absurd (cc))
+
+-- marking has ended, and the sweep hasn't, or not
+settled_or_not : (phase : ℕ) (stage : Stage) → IsSettled phase stage ⊎ (¬ IsSettled phase stage)
+settled_or_not phase stage = elim (cases_eq (phase % 7) 4) as (λ _. IsSettled phase stage ⊎ (¬ IsSettled phase stage)) [
+  | inl copies ↦ inl (inr (inl copies))
+  | inr no_copies ↦ elim (cases_eq (phase % 7) 5) as (λ _. IsSettled phase stage ⊎ (¬ IsSettled phase stage)) [
+    | inl sweeps ↦ inl (inr (inr sweeps))
+    | inr no_sweeps ↦ elim (cases_eq (phase % 7) 3) as (λ _. IsSettled phase stage ⊎ (¬ IsSettled phase stage)) [
+      | inl third ↦ elim (ended_or_not stage) as (λ _. IsSettled phase stage ⊎ (¬ IsSettled phase stage)) [
+        | inl ended ↦ inl (inl (third, ended))
+        | inr goes ↦ inr (unsettled phase stage third goes)
+      ]
+      | inr other ↦ inr (never no_copies no_sweeps other)
+    ]
+  ]
+]
+  where
+    never : phase % 7 ≢ 4 → phase % 7 ≢ 5 → phase % 7 ≢ 3 → ¬ IsSettled phase stage
+    never no_copies no_sweeps other (inl ended) = other ended.0
+    never no_copies no_sweeps other (inr (inl copies)) = no_copies copies
+    never no_copies no_sweeps other (inr (inr sweeps)) = no_sweeps sweeps
+
+-- what is to be freed is white
+dead_is_white : (heap : Heap) (state : State) (book : Book) → Rule heap state book → (f i k : ℕ) → book.owner f ≡ Dead i k → book.colour f ≡ White
+dead_is_white heap state book rule f i k dead = elim (settled_or_not state.collector.phase state.collector.stage) as (λ _. book.colour f ≡ White) [
+  | inl settled ↦ (rule.marks_stand.heap_marks.after settled).dead_white f i k dead
+  | inr going ↦ absurd (rule.marks_stand.heap_marks.alive going f i k dead)
+]
+
+module _ (heap : Heap) (state : State) (book : Book) (rule : Rule heap state book) (number : ℕ) (here : number < heap.seats) (place : (seat_at state number).place ≡ places.Making Listing) (n : ℕ) where
+  abbrev seat : Seat
+  seat = seat_at state number
+
+  fits : HasArrayBody seat × (seat.listed < spine_need seat)
+  fits = rw place at (seat_fits rule number here).at_place
+
+  stands : SeatStands heap state.words book number seat
+  stands = rule.seats_stand number here
+
+  pub has : HasPlace seat seat.place
+  has = subst (HasPlace seat) (sym place) fits.0.1
+
+  small : seat.spine.half < 2
+  small = (seat_fits rule number here).hand.spine_within.half_within
+
+  -- the words after it
+  abbrev pub words_now : List ℕ
+  words_now = put heap state.words (spine_place seat.spine seat.listed) n
+
+  pub beside_listed : LeavesBeside heap state.words words_now
+  beside_listed = beside_spine heap state.words (spine_place seat.spine seat.listed) n (omega arith)
+
+  -- the spines of kept arrays stay
+  pub arrays_listed : ArraysStay heap state.words words_now book
+  arrays_listed = arrays_stored heap state.words book.spine_owner number seat stands.own.spine has fits.1 small n heap.seats (length book.made) (node_at (graph_of heap book.history) book.made)
+      book.owner book.fragments book.spines rule.heap_stands.spines (omega arith)
+
+  pub kept_listed : (f i k : ℕ) → book.owner f ≡ Kept i k → SameSources heap state.words words_now f
+  kept_listed = kept_sources heap state book rule words_now beside_listed.parts arrays_listed
+
+  -- and those of arrays that others bear
+  pub borne_listed : (f r : ℕ) → book.owner f ≡ Borne r → SameSources heap state.words words_now f
+  borne_listed f r bears =
+      let there = borne_by_seat heap state book rule r f bears in
+      let other : Seat = seat_at state r in
+      let other_fits : Fits heap other = seat_fits rule r there.0 in
+      let its = bearing heap state book rule r f bears other.place other_fits.at_place in
+      let at_body = place_within f other.body there.1 in
+      let k : ℕ = place_of f other.body in
+      let stored = all_stored heap state.words other.body (newborn_word_of r other) other.stored its.1 (rule.seats_stand r there.0).own.stored in
+      let within : f < 16 * heap.groups = subst (λ x. x < 16 * heap.groups) at_body.1 (other_fits.hand.body_within k 0 at_body.0) in
+      record {
+        parts = λ part below. beside_listed.parts f part within below;
+        spine = λ j less.
+            let first : at heap state.words (Word f 0) ≡ newborn_word_of r other k 0 = subst (λ x. at heap state.words (Word x 0) ≡ newborn_word_of r other k 0) at_body.1 (stored k 0 at_body.0 (omega arith)) in
+            let third : at heap state.words (Word f 2) ≡ newborn_word_of r other k 2 = subst (λ x. at heap state.words (Word x 2) ≡ newborn_word_of r other k 2) at_body.1 (stored k 2 at_body.0 (omega arith)) in
+            let newborn = newborn_spine (next_name r other) other.spine other.body
+            (λ i below. let inside : get_or other.body i 0 < 16 * heap.groups = other_fits.hand.body_within i 0 below in omega (arith, inside, rule.machine.limits.groups_fit))
+            other.command its.0.makes.an_object its.0.makes.in_range k j (subst (λ w. j < spine_words_in w) first less) in
+            let spot : spot_in (at heap state.words (Word f 2)) ≡ other.spine = ap spot_in (third ∙ newborn.2) ∙ spot_in-word other.spine other_fits.hand.spine_within in
+            let owned = (rule.seats_stand r there.0).own.spine.placed (its.3 newborn.0) j newborn.1 in
+            subst (λ (s : Spot). at heap words_now (spine_place s j) ≡ at heap state.words (spine_place s j)) (sym spot)
+            (unowned heap state.words book.spine_owner number seat stands.own.spine has fits.1 small n other.spine.half (other.spine.offset + j) other_fits.hand.spine_within.half_within
+            (λ mine. another r its.1 its.0.whole (placed_by r number j seat.listed _ owned mine) newborn.0));
+      }
+    where
+      placed_by : (r s j k : ℕ) (o : SpineOwner) → o ≡ Placed r j → o ≡ Placed s k → r ≡ s
+      placed_by r s j k o a b = cc
+
+      -- a seat that lists its spine has stored nothing of its object
+      another : (r : ℕ) → (seat_at state r).stored ≡ 4 * length (seat_at state r).body → length (seat_at state r).body ≡ need_of (seat_at state r).command → r ≡ number → IsArray (seat_at state r).command → ⊥
+      another r all whole same array =
+          let none : (seat_at state r).stored ≡ 0 = ap (λ x. (seat_at state x).stored) same ∙ fits.0.2.none_stored in
+          omega (arith, none, all, whole, needs_some (seat_at state r).command array)
+
+  -- and so are those of what is black
+  pub black_listed : (f source x : ℕ) → book.colour f ≡ Black → WordPointsTo heap words_now f source x → WordPointsTo heap state.words f source x
+  black_listed f source x dark leads = by (book.owner f) refl (rule.heap_stands.cycle.coloured.born f (λ white. absurd (cc (dark, white))))
+    where
+      by : (o : Owner) → book.owner f ≡ o → born_bit (book.owner f) ≡ 1 → WordPointsTo heap state.words f source x
+      by Free is born = absurd (let none : born_bit (book.owner f) ≡ 0 = ap born_bit is in omega (arith, none, born))
+      by (Taken r) is born = absurd (let none : born_bit (book.owner f) ≡ 0 = ap born_bit is in omega (arith, none, born))
+      by (Borne r) is born = leads_same heap state.words words_now f (borne_listed f r is) source x leads
+      by (Kept i k) is born = leads_same heap state.words words_now f (kept_listed f i k is) source x leads
+      by (Dead i k) is born = absurd (cc (dark, dead_is_white heap state book rule f i k is))
