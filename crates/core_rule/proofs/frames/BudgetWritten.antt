@@ -1,5 +1,5 @@
 -- What stands of the heap and of the seats where the budget is written: all of it.
-use Rattle.std.proofs.Common.{ℕ, ◌<◌, List, length, refl, arith}
+use Rattle.std.proofs.Common.{ℕ, ◌<◌, List, length, arith}
 use Rattle.heap_model.specs.declared.heap.Heap.{Heap}
 use Rattle.heap_model.specs.account.Cycles.{graph_of}
 use Rattle.core_machine.specs.declared.table.address.Address.TheVariants.{Budget}

@@ -77,8 +77,11 @@ module _ (heap : Heap) (state : State) (book : Book) (number : ℕ) (rule : Rule
   fallen : at heap words Budget + needs ≡ found
   fallen =
       let less = refused_change heap state book number here rule.machine.seated words new 0 0 needs asked 0 0 0 nothing in
-      omega (arith, at-put_same heap state.words Budget word rule.machine.table tt,
-      budget_falls found needs (budget_small heap state book rule.machine rule.budgets) (omega (arith, less, rule.budgets.word)))
+      omega (
+        arith,
+        at-put_same heap state.words Budget word rule.machine.table tt,
+        budget_falls found needs (budget_small heap state book rule.machine rule.budgets) (omega (arith, less, rule.budgets.word)),
+      )
 
   same_place : (next_spine heap words).offset ≡ (next_spine heap state.words).offset
   same_place = ap (λ w. (spot_in w).offset) (budget_places heap state book rule word).spot
