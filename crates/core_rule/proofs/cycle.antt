@@ -9,6 +9,5 @@ pub mod MakingCycle
 pub mod BirthCycle
 pub mod FieldFrames
 pub mod AnswerWords
-pub mod AheadWords
 pub mod SwapCycle
 pub mod NextPhase

@@ -1,6 +1,6 @@
 -- A step that asks for an array's spine words keeps the rule: they are granted, or found to be too many.
 use Rattle.std.specs.Prelude.{if◌then◌else◌}
-use Rattle.std.proofs.Common.{◌≡◌, ℕ, ◌+◌, ◌%◌, ◌^◌, ◌<◌, ◌≤◌, suc, Bool, true, false, nat_lt, inl, inr, List, [], length, drop, slice_set, refl, sym, ap, ◌∙◌, subst, arith}
+use Rattle.std.proofs.Common.{◌≡◌, ℕ, ◌+◌, ◌%◌, ◌^◌, ◌<◌, ◌≤◌, suc, Bool, nat_lt, inl, inr, List, [], length, drop, slice_set, refl, sym, ap, ◌∙◌, subst, arith}
 use Rattle.std.proofs.lemmas.Bool.Decides.{leb_tells}
 use Rattle.std.proofs.lemmas.List.{append-nil}
 use Rattle.heap_words.specs.Spot.{spot_in}
@@ -13,37 +13,34 @@ use Rattle.core_machine.specs.declared.place.Place.TheVariants as places
 use Rattle.core_machine.specs.declared.table.address.Address.TheVariants.{Budget}
 use Rattle.core_machine.specs.machine.Machine.{State, seat_at}
 use Rattle.core_machine.specs.machine.Value.{IsMachine}
-use Rattle.core_machine.specs.Moves.{grant_move, seat_after}
+use Rattle.core_machine.specs.Moves.{grant_move}
 use Rattle.core_machine.specs.seat.Commands.{IsArray, target_of}
 use Rattle.core_machine.specs.seat.Fits.{IsAtRest, MakesNext}
-use Rattle.core_machine.specs.seat.Making.{gather_next, after_budget}
+use Rattle.core_machine.specs.seat.Making.{gather_next}
 use Rattle.core_machine.specs.seat.Seat.{Seat, spine_need, with_entries}
-use Rattle.core_machine.specs.table.Layout.{at, put}
+use Rattle.core_machine.specs.table.Layout.{at}
 use Rattle.core_machine.proofs.table_lemmas.Addresses.{at-put_same}
 use Rattle.core_rule.specs.Book.{Book}
 use Rattle.core_rule.specs.Budgets.{BudgetsStand, UsedStands}
 use Rattle.core_rule.specs.Gathers.{GathersRight}
 use Rattle.core_rule.specs.Holding.{Holding, fragments_in_hand}
-use Rattle.core_rule.specs.Objects.{node_at}
 use Rattle.core_rule.specs.Rule.{Rule, SeatStands}
 use Rattle.core_rule.specs.Spines.{HasPlace, next_spine}
 use Rattle.core_rule.specs.Together.{AreTogether}
-use Rattle.core_rule.proofs.colours.LeadsFrames.{leads_same, same_ahead}
 use Rattle.core_rule.proofs.cycle.MakingCycle.{cycle_goes_on}
 use Rattle.core_rule.proofs.entries.InFlight.{awaits_none, began_on, is_busy}
 use Rattle.core_rule.proofs.entries.OwnEntries.{counts_same}
 use Rattle.core_rule.proofs.entries.SeatLists.{making_list, list_of_making}
 use Rattle.core_rule.proofs.footprint.BookGoing.{book_stays}
-use Rattle.core_rule.proofs.frames.BesideFrames.{beside_aside, arrays_stay, heap_beside, seat_beside}
 use Rattle.core_rule.proofs.hand.ClaimOrder.{together_goes_on}
 use Rattle.core_rule.proofs.hand.EmptyHand.{none_stored}
 use Rattle.core_rule.proofs.hand.GoesOn.{StaysMaking, holding_goes_on, length_goes_on, gathers_goes_on, same_goes_on, unplaced_goes_on}
 use Rattle.core_rule.proofs.marking.Marks.{leaves_words, marks_off_way}
 use Rattle.core_rule.proofs.spines.BudgetSteps.{HasWeights, budgets_change, budget_small, budget_grows}
-use Rattle.core_rule.proofs.spines.OtherWords.{LeavesPlaces, places_left_budget}
-use Rattle.core_rule.proofs.spines.SpineFrames.{same_kept, same_shapes, spines_at_places, spine_words_stay, spines_left, spine_away}
+use Rattle.core_rule.proofs.spines.SpineFrames.{spine_away}
 use Rattle.core_rule.proofs.spines.UsedFound.{finds_budget}
 use Rattle.core_rule.proofs.spines.WeightSums.{need_few}
+use Rattle.core_rule.proofs.frames.BudgetWritten.{budget_words, budget_places, budget_sources, heap_budget, seat_budget}
 use Rattle.core_rule.proofs.steps.Assemble.{Keeps, seat_steps, StepKeeps, seat_fits}
 
 module _ (heap : Heap) (state : State) (book : Book) (number : ℕ) (rule : Rule heap state book) (here : number < heap.seats) (place : (seat_at state number).place ≡ places.Making Granting) where
@@ -57,7 +54,7 @@ module _ (heap : Heap) (state : State) (book : Book) (number : ℕ) (rule : Rule
   needs = spine_need seat
 
   abbrev words : List ℕ
-  words = put heap state.words Budget ((found + needs) % 2 ^ 64)
+  words = budget_words heap state book rule ((found + needs) % 2 ^ 64)
 
   abbrev g : Graph
   g = graph_of heap book.history
@@ -67,9 +64,6 @@ module _ (heap : Heap) (state : State) (book : Book) (number : ℕ) (rule : Rule
 
   fits : IsAtRest seat × MakesNext seat.command seat.made × IsArray seat.command
   fits = rw place at (seat_fits rule number here).at_place
-
-  leaves : LeavesPlaces heap state.words words
-  leaves = places_left_budget heap state.words _
 
   -- nothing is granted to the seat yet
   nothing : HasWeights seat 0 0 0
@@ -81,7 +75,7 @@ module _ (heap : Heap) (state : State) (book : Book) (number : ℕ) (rule : Rule
       ∙ budget_grows found needs (budget_small heap state book rule.machine rule.budgets) (need_few seat.command fits.1.in_range)
 
   same_place : (next_spine heap words).offset ≡ (next_spine heap state.words).offset
-  same_place = ap (λ w. (spot_in w).offset) leaves.spot
+  same_place = ap (λ w. (spot_in w).offset) (budget_places heap state book rule ((found + needs) % 2 ^ 64)).spot
 
   -- the seat goes on with what it has, where its budget stands
   goes : (next : Seat) → StaysMaking seat next → Holding book.owner number next.reserve next.hand next.body → AreTogether heap next.cursor next.tried next.hand next.body
@@ -94,13 +88,9 @@ module _ (heap : Heap) (state : State) (book : Book) (number : ℕ) (rule : Rule
   goes next stays holding together as_many gathers no_place used budgets machine =
       let new : Seat = with_entries next [] in
       let same = stays.same in
-      let beside = beside_aside heap state.words Budget ((found + needs) % 2 ^ 64) (omega arith) (omega arith) in
-      let spines = arrays_stay heap state.words words book leaves.spines in
-      let sources = same_ahead heap state.words Budget ((found + needs) % 2 ^ 64) (omega arith) in
+      let after = seat_budget heap state book rule ((found + needs) % 2 ^ 64) number here in
       seat_steps heap state book number words new book [] rule here machine (sym (append-nil book.history)) refl
-      (heap_beside heap state book rule words beside spines book.spine_owner (λ f source x dark leads. leads_same heap state.words words f (sources f) source x leads)
-      (spines_at_places heap state.words words leaves heap.seats (length book.made) book.spines book.fragments book.spine_owner (node_at g book.made) (node_at g book.made)
-      book.owner book.owner (same_kept book.owner) (same_shapes (node_at g book.made)) rule.heap_stands.spines))
+      (heap_budget heap state book rule ((found + needs) % 2 ^ 64))
       record {
         own = record {
           holding = holding;
@@ -121,12 +111,11 @@ module _ (heap : Heap) (state : State) (book : Book) (number : ℕ) (rule : Rule
           gathers = gathers;
           used = used;
         };
-        cycle = cycle_goes_on heap state.words words book.owner book.owner book.colour (phase book.history) (last_answer number book.history) (has_left number book.history) number seat new
-            record { answered = same.answered; left = same.left; asked = same.asked } (rw stays.placed tt) (beside.answers number (omega (arith, here, rule.machine.limits.seats_fit))) (λ f borne. borne) stands.cycle;
+        cycle = cycle_goes_on heap words words book.owner book.owner book.colour (phase book.history) (last_answer number book.history) (has_left number book.history) number seat new
+            record { answered = same.answered; left = same.left; asked = same.asked } (rw stays.placed tt) refl (λ f borne. borne) after.cycle;
       }
-      (λ r below apart other. seat_beside heap state book rule words beside spines book.spine_owner r below (spines_left r book.spine_owner)
-      (spine_words_stay heap state.words words (seat_at state r) leaves.spines other.own.spine.stored))
-      (marks_off_way heap state book rule number here words book new (leaves_words heap state book rule words sources) same.answered same.registers (rw stays.placed tt))
+      (λ r below apart other. seat_budget heap state book rule ((found + needs) % 2 ^ 64) r below)
+      (marks_off_way heap state book rule number here words book new (leaves_words heap state book rule words (budget_sources heap state book rule ((found + needs) % 2 ^ 64))) same.answered same.registers (rw stays.placed tt))
       budgets (book_stays heap state book book.history book.begun)
 
   -- they were too many

@@ -8,7 +8,8 @@ use Rattle.heap_model.specs.declared.heap.Heap.{Heap}
 use Rattle.heap_model.specs.declared.reply.Reply.{Reply}
 use Rattle.heap_model.specs.declared.reply.Reply.TheVariants.{Full}
 use Rattle.heap_model.specs.Needs.{spine_need_of}
-use Rattle.heap_model.specs.account.Account.{IsLegalBy, ButSpine}
+use Rattle.heap_model.specs.account.Account.{KeepsSpaceBy, ButSpine}
+use Rattle.heap_model.specs.graph.Legal.{Accepts}
 use Rattle.heap_model.specs.account.Cycles.{graph_of}
 use Rattle.heap_model.specs.account.Refusals.{FindsSpace}
 use Rattle.heap_model.specs.account.Space.{taken_of, spent_of}
@@ -29,19 +30,21 @@ use Rattle.core_machine.specs.seat.Seat.{Seat, need, spine_need, after_call, sea
 use Rattle.core_machine.specs.machine.Value.{IsMachine}
 use Rattle.core_machine.proofs.table_lemmas.Addresses.{put-at, at-put_same}
 use Rattle.core_rule.specs.Book.{Book}
-use Rattle.core_rule.specs.Budgets.{granted_at}
+use Rattle.core_rule.specs.Budgets.{BudgetsStand, granted_at}
 use Rattle.core_rule.specs.Gathers.{GathersRight}
-use Rattle.core_rule.specs.Rule.{Rule, SeatStands}
+use Rattle.core_rule.specs.Rule.{Rule, HeapStands, SeatStands}
 use Rattle.core_rule.specs.Spines.{HasPlace}
-use Rattle.core_rule.proofs.cycle.AheadWords.{ahead_none, ahead_budget}
+use Rattle.core_rule.proofs.colours.LeadsFrames.{SameSources}
+use Rattle.core_rule.proofs.colours.SpineStays.{same_sources}
+use Rattle.core_rule.proofs.frames.BudgetWritten.{budget_words, budget_places, budget_sources, heap_budget, seat_budget}
+use Rattle.core_rule.proofs.frames.SeatFrames.{with_entry}
 use Rattle.core_rule.proofs.steps.Assemble.{present_at, Keeps, MoveKeeps, StepKeeps, seat_fits, step_budgets}
-use Rattle.core_rule.proofs.steps.making.ToldRefusal.{book_refused, grants_refused, told_refusal}
+use Rattle.core_rule.proofs.steps.making.ToldRefusal.{grants_refused, told_refusal}
 use Rattle.core_rule.proofs.hand.Bodies.{bare_hand}
 use Rattle.core_rule.proofs.entries.InFlight.{is_busy}
-use Rattle.core_rule.proofs.entries.Legality.{legal_more}
 use Rattle.core_rule.proofs.entries.MakingCommands.{graph_full, accepts_full, full_keeps}
 use Rattle.core_rule.proofs.gather.Refusals.{finds_in_run}
-use Rattle.core_rule.proofs.spines.BudgetFrames.{stepped, seats_change}
+use Rattle.core_rule.proofs.spines.BudgetFrames.{stepped, SameGrants, seats_change}
 use Rattle.core_rule.proofs.spines.BudgetSteps.{budgets_change, budget_small, budget_falls}
 use Rattle.core_rule.proofs.spines.OtherWords.{spines_left_none}
 
@@ -93,24 +96,36 @@ module _ (heap : Heap) (state : State) (book : Book) (number : ℕ) (rule : Rule
       rule.heap_stands.used own (stands.told.began.unanswered (is_busy Refusing seat.place place))
       (subst (λ n. GathersRight heap book.owner number (drop (book.begun number) book.history) seat.cursor n seat.given) at_place.0.all_tried stands.told.gathers)
 
-  legal : IsLegalBy ButSpine heap false (book.history ++ entry ∷ [])
-  legal = legal_more heap false book.history entry rule.heap_stands.legal
-      (accepts_full seat.command makes (graph_of heap book.history) number (need seat) found at_place.0.makes.in_range (present_at heap state book number Refusing rule here place))
-      (full_keeps seat.command makes heap false book.history number found (omega (arith, own)) (omega (arith, own, (seat_fits rule number here).own.small_reserve))
-      (omega (arith, at_place.0.too_few)) finds)
+  accepts : Accepts (graph_of heap book.history) entry
+  accepts = accepts_full seat.command makes (graph_of heap book.history) number (need seat) found at_place.0.makes.in_range (present_at heap state book number Refusing rule here place)
+
+  keeps : KeepsSpaceBy ButSpine heap false book.history entry
+  keeps = full_keeps seat.command makes heap false book.history number found (omega (arith, own)) (omega (arith, own, (seat_fits rule number here).own.small_reserve))
+      (omega (arith, at_place.0.too_few)) finds
 
   no_place : ¬ HasPlace seat seat.place
   no_place has = rw place at has
+
+  module _ (words : List ℕ) (heap_stands : HeapStands heap words book) (seats_stand : (r : ℕ) → r < heap.seats → SeatStands heap words book r (seat_at state r))
+      (sources : (f : ℕ) → SameSources heap state.words words f) where
+    -- as many spine words are granted by the book
+    grants : SameGrants heap book (with_entry book entry)
+    grants = grants_refused heap state book number rule here Refusing place reply makes refl graph words heap_stands seats_stand sources
+
+    -- so it is told where the heap, each seat and the budget stand
+    tells : BudgetsStand heap (stepped state number words refused) (with_entry book entry) → IsMachine heap (stepped state number words refused)
+        → Keeps heap state (stepped state number words refused) book book.begun (entry ∷ [])
+    tells = told_refusal heap state book number rule here Refusing place reply makes refl graph words heap_stands seats_stand sources at_place.1 at_place.0.no_body no_place accepts keeps
 
   -- at a load, where the call needs no spine words
   at_load : spine_need seat ≡ 0 → MoveKeeps heap state book number (refusal_at number seat steps.PollLoad)
   at_load none machine =
       let words_stay : put heap state.words Phase (at heap state.words Phase) ≡ state.words = put-at heap state.words Phase in
       subst (λ words. Keeps heap state (stepped state number words refused) book book.begun (entry ∷ [])) (sym words_stay)
-      (told_refusal heap state book number rule here Refusing place reply makes refl graph state.words (ahead_none heap state.words) refl at_place.1 at_place.0.no_body no_place legal
-      (step_budgets heap state book number rule here state.words refused (book_refused heap state book number rule here Refusing place reply makes refl graph) (spines_left_none heap state.words)
+      (tells state.words rule.heap_stands rule.seats_stand (same_sources heap state.words)
+      (step_budgets heap state book number rule here state.words refused (with_entry book entry) (spines_left_none heap state.words)
       record { granted = sym (rw place none); unplaced = sym (rw place none); refused = sym (rw place refl) }
-      (grants_refused heap state book number rule here Refusing place reply makes refl graph state.words (ahead_none heap state.words) refl))
+      (grants state.words rule.heap_stands rule.seats_stand (same_sources heap state.words)))
       (subst (λ words. IsMachine heap (stepped state number words refused)) words_stay machine))
 
   -- and where the spine words are taken back
@@ -118,21 +133,19 @@ module _ (heap : Heap) (state : State) (book : Book) (number : ℕ) (rule : Rule
   at_budget machine =
       let was : ℕ = at heap state.words Budget in
       let word : ℕ = (was + 2 ^ 64 - spine_need seat) % 2 ^ 64 in
-      let words : List ℕ = put heap state.words Budget word in
-      let ahead = ahead_budget heap state.words word in
+      let words : List ℕ = budget_words heap state book rule word in
       let old = rule.budgets in
       let given : granted_at seat seat.place ≡ spine_need seat = rw place refl in
-      let grants = grants_refused heap state book number rule here Refusing place reply makes refl graph words ahead refl in
       let change = seats_change heap state number words refused granted_at here rule.machine.seated in
-      let spot = ap (λ w. (spot_in w).offset) ahead.fragments.spines.spot in
+      let spot = ap (λ w. (spot_in w).offset) (budget_places heap state book rule word).spot in
       let there : spine_need seat ≤ was = omega (arith, old.word, change, given) in
       let falls = budget_falls was (spine_need seat) (budget_small heap state book rule.machine old) there in
       let now : at heap words Budget ≡ word = at-put_same heap state.words Budget word rule.machine.table tt in
-      told_refusal heap state book number rule here Refusing place reply makes refl graph words ahead refl at_place.1 at_place.0.no_body no_place legal
+      tells words (heap_budget heap state book rule word) (seat_budget heap state book rule word) (budget_sources heap state book rule word)
       (budgets_change heap state book number here rule.machine.seated words refused (spine_need seat) (spine_need seat) 0
-      record { given_is = given; unplaced_is = rw place refl; refused_is = rw place refl } 0 0 0 record { given_is = refl; unplaced_is = refl; refused_is = refl }
-      (book_refused heap state book number rule here Refusing place reply makes refl graph) grants (omega (arith, spot)) (omega (arith, now, falls))
-      (omega (arith, old.low)) old)
+      record { given_is = given; unplaced_is = rw place refl; refused_is = rw place refl } 0 0 0 record { given_is = refl; unplaced_is = refl; refused_is = refl } (with_entry book entry)
+      (grants words (heap_budget heap state book rule word) (seat_budget heap state book rule word) (budget_sources heap state book rule word))
+      (omega (arith, spot)) (omega (arith, now, falls)) (omega (arith, old.low)) old)
       machine
 
 -- a refusal that is told keeps the rule

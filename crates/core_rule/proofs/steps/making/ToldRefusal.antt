@@ -1,13 +1,14 @@
--- A call that makes an object is refused and over: that keeps the rule, whatever word its last step changed beside the fragments and the places of spines.
+-- A call that makes an object is refused and over: that keeps the rule where the heap and each seat stand after the word that its last step changed.
 use Rattle.std.proofs.Common.{◌≡◌, ◌≢◌, false, ℕ, ◌+◌, ◌<◌, List, [], ◌∷◌, ◌++◌, length, drop, refl, sym, subst, arith, ap}
 use Rattle.std.proofs.lemmas.Bool.{eq-eqb}
 use Rattle.heap_model.specs.declared.entry.Entry.{Entry}
 use Rattle.heap_model.specs.declared.entry.Entry.TheVariants.{Said}
 use Rattle.heap_model.specs.declared.heap.Heap.{Heap}
 use Rattle.heap_model.specs.declared.reply.Reply.{Reply}
-use Rattle.heap_model.specs.Needs.{made_by, words_by}
-use Rattle.heap_model.specs.account.Account.{IsLegalBy, ButSpine}
+use Rattle.heap_model.specs.account.Account.{KeepsSpaceBy, ButSpine}
 use Rattle.heap_model.specs.account.Cycles.{graph_of}
+use Rattle.heap_model.specs.account.Effects.{effect_of, no_effect}
+use Rattle.heap_model.specs.graph.Legal.{Accepts}
 use Rattle.heap_model.specs.graph.Objects.{graph_seat}
 use Rattle.heap_model.specs.account.PhaseCounts.{phase, last_answer, has_left}
 use Rattle.heap_model.specs.graph.Graph.{Graph}
@@ -21,32 +22,32 @@ use Rattle.core_machine.specs.seat.Seat.{Seat, seat_after_reply}
 use Rattle.core_rule.specs.Book.{Book}
 use Rattle.core_rule.specs.Budgets.{BudgetsStand}
 use Rattle.core_rule.specs.Holding.{fragments_in_hand}
-use Rattle.core_rule.specs.Rule.{Rule, SeatStands}
+use Rattle.core_rule.specs.Rule.{Rule, HeapStands, SeatStands}
 use Rattle.core_rule.specs.Spines.{HasPlace}
-use Rattle.core_rule.proofs.marking.Marks.{leaves_words, marks_off_way}
-use Rattle.core_rule.proofs.footprint.BookGoing.{book_stays}
-use Rattle.core_rule.proofs.steps.Assemble.{Keeps, seat_steps, seat_fits}
-use Rattle.core_rule.proofs.cycle.AheadWords.{LeavesAhead, heap_cycle_ahead, leaves_ahead}
-use Rattle.core_rule.proofs.cycle.CycleFrames.{cycle_stays}
-use Rattle.core_rule.proofs.cycle.CycleHistory.{heap_cycle_more, cycle_own, cycle_other}
-use Rattle.core_rule.proofs.cycle.FieldFrames.{watched_born}
-use Rattle.core_rule.proofs.hand.EmptyHand.{nothing_together, none_stored, holding_as}
-use Rattle.core_rule.proofs.frames.EntryFrames.{UsesNothing, heap_past, seat_past, grants_past}
-use Rattle.core_rule.proofs.frames.SeatFrames.{with_entry}
-use Rattle.core_rule.proofs.gather.GatherMoves.{nothing_tried}
-use Rattle.core_rule.proofs.entries.InFlight.{awaits_none, began_idle}
+use Rattle.core_rule.proofs.colours.LeadsFrames.{SameSources}
+use Rattle.core_rule.proofs.cycle.CycleHistory.{cycle_own}
 use Rattle.core_rule.proofs.cycle.MakingCycle.{cycle_goes_on}
+use Rattle.core_rule.proofs.entries.InFlight.{awaits_none, began_idle}
 use Rattle.core_rule.proofs.entries.Others.{of_other}
 use Rattle.core_rule.proofs.entries.OwnEntries.{own_grows, counts_own}
 use Rattle.core_rule.proofs.entries.PhaseEntries.{no_leave_told}
-use Rattle.core_rule.proofs.graph.SameNodes.{SameNodes, nodes_same}
 use Rattle.core_rule.proofs.entries.SeatLists.{making_list, whole_list}
+use Rattle.core_rule.proofs.footprint.BookGoing.{book_stays}
+use Rattle.core_rule.proofs.frames.Replying.{no_part, heap_told, grants_told, other_told}
+use Rattle.core_rule.proofs.frames.SeatFrames.{with_entry}
+use Rattle.core_rule.proofs.gather.GatherMoves.{nothing_tried}
+use Rattle.core_rule.proofs.graph.SameNodes.{SameNodes, nodes_same}
+use Rattle.core_rule.proofs.hand.EmptyHand.{nothing_together, none_stored, holding_as}
+use Rattle.core_rule.proofs.marking.Marks.{leaves_words, marks_off_way}
 use Rattle.core_rule.proofs.spines.BudgetFrames.{stepped, SameGrants}
 use Rattle.core_rule.proofs.spines.SpineFrames.{spine_away}
+use Rattle.core_rule.proofs.steps.Assemble.{Keeps, seat_steps, seat_fits}
 
 module _ (heap : Heap) (state : State) (book : Book) (number : ℕ) (rule : Rule heap state book) (here : number < heap.seats) (making : Making) (place : (seat_at state number).place ≡ places.Making making)
-    (reply : Reply) (makes : MakesObject (seat_at state number).command) (unmade : made_by (seat_at state number).command reply ≡ 0)
-    (graph : graph_of heap (book.history ++ Said number (seat_at state number).command reply ∷ []) ≡ graph_of heap book.history) where
+    (reply : Reply) (makes : MakesObject (seat_at state number).command) (nothing : effect_of (Said number (seat_at state number).command reply) ≡ no_effect)
+    (graph : graph_of heap (book.history ++ Said number (seat_at state number).command reply ∷ []) ≡ graph_of heap book.history)
+    (words : List ℕ) (heap_stands : HeapStands heap words book) (seats_stand : (r : ℕ) → r < heap.seats → SeatStands heap words book r (seat_at state r))
+    (sources : (f : ℕ) → SameSources heap state.words words f) where
   abbrev seat : Seat
   seat = seat_at state number
 
@@ -69,59 +70,48 @@ module _ (heap : Heap) (state : State) (book : Book) (number : ℕ) (rule : Rule
   nodes : SameNodes before after
   nodes = nodes_same before after graph
 
-  module _ (words : List ℕ) (ahead : LeavesAhead heap state.words words) (no_words : words_by seat.command reply ≡ 0) where
-    uses : UsesNothing entry
-    uses = record { taken = refl; given = refl; freed = refl; words = no_words; returned = refl }
+  -- as many spine words are granted by the book
+  pub grants_refused : SameGrants heap book book_refused
+  grants_refused = grants_told heap words book entry nothing nodes
 
-    -- as many spine words are granted by the book
-    pub grants_refused : SameGrants heap book book_refused
-    grants_refused = grants_past heap state.words words ahead.fragments book entry nodes uses
+  -- each other seat stands
+  other_stands : (r : ℕ) → r < heap.seats → r ≢ number → SeatStands heap state.words book r (seat_at state r) → SeatStands heap words book_refused r (seat_at state r)
+  other_stands r below apart other =
+      other_told heap words book entry nothing nodes r (seat_at state r) (of_other number r apart) (ap (λ (x : Graph). graph_seat x r) graph) (seats_stand r below)
 
-    -- each other seat stands
-    other_stands : (r : ℕ) → r < heap.seats → r ≢ number → SeatStands heap state.words book r (seat_at state r) → SeatStands heap words book_refused r (seat_at state r)
-    other_stands r below apart other =
-        let away = of_other number r apart in
-        seat_past heap state.words words ahead.fragments book entry nodes r (seat_at state r) away (ap (λ (x : Graph). graph_seat x r) graph)
-        (cycle_other heap words book.owner book.colour book.history entry refl r (seat_at state r)
-        (cycle_stays heap state.words words book.owner book.owner book.colour book.colour (phase book.history) (last_answer r book.history) (has_left r book.history) r (seat_at state r)
-        (leaves_ahead heap state.words words ahead book.owner book.colour (phase book.history) r (omega (arith, below, rule.machine.limits.seats_fit)))
-        (watched_born heap state book rule r below) other.cycle) away) other
-
-    -- so the refusal keeps the rule, where its entry may stand, nothing is in the hand and no spine has its place, and the budget stands
-    pub told_refusal : seat.hand ≡ [] → seat.body ≡ [] → ¬ HasPlace seat seat.place → IsLegalBy ButSpine heap false book_refused.history → BudgetsStand heap (stepped state number words refused) book_refused
-        → IsMachine heap (stepped state number words refused) → Keeps heap state (stepped state number words refused) book book.begun (entry ∷ [])
-    told_refusal empty bare no_place legal budgets machine =
-        let stands = rule.seats_stand number here in
-        let silent : IsSilent seat = rw place at (seat_fits rule number here).answer_at_place in
-        let list = making_list before book.history book.made book.owner book.fragments number seat making place stands.told.list in
-        let none_left : length (fragments_in_hand seat.hand seat.body) ≡ 0 = rw (bare, empty) refl in
-        seat_steps heap state book number words refused book_refused (entry ∷ []) rule here machine refl refl
-        (heap_past heap state.words words ahead.fragments book entry nodes uses legal
-        (heap_cycle_more heap words book.owner book.colour book.history entry refl book.fragments
-        (heap_cycle_ahead heap state.words words ahead book.owner book.colour (phase book.history) book.fragments rule.heap_stands.cycle)) rule.heap_stands)
-        record {
-          own = record {
-            holding = holding_as book.owner number seat.reserve seat.hand seat.body seat.reserve [] [] refl (sym empty) (sym bare) stands.own.holding;
-            stored = none_stored heap words number refused refl;
-            together = nothing_together heap seat.cursor 0 [] [] refl refl;
-            spine = spine_away heap state.words words book.spine_owner number seat refused no_place (λ none. none) stands.own.spine;
-          };
-          names = record { registers = rw graph (λ r fresh. stands.names.registers r (awaits_none making seat.place (target_of seat.command) r place)); way = tt; ahead = tt };
-          told = record {
-            list = whole_list after book_refused.history book.made book.owner book.fragments number refused refl (own_grows number book.history seat.mine entry (eq-eqb number number refl) list);
-            counts = rw graph (counts_own before before book.history number seat refused stands.told.counts entry (eq-eqb number number refl)
-                stands.told.counts.numbered stands.told.counts.stamped stands.told.counts.leaves (omega (arith, none_left, unmade)));
-            began = began_idle book.history entry number (book.begun number) seat.place stands.told.began;
-            gathers = nothing_tried heap book.owner number (drop (book.begun number) book_refused.history) seat.cursor;
-            used = tt;
-          };
-          cycle = cycle_own heap words book.owner book.colour book.history entry refl number refused
-              (cycle_goes_on heap state.words words book.owner book.owner book.colour (phase book.history) (last_answer number book.history) (has_left number book.history) number seat
-              refused record { answered = refl; left = refl; asked = sym silent.none_asked } tt
-              (ahead.answers number (omega (arith, here, rule.machine.limits.seats_fit))) (λ f borne. borne) stands.cycle)
-              refl (no_leave_told number number seat.command _ (λ leaving. subst MakesObject leaving makes));
-        }
-        other_stands
-        (marks_off_way heap state book rule number here words book_refused refused (leaves_words heap state book rule words ahead.sources) refl refl tt)
-        budgets
-        (book_stays heap state book book_refused.history book.begun)
+  -- so the refusal keeps the rule, where its entry may stand, nothing is in the hand and no spine has its place, and the budget stands
+  pub told_refusal : seat.hand ≡ [] → seat.body ≡ [] → ¬ HasPlace seat seat.place → Accepts before entry → KeepsSpaceBy ButSpine heap false book.history entry
+      → BudgetsStand heap (stepped state number words refused) book_refused → IsMachine heap (stepped state number words refused)
+      → Keeps heap state (stepped state number words refused) book book.begun (entry ∷ [])
+  told_refusal empty bare no_place accepts keeps budgets machine =
+      let stands = seats_stand number here in
+      let silent : IsSilent seat = rw place at (seat_fits rule number here).answer_at_place in
+      let list = making_list before book.history book.made book.owner book.fragments number seat making place stands.told.list in
+      let none_left : length (fragments_in_hand seat.hand seat.body) ≡ 0 = rw (bare, empty) refl in
+      seat_steps heap state book number words refused book_refused (entry ∷ []) rule here machine refl refl
+      (heap_told heap words book entry nothing nodes accepts keeps heap_stands)
+      record {
+        own = record {
+          holding = holding_as book.owner number seat.reserve seat.hand seat.body seat.reserve [] [] refl (sym empty) (sym bare) stands.own.holding;
+          stored = none_stored heap words number refused refl;
+          together = nothing_together heap seat.cursor 0 [] [] refl refl;
+          spine = spine_away heap words words book.spine_owner number seat refused no_place (λ none. none) stands.own.spine;
+        };
+        names = record { registers = rw graph (λ r fresh. stands.names.registers r (awaits_none making seat.place (target_of seat.command) r place)); way = tt; ahead = tt };
+        told = record {
+          list = whole_list after book_refused.history book.made book.owner book.fragments number refused refl (own_grows number book.history seat.mine entry (eq-eqb number number refl) list);
+          counts = rw graph (counts_own before before book.history number seat refused stands.told.counts entry (eq-eqb number number refl)
+              stands.told.counts.numbered stands.told.counts.stamped stands.told.counts.leaves (omega (arith, none_left, no_part entry (λ e. e.born) nothing refl)));
+          began = began_idle book.history entry number (book.begun number) seat.place stands.told.began;
+          gathers = nothing_tried heap book.owner number (drop (book.begun number) book_refused.history) seat.cursor;
+          used = tt;
+        };
+        cycle = cycle_own heap words book.owner book.colour book.history entry refl number refused
+            (cycle_goes_on heap words words book.owner book.owner book.colour (phase book.history) (last_answer number book.history) (has_left number book.history) number seat
+            refused record { answered = refl; left = refl; asked = sym silent.none_asked } tt refl (λ f borne. borne) stands.cycle)
+            refl (no_leave_told number number seat.command _ (λ leaving. subst MakesObject leaving makes));
+      }
+      other_stands
+      (marks_off_way heap state book rule number here words book_refused refused (leaves_words heap state book rule words sources) refl refl tt)
+      budgets
+      (book_stays heap state book book_refused.history book.begun)
