@@ -1,9 +1,9 @@
 -- What stands of the heap and of the seats at a step on the budget, the spot or a spine word: no fragment's word changes, no control word and no answer.
-use Rattle.std.proofs.Common.{◌≡◌, ◌≢◌, ℕ, ◌*◌, ◌/◌, ◌%◌, ◌+◌, ◌<◌, ◌≤◌, List, length, inl, refl, sym, ap, ◌∙◌, subst, arith}
+use Rattle.std.proofs.Common.{◌≡◌, ℕ, ◌*◌, ◌/◌, ◌%◌, ◌+◌, ◌<◌, ◌≤◌, List, length, inl, refl, ◌∙◌, arith}
 use Rattle.heap_model.specs.declared.heap.Heap.{Heap}
 use Rattle.heap_model.specs.account.Cycles.{graph_of}
 use Rattle.heap_model.specs.account.PhaseCounts.{phase, last_answer, has_left}
-use Rattle.heap_model.specs.graph.Graph.{Graph, Node}
+use Rattle.heap_model.specs.graph.Graph.{Graph}
 use Rattle.heap_model.specs.graph.Sizes.{spine_words_of}
 use Rattle.core_machine.specs.declared.table.address.Address.{Address}
 use Rattle.core_machine.specs.declared.table.address.Address.TheVariants.{Phase, Answer, Control, Word}
@@ -11,14 +11,14 @@ use Rattle.core_machine.specs.machine.Machine.{State, seat_at}
 use Rattle.core_machine.specs.seat.Seat.{Seat}
 use Rattle.core_machine.specs.table.Layout.{at, put, index_of, spine_place}
 use Rattle.core_rule.specs.Book.{Book, Black, fragment_at}
-use Rattle.core_rule.specs.Colours.{WordPointsTo, IsMarked}
-use Rattle.core_rule.specs.Cycle.{HeapInCycle, SeatInCycle}
+use Rattle.core_rule.specs.Colours.{WordPointsTo}
+use Rattle.core_rule.specs.Cycle.{SeatInCycle}
 use Rattle.core_rule.specs.Holding.{IsStored}
 use Rattle.core_rule.specs.Objects.{IsKept, node_at}
 use Rattle.core_rule.specs.Owners.{SpineOwner}
 use Rattle.core_rule.specs.Rule.{Rule, HeapStands, SeatStands}
 use Rattle.core_rule.specs.Spines.{SpinesStand}
-use Rattle.core_rule.proofs.colours.LeadsFrames.{SameSources, leads_same, same_ahead}
+use Rattle.core_rule.proofs.colours.LeadsFrames.{leads_same}
 use Rattle.core_rule.proofs.colours.MarkWords.{marks_same}
 use Rattle.core_rule.proofs.cycle.CycleFrames.{cycle_watched}
 use Rattle.core_rule.proofs.cycle.FieldFrames.{watched_part}
@@ -103,7 +103,7 @@ module _ (heap : Heap) (state : State) (book : Book) (rule : Rule heap state boo
       }
 
   -- a seat has its part in the cycle
-  pub cycle_beside : (r : ℕ) → r < heap.seats → SeatInCycle heap now (phase book.history) (last_answer r book.history) (has_left r book.history) book.owner book.colour r (seat_at state r)
+  cycle_beside : (r : ℕ) → r < heap.seats → SeatInCycle heap now (phase book.history) (last_answer r book.history) (has_left r book.history) book.owner book.colour r (seat_at state r)
   cycle_beside r below =
       cycle_watched heap state.words now book.owner book.owner book.colour book.colour (phase book.history) (last_answer r book.history) (has_left r book.history) r (seat_at state r)
       (beside.answers r (omega (arith, below, rule.machine.limits.seats_fit))) (λ f marked. marked) (λ f borne. (borne, refl))
@@ -113,7 +113,7 @@ module _ (heap : Heap) (state : State) (book : Book) (rule : Rule heap state boo
       (rule.seats_stand r below).cycle
 
   -- what it has stored into its object stands
-  pub stored_beside : (r : ℕ) → r < heap.seats → IsStored heap now r (seat_at state r)
+  stored_beside : (r : ℕ) → r < heap.seats → IsStored heap now r (seat_at state r)
   stored_beside r below u less =
       let seat : Seat = seat_at state r in
       let fits = seat_fits rule r below in

@@ -1,5 +1,5 @@
 -- What stands of the heap and of another's seat when an entry is added that changes no object and nothing of what is in use, and no fragment's word changes.
-use Rattle.std.proofs.Common.{◌≡◌, ℕ, ◌<◌, false, List, [], ◌∷◌, ◌++◌, length, refl, ap, ◌∙◌, arith}
+use Rattle.std.proofs.Common.{◌≡◌, ℕ, ◌<◌, false, List, [], ◌∷◌, ◌++◌, length, refl, ◌∙◌, arith}
 use Rattle.heap_model.specs.declared.entry.Entry.{Entry}
 use Rattle.heap_model.specs.declared.heap.Heap.{Heap}
 use Rattle.heap_model.specs.account.Account.{IsLegalBy, ButSpine}
@@ -9,7 +9,7 @@ use Rattle.heap_model.specs.graph.Objects.{graph_seat}
 use Rattle.heap_model.specs.account.PhaseCounts.{phase, last_answer, has_left}
 use Rattle.heap_model.specs.graph.Graph.{Graph}
 use Rattle.heap_model.proofs.Histories.{total-more}
-use Rattle.core_machine.specs.declared.table.address.Address.TheVariants.{Phase, Budget, Control, Word}
+use Rattle.core_machine.specs.declared.table.address.Address.TheVariants.{Phase, Control, Word}
 use Rattle.core_machine.specs.table.Layout.{at, put}
 use Rattle.core_machine.specs.seat.Seat.{Seat}
 use Rattle.core_rule.specs.Book.{Book}
@@ -22,7 +22,7 @@ use Rattle.core_rule.proofs.objects.ObjectFrames.{objects_words}
 use Rattle.core_rule.proofs.graph.SameNodes.{SameNodes, ids_stay, objects_stay, shapes_stay}
 use Rattle.core_rule.proofs.frames.SeatFrames.{with_entry, seat_stays, same_party}
 use Rattle.core_rule.proofs.spines.BudgetFrames.{SameGrants, none_granted_by, none_returned_by, kept_alike}
-use Rattle.core_rule.proofs.spines.OtherWords.{LeavesPlaces, places_of, spines_left_none, spines_left_phase, places_left_budget}
+use Rattle.core_rule.proofs.spines.OtherWords.{LeavesPlaces, places_of, spines_left_none, spines_left_phase}
 use Rattle.core_rule.proofs.spines.SpineFrames.{same_kept, spines_at_places}
 
 -- the control words and the fragments' words are as before
@@ -35,15 +35,7 @@ pub record SameFragments (heap : Heap) (words now : List ℕ) : Type 0 where
 pub fragments_same : (heap : Heap) (words : List ℕ) → SameFragments heap words words
 fragments_same heap words = record { controls = λ group below. refl; parts = λ f part. refl; spines = places_of heap words words (spines_left_none heap words) }
 
--- where the budget is written
-pub fragments_budget : (heap : Heap) (words : List ℕ) (n : ℕ) → SameFragments heap words (put heap words Budget n)
-fragments_budget heap words n = record {
-  controls = λ group below. at-put_apart heap words Budget (Control group) n (λ e. omega (arith, e));
-  parts = λ f part. at-put_apart heap words Budget (Word f part) n (λ e. omega (arith, e));
-  spines = places_left_budget heap words n;
-}
-
--- and where the phase is
+-- and where the phase is written
 pub fragments_phase : (heap : Heap) (words : List ℕ) (n : ℕ) → SameFragments heap words (put heap words Phase n)
 fragments_phase heap words n = record {
   controls = λ group below. at-put_apart heap words Phase (Control group) n (λ e. omega (arith, e));

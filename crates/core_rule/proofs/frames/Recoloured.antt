@@ -1,5 +1,5 @@
 -- A control word gets other marks: what stays of the heap and of each seat.
-use Rattle.std.proofs.Common.{◌≡◌, ℕ, ◌<◌, List, length, inl, refl, slice_set, ◌∙◌, arith}
+use Rattle.std.proofs.Common.{◌≡◌, ℕ, ◌<◌, List, length, inl, ◌∙◌, arith}
 use Rattle.heap_model.specs.declared.heap.Heap.{Heap}
 use Rattle.heap_model.specs.account.Cycles.{graph_of}
 use Rattle.heap_model.specs.account.PhaseCounts.{phase, last_answer, has_left}

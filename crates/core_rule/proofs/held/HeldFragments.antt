@@ -1,7 +1,6 @@
 -- What is held is alive: so it is taken, no claim takes it, and from the end of marking to the end of the sweep it is marked.
-use Rattle.std.proofs.Common.{◌≡◌, ◌≢◌, ℕ, ◌+◌, ◌*◌, ◌<◌, inl, inr, refl, sym, ap, ◌∙◌, subst, arith}
+use Rattle.std.proofs.Common.{◌≡◌, ◌≢◌, ℕ, ◌*◌, ◌<◌, inl, inr, refl, sym, ap, ◌∙◌, arith}
 use Rattle.heap_model.specs.declared.heap.Heap.{Heap}
-use Rattle.heap_model.specs.account.Cycles.{graph_of}
 use Rattle.core_machine.specs.machine.Machine.{State}
 use Rattle.core_rule.specs.Book.{Book, Colour, White, Grey, Black}
 use Rattle.core_rule.specs.Colours.{WordPointsTo, marked_bit}

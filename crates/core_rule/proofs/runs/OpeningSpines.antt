@@ -1,5 +1,5 @@
 -- When a heap opens nobody has a spine word, and none is granted.
-use Rattle.std.proofs.Common.{◌≡◌, ℕ, suc, ◌+◌, ◌<◌, ◌≤◌, List, [], length, refl, sym, ap, ◌∙◌, subst, arith}
+use Rattle.std.proofs.Common.{◌≡◌, ℕ, ◌<◌, List, [], refl, sym, ap, ◌∙◌, subst, arith}
 use Rattle.heap_words.specs.Spot.{spot_in, spot_word}
 use Rattle.heap_words.specs.declared.spot.Spot.{Spot as SpinePlace}
 use Rattle.heap_model.specs.declared.heap.Heap.{Heap}
@@ -32,7 +32,7 @@ opening_in_hand heap words number = record { placed = λ has. absurd has; own = 
 
 module _ (heap : Heap) (words : List ℕ) (spot : at heap words Spot ≡ opening_word heap Spot) where
   -- the first spine stands at the beginning
-  pub opening_next : next_spine heap words ≡ no_spot
+  opening_next : next_spine heap words ≡ no_spot
   opening_next = ap spot_in spot ∙ spot_in-word no_spot record { half_within = omega arith; offset_within = omega arith }
 
   pub opening_spines_stand : (seats : ℕ) → SpinesStand heap words seats 1 (node_at (opening heap) opening_made) opening_owner opening_fragments opening_spines opening_spine_owner

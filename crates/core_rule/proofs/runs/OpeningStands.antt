@@ -20,7 +20,7 @@ use Rattle.core_machine.specs.machine.Opening.{IsOpening, opening_seat, opening_
 use Rattle.core_machine.specs.seat.Seat.{Seat, absent_seat}
 use Rattle.core_machine.specs.machine.Value.{IsMachine}
 use Rattle.core_machine.proofs.machine_lemmas.OpeningMachine.{opening_machine}
-use Rattle.core_rule.specs.Book.{Book, White}
+use Rattle.core_rule.specs.Book.{White}
 use Rattle.core_rule.specs.Laws.{StandsFor}
 use Rattle.core_rule.specs.Marking.{MarkingStands}
 use Rattle.core_rule.specs.Sweep.{IsSettled}

@@ -1,8 +1,6 @@
 -- The spine words that are granted stand as before where a step asks for none and gives none.
-use Rattle.std.proofs.Common.{◌≡◌, ◌≢◌, ℕ, zero, suc, ◌+◌, ◌<◌, ◌≤◌, List, [], ◌∷◌, ◌++◌, length, slice_set, slice_index_or, refl, sym, ap, ◌∙◌, subst, arith}
+use Rattle.std.proofs.Common.{◌≡◌, ℕ, ◌+◌, ◌<◌, List, [], ◌∷◌, ◌++◌, length, slice_set, refl, sym, ap, ◌∙◌, subst, arith}
 use Rattle.std.proofs.lemmas.List.{get_or-set_same, get_or-set_other}
-use Rattle.heap_words.specs.Spot.{spot_in}
-use Rattle.heap_words.specs.declared.spot.Spot.{Spot}
 use Rattle.heap_model.specs.declared.entry.Entry.{Entry}
 use Rattle.heap_model.specs.declared.heap.Heap.{Heap}
 use Rattle.heap_model.specs.account.Cycles.{graph_of}
@@ -14,13 +12,12 @@ use Rattle.heap_model.proofs.Histories.{total-more}
 use Rattle.core_machine.specs.collector.Collector.{Collector}
 use Rattle.core_machine.specs.declared.place.Place.{Place}
 use Rattle.core_machine.specs.machine.Machine.{State, seat_at}
-use Rattle.core_machine.specs.machine.Sums.{sum_upto}
 use Rattle.core_machine.specs.seat.Seat.{Seat, absent_seat}
 use Rattle.core_machine.proofs.table_lemmas.Free.{sum_same, sum_but_one}
 use Rattle.core_rule.specs.Book.{Book, fragment_at}
 use Rattle.core_rule.specs.Budgets.{BudgetsStand, of_seats, granted_at, unplaced_at, refused_at, kept_weight, kept_words}
 use Rattle.core_rule.specs.Objects.{node_at}
-use Rattle.core_rule.specs.Owners.{Owner, Free, Taken, Borne, Kept, Dead}
+use Rattle.core_rule.specs.Owners.{Owner, Kept}
 use Rattle.core_rule.proofs.graph.SameNodes.{SameShape, shape_words}
 use Rattle.core_rule.proofs.objects.ObjectFrames.{SameKept}
 use Rattle.core_rule.proofs.spines.NoneMade.{SameWeights}

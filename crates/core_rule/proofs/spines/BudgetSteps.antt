@@ -1,19 +1,16 @@
 -- The budget at the steps that change it: spine words are asked for, taken back, get their place, and become an array's.
-use Rattle.std.proofs.Common.{◌≡◌, ◌≢◌, ℕ, ◌+◌, ◌-◌, ◌*◌, ◌%◌, ◌^◌, ◌<◌, ◌≤◌, List, [], ◌∷◌, ◌++◌, length, slice_set, refl, sym, ap, ◌∙◌, subst, arith}
-use Rattle.heap_model.specs.declared.entry.Entry.{Entry}
+use Rattle.std.proofs.Common.{◌≡◌, ℕ, ◌+◌, ◌-◌, ◌%◌, ◌^◌, ◌<◌, ◌≤◌, List, length, ◌∙◌, arith}
 use Rattle.heap_model.specs.declared.heap.Heap.{Heap}
-use Rattle.heap_model.specs.Heap.{IsHeap}
 use Rattle.heap_model.specs.account.Cycles.{graph_of}
 use Rattle.heap_model.specs.account.Space.{words_granted, words_returned}
 use Rattle.core_machine.specs.declared.table.address.Address.TheVariants as addresses
 use Rattle.core_machine.specs.machine.Machine.{State, seat_at}
 use Rattle.core_machine.specs.machine.Value.{IsMachine}
-use Rattle.core_machine.specs.seat.Seat.{Seat, spine_need}
-use Rattle.core_machine.specs.table.Layout.{at, put}
+use Rattle.core_machine.specs.seat.Seat.{Seat}
+use Rattle.core_machine.specs.table.Layout.{at}
 use Rattle.core_rule.specs.Book.{Book}
 use Rattle.core_rule.specs.Budgets.{BudgetsStand, of_seats, granted, granted_at, unplaced_at, refused_at, kept_words}
 use Rattle.core_rule.specs.Objects.{node_at}
-use Rattle.core_rule.specs.Rule.{Rule}
 use Rattle.core_rule.specs.Spines.{next_spine}
 use Rattle.core_rule.proofs.spines.BudgetFrames.{stepped, seats_change, SameGrants}
 use Rattle.core_rule.proofs.spines.WeightSums.{seats_few}
@@ -27,10 +24,10 @@ pub record HasWeights (seat : Seat) (given unplaced refused : ℕ) : Type 0 wher
 module _ (heap : Heap) (state : State) (book : Book) (number : ℕ) (here : number < heap.seats) (seated : length state.seats ≡ heap.seats) (words : List ℕ) (seat : Seat)
     (given unplaced refused : ℕ) (was : HasWeights (seat_at state number) given unplaced refused)
     (new_given new_unplaced new_refused : ℕ) (is : HasWeights seat new_given new_unplaced new_refused) where
-  pub given_change : of_seats heap (stepped state number words seat) granted_at + given ≡ of_seats heap state granted_at + new_given
+  given_change : of_seats heap (stepped state number words seat) granted_at + given ≡ of_seats heap state granted_at + new_given
   given_change = omega (arith, seats_change heap state number words seat granted_at here seated, was.given_is, is.given_is)
 
-  pub unplaced_change : of_seats heap (stepped state number words seat) unplaced_at + unplaced ≡ of_seats heap state unplaced_at + new_unplaced
+  unplaced_change : of_seats heap (stepped state number words seat) unplaced_at + unplaced ≡ of_seats heap state unplaced_at + new_unplaced
   unplaced_change = omega (arith, seats_change heap state number words seat unplaced_at here seated, was.unplaced_is, is.unplaced_is)
 
   pub refused_change : of_seats heap (stepped state number words seat) refused_at + refused ≡ of_seats heap state refused_at + new_refused

@@ -1,5 +1,5 @@
 -- The spine words of arrays that are to be freed are nobody's once marking has ended, and count as gone.
-use Rattle.std.proofs.Common.{◌≡◌, ◌≢◌, ℕ, ◌+◌, ◌-◌, ◌/◌, ◌<◌, ◌≤◌, List, length, refl, sym, ap, ◌∙◌, subst, arith}
+use Rattle.std.proofs.Common.{◌≡◌, ◌≢◌, ℕ, ◌+◌, ◌-◌, ◌/◌, ◌≤◌, List, length, refl, sym, ap, ◌∙◌, arith}
 use Rattle.heap_words.specs.declared.spot.Spot.{Spot}
 use Rattle.heap_model.specs.declared.heap.Heap.{Heap}
 use Rattle.heap_model.specs.account.Cycles.{graph_of}
@@ -14,8 +14,8 @@ use Rattle.core_machine.specs.seat.Commands.{field_of}
 use Rattle.core_machine.specs.seat.Seat.{Seat}
 use Rattle.core_rule.specs.Book.{Book, Colour, White, Grey, Black, fragment_at}
 use Rattle.core_rule.specs.Budgets.{BudgetsStand, kept_weight, kept_words}
-use Rattle.core_rule.specs.Objects.{IsKept, node_at}
-use Rattle.core_rule.specs.Owners.{Owner, Free, Taken, Borne, Kept, Dead, SpineOwner, Open, Placed, Spined, Gone}
+use Rattle.core_rule.specs.Objects.{node_at}
+use Rattle.core_rule.specs.Owners.{Owner, Kept, SpineOwner, Placed, Spined, Gone}
 use Rattle.core_rule.specs.Spines.{SpinesStand, SpineInHand, WordStandsAhead}
 use Rattle.core_rule.proofs.lists.SumLemmas.{sum_le}
 use Rattle.core_rule.proofs.marking.Settled.{settled_owner, settled_owners, settled_was, settled_stays}
@@ -45,7 +45,7 @@ settled_book heap book = record book {
 
 module _ (heads : ℕ → Colour) where
   -- what a seat has it had
-  pub placed_was : (o : SpineOwner) (number k : ℕ) → settled_word heads o ≡ Placed number k → o ≡ Placed number k
+  placed_was : (o : SpineOwner) (number k : ℕ) → settled_word heads o ≡ Placed number k → o ≡ Placed number k
   placed_was (Spined i j) number k is = absurd (by (heads i) is)
     where
       by : (c : Colour) → settled_array c i j ≢ Placed number k
@@ -55,7 +55,7 @@ module _ (heads : ℕ → Colour) where
   placed_was _ number k is = is
 
   -- and an array, whose first fragment is marked
-  pub spined_was : (o : SpineOwner) (i k : ℕ) → settled_word heads o ≡ Spined i k → (o ≡ Spined i k) × (heads i ≢ White)
+  spined_was : (o : SpineOwner) (i k : ℕ) → settled_word heads o ≡ Spined i k → (o ≡ Spined i k) × (heads i ≢ White)
   spined_was (Spined j m) i k is = by (heads j) refl is
     where
       same : (c : Colour) → heads j ≡ c → c ≢ White → Spined j m ≡ Spined i k → (Spined j m ≡ Spined i k) × (heads i ≢ White)
@@ -68,7 +68,7 @@ module _ (heads : ℕ → Colour) where
   spined_was _ i k is = absurd (cc)
 
   -- an array whose first fragment is marked keeps its own
-  pub spined_stays : (o : SpineOwner) (i k : ℕ) → o ≡ Spined i k → heads i ≢ White → settled_word heads o ≡ Spined i k
+  spined_stays : (o : SpineOwner) (i k : ℕ) → o ≡ Spined i k → heads i ≢ White → settled_word heads o ≡ Spined i k
   spined_stays o i k is dark = ap (settled_word heads) is ∙ by (heads i) dark
     where
       by : (c : Colour) → c ≢ White → settled_array c i k ≡ Spined i k
@@ -77,7 +77,7 @@ module _ (heads : ℕ → Colour) where
       by Black some = refl
 
   -- and a seat its own
-  pub placed_stays : (o : SpineOwner) (number k : ℕ) → o ≡ Placed number k → settled_word heads o ≡ Placed number k
+  placed_stays : (o : SpineOwner) (number k : ℕ) → o ≡ Placed number k → settled_word heads o ≡ Placed number k
   placed_stays o number k is = ap (settled_word heads) is
 
 module _ (heap : Heap) (words : List ℕ) (owner : ℕ → Owner) (colour : ℕ → Colour) (fragments : ℕ → List ℕ) (spine_owner : ℕ → ℕ → SpineOwner) where
@@ -129,7 +129,7 @@ module _ (heap : Heap) (words : List ℕ) (owner : ℕ → Owner) (colour : ℕ 
   weight_less i n (Kept j k) Black = omega arith
   weight_less i n _ c = omega arith
 
-  pub kept_less : (made : ℕ) (nodes : ℕ → Node) → kept_words made nodes later fragments ≤ kept_words made nodes owner fragments
+  kept_less : (made : ℕ) (nodes : ℕ → Node) → kept_words made nodes later fragments ≤ kept_words made nodes owner fragments
   kept_less made nodes = sum_le made (λ i. kept_weight i (spine_words_of (nodes i)) (later (fragment_at (fragments i) 0))) (λ i. kept_weight i (spine_words_of (nodes i)) (owner (fragment_at (fragments i) 0)))
       (λ i below. weight_less i (spine_words_of (nodes i)) (owner (fragment_at (fragments i) 0)) (colour (fragment_at (fragments i) 0)))
 

@@ -22,22 +22,18 @@ use Rattle.core_machine.specs.seat.Fits.{HasArrayBody, Fits}
 use Rattle.core_machine.specs.seat.Making.{newborn_word, newborn_word_of, next_name}
 use Rattle.core_machine.specs.seat.Seat.{Seat, spine_need}
 use Rattle.core_machine.specs.table.Decode.{spine_words_in}
-use Rattle.core_machine.specs.table.Fragments.{tally}
-use Rattle.core_machine.specs.table.Layout.{at, put, spine_place, FitsSpot}
-use Rattle.core_machine.specs.table.Newborn.{spine_word}
-use Rattle.core_machine.proofs.collector_lemmas.SpineTurns.{told_spot}
-use Rattle.core_rule.specs.Book.{Book, White, Black, fragment_at}
+use Rattle.core_machine.specs.table.Layout.{at, put, spine_place}
+use Rattle.core_rule.specs.Book.{Book, White, Black}
 use Rattle.core_rule.specs.Colours.{WordPointsTo}
 use Rattle.core_rule.specs.Objects.{node_at}
 use Rattle.core_rule.specs.Owners.{Owner, Free, Taken, Borne, Kept, Dead, born_bit, SpineOwner, Placed}
 use Rattle.core_rule.specs.Rule.{Rule, SeatStands}
-use Rattle.core_rule.specs.Spines.{HasPlace, next_spine}
+use Rattle.core_rule.specs.Spines.{HasPlace}
 use Rattle.core_rule.specs.Sweep.{IsSettled}
 use Rattle.core_rule.proofs.colours.LeadsFrames.{SameSources, leads_same}
 use Rattle.core_rule.proofs.colours.NoSpines.{newborn_no_spine}
 use Rattle.core_rule.proofs.entries.AtRest.{seat_fits}
 use Rattle.core_rule.proofs.frames.BesideFrames.{LeavesBeside, beside_spine, ArraysStay}
-use Rattle.core_rule.proofs.hand.Bodies.{body_at-own}
 use Rattle.core_rule.proofs.held.BodyWords.{bearing}
 use Rattle.core_rule.proofs.lists.Members.{place_of, place_within}
 use Rattle.core_rule.proofs.marking.KeptSources.{kept_sources}

@@ -11,8 +11,7 @@ use Rattle.core_machine.specs.declared.place.Place.{Place}
 use Rattle.core_machine.specs.declared.place.Place.TheVariants as places
 use Rattle.core_machine.specs.seat.Seat.{Seat}
 use Rattle.core_rule.specs.Budgets.{granted_at, unplaced_at, refused_at, UsedStands}
-use Rattle.core_rule.specs.Owners.{SpineOwner}
-use Rattle.core_rule.specs.Spines.{HasPlace, SpineInHand}
+use Rattle.core_rule.specs.Spines.{HasPlace}
 
 -- no object is made at the place
 abbrev pub MakesNone : Place → Type 0

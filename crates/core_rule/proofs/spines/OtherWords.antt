@@ -1,10 +1,9 @@
 -- The spine words, the budget and the place of the next spine stay at a step on another word.
-use Rattle.std.proofs.Common.{◌≡◌, ◌≢◌, ℕ, ◌+◌, ◌*◌, ◌<◌, List, refl, sym, subst, arith}
+use Rattle.std.proofs.Common.{◌≡◌, ◌≢◌, ℕ, ◌+◌, ◌*◌, ◌<◌, List, refl, sym, arith}
 use Rattle.heap_model.specs.declared.heap.Heap.{Heap}
 use Rattle.core_machine.specs.declared.table.address.Address.{Address}
 use Rattle.core_machine.specs.declared.table.address.Address.TheVariants as addresses
 use Rattle.core_machine.specs.table.Layout.{index_of, at, put}
-use Rattle.core_machine.proofs.table_lemmas.Addresses.{put-at}
 use Rattle.core_rule.proofs.words.Addresses.{at-put_apart, SameSpines, spines_elsewhere}
 
 -- each spine word and the spot are as before
@@ -24,10 +23,6 @@ places_of heap words now leaves = record { spines = leaves.spines; spot = leaves
 -- so they are where no word changes
 pub spines_left_none : (heap : Heap) (words : List ℕ) → LeavesSpines heap words words
 spines_left_none heap words = record { spines = λ half offset. refl; spot = refl; budget = refl }
-
--- and where a word is written back
-pub spines_left_load : (heap : Heap) (words : List ℕ) (a : Address) → LeavesSpines heap words (put heap words a (at heap words a))
-spines_left_load heap words a = subst (LeavesSpines heap words) (sym (put-at heap words a)) (spines_left_none heap words)
 
 module _ (heap : Heap) (words : List ℕ) (n : ℕ) where
   left_elsewhere : (a : Address) → index_of heap a < 19 + 65 * heap.groups → index_of heap a ≢ 17 → index_of heap a ≢ 18 → LeavesSpines heap words (put heap words a n)

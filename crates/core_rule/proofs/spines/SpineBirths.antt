@@ -1,5 +1,5 @@
 -- A seat's spine becomes its new array's.
-use Rattle.std.proofs.Common.{◌≡◌, ◌≢◌, ℕ, suc, ◌+◌, ◌<◌, ◌≤◌, ◌==◌, inl, inr, List, [], ◌∷◌, ◌++◌, length, refl, sym, ap, ◌∙◌, subst, arith}
+use Rattle.std.proofs.Common.{◌≡◌, ◌≢◌, ℕ, suc, ◌+◌, ◌<◌, ◌≤◌, ◌==◌, inl, inr, List, length, refl, sym, ap, ◌∙◌, subst, arith}
 use Rattle.std.specs.Prelude.{if◌then◌else◌}
 use Rattle.std.proofs.lemmas.Bool.{cases_eq}
 use Rattle.std.proofs.lemmas.Bool.Decides.{eqb_tells, nat_tests}
@@ -14,7 +14,7 @@ use Rattle.core_machine.proofs.table_lemmas.Free.{sum_same}
 use Rattle.core_rule.specs.Book.{fragment_at}
 use Rattle.core_rule.specs.Budgets.{kept_weight, kept_words}
 use Rattle.core_rule.specs.Objects.{IsKept}
-use Rattle.core_rule.specs.Owners.{Owner, Free, Taken, Borne, Kept, Dead, SpineOwner, Open, Placed, Spined, Gone}
+use Rattle.core_rule.specs.Owners.{Owner, Kept, SpineOwner, Open, Placed, Spined}
 use Rattle.core_rule.specs.Spines.{SpinesStand, SpineInHand, HasPlace, IsWordOf}
 use Rattle.core_rule.proofs.graph.SameNodes.{SameShape, shape_words}
 use Rattle.core_rule.proofs.lists.Members.{place_of, tally_at}
@@ -34,19 +34,19 @@ born_words number n spine_owner half offset = born_word number n (spine_owner ha
 
 module _ (number n : ℕ) where
   -- the seat's words are the object's
-  pub born_own : (o : SpineOwner) (k : ℕ) → o ≡ Placed number k → born_word number n o ≡ Spined n k
+  born_own : (o : SpineOwner) (k : ℕ) → o ≡ Placed number k → born_word number n o ≡ Spined n k
   born_own o k is = ap (born_word number n) is ∙ grind (arith, nat_tests)
 
   -- another seat's stay its
-  pub born_other : (o : SpineOwner) (r k : ℕ) → r ≢ number → o ≡ Placed r k → born_word number n o ≡ Placed r k
+  born_other : (o : SpineOwner) (r k : ℕ) → r ≢ number → o ≡ Placed r k → born_word number n o ≡ Placed r k
   born_other o r k apart is = ap (born_word number n) is ∙ grind (arith, nat_tests, apart)
 
   -- and those of objects theirs
-  pub born_arrays : (o : SpineOwner) (i k : ℕ) → o ≡ Spined i k → born_word number n o ≡ Spined i k
+  born_arrays : (o : SpineOwner) (i k : ℕ) → o ≡ Spined i k → born_word number n o ≡ Spined i k
   born_arrays o i k is = ap (born_word number n) is
 
   -- what a seat has then it had, and it isn't the one
-  pub seats_were : (o : SpineOwner) (r k : ℕ) → born_word number n o ≡ Placed r k → (o ≡ Placed r k) × (r ≢ number)
+  seats_were : (o : SpineOwner) (r k : ℕ) → born_word number n o ≡ Placed r k → (o ≡ Placed r k) × (r ≢ number)
   seats_were (Placed s m) r k is = elim (eqb_tells s number) as (λ _. (Placed s m ≡ Placed r k) × (r ≢ number)) [
     | inl same ↦ absurd (let it : Spined n m ≡ Placed r k = rw same.0 at is in cc)
     | inr apart ↦ let it : Placed s m ≡ Placed r k = rw apart.0 at is in (it, λ e. apart.1 (cc (it, e)))
@@ -54,7 +54,7 @@ module _ (number n : ℕ) where
   seats_were _ r k is = absurd (cc)
 
   -- what an object has then it had, or it is the new one and the seat had it
-  pub arrays_were : (P : Type 0) (o : SpineOwner) (i k : ℕ) → born_word number n o ≡ Spined i k → (o ≡ Spined i k → P) → (i ≡ n → o ≡ Placed number k → P) → P
+  arrays_were : (P : Type 0) (o : SpineOwner) (i k : ℕ) → born_word number n o ≡ Spined i k → (o ≡ Spined i k → P) → (i ≡ n → o ≡ Placed number k → P) → P
   arrays_were P (Spined j m) i k is old new = old is
   arrays_were P (Placed s m) i k is old new = elim (eqb_tells s number) as (λ _. P) [
     | inl same ↦ let it : Spined n m ≡ Spined i k = rw same.0 at is in new (cc) (ap (λ r. Placed r m) same.1 ∙ ap (Placed number) (cc))
@@ -63,7 +63,7 @@ module _ (number n : ℕ) where
   arrays_were P _ i k is old new = absurd (cc)
 
   -- nobody's were so
-  pub open_was : (o : SpineOwner) → o ≡ Open → born_word number n o ≡ Open
+  open_was : (o : SpineOwner) → o ≡ Open → born_word number n o ≡ Open
   open_was o is = ap (born_word number n) is
 
   -- each other seat has what it had
@@ -115,9 +115,9 @@ module _ (n : ℕ) (nodes now_nodes : ℕ → Node) (owner : ℕ → Owner) (fra
       let one : n + 1 ≡ suc n = omega arith in
       let rest : sum_upto n (λ i. kept_weight i (spine_words_of (now_nodes i)) (now (fragment_at (bodies i) 0))) ≡ kept_words n nodes owner fragments
       = sum_same n (λ i. kept_weight i (spine_words_of (now_nodes i)) (now (fragment_at (bodies i) 0))) (λ i. kept_weight i (spine_words_of (nodes i)) (owner (fragment_at (fragments i) 0))) (λ i below.
-          ap (λ fs. kept_weight i (spine_words_of (now_nodes i)) (now (fragment_at fs 0))) (object_old fragments n body i (λ e. omega (arith, e, below)))
-          ∙ weight_old i (spine_words_of (now_nodes i)) (fragment_at (fragments i) 0) below
-          ∙ ap (λ w. kept_weight i w (owner (fragment_at (fragments i) 0))) (shape_words (now_nodes i) (nodes i) (shapes i below))) in
+      ap (λ fs. kept_weight i (spine_words_of (now_nodes i)) (now (fragment_at fs 0))) (object_old fragments n body i (λ e. omega (arith, e, below)))
+      ∙ weight_old i (spine_words_of (now_nodes i)) (fragment_at (fragments i) 0) below
+      ∙ ap (λ w. kept_weight i w (owner (fragment_at (fragments i) 0))) (shape_words (now_nodes i) (nodes i) (shapes i below))) in
       let last : kept_weight n (spine_words_of (now_nodes n)) (now (fragment_at (bodies n) 0)) ≡ spine_words_of (now_nodes n)
       = ap (λ fs. kept_weight n (spine_words_of (now_nodes n)) (now (fragment_at fs 0))) (object_new fragments n body) ∙ weight_new (spine_words_of (now_nodes n)) in
       ap (λ m. kept_words m now_nodes now bodies) one ∙ sum-suc n (λ i. kept_weight i (spine_words_of (now_nodes i)) (now (fragment_at (bodies i) 0))) ∙ omega (arith, rest, last)
@@ -167,9 +167,12 @@ module _ (n : ℕ) (nodes now_nodes : ℕ → Node) (owner : ℕ → Owner) (fra
         back_old : (half offset i j : ℕ) → i < n → IsKept owner fragments i → j < spine_words_of (nodes i) → IsWordOf (spines i) half offset j
             → (i < n + 1) × IsKept now bodies i × (j < spine_words_of (now_nodes i)) × IsWordOf (with_spine spines n seat.spine i) half offset j
         back_old half offset i j below is within word =
-            let apart : i ≢ n = λ e. omega (arith, e, below) in
-            (omega (arith, below), kept_on i apart is, subst (λ m. j < m) (sym (shape_words (now_nodes i) (nodes i) (shapes i below))) within,
-            subst (λ (s : Spot). IsWordOf s half offset j) (sym (spine_old spines n seat.spine i apart)) word)
+            let apart : i ≢ n = λ e. omega (arith, e, below) in (
+              omega (arith, below),
+              kept_on i apart is,
+              subst (λ m. j < m) (sym (shape_words (now_nodes i) (nodes i) (shapes i below))) within,
+              subst (λ (s : Spot). IsWordOf s half offset j) (sym (spine_old spines n seat.spine i apart)) word,
+            )
 
         back_new : (half offset i j : ℕ) → i ≡ n → j < spine_need seat → IsWordOf seat.spine half offset j
             → (i < n + 1) × IsKept now bodies i × (j < spine_words_of (now_nodes i)) × IsWordOf (with_spine spines n seat.spine i) half offset j

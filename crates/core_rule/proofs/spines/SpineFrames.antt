@@ -1,7 +1,6 @@
 -- Whose the spine words are, and what they are, stands as before where a step leaves them.
-use Rattle.std.proofs.Common.{◌≡◌, ◌≢◌, ℕ, ◌+◌, ◌/◌, ◌<◌, List, length, refl, sym, ap, ◌∙◌, subst}
+use Rattle.std.proofs.Common.{◌≡◌, ℕ, ◌+◌, ◌<◌, List, length, refl, sym, ap, ◌∙◌, subst}
 use Rattle.heap_words.specs.declared.spot.Spot.{Spot}
-use Rattle.heap_words.specs.Spot.{spot_in}
 use Rattle.heap_model.specs.declared.heap.Heap.{Heap}
 use Rattle.heap_model.specs.declared.id.Id.{Id}
 use Rattle.heap_model.specs.graph.Graph.{Node}
@@ -10,15 +9,14 @@ use Rattle.core_machine.specs.declared.place.Access.TheVariants.{Indexing}
 use Rattle.core_machine.specs.declared.place.Place.{Place}
 use Rattle.core_machine.specs.declared.place.Place.TheVariants as places
 use Rattle.core_machine.specs.declared.table.address.Address.TheVariants as addresses
-use Rattle.core_machine.specs.seat.Commands.{field_of}
 use Rattle.core_machine.specs.seat.Seat.{Seat, spine_need}
 use Rattle.core_machine.specs.table.Layout.{at, spine_place}
 use Rattle.core_machine.specs.table.Newborn.{spine_word}
 use Rattle.core_rule.specs.Book.{fragment_at}
 use Rattle.core_rule.specs.Objects.{IsKept}
-use Rattle.core_rule.specs.Owners.{Owner, Kept, SpineOwner, Open, Placed, Spined}
-use Rattle.core_rule.specs.Spines.{SpinesStand, SpineInHand, HasPlace, WordStandsAhead, IsWordOf, next_spine}
-use Rattle.core_rule.specs.Ways.{Locates, WayStands}
+use Rattle.core_rule.specs.Owners.{Owner, Kept, SpineOwner, Placed, Spined}
+use Rattle.core_rule.specs.Spines.{SpinesStand, SpineInHand, HasPlace, WordStandsAhead}
+use Rattle.core_rule.specs.Ways.{WayStands}
 use Rattle.core_rule.proofs.graph.SameNodes.{SameShape, shape_words, shape_same}
 use Rattle.core_rule.proofs.objects.ObjectFrames.{SameKept}
 use Rattle.core_rule.proofs.spines.OtherWords.{LeavesPlaces, LeavesSpines, places_of}
@@ -32,7 +30,6 @@ same_kept owner = record { stays = λ f i k is. is; was = λ f i k is. is }
 -- and each object has its shape where it is as before
 pub same_shapes : (nodes : ℕ → Node) (i : ℕ) → SameShape (nodes i) (nodes i)
 same_shapes nodes i = shape_same (nodes i) (nodes i) refl
-
 
 module _ (heap : Heap) (words now : List ℕ) (same : at heap now addresses.Spot ≡ at heap words addresses.Spot) (seats made : ℕ) (spines : ℕ → Spot) (fragments : ℕ → List ℕ)
     (spine_owner : ℕ → ℕ → SpineOwner) where

@@ -1,5 +1,5 @@
 -- A spine word is stored: the spines of others stay, and the seat has stored one more.
-use Rattle.std.proofs.Common.{◌≡◌, ◌≢◌, ℕ, ◌+◌, ◌*◌, ◌^◌, ◌<◌, ◌≤◌, inl, inr, List, length, refl, sym, ap, ◌∙◌, subst, arith}
+use Rattle.std.proofs.Common.{◌≡◌, ◌≢◌, ℕ, ◌+◌, ◌*◌, ◌<◌, ◌≤◌, inl, inr, List, length, sym, ap, ◌∙◌, subst, arith}
 use Rattle.std.proofs.lemmas.Bool.{cases_eq}
 use Rattle.heap_words.specs.declared.spot.Spot.{Spot}
 use Rattle.heap_model.specs.declared.heap.Heap.{Heap}
@@ -12,8 +12,8 @@ use Rattle.core_machine.specs.table.Newborn.{spine_word}
 use Rattle.core_machine.proofs.table_lemmas.Addresses.{at-put_same}
 use Rattle.core_rule.specs.Book.{fragment_at}
 use Rattle.core_rule.specs.Objects.{IsKept}
-use Rattle.core_rule.specs.Owners.{Owner, SpineOwner, Open, Placed, Spined}
-use Rattle.core_rule.specs.Spines.{SpinesStand, SpineInHand, HasPlace, IsWordOf, next_spine}
+use Rattle.core_rule.specs.Owners.{Owner, SpineOwner, Placed, Spined}
+use Rattle.core_rule.specs.Spines.{SpinesStand, SpineInHand, HasPlace, next_spine}
 use Rattle.core_rule.proofs.spines.SpineFrames.{SpineIsStored}
 use Rattle.core_rule.proofs.words.Addresses.{at-put_apart, spine_other}
 

@@ -1,18 +1,16 @@
 -- A spine gets its place: the next words of the spine space are its, and the next spine stands behind them.
-use Rattle.std.proofs.Common.{◌≡◌, ◌≢◌, ℕ, ◌+◌, ◌-◌, ◌*◌, ◌%◌, ◌^◌, ◌<◌, ◌≤◌, ◌==◌, nat_lt, nat_le, suc, inl, inr, List, length, refl, sym, ap, ◌∙◌, subst, arith}
+use Rattle.std.proofs.Common.{◌≡◌, ◌≢◌, ℕ, ◌+◌, ◌-◌, ◌%◌, ◌^◌, ◌<◌, ◌≤◌, ◌==◌, nat_lt, nat_le, suc, inl, inr, List, length, refl, sym, ap, ◌∙◌, subst, arith}
 use Rattle.std.specs.Prelude.{if◌then◌else◌}
 use Rattle.std.proofs.lemmas.Bool.Decides.{eqb_tells, leb_tells}
 use Rattle.heap_words.specs.declared.spot.Spot.{Spot}
 use Rattle.heap_words.specs.Spot.{spot_in, spot_word}
 use Rattle.heap_model.specs.declared.heap.Heap.{Heap}
 use Rattle.heap_model.specs.graph.Graph.{Node}
-use Rattle.heap_model.specs.graph.Sizes.{spine_words_of}
 use Rattle.core_machine.specs.declared.table.address.Address.TheVariants as addresses
 use Rattle.core_machine.specs.seat.Seat.{Seat, spine_need}
 use Rattle.core_machine.specs.table.Layout.{at, put, table_length, FitsSpot}
 use Rattle.core_machine.proofs.table_lemmas.Addresses.{at-put_same}
 use Rattle.core_machine.proofs.collector_lemmas.SpineTurns.{told_spot}
-use Rattle.core_rule.specs.Objects.{IsKept}
 use Rattle.core_rule.specs.Owners.{Owner, SpineOwner, Open, Placed, Spined}
 use Rattle.core_rule.specs.Spines.{SpinesStand, SpineInHand, HasPlace, IsWordOf, next_spine}
 use Rattle.core_rule.proofs.spines.SpineFrames.{SpinesLeft}
@@ -36,33 +34,33 @@ claimed number spot need spine_owner half offset =
 
 module _ (number : ℕ) (spot : Spot) (need : ℕ) (spine_owner : ℕ → ℕ → SpineOwner) where
   -- what is true of both is true of it
-  pub claim_cases : (P : SpineOwner → Type 0) (half offset : ℕ) → (IsClaimed spot need half offset → P (Placed number (offset - spot.offset))) → (¬ IsClaimed spot need half offset → P (spine_owner half offset))
+  claim_cases : (P : SpineOwner → Type 0) (half offset : ℕ) → (IsClaimed spot need half offset → P (Placed number (offset - spot.offset))) → (¬ IsClaimed spot need half offset → P (spine_owner half offset))
       → P (claimed number spot need spine_owner half offset)
   claim_cases P half offset there away = elim (eqb_tells half spot.half) as (λ _. P (claimed number spot need spine_owner half offset)) [
     | inr other ↦ rw other.0 (away (λ is. other.1 is.half_is))
     | inl same ↦ rw same.0 (elim (leb_tells spot.offset offset)
         as (λ _. P (if nat_le spot.offset offset then (if nat_lt offset (spot.offset + need) then Placed number (offset - spot.offset) else spine_owner half offset) else spine_owner half offset)) [
-        | inr before ↦ rw before.0 (away (λ is. absurd (omega (arith, is.from, before.1))))
-        | inl from ↦ rw from.0 (elim (leb_tells (suc offset) (spot.offset + need))
-            as (λ _. P (if nat_lt offset (spot.offset + need) then Placed number (offset - spot.offset) else spine_owner half offset)) [
-            | inr behind ↦ rw behind.0 (away (λ is. absurd (omega (arith, is.upto, behind.1))))
-            | inl upto ↦ rw upto.0 (there record { half_is = same.1; from = from.1; upto = omega (arith, upto.1) })
+          | inr before ↦ rw before.0 (away (λ is. absurd (omega (arith, is.from, before.1))))
+          | inl from ↦ rw from.0 (elim (leb_tells (suc offset) (spot.offset + need))
+              as (λ _. P (if nat_lt offset (spot.offset + need) then Placed number (offset - spot.offset) else spine_owner half offset)) [
+                | inr behind ↦ rw behind.0 (away (λ is. absurd (omega (arith, is.upto, behind.1))))
+                | inl upto ↦ rw upto.0 (there record { half_is = same.1; from = from.1; upto = omega (arith, upto.1) })
+              ])
         ])
-    ])
   ]
 
   -- the seat has each of them
-  pub claim_has : (j : ℕ) → j < need → claimed number spot need spine_owner spot.half (spot.offset + j) ≡ Placed number j
+  claim_has : (j : ℕ) → j < need → claimed number spot need spine_owner spot.half (spot.offset + j) ≡ Placed number j
   claim_has j less = claim_cases (λ o. o ≡ Placed number j) spot.half (spot.offset + j) (λ is. ap (Placed number) (omega arith))
       (λ away. absurd (away record { half_is = refl; from = omega arith; upto = omega (arith, less) }))
 
   module _ (open_ : (half offset : ℕ) → IsClaimed spot need half offset → spine_owner half offset ≡ Open) where
     -- what was somebody's stays so
-    pub claim_stays : (half offset : ℕ) → spine_owner half offset ≢ Open → claimed number spot need spine_owner half offset ≡ spine_owner half offset
+    claim_stays : (half offset : ℕ) → spine_owner half offset ≢ Open → claimed number spot need spine_owner half offset ≡ spine_owner half offset
     claim_stays half offset some = claim_cases (λ o. o ≡ spine_owner half offset) half offset (λ is. absurd (some (open_ half offset is))) (λ away. refl)
 
     -- an array's words were its
-    pub claim_arrays : (half offset i k : ℕ) → claimed number spot need spine_owner half offset ≡ Spined i k → spine_owner half offset ≡ Spined i k
+    claim_arrays : (half offset i k : ℕ) → claimed number spot need spine_owner half offset ≡ Spined i k → spine_owner half offset ≡ Spined i k
     claim_arrays half offset i k = claim_cases (λ o. o ≡ Spined i k → spine_owner half offset ≡ Spined i k) half offset (λ is e. absurd (cc)) (λ away e. e)
 
     -- each other seat has what it had
@@ -74,13 +72,13 @@ module _ (number : ℕ) (spot : Spot) (need : ℕ) (spine_owner : ℕ → ℕ �
     }
 
 -- the spot's word grows by the words that are claimed
-pub spot_grows : (spot : Spot) (need : ℕ) → FitsSpot spot → spot.offset + need < 2 ^ 31 → (spot_word spot + need) % 2 ^ 64 ≡ spot_word (spot_after spot need)
+spot_grows : (spot : Spot) (need : ℕ) → FitsSpot spot → spot.offset + need < 2 ^ 31 → (spot_word spot + need) % 2 ^ 64 ≡ spot_word (spot_after spot need)
 spot_grows spot need fits few =
     let half_small : spot.half < 2 = fits.half_within in
     grind (arith, half_small, few)
 
 -- so it tells the place behind them
-pub spot_claimed : (spot : Spot) (need : ℕ) → FitsSpot spot → spot.offset + need < 2 ^ 31 → spot_in (spot_word (spot_after spot need)) ≡ spot_after spot need
+spot_claimed : (spot : Spot) (need : ℕ) → FitsSpot spot → spot.offset + need < 2 ^ 31 → spot_in (spot_word (spot_after spot need)) ≡ spot_after spot need
 spot_claimed spot need fits few = spot_in-word (spot_after spot need) record { half_within = fits.half_within; offset_within = few }
 
 module _ (heap : Heap) (words : List ℕ) (number : ℕ) (need : ℕ) (table : length words ≡ table_length heap) where
@@ -96,7 +94,7 @@ module _ (heap : Heap) (words : List ℕ) (number : ℕ) (need : ℕ) (table : l
     fits : FitsSpot spot
     fits = told_spot (at heap words addresses.Spot)
 
-    pub found_spot : at heap words_claimed addresses.Spot ≡ spot_word (spot_after spot need)
+    found_spot : at heap words_claimed addresses.Spot ≡ spot_word (spot_after spot need)
     found_spot = at-put_same heap words addresses.Spot _ table tt ∙ ap (λ w. (w + need) % 2 ^ 64) old.spot ∙ spot_grows spot need fits few
 
     -- the next spine stands behind them

@@ -1,12 +1,12 @@
 -- How many spine words the calls of all seats have granted and refused at most.
-use Rattle.std.proofs.Common.{◌≡◌, ◌≢◌, ℕ, zero, suc, ◌+◌, ◌*◌, ◌-◌, ◌<◌, ◌≤◌, inl, inr, length, sym, ap, ◌∙◌, subst, arith}
+use Rattle.std.proofs.Common.{◌≡◌, ℕ, zero, suc, ◌+◌, ◌*◌, ◌<◌, ◌≤◌, inl, inr, sym, subst, arith}
 use Rattle.std.proofs.lemmas.Bool.Decides.{eqb_tells}
 use Rattle.heap_model.specs.declared.command.Command.{Command}
 use Rattle.heap_model.specs.declared.command.Command.TheVariants as commands
 use Rattle.heap_model.specs.declared.heap.Heap.{Heap}
 use Rattle.heap_model.specs.Command.{IsCommand}
 use Rattle.heap_model.specs.Needs.{spine_need_of}
-use Rattle.core_machine.specs.declared.place.Making.TheVariants.{Granting, Withdrawing, Gathering, Returning, Refusing, Placing, Listing, Storing, Bearing}
+use Rattle.core_machine.specs.declared.place.Making.TheVariants.{Withdrawing, Gathering, Returning, Refusing, Placing, Listing, Storing, Bearing}
 use Rattle.core_machine.specs.declared.place.Place.{Place}
 use Rattle.core_machine.specs.declared.place.Place.TheVariants as places
 use Rattle.core_machine.specs.machine.Machine.{State, seat_at}
@@ -15,7 +15,7 @@ use Rattle.core_machine.specs.machine.Value.{IsMachine}
 use Rattle.core_machine.specs.seat.Fits.{FitsPlace}
 use Rattle.core_machine.specs.seat.Seat.{Seat}
 use Rattle.core_machine.proofs.table_lemmas.Free.{sum_upto-none}
-use Rattle.core_rule.specs.Budgets.{of_seats, granted_at, unplaced_at, refused_at}
+use Rattle.core_rule.specs.Budgets.{of_seats, granted_at, refused_at}
 use Rattle.core_rule.proofs.lists.SumLemmas.{sum-suc, sum_plus}
 
 -- a command asks for at most as many spine words as the largest array has
@@ -24,7 +24,7 @@ need_few (commands.Array d cells) range = omega (arith, range.1.1)
 need_few _ range = omega arith
 
 -- what a call has granted, and refused, is no more than that
-pub weights_few : (heap : Heap) (seat : Seat) (place : Place) → FitsPlace heap seat place → granted_at seat place + refused_at seat place ≤ 1024
+weights_few : (heap : Heap) (seat : Seat) (place : Place) → FitsPlace heap seat place → granted_at seat place + refused_at seat place ≤ 1024
 weights_few heap seat (places.Making Withdrawing) fits = omega (arith, need_few seat.command fits.makes.in_range)
 weights_few heap seat (places.Making Gathering) fits = omega (arith, need_few seat.command fits.makes.in_range)
 weights_few heap seat (places.Making Returning) fits = omega (arith, need_few seat.command fits.0.makes.in_range)
@@ -34,14 +34,6 @@ weights_few heap seat (places.Making Listing) fits = omega (arith, need_few seat
 weights_few heap seat (places.Making Storing) fits = omega (arith, need_few seat.command fits.0.makes.in_range)
 weights_few heap seat (places.Making Bearing) fits = omega (arith, need_few seat.command fits.0.makes.in_range)
 weights_few heap seat _ fits = omega arith
-
--- what has no place yet is granted
-pub unplaced_granted : (seat : Seat) (place : Place) → unplaced_at seat place ≤ granted_at seat place
-unplaced_granted seat (places.Making Gathering) = omega arith
-unplaced_granted seat (places.Making Returning) = omega arith
-unplaced_granted seat (places.Making Refusing) = omega arith
-unplaced_granted seat (places.Making Placing) = omega arith
-unplaced_granted seat _ = omega arith
 
 -- a sum of numbers of which each is few
 sum_few : (n : ℕ) (f : ℕ → ℕ) → ((i : ℕ) → i < n → f i ≤ 1024) → sum_upto n f ≤ 1024 * n

@@ -1,5 +1,5 @@
 -- A reply that makes no object keeps the rule, where the words that it changes are none but a seat's answer or a kept object's.
-use Rattle.std.proofs.Common.{subst, ◌≡◌, ◌≢◌, ℕ, ◌<◌, false, List, [], ◌∷◌, ◌++◌, length, filter, drop, slice_set, refl, sym, ◌∙◌, arith, append-nil, ap}
+use Rattle.std.proofs.Common.{subst, ◌≡◌, ◌≢◌, ℕ, ◌<◌, false, List, [], ◌∷◌, ◌++◌, length, filter, drop, slice_set, refl, sym, ◌∙◌, arith, append-nil}
 use Rattle.std.proofs.lemmas.List.{get_or-set_same, length-set}
 use Rattle.heap_model.specs.declared.command.Command.{Command}
 use Rattle.heap_model.specs.declared.entry.Entry.{Entry}

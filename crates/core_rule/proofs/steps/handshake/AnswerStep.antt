@@ -25,7 +25,7 @@ use Rattle.core_machine.specs.Move.{plain_move}
 use Rattle.core_machine.specs.declared.step.Step.TheVariants as steps
 use Rattle.core_machine.specs.declared.step.HandshakeStep.TheVariants.{AnswerStore}
 use Rattle.heap_model.specs.declared.command.Command.{Command}
-use Rattle.core_machine.specs.table.Layout.{at, put}
+use Rattle.core_machine.specs.table.Layout.{put}
 use Rattle.core_machine.specs.machine.Machine.{State, seat_at}
 use Rattle.core_machine.specs.Moves.{Move}
 use Rattle.core_machine.specs.seat.Handshake.{roots}

@@ -1,12 +1,11 @@
 -- A store of a spine word keeps the rule.
 use Rattle.std.specs.Prelude.{if◌then◌else◌}
-use Rattle.std.proofs.Common.{◌≡◌, ◌≢◌, ℕ, ◌+◌, ◌*◌, ◌<◌, ◌≤◌, Bool, true, false, nat_lt, List, [], length, refl, sym, ap, ◌∙◌, subst, arith}
+use Rattle.std.proofs.Common.{◌≡◌, ℕ, ◌+◌, ◌*◌, ◌<◌, ◌≤◌, Bool, true, false, nat_lt, List, [], length, refl, sym, ap, ◌∙◌, arith}
 use Rattle.std.proofs.lemmas.List.{append-nil}
 use Rattle.heap_words.specs.Spot.{spot_in}
 use Rattle.heap_words.specs.declared.spot.Spot.{Spot as SpinePlace}
 use Rattle.heap_model.specs.declared.command.Command.{Command}
 use Rattle.heap_model.specs.declared.command.Command.TheVariants as commands
-use Rattle.heap_model.specs.declared.entry.Entry.{Entry}
 use Rattle.heap_model.specs.declared.heap.Heap.{Heap}
 use Rattle.heap_model.specs.Needs.{spine_need_of}
 use Rattle.heap_model.specs.account.Cycles.{graph_of}
@@ -16,8 +15,7 @@ use Rattle.core_machine.specs.declared.place.Making.{Making}
 use Rattle.core_machine.specs.declared.place.Making.TheVariants.{Listing, Storing, Bearing}
 use Rattle.core_machine.specs.declared.place.Place.{Place}
 use Rattle.core_machine.specs.declared.place.Place.TheVariants as places
-use Rattle.core_machine.specs.declared.table.address.Address.TheVariants.{Budget, Spot}
-use Rattle.core_machine.specs.machine.Machine.{State, seat_at}
+use Rattle.core_machine.specs.machine.Machine.{seat_at}
 use Rattle.core_machine.specs.Moves.{listing_move, seat_after}
 use Rattle.core_machine.specs.seat.Commands.{IsArray, target_of}
 use Rattle.core_machine.specs.seat.Fits.{FitsPlace, IsListed, HasArrayBody}
@@ -38,7 +36,7 @@ use Rattle.core_rule.proofs.frames.BesideFrames.{heap_beside, seat_beside}
 use Rattle.core_rule.proofs.hand.EmptyHand.{none_stored}
 use Rattle.core_rule.proofs.marking.Marks.{leaves_alive, marks_off_way}
 use Rattle.core_rule.proofs.spines.BudgetSteps.{HasWeights, budgets_change}
-use Rattle.core_rule.proofs.spines.ListedSources.{has, words_now, beside_listed, arrays_listed, kept_listed, borne_listed, black_listed}
+use Rattle.core_rule.proofs.spines.ListedSources.{has, beside_listed, arrays_listed, kept_listed, borne_listed, black_listed}
 use Rattle.core_rule.proofs.spines.SpineFrames.{same_kept, same_shapes, spines_at_spot, spines_left}
 use Rattle.core_rule.proofs.spines.SpineStores.{other_stored, spine_listed, spot_unlisted, budget_unlisted}
 use Rattle.core_rule.proofs.steps.Assemble.{seat_steps, StepKeeps, seat_fits}

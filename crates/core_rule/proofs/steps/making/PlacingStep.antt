@@ -1,15 +1,14 @@
 -- A step by which an array's spine gets its place keeps the rule.
-use Rattle.std.proofs.Common.{◌≡◌, ◌≢◌, ℕ, ◌+◌, ◌%◌, ◌^◌, ◌<◌, ◌≤◌, List, [], length, refl, sym, ap, ◌∙◌, subst, arith}
+use Rattle.std.proofs.Common.{◌≡◌, ℕ, ◌+◌, ◌%◌, ◌^◌, ◌<◌, List, [], length, refl, sym, ap, ◌∙◌, arith}
 use Rattle.std.proofs.lemmas.List.{append-nil}
 use Rattle.heap_words.specs.declared.spot.Spot.{Spot as SpinePlace}
-use Rattle.heap_model.specs.declared.heap.Heap.{Heap}
 use Rattle.heap_model.specs.account.Cycles.{graph_of}
 use Rattle.heap_model.specs.account.PhaseCounts.{phase, last_answer, has_left}
 use Rattle.heap_model.specs.graph.Graph.{Graph}
 use Rattle.core_machine.specs.declared.place.Making.TheVariants.{Placing, Listing}
 use Rattle.core_machine.specs.declared.place.Place.TheVariants as places
 use Rattle.core_machine.specs.declared.table.address.Address.TheVariants.{Budget, Spot}
-use Rattle.core_machine.specs.machine.Machine.{State, seat_at}
+use Rattle.core_machine.specs.machine.Machine.{seat_at}
 use Rattle.core_machine.specs.Moves.{placing_move, seat_after}
 use Rattle.core_machine.specs.seat.Commands.{target_of}
 use Rattle.core_machine.specs.seat.Fits.{HasArrayBody, HasNoSpine}
@@ -17,8 +16,7 @@ use Rattle.core_machine.specs.seat.Seat.{Seat, spine_need}
 use Rattle.core_machine.specs.table.Layout.{at, put}
 use Rattle.core_rule.specs.Book.{Book}
 use Rattle.core_rule.specs.Objects.{node_at}
-use Rattle.core_rule.specs.Owners.{SpineOwner, Open}
-use Rattle.core_rule.specs.Rule.{Rule}
+use Rattle.core_rule.specs.Owners.{SpineOwner}
 use Rattle.core_rule.specs.Spines.{next_spine}
 use Rattle.core_rule.proofs.colours.LeadsFrames.{leads_same, same_ahead}
 use Rattle.core_rule.proofs.cycle.MakingCycle.{cycle_goes_on}
