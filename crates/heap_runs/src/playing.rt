@@ -1,6 +1,5 @@
 ghost use Rattle.std.specs.Prelude.{◌≡◌, true, [], IfOk, OnOk};
 ghost use Rattle.script_text.specs.declared.script.Form.TheVariants.{Play};
-ghost use Rattle.script_text.specs.Built.{IsBuilt};
 ghost use Rattle.script_text.specs.Writing.{IsOfForm};
 ghost use Rattle.heap_runs.specs.Play.{IsPlay};
 ghost use Rattle.heap_runs.specs.Playing.{HasAnsweredLines, HaveLeft, AllGone, NotesLastCycle};
@@ -26,7 +25,6 @@ fn answer_lines<H: PlayHeap>(
     script: &Script,
 ) -> Result<(), Memory>
     requires form { IsOfForm Play script.now }
-    requires built { IsBuilt script.now }
     requires heap { (H.state whole.old).heap ≡ script.now.heap }
     requires fresh { (H.state whole.old).entries ≡ [] }
     requires nothing { history.old.items ≡ [] }
@@ -82,7 +80,6 @@ pub fn play<H: PlayHeap + Drop>(
     requires whole { (H.state whole).heap ≡ heap }
     requires heap { heap ≡ script.now.heap }
     requires form { IsOfForm Play script.now }
-    requires built { IsBuilt script.now }
     ensures { IfOk result (IsPlay script.now) }
 {
     account_laws();
