@@ -9,7 +9,7 @@ pub mod Others
 pub mod PhaseEntries
 pub mod Legality
 pub mod SpaceEntries
-pub mod RecordCommands
+pub mod MakingCommands
 pub mod MadeEntry
 pub mod ReplyEntries
 pub mod AnswerEntries

@@ -4,3 +4,6 @@ pub mod NoneMade
 pub mod SpineFrames
 pub mod BudgetFrames
 pub mod UsedWords
+pub mod DyingWords
+pub mod WeightSums
+pub mod BudgetSteps

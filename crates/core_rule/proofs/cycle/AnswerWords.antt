@@ -11,6 +11,7 @@ use Rattle.core_rule.proofs.cycle.CycleFrames.{LeavesCycle, coloured_stays}
 use Rattle.core_rule.proofs.frames.EntryFrames.{SameFragments}
 use Rattle.core_rule.proofs.colours.LeadsFrames.{leads_ahead}
 use Rattle.core_rule.proofs.colours.MarkWords.{marks_same}
+use Rattle.core_rule.proofs.spines.OtherWords.{spines_left_answer}
 
 module _ (heap : Heap) (words : List ℕ) (number n : ℕ) (small : number < 16) where
   abbrev now : List ℕ
@@ -20,6 +21,7 @@ module _ (heap : Heap) (words : List ℕ) (number n : ℕ) (small : number < 16)
   fragments_answer = record {
     controls = λ group below. at-put_apart heap words (Answer number) (Control group) n (λ e. omega (arith, e, small));
     parts = λ f part. at-put_apart heap words (Answer number) (Word f part) n (λ e. omega (arith, e, small));
+    spines = spines_left_answer heap words n number small;
   }
 
   pub heap_cycle_answer : (phase : ℕ) (owner : ℕ → Owner) (colour : ℕ → Colour) (fragments : ℕ → List ℕ)

@@ -1,9 +1,7 @@
--- The machine's tests of a seat's last answer are the rule's windows; while black fragments are made each set's barrier is on; and a field's word leads
--- where its reference does.
-use Rattle.std.proofs.Common.{◌≡◌, ℕ, ◌%◌, ◌<◌, true, false, inl, inr, refl, arith, ◌==◌, ◌≢◌, nat_lt, if◌then◌else◌}
+-- The machine's tests of a seat's last answer are the rule's windows; and while black fragments are made each set's barrier is on.
+use Rattle.std.proofs.Common.{◌≡◌, ℕ, ◌%◌, ◌<◌, true, false, inl, inr, arith, ◌≢◌, nat_lt, if◌then◌else◌}
 use Rattle.std.proofs.lemmas.Bool.Decides.{nat_tests}
 use Rattle.heap_model.specs.PhasePlan.{barriers, black_births, sweep}
-use Rattle.core_machine.specs.table.Decode.{head_of, pointer_in}
 use Rattle.core_machine.specs.seat.MakingMoves.{bears_black_of}
 use Rattle.core_machine.specs.seat.Access.{has_barrier_of}
 use Rattle.core_machine.specs.seat.Seat.{Seat}
@@ -46,7 +44,3 @@ module _ (phase answer : ℕ) (near : IsNear phase answer) where
     | inl same ↦ λ rests. omega (arith, same, rests, on.from)
     | inr before ↦ λ rests. omega (arith, before, rests, on.upto)
   ]
-
--- a word behind the first leads to what it refers to
-pub later_lead : (part word : ℕ) → 0 < part → pointer_in part word ≡ head_of word
-later_lead part word some = let later : (part == 0) ≡ false = grind (arith, some) in rw later refl

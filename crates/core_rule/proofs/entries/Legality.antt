@@ -1,19 +1,16 @@
 -- Which entries of the machine may stand after a legal history.
-use Rattle.std.proofs.Common.{ℕ, ◌+◌, ◌*◌, ◌<◌, ◌≤◌, Bool, List, [], ◌∷◌, ◌++◌, refl, arith, ◌≡◌}
+use Rattle.std.proofs.Common.{ℕ, ◌+◌, ◌*◌, ◌≤◌, Bool, List, [], ◌∷◌, ◌++◌, arith, ◌≡◌}
 use Rattle.heap_model.specs.declared.command.Command.{Command}
-use Rattle.heap_model.specs.declared.command.Command.TheVariants as commands
 use Rattle.heap_model.specs.declared.entry.Entry.{Entry}
 use Rattle.heap_model.specs.declared.entry.Entry.TheVariants as entries
 use Rattle.heap_model.specs.declared.heap.Heap.{Heap}
-use Rattle.heap_model.specs.declared.id.Id.{Id}
 use Rattle.heap_model.specs.declared.reply.Reply.{Reply}
-use Rattle.heap_model.specs.declared.reply.Reply.TheVariants as replies
 use Rattle.heap_model.specs.account.Account.{KeepsSpaceBy, IsLegalBy, most_kept, TakesAndGives, MakesOfOwn, ButSpine}
 use Rattle.heap_model.specs.account.Cycles.{graph_of, EndsCycleBy}
 use Rattle.heap_model.specs.graph.Legal.{Accepts}
-use Rattle.heap_model.specs.Needs.{record_fragments, made_by}
+use Rattle.heap_model.specs.Needs.{made_by}
 use Rattle.heap_model.specs.account.Phases.{AnswersPhase, BeginsPhase, ShowsPhases, ShowsRightly}
-use Rattle.heap_model.specs.account.Refusals.{FindsSpace, RefusesRightly, RefusesSpine, ShowsSpace, ShowsSpine}
+use Rattle.heap_model.specs.account.Refusals.{RefusesRightly, RefusesSpine, ShowsSpace, ShowsSpine}
 use Rattle.heap_model.specs.account.Space.{fragments_gained, fragments_lost, taken_of, spent_of}
 use Rattle.heap_model.specs.account.Sweep.{Sweeps}
 use Rattle.heap_model.specs.graph.Graph.{opening}
@@ -69,23 +66,15 @@ module _ (heap : Heap) (play : Bool) (before : List Entry) (number : ℕ) where
   pub keeps_answers : (p : ℕ) → AnswersPhase before (entries.Answers number p) → KeepsSpaceBy ButSpine heap play before (entries.Answers number p)
   keeps_answers p next = keeps_rules heap play before (entries.Answers number p) tt tt (tt, tt, tt) next tt (tt, tt)
 
-  -- it makes a record of what it has, and keeps little
-  pub keeps_made : (d fields : ℕ) (id : Id) → spent_of number before + record_fragments fields ≤ taken_of number before
-      → taken_of number before ≤ spent_of number before + record_fragments fields + 15
-      → KeepsSpaceBy ButSpine heap play before (entries.Said number (commands.New d fields) (replies.Made id))
-  keeps_made d fields id enough little =
-      keeps_rules heap play before (entries.Said number (commands.New d fields) (replies.Made id)) tt (enough, little) (tt, tt, tt) tt tt (tt, tt)
+  -- it tells a reply, where it has what it makes an object of, and keeps little
+  pub keeps_told : (command : Command) (reply : Reply) → ShowsSpace heap play before number command reply → ShowsSpine heap play before number command reply
+      → ShowsPhases heap play before number command reply → spent_of number before + made_by command reply ≤ taken_of number before
+      → taken_of number before ≤ spent_of number before + made_by command reply + most_kept command → KeepsSpaceBy ButSpine heap play before (entries.Said number command reply)
+  keeps_told command reply space spine phases enough little =
+      keeps_rules heap play before (entries.Said number command reply) tt (enough, little) (space, spine, phases) tt tt (tt, tt)
 
-  -- it tells a reply that makes nothing, where it keeps little
+  -- so it is with one that makes nothing
   pub keeps_said : (command : Command) (reply : Reply) → made_by command reply ≡ 0 → ShowsSpace heap play before number command reply → ShowsSpine heap play before number command reply
       → ShowsPhases heap play before number command reply → spent_of number before ≤ taken_of number before → taken_of number before ≤ spent_of number before + most_kept command
       → KeepsSpaceBy ButSpine heap play before (entries.Said number command reply)
-  keeps_said command reply none space spine phases own little =
-      keeps_rules heap play before (entries.Said number command reply) tt (omega (arith, none, own), omega (arith, none, little)) (space, spine, phases) tt tt (tt, tt)
-
-  -- it is refused, where it shows what was found
-  pub keeps_full : (d fields found : ℕ) → spent_of number before ≤ taken_of number before → taken_of number before ≤ spent_of number before + 15
-      → found < record_fragments fields → FindsSpace heap play before number found
-      → KeepsSpaceBy ButSpine heap play before (entries.Said number (commands.New d fields) (replies.Full (record_fragments fields) found))
-  keeps_full d fields found own little less finds =
-      keeps_said (commands.New d fields) (replies.Full (record_fragments fields) found) refl (refl, less, finds) tt tt own little
+  keeps_said command reply none space spine phases own little = keeps_told command reply space spine phases (omega (arith, none, own)) (omega (arith, none, little))

@@ -1,4 +1,4 @@
--- What the entry of a made record adds to the counts, and that it may stand.
+-- What the entry of a made object adds to the counts, and that it may stand.
 use Rattle.std.proofs.Common.{◌≡◌, ℕ, ◌+◌, ◌≤◌, false, List, [], ◌∷◌, ◌++◌, length, refl, sym, ap, ◌∙◌, arith}
 use Rattle.std.proofs.lemmas.Bool.{eq-eqb}
 use Rattle.heap_model.specs.declared.entry.Entry.{Entry}
@@ -12,7 +12,7 @@ use Rattle.heap_model.specs.graph.Objects.{graph_seat}
 use Rattle.heap_model.specs.account.Space.{taken_of, spent_of}
 use Rattle.heap_model.specs.graph.Graph.{Graph, Node, fresh, opening}
 use Rattle.heap_model.proofs.Histories.{graph_after-more, total-more}
-use Rattle.core_machine.specs.seat.Commands.{IsRecord, target_of, fields_of}
+use Rattle.core_machine.specs.seat.Commands.{MakesObject, target_of}
 use Rattle.core_machine.specs.seat.Making.{next_object_id}
 use Rattle.core_machine.specs.Moves.{made_entry, last_birth_move, seat_after}
 use Rattle.core_machine.specs.seat.Seat.{Seat, need}
@@ -22,12 +22,12 @@ use Rattle.core_rule.proofs.hand.Bodies.{whole_body}
 use Rattle.core_rule.proofs.graph.GraphGrowth.{objects_more, left_same, sets_same}
 use Rattle.core_rule.proofs.entries.Legality.{legal_more}
 use Rattle.core_rule.proofs.entries.OwnEntries.{counts_own}
-use Rattle.core_rule.proofs.entries.RecordCommands.{graph_made, accepts_made, made_keeps}
+use Rattle.core_rule.proofs.entries.MakingCommands.{makes_array, size_made, graph_made, accepts_made, made_keeps}
 
 -- the entry is its seat's
 -- the graph after it
-pub graph_grown : (heap : Heap) (history : List Entry) (number : ℕ) (seat : Seat) → IsRecord seat.command
-    → graph_of heap (history ++ made_entry number seat ∷ []) ≡ add (graph_of heap history) number (target_of seat.command) (fresh false (fields_of seat.command))
+pub graph_grown : (heap : Heap) (history : List Entry) (number : ℕ) (seat : Seat) → MakesObject seat.command
+    → graph_of heap (history ++ made_entry number seat ∷ []) ≡ add (graph_of heap history) number (target_of seat.command) (fresh (makes_array seat.command) (size_made seat.command))
 graph_grown heap history number seat made =
     graph_after-more (opening heap) history (made_entry number seat) ∙ graph_made seat.command made (graph_of heap history) number (next_object_id number seat)
 
@@ -53,7 +53,7 @@ module _ (g : Graph) (history : List Entry) (number : ℕ) (seat : Seat) (counts
       (omega (arith, ap length (whole_body seat.hand seat.body some), whole))
 
   -- it may stand
-  pub made_legal : (heap : Heap) → graph_of heap history ≡ g → IsRecord seat.command → IsCommand seat.command → length seat.reserve ≤ 15
+  pub made_legal : (heap : Heap) → graph_of heap history ≡ g → MakesObject seat.command → IsCommand seat.command → length seat.reserve ≤ 15
       → IsLegalBy ButSpine heap false history → IsLegalBy ButSpine heap false (history ++ made_entry number seat ∷ [])
   made_legal heap same made ranges small legal =
       legal_more heap false history (made_entry number seat) legal

@@ -1,16 +1,17 @@
--- Where a seat stands that begins a call which makes no object.
+-- Where a seat stands that begins a call which makes no record.
 use Rattle.std.proofs.Common.{◌≡◌, ℕ, List, [], refl, sym, ap, ◌∙◌}
-use Rattle.heap_model.specs.declared.graph.cell.Cell.{Cell}
 use Rattle.heap_model.specs.declared.command.Command.{Command}
 use Rattle.heap_model.specs.declared.command.Command.TheVariants as commands
+use Rattle.heap_model.specs.declared.entry.Entry.{Entry}
 use Rattle.heap_model.specs.declared.heap.Heap.{Heap}
 use Rattle.heap_model.specs.declared.id.Id.{Id}
 use Rattle.heap_model.specs.declared.id.Value.{Value}
-use Rattle.heap_model.specs.graph.Graph.{Graph}
+use Rattle.heap_model.specs.graph.Graph.{Graph, Node}
 use Rattle.core_machine.specs.declared.place.Place.{Place}
 use Rattle.core_machine.specs.declared.place.Place.TheVariants as places
 use Rattle.core_machine.specs.declared.place.Polling.TheVariants.{Asking}
-use Rattle.core_machine.specs.declared.place.Access.TheVariants.{LoadingMeta}
+use Rattle.core_machine.specs.declared.place.Access.TheVariants.{LoadingMeta, Indexing}
+use Rattle.core_machine.specs.declared.place.Making.TheVariants.{Granting}
 use Rattle.core_machine.specs.declared.seat.register.Register.{Register}
 use Rattle.core_machine.specs.declared.seat.register.Register.TheVariants as registers
 use Rattle.core_machine.specs.seat.Commands.{IsRecord, IsServed, object_of}
@@ -20,8 +21,10 @@ use Rattle.core_machine.specs.seat.Registers.{register_in}
 use Rattle.core_machine.specs.seat.Seat.{Seat}
 use Rattle.core_rule.specs.Book.{fragment_at, object_number}
 use Rattle.core_rule.specs.Counts.{Awaits}
-use Rattle.core_rule.specs.Owners.{Owner}
+use Rattle.core_rule.specs.Budgets.{granted_at, unplaced_at, refused_at, UsedStands}
+use Rattle.core_rule.specs.Owners.{Owner, SpineOwner}
 use Rattle.core_rule.specs.Registers.{HoldsValue}
+use Rattle.core_rule.specs.Spines.{HasPlace, WordStandsAhead}
 use Rattle.core_rule.specs.Ways.{WayStands, SetsOut}
 use Rattle.core_rule.proofs.entries.Begins.{SameData, same_data}
 use Rattle.core_rule.proofs.graph.Numbering.{id_at-number_of}
@@ -47,13 +50,38 @@ IsFresh (places.Polling Asking) = Unit {0}
 IsFresh (places.Polling _) = ⊥
 IsFresh _ = Unit {0}
 
-module _ (g : Graph) (cells : ℕ → List Cell) (made : List Id) (owner : ℕ → Owner) (fragments : ℕ → List ℕ) (number : ℕ) where
+-- no spine word is granted there, nor loaded next
+abbrev pub IsBare : Place → Type 0
+IsBare (places.Making Granting) = Unit {0}
+IsBare (places.Making _) = ⊥
+IsBare (places.Access Indexing) = ⊥
+IsBare _ = Unit {0}
+
+-- so a seat there has no spine, and has found no words to be in use
+pub record IsSpineless (owner : ℕ → Owner) (number : ℕ) (seat : Seat) (place : Place) : Type 0 where
+  pub no_place : ¬ HasPlace seat place
+  pub no_word : (spine_owner : ℕ → ℕ → SpineOwner) → WordStandsAhead owner spine_owner seat place
+  pub none_used : (heap : Heap) (history : List Entry) → UsedStands heap history number seat place
+  pub none_granted : granted_at seat place ≡ 0
+  pub none_unplaced : unplaced_at seat place ≡ 0
+  pub none_refused : refused_at seat place ≡ 0
+
+pub bare_spineless : (owner : ℕ → Owner) (number : ℕ) (seat : Seat) (place : Place) → IsBare place → IsSpineless owner number seat place
+bare_spineless owner number seat (places.Making Granting) bare =
+    record { no_place = λ has. has; no_word = λ spine_owner. tt; none_used = λ heap history. tt; none_granted = refl; none_unplaced = refl; none_refused = refl }
+bare_spineless owner number seat (places.Making _) bare = absurd bare
+bare_spineless owner number seat (places.Access Indexing) bare = absurd bare
+bare_spineless owner number seat _ bare =
+    record { no_place = λ has. has; no_word = λ spine_owner. tt; none_used = λ heap history. tt; none_granted = refl; none_unplaced = refl; none_refused = refl }
+
+module _ (g : Graph) (nodes : ℕ → Node) (made : List Id) (owner : ℕ → Owner) (fragments : ℕ → List ℕ) (number : ℕ) where
   -- the seat has what it had, awaits nothing, and its way sets out from its first place
   pub record Starts (old now : Seat) : Type 0 where
     pub own : SameOwn old now
     pub awaits : Awaits g made owner fragments number now now.place []
-    pub way : WayStands cells made owner fragments now now.place
+    pub way : WayStands nodes made owner fragments now now.place
     pub fresh : IsFresh now.place
+    pub bare : IsBare now.place
 
   -- the way begins at the register's object
   sets_out : (seat : Seat) (head : ℕ) (id : Id) (value : Value) → HoldsValue made owner fragments (registers.Object head id) value
@@ -71,9 +99,9 @@ module _ (g : Graph) (cells : ℕ → List Cell) (made : List Id) (owner : ℕ �
   -- the call of an object opens its way, and is told at once where the register holds none
   opened_starts : (seat : Seat) (held : Register) (value : Value) → HoldsValue made owner fragments held value
       → held ≡ register_in seat.registers (object_of seat.command) → Starts seat (access_start seat held)
-  opened_starts seat registers.Nil value holds is = record { own = at_place seat _ _ _; awaits = refl; way = tt; fresh = tt }
-  opened_starts seat (registers.Number n) value holds is = record { own = at_place seat _ _ _; awaits = refl; way = tt; fresh = tt }
-  opened_starts seat (registers.Object head id) value holds is = record { own = at_place seat _ _ _; awaits = refl; way = sets_out seat head id value holds is; fresh = tt }
+  opened_starts seat registers.Nil value holds is = record { own = at_place seat _ _ _; awaits = refl; way = tt; fresh = tt; bare = tt }
+  opened_starts seat (registers.Number n) value holds is = record { own = at_place seat _ _ _; awaits = refl; way = tt; fresh = tt; bare = tt }
+  opened_starts seat (registers.Object head id) value holds is = record { own = at_place seat _ _ _; awaits = refl; way = sets_out seat head id value holds is; fresh = tt; bare = tt }
 
   -- any other call stands at its first step
   pub starts_other : (heap : Heap) (seat : Seat) (command : Command) → (IsRecord command → ⊥) → IsServed command → seat.command ≡ command
@@ -82,6 +110,5 @@ module _ (g : Graph) (cells : ℕ → List Cell) (made : List Id) (owner : ℕ �
   starts_other heap seat (commands.Set r i v) other served is holds = opened_starts seat (register_in seat.registers r) (holds r).0 (holds r).1 (ap (λ c. register_in seat.registers (object_of c)) (sym is))
   starts_other heap seat (commands.Len r) other served is holds = opened_starts seat (register_in seat.registers r) (holds r).0 (holds r).1 (ap (λ c. register_in seat.registers (object_of c)) (sym is))
   starts_other heap seat (commands.New d fields) other served is holds = absurd (other tt)
-  starts_other heap seat (commands.Array d cells) other served is holds = absurd served
   starts_other heap seat commands.Collect other served is holds = absurd served
-  starts_other heap seat _ other served is holds = record { own = at_place seat _ _ _; awaits = refl; way = tt; fresh = tt }
+  starts_other heap seat _ other served is holds = record { own = at_place seat _ _ _; awaits = refl; way = tt; fresh = tt; bare = tt }

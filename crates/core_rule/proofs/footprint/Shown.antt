@@ -17,7 +17,7 @@ use Rattle.core_machine.specs.declared.place.Collecting.TheVariants as collectin
 use Rattle.heap_model.specs.declared.calls.collect.CollectReply.{CollectReply}
 use Rattle.heap_model.specs.declared.calls.collect.CollectReply.TheVariants as notes
 use Rattle.core_machine.specs.declared.place.Leaving.TheVariants.{Emptying, Parting}
-use Rattle.core_machine.specs.declared.place.Making.TheVariants.{Gathering, Returning, Refusing, Bearing}
+use Rattle.core_machine.specs.declared.place.Making.TheVariants.{Withdrawing, Gathering, Returning, Refusing, Bearing}
 use Rattle.core_machine.specs.declared.place.Place.{Place}
 use Rattle.core_machine.specs.declared.place.Place.TheVariants as places
 use Rattle.core_machine.specs.declared.place.Polling.TheVariants.{Asking, Answering}
@@ -81,6 +81,7 @@ module _ (heap : Heap) (state : State) (number : ℕ) where
   -- what a seat's step shows
   pub shown_mute : (place : Place) → AreMute (entries_shown heap state (move_at heap number (seat_at state number) place))
   shown_mute (places.Making Gathering) = claim_mute number _
+  shown_mute (places.Making Withdrawing) = one_mute _ refl refl
   shown_mute (places.Making Returning) = one_mute _ refl refl
   shown_mute (places.Making Refusing) = one_mute _ refl refl
   shown_mute (places.Making Bearing) = by (is_last_birth (seat_at state number))

@@ -43,11 +43,13 @@ fragments_phase heap words n = record {
   spines = spines_left_phase heap words n;
 }
 
--- the entry takes, gives and frees nothing
+-- the entry takes, gives and frees nothing, and no spine words
 pub record UsesNothing (entry : Entry) : Type 0 where
   pub taken : (effect_of entry).taken ≡ 0
   pub given : (effect_of entry).given ≡ 0
   pub freed : (effect_of entry).freed ≡ 0
+  pub words : (effect_of entry).words ≡ 0
+  pub returned : (effect_of entry).returned ≡ 0
 
 module _ (heap : Heap) (words now : List ℕ) (same : SameFragments heap words now) (book : Book) (entry : Entry)
     (nodes : SameNodes (graph_of heap book.history) (graph_of heap (book.history ++ entry ∷ []))) where
@@ -86,10 +88,10 @@ module _ (heap : Heap) (words now : List ℕ) (same : SameFragments heap words n
       (shapes_stay before after book.made nodes) (λ u less. same.parts _ _ ∙ stands.own.stored u less) same.spines cycle stands
 
   -- and as many spine words are granted
-  pub grants_past : (effect_of entry).words ≡ 0 → (effect_of entry).returned ≡ 0 → SameGrants heap book later
-  grants_past none back = record {
-    told = none_granted_by book.history entry none;
-    returned = none_returned_by book.history entry back;
+  pub grants_past : UsesNothing entry → SameGrants heap book later
+  grants_past uses = record {
+    told = none_granted_by book.history entry uses.words;
+    returned = none_returned_by book.history entry uses.returned;
     kept = kept_alike (length book.made) (node_at before book.made) (node_at after book.made) book.owner book.fragments (shapes_stay before after book.made nodes);
     gone = refl;
   }

@@ -39,7 +39,7 @@ module _ (heap : Heap) (state : State) (book : Book) (rule : Rule heap state boo
   words = put heap state.words (Control g) n
 
   -- the spine words and the budget are as before
-  leaves_spines : LeavesSpines heap state.words words
+  pub leaves_spines : LeavesSpines heap state.words words
   leaves_spines = spines_left_control heap state.words n g below
 
   -- the heap stands

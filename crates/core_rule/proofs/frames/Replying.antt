@@ -15,7 +15,7 @@ use Rattle.core_rule.specs.Book.{Book}
 use Rattle.core_rule.specs.Gathers.{Began, IsAnswered}
 use Rattle.core_rule.specs.Rule.{HeapStands, SeatStands}
 use Rattle.core_rule.proofs.cycle.CycleHistory.{heap_cycle_more, cycle_other}
-use Rattle.core_rule.proofs.frames.EntryFrames.{heap_past, seat_past, grants_past, fragments_same}
+use Rattle.core_rule.proofs.frames.EntryFrames.{UsesNothing, heap_past, seat_past, grants_past, fragments_same}
 use Rattle.core_rule.proofs.entries.Legality.{legal_more}
 use Rattle.core_rule.proofs.graph.SameNodes.{SameNodes}
 use Rattle.core_rule.proofs.spines.BudgetFrames.{SameGrants}
@@ -34,17 +34,26 @@ began_told history entry number begun place now answered began = record {
 
 module _ (heap : Heap) (words : List ℕ) (book : Book) (entry : Entry) (nothing : effect_of entry ≡ no_effect)
     (nodes : SameNodes (graph_of heap book.history) (graph_of heap (book.history ++ entry ∷ []))) where
+  uses_nothing : UsesNothing entry
+  uses_nothing = record {
+    taken = no_part entry (λ e. e.taken) nothing refl;
+    given = no_part entry (λ e. e.given) nothing refl;
+    freed = no_part entry (λ e. e.freed) nothing refl;
+    words = no_part entry (λ e. e.words) nothing refl;
+    returned = no_part entry (λ e. e.returned) nothing refl;
+  }
+
   -- the heap stands
   pub heap_told : Accepts (graph_of heap book.history) entry → KeepsSpaceBy ButSpine heap false book.history entry → HeapStands heap words book → HeapStands heap words (with_entry book entry)
   heap_told accepts keeps stands =
       heap_past heap words words (fragments_same heap words) book entry nodes
-      record { taken = no_part entry (λ e. e.taken) nothing refl; given = no_part entry (λ e. e.given) nothing refl; freed = no_part entry (λ e. e.freed) nothing refl }
+      uses_nothing
       (legal_more heap false book.history entry stands.legal accepts keeps)
       (heap_cycle_more heap words book.owner book.colour book.history entry (no_part entry (λ e. e.phases) nothing refl) book.fragments stands.cycle) stands
 
   -- as many spine words are granted
   pub grants_told : SameGrants heap book (with_entry book entry)
-  grants_told = grants_past heap words words (fragments_same heap words) book entry nodes (no_part entry (λ e. e.words) nothing refl) (no_part entry (λ e. e.returned) nothing refl)
+  grants_told = grants_past heap words words (fragments_same heap words) book entry nodes uses_nothing
 
   -- another seat stands
   pub other_told : (r : ℕ) (seat : Seat) → is_of r entry ≡ false → graph_seat (graph_of heap (book.history ++ entry ∷ [])) r ≡ graph_seat (graph_of heap book.history) r

@@ -15,7 +15,7 @@ use Rattle.core_rule.specs.Book.{Book}
 use Rattle.core_rule.specs.Rule.{Rule}
 use Rattle.core_rule.proofs.entries.AtRest.{in_flight}
 use Rattle.core_rule.proofs.colours.BirthColours.{white_early}
-use Rattle.core_rule.proofs.entries.RecordCommands.{ranges_made}
+use Rattle.core_rule.proofs.entries.MakingCommands.{ranges_made}
 
 -- a seat that makes an object bears no black fragments at rest and in the first phase
 pub bears_late : (heap : Heap) (state : State) (book : Book) (number : ℕ) (making : Making) → Rule heap state book → number < heap.seats → (seat_at state number).place ≡ places.Making making

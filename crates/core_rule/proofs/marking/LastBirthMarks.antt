@@ -24,7 +24,7 @@ use Rattle.core_rule.proofs.entries.AtRest.{seat_fits, in_flight}
 use Rattle.core_rule.proofs.marking.MakingMarks.{leaves_kept, dark_now, pale_now}
 use Rattle.core_rule.proofs.marking.Marks.{MarksGoOn, Leaves, heap_marks_on, comes_on}
 use Rattle.core_rule.proofs.marking.RegisterRoots.{heads_put}
-use Rattle.core_rule.proofs.entries.RecordCommands.{ranges_made}
+use Rattle.core_rule.proofs.entries.MakingCommands.{ranges_made}
 use Rattle.core_rule.proofs.hand.Bodies.{body_own}
 use Rattle.core_rule.proofs.hand.HandMoves.{part_held}
 use Rattle.core_rule.proofs.lists.Members.{tally_at}

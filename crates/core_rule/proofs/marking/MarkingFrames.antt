@@ -42,6 +42,12 @@ OnlyMarks marks (stages.Spreading s target) = marks × (s.index < s.words)
 OnlyMarks marks (stages.Blackening scan) = marks
 OnlyMarks marks _ = Unit {0}
 
+-- a scan in a spine stands before one of its words
+abbrev pub IsWithinSpine : Stage → Type 0
+IsWithinSpine (stages.Indexing s) = s.index < s.words
+IsWithinSpine (stages.Spreading s target) = s.index < s.words
+IsWithinSpine _ = Unit {0}
+
 -- and this while marks are cleared
 abbrev pub OnlyClears : Type 0 → Stage → Type 0
 OnlyClears clears (stages.Clearing group kept) = clears

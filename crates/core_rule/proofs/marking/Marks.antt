@@ -28,7 +28,7 @@ use Rattle.core_rule.proofs.colours.SpineStays.{same_spine}
 use Rattle.core_rule.proofs.cycle.CycleFrames.{while_access}
 use Rattle.core_rule.proofs.lists.Options.{if_some}
 use Rattle.core_rule.proofs.marking.Paths.{reached_on}
-use Rattle.core_rule.proofs.marking.MarkingFrames.{LeavesMarking, OnlyMarks, OnlyClears, marking_stays, reached_stays}
+use Rattle.core_rule.proofs.marking.MarkingFrames.{LeavesMarking, OnlyMarks, IsWithinSpine, OnlyClears, marking_stays, reached_stays}
 
 -- what is true of each root goes on to be
 pub roots_more : (P Q : ℕ → Type 0) → ((f : ℕ) → P f → Q f) → (seat : Seat) → OfRoots P seat → OfRoots Q seat
@@ -128,6 +128,15 @@ module _ (heap : Heap) (state : State) (book : Book) (rule : Rule heap state boo
   only_clears (stages.Clearing group kept) fits = record { all = fits.all; last = fits.for_clearing }
   only_clears (stages.Ending kept) fits = record { all = fits.all; last = fits.for_clearing }
   only_clears _ fits = tt
+
+  -- a scan in a spine stands before one of its words
+  pub within_spine : IsWithinSpine state.collector.stage
+  within_spine = by state.collector.stage rule.machine.collector_fit.at_stage
+    where
+      by : (stage : Stage) → FitsStage heap state.collector.phase state.collector.looked stage → IsWithinSpine stage
+      by (stages.Indexing s) fits = fits.index_within
+      by (stages.Spreading s target) fits = fits.index_within
+      by _ fits = tt
 
   -- where not all have answered the last phase no marks are cleared
   pub no_clears : ¬ IsLastAnswered heap state.collector → OnlyClears ⊥ state.collector.stage

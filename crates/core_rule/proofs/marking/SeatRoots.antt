@@ -4,7 +4,7 @@ use Rattle.heap_model.specs.declared.heap.Heap.{Heap}
 use Rattle.heap_model.specs.account.PhaseCounts.{phase}
 use Rattle.core_machine.specs.collector.FitsTurns.{IsMarking}
 use Rattle.core_machine.specs.declared.collector.stage.Stage.TheVariants as stages
-use Rattle.core_machine.specs.declared.place.Access.TheVariants.{LoadingMeta, Walking, Getting, Naming, LoadingOld, ShadingOld, ShadingNew, Swapping}
+use Rattle.core_machine.specs.declared.place.Access.TheVariants.{LoadingMeta, Walking, Locating, Indexing, Getting, Naming, LoadingOld, ShadingOld, ShadingNew, Swapping}
 use Rattle.core_machine.specs.declared.place.Place.{Place}
 use Rattle.core_machine.specs.declared.place.Place.TheVariants as places
 use Rattle.core_machine.specs.machine.Machine.{State, seat_at}
@@ -56,6 +56,8 @@ module _ (heap : Heap) (state : State) (book : Book) (rule : Rule heap state boo
   loaded_by_place : (place : Place) → seat.place ≡ place → FitsWay seat place → WhileAccess (AtCall Marked seat) place → WhileAccess (ShadedStands book.colour seat) place → IfSome (head_of seat.loaded) Marked
   loaded_by_place (places.Access LoadingMeta) is fits call shaded = nothing_loaded fits.none_loaded
   loaded_by_place (places.Access Walking) is fits call shaded = nothing_loaded fits.none_loaded
+  loaded_by_place (places.Access Locating) is fits call shaded = nothing_loaded fits.none_loaded
+  loaded_by_place (places.Access Indexing) is fits call shaded = nothing_loaded fits.none_loaded
   loaded_by_place (places.Access Getting) is fits call shaded = nothing_loaded fits.1
   loaded_by_place (places.Access Naming) is fits call shaded = call
   loaded_by_place (places.Access LoadingOld) is fits call shaded = nothing_loaded fits.2

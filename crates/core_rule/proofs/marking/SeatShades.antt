@@ -15,9 +15,10 @@ use Rattle.core_rule.specs.Marking.{IsPart}
 use Rattle.core_rule.specs.Roots.{IsInMarking}
 use Rattle.core_rule.specs.Paths.{IsReached}
 use Rattle.core_rule.specs.Rule.{Rule}
-use Rattle.core_rule.proofs.colours.LeadsFrames.{leads_control, control_leads}
+use Rattle.core_rule.proofs.colours.LeadsFrames.{leads_control, control_leads, same_ahead}
 use Rattle.core_rule.proofs.colours.ShadeColours.{with_mark}
-use Rattle.core_rule.proofs.marking.Marks.{MarksGoOn, RootsGoOn, roots_more, all_answered, no_clears}
+use Rattle.core_rule.proofs.colours.SpineStays.{SpineStays, same_spine}
+use Rattle.core_rule.proofs.marking.Marks.{MarksGoOn, RootsGoOn, roots_more, all_answered, no_clears, within_spine}
 use Rattle.core_rule.proofs.marking.MarkingFrames.{OnlyClears}
 use Rattle.core_rule.proofs.marking.Paths.{shade_reached}
 use Rattle.core_rule.proofs.marking.ShadeMarks.{marking_shaded}
@@ -35,6 +36,9 @@ module _ (heap : Heap) (state : State) (book : Book) (rule : Rule heap state boo
   pub leads_on : (x source g : ℕ) → WordPointsTo heap state.words x source g → WordPointsTo heap words_marked x source g
   leads_on x source g leads = control_leads heap state.words (f / 16) _ group_below x source g leads
 
+  spines_on : (x : ℕ) → SpineStays heap state.words words_marked x
+  spines_on x = same_spine heap state.words words_marked x (same_ahead heap state.words (Control (f / 16)) _ (omega (arith, group_below)) x)
+
   -- marking comes to all that it came to
   pub comes_shaded : (x : ℕ) → IsReached heap state.words book.owner book.colour x → IsReached heap words_marked book.owner (with_mark book.colour f) x
   comes_shaded = shade_reached heap state.words words_marked book.owner book.colour f leads_on
@@ -44,7 +48,8 @@ module _ (heap : Heap) (state : State) (book : Book) (rule : Rule heap state boo
       → (IsInMarking state.collector → (seat_at state number).answered ≡ state.collector.phase → IsReached heap state.words book.owner book.colour f)
       → RootsGoOn heap state book rule number here next → ((seat_at state number).answered % 7 ≢ 6) → MarksGoOn heap state book (record book { colour = with_mark book.colour f }) words_marked next
   marks_shaded number here next part present same comes roots early = record {
-    heap_on = marking_shaded heap state.words words_marked book.owner book.colour book.fragments f part leads_back state.collector.phase state.collector.stage unclear passing rule.marks_stand.heap_marks;
+    heap_on = marking_shaded heap state.words words_marked book.owner book.colour book.fragments f part leads_back spines_on state.collector.phase state.collector.stage
+        (within_spine heap state book rule) unclear passing rule.marks_stand.heap_marks;
     reached_on = λ marks. comes_shaded;
     own_on = λ marks answered. roots_more (IsReached heap state.words book.owner book.colour) (IsReached heap words_marked book.owner (with_mark book.colour f)) comes_shaded next
         (roots marks (rule.marks_stand.roots number here marks (sym same ∙ answered)));

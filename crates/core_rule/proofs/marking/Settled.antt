@@ -1,6 +1,6 @@
 -- Whose each fragment is once marking has ended: what is white of a kept object is to be freed.
 use Rattle.std.proofs.Common.{◌≡◌, ◌≢◌, ◌⊎◌, ℕ, inl, inr, refl, sym, subst}
-use Rattle.core_rule.specs.Book.{Book, Colour, White, Grey, Black}
+use Rattle.core_rule.specs.Book.{Colour, White, Grey, Black}
 use Rattle.core_rule.specs.Owners.{Owner, Borne, Kept, Dead, born_bit}
 
 -- what becomes of a fragment by its colour
@@ -11,10 +11,6 @@ settled_owner o colour = o
 -- whose each is then
 abbrev pub settled_owners : (ℕ → Owner) → (ℕ → Colour) → ℕ → Owner
 settled_owners owner colour f = settled_owner (owner f) (colour f)
-
--- the book then
-abbrev pub settled_book : Book → Book
-settled_book book = record book { owner = settled_owners book.owner book.colour }
 
 -- what holds of a fragment that is kept or to be freed, whichever it is, goes on to hold
 pub settled_holds : (P : Owner → Type 0) → ((i k : ℕ) → P (Kept i k) → P (Dead i k)) → (o : Owner) (c : Colour) → P o → P (settled_owner o c)

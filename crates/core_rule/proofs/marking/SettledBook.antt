@@ -1,5 +1,5 @@
 -- The rule's parts for the book once marking has ended.
-use Rattle.std.proofs.Common.{◌≡◌, ◌≢◌, ℕ, ◌<◌, ◌≤◌, ◌%◌, Bool, true, false, drop, inl, inr, refl, sym, ap, ◌∙◌, subst, arith}
+use Rattle.std.proofs.Common.{◌≡◌, ◌≢◌, ℕ, ◌<◌, ◌≤◌, ◌%◌, Bool, true, false, length, drop, inl, inr, refl, sym, ap, ◌∙◌, subst, arith}
 use Rattle.heap_model.specs.declared.heap.Heap.{Heap}
 use Rattle.heap_model.specs.account.Cycles.{graph_of}
 use Rattle.heap_model.specs.account.PhaseCounts.{phase}
@@ -13,7 +13,7 @@ use Rattle.core_rule.specs.Book.{Book, White, Grey}
 use Rattle.core_rule.specs.Marking.{AfterMarking, MarkingStands}
 use Rattle.core_rule.specs.Owners.{Owner, Borne, Kept, Dead, IsSeated, IsBoards, taken_bit, free_bit, born_bit, holds_bit, bears_bit}
 use Rattle.core_rule.specs.Paths.{IsWhite}
-use Rattle.core_rule.specs.Objects.{cells_at}
+use Rattle.core_rule.specs.Objects.{node_at}
 use Rattle.core_rule.specs.Rule.{Rule, HeapStands, SeatStands}
 use Rattle.core_rule.proofs.colours.Births.{births_stay}
 use Rattle.core_rule.proofs.counts.CountMoves.{used_same}
@@ -23,15 +23,17 @@ use Rattle.core_rule.proofs.gather.GatherMoves.{gathers_same}
 use Rattle.core_rule.proofs.hand.HandMoves.{holding_stays}
 use Rattle.core_rule.proofs.owners.Seated.{borne_by_seat}
 use Rattle.core_rule.proofs.marking.Marks.{none_dead}
+use Rattle.core_rule.proofs.marking.Ended.{first_marked}
+use Rattle.core_rule.proofs.spines.DyingWords.{settled_book, spines_settle, spine_settles, ahead_settles}
 use Rattle.core_rule.proofs.marking.SeatRoots.{answered_marking, all_roots_marked, loaded_marked}
-use Rattle.core_rule.proofs.marking.Settled.{settled_owner, settled_book, settled_holds, settled_same, settled_was, settled_dead, settled_borne, settled_white}
+use Rattle.core_rule.proofs.marking.Settled.{settled_owner, settled_holds, settled_same, settled_was, settled_dead, settled_borne, settled_white}
 use Rattle.core_rule.proofs.marking.SettledObjects.{objects_later}
 use Rattle.core_rule.proofs.marking.SettledSeats.{holds_later, ways_later, awaits_later}
 
 module _ (heap : Heap) (state : State) (book : Book) (rule : Rule heap state book) (marks : IsMarking heap.seats state.collector.phase state.collector.looked)
     (goes_on : state.collector.stage ≢ stages.Advancing) (none : (f : ℕ) → book.colour f ≢ Grey) where
   abbrev now : Book
-  now = settled_book book
+  now = settled_book heap book
 
   third : phase book.history % 7 ≡ 3
   third = let told = marks.for_marking in let same = rule.collector_stands.phase_told in omega (arith, told, same)
@@ -56,6 +58,7 @@ module _ (heap : Heap) (state : State) (book : Book) (rule : Rule heap state boo
         };
         ids = stands.ids;
         objects = objects_later heap state book rule third none;
+        spines = spines_settle heap state.words book.owner book.colour book.fragments book.spine_owner heap.seats (length book.made) (node_at (graph_of heap book.history) book.made) book.spines stands.spines;
         used = used_same heap book.owner now.owner book.history (same taken_bit (λ i k. refl)) stands.used;
         cycle = record {
           word = stands.cycle.word;
@@ -78,10 +81,12 @@ module _ (heap : Heap) (state : State) (book : Book) (rule : Rule heap state boo
               record { held = same (holds_bit number) (λ i k. refl); borne = same (bears_bit number) (λ i k. refl) } stands.own.holding;
           stored = stands.own.stored;
           together = stands.own.together;
+          spine = spine_settles heap state.words book.owner book.colour book.fragments book.spine_owner number seat stands.own.spine;
         };
         names = record {
           registers = λ r awake. holds_later book.made book.owner book.colour book.fragments _ _ (roots.registers r) (stands.names.registers r awake);
-          way = ways_later book.made book.owner book.colour book.fragments seat roots.registers loaded (cells_at (graph_of heap book.history) book.made) seat.place stands.names.way;
+          way = ways_later book.made book.owner book.colour book.fragments seat roots.registers loaded (node_at (graph_of heap book.history) book.made) seat.place stands.names.way;
+          ahead = ahead_settles heap state.words book.owner book.colour book.fragments book.spine_owner (first_marked heap state book rule third none) seat seat.place stands.names.ahead;
         };
         told = record {
           list = record {
@@ -92,6 +97,7 @@ module _ (heap : Heap) (state : State) (book : Book) (rule : Rule heap state boo
           counts = stands.told.counts;
           began = stands.told.began;
           gathers = gathers_same heap book.owner now.owner number (drop (book.begun number) book.history) seat.cursor seat.tried seat.given (same free_bit (λ i k. refl)) stands.told.gathers;
+          used = stands.told.used;
         };
         cycle = record {
           answers_told = stands.cycle.answers_told;
@@ -139,6 +145,7 @@ module _ (heap : Heap) (state : State) (book : Book) (rule : Rule heap state boo
   marking_settles = record {
     grey = λ f grey. absurd (none f grey);
     scan = tt;
+    few = tt;
     pass = tt;
     sweep_stands = λ swept. absurd (omega (arith, swept, marks.for_marking));
     alive = λ going. absurd (going (inl (marks.for_marking, refl)));

@@ -1,5 +1,5 @@
 -- The objects once marking has ended: those that are kept then are whole, and refer to kept ones alone.
-use Rattle.std.proofs.Common.{◌≡◌, ◌≢◌, ℕ, ◌<◌, ◌%◌, List, length, slice_get, Some, IfSome, ap, ◌∙◌, arith}
+use Rattle.std.proofs.Common.{◌≡◌, ◌≢◌, ℕ, ◌<◌, ◌%◌, List, length, slice_get, Some, IfSome, ap, ◌∙◌}
 use Rattle.std.proofs.lemmas.Option.{slice_get_within}
 use Rattle.heap_model.specs.declared.graph.cell.Cell.{Cell}
 use Rattle.heap_model.specs.declared.heap.Heap.{Heap}
@@ -10,7 +10,6 @@ use Rattle.heap_model.specs.account.Cycles.{graph_of}
 use Rattle.heap_model.specs.account.PhaseCounts.{phase}
 use Rattle.heap_model.specs.graph.Graph.{Node}
 use Rattle.core_machine.specs.machine.Machine.{State}
-use Rattle.core_machine.specs.declared.table.address.Address.TheVariants.{Word}
 use Rattle.core_machine.specs.table.Decode.{pointer_in}
 use Rattle.core_rule.specs.Book.{Book, Colour, Grey, fragment_at, id_at, object_head, object_number}
 use Rattle.core_rule.specs.Colours.{IsMarked, WordPointsTo}
@@ -21,7 +20,7 @@ use Rattle.core_rule.specs.Ways.{row_in, part_in}
 use Rattle.core_rule.proofs.colours.SourceCases.{word_leads}
 use Rattle.core_rule.proofs.lists.Options.{each_some}
 use Rattle.core_rule.proofs.marking.Ended.{leads_marked, first_marked, whole_marked}
-use Rattle.core_rule.proofs.marking.Settled.{settled_owners, settled_book, settled_was, settled_stays}
+use Rattle.core_rule.proofs.marking.Settled.{settled_owners, settled_was, settled_stays}
 use Rattle.core_rule.proofs.ways.KeptWords.{kept_within, has_room, row_there, field_found}
 use Rattle.core_rule.proofs.ways.ArrayWords.{plain_lead, value_plain}
 use Rattle.core_rule.proofs.ways.Rows.{part_fits}
@@ -39,7 +38,7 @@ module _ (made : List Id) (owner : ℕ → Owner) (colour : ℕ → Colour) (fra
 
 module _ (heap : Heap) (state : State) (book : Book) (rule : Rule heap state book) (third : phase book.history % 7 ≡ 3) (none : (f : ℕ) → book.colour f ≢ Grey) where
   abbrev now : ℕ → Owner
-  now = (settled_book book).owner
+  now = settled_owners book.owner book.colour
 
   abbrev head : Id → ℕ
   head = object_head book.made book.fragments

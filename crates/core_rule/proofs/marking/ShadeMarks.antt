@@ -1,18 +1,21 @@
 -- A fragment of a kept object is marked: what stays of marking.
-use Rattle.std.proofs.Common.{◌⊎◌, ◌≡◌, ℕ, ◌≤◌, ◌/◌, List, Some, false, inl, inr, refl, sym, ap, ◌∙◌, subst}
+use Rattle.std.proofs.Common.{◌⊎◌, ◌≡◌, ℕ, ◌+◌, ◌<◌, ◌≤◌, ◌/◌, List, Some, false, inl, inr, refl, sym, ap, ◌∙◌, subst, arith}
 use Rattle.std.proofs.lemmas.Bool.Decides.{eqb_tells}
 use Rattle.heap_model.specs.declared.heap.Heap.{Heap}
+use Rattle.heap_words.specs.Spot.{spot_in}
+use Rattle.core_machine.specs.declared.collector.stage.SpineScan.{SpineScan}
 use Rattle.core_machine.specs.declared.collector.stage.Stage.{Stage}
 use Rattle.core_machine.specs.declared.collector.stage.Stage.TheVariants as stages
 use Rattle.core_rule.specs.Book.{Colour, White, Grey, fragment_at}
 use Rattle.core_rule.specs.Colours.{IsMarked, WordPointsTo}
-use Rattle.core_rule.specs.Marking.{IsPart, MayMark, IsSeen, IsSeenWhole, ScanStands, PassStands, AfterMarking, MarkingStands}
+use Rattle.core_rule.specs.Marking.{IsPart, MayMark, IsSeen, IsSeenWhole, IsSpineOf, ScanStands, PassStands, AfterMarking, MarkingStands}
 use Rattle.core_rule.specs.Sweep.{SweepStands}
 use Rattle.core_rule.specs.Owners.{Owner, Kept, Dead, born_bit}
 use Rattle.core_rule.specs.Paths.{Guarded, from_grey, from_white, IsReached}
 use Rattle.core_rule.proofs.colours.ShadeColours.{with_mark, mark_away, mark_keeps}
+use Rattle.core_rule.proofs.colours.SpineStays.{SpineStays}
 use Rattle.core_rule.proofs.cycle.CycleFrames.{watches_stay}
-use Rattle.core_rule.proofs.marking.MarkingFrames.{OnlyClears}
+use Rattle.core_rule.proofs.marking.MarkingFrames.{IsWithinSpine, OnlyClears}
 use Rattle.core_rule.proofs.marking.Paths.{white_or_marked, grey_on, same_marked}
 
 -- a path begins at a grey fragment
@@ -63,16 +66,26 @@ module _ (heap : Heap) (words now : List ℕ) (owner : ℕ → Owner) (colour : 
     | inr new ↦ subst (IsPart owner) (sym new.0) kept
   ]
 
-  scan_shaded : (stage : Stage) → ScanStands heap words owner colour fragments stage → ScanStands heap now owner shaded fragments stage
-  scan_shaded (stages.Scanning scan) stands = seen_on scan.fragment scan.part stands
-  scan_shaded (stages.Shading scan target next) stands = (
+  spine_on : ((f : ℕ) → SpineStays heap words now f) → (s : SpineScan) → s.index < s.words → IsSpineOf heap words s → IsSpineOf heap now s
+  spine_on stays s within is = record {
+    as_many = is.as_many ∙ sym (stays s.scan.fragment).as_many;
+    there = is.there ∙ ap spot_in (sym ((stays s.scan.fragment).there (omega (arith, within, is.as_many))));
+  }
+
+  scan_shaded : ((f : ℕ) → SpineStays heap words now f) → (stage : Stage) → IsWithinSpine stage → ScanStands heap words owner colour fragments stage → ScanStands heap now owner shaded fragments stage
+  scan_shaded stays (stages.Scanning scan) within stands = seen_on scan.fragment scan.part stands
+  scan_shaded stays (stages.Shading scan target next) within stands = (
     seen_on scan.fragment scan.part stands.0,
     watches_stay heap words now colour shaded (mark_keeps colour m) scan.fragment scan.part (λ g leads. inl (back scan.fragment scan.part g leads)) (Some target) stands.1,
     may_on target stands.2,
     stands.3,
   )
-  scan_shaded (stages.Blackening scan) stands = whole_on scan.fragment stands
-  scan_shaded _ stands = tt
+  scan_shaded stays (stages.Locating scan count) within stands = (seen_on scan.fragment 4 stands.0, stands.1 ∙ sym (stays scan.fragment).as_many)
+  scan_shaded stays (stages.Indexing s) within stands = (seen_on s.scan.fragment (4 + s.index) stands.0, spine_on stays s within stands.1)
+  scan_shaded stays (stages.Spreading s target) within stands =
+      (seen_on s.scan.fragment (4 + s.index) stands.0, spine_on stays s within stands.1, (stays s.scan.fragment).leads s.index target stands.2, may_on target stands.3)
+  scan_shaded stays (stages.Blackening scan) within stands = whole_on scan.fragment stands
+  scan_shaded stays _ within stands = tt
 
   -- a pass has its grey fragment, where marking comes to the one that is marked
   pass_shaded : (stage : Stage) → ((group : ℕ) → stage ≡ stages.Passing group false → IsReached heap words owner colour m) → PassStands colour stage → PassStands shaded stage
@@ -120,11 +133,12 @@ module _ (heap : Heap) (words now : List ℕ) (owner : ℕ → Owner) (colour : 
   sweep_shaded phase _ unclear stands = tt
 
   -- all of it stands, where no marks are cleared
-  pub marking_shaded : (phase : ℕ) (stage : Stage) → OnlyClears ⊥ stage → ((group : ℕ) → stage ≡ stages.Passing group false → IsReached heap words owner colour m)
+  pub marking_shaded : ((f : ℕ) → SpineStays heap words now f) → (phase : ℕ) (stage : Stage) → IsWithinSpine stage → OnlyClears ⊥ stage → ((group : ℕ) → stage ≡ stages.Passing group false → IsReached heap words owner colour m)
       → MarkingStands heap words owner colour fragments phase stage → MarkingStands heap now owner shaded fragments phase stage
-  marking_shaded phase stage unclear comes stands = record {
+  marking_shaded stays phase stage within unclear comes stands = record {
     grey = grey_part stands.grey;
-    scan = scan_shaded stage stands.scan;
+    scan = scan_shaded stays stage within stands.scan;
+    few = stands.few;
     pass = pass_shaded stage comes stands.pass;
     sweep_stands = sweep_shaded phase stage unclear stands.sweep_stands;
     alive = stands.alive;

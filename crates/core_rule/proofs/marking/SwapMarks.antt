@@ -50,7 +50,7 @@ module _ (heap : Heap) (state : State) (book : Book) (number : ℕ) (rule : Rule
     -- each other source leads where it led
     leads_later : state.collector.phase % 7 ≡ 3 → (f source g : ℕ) → WordPointsTo heap state.words f source g → WordPointsTo heap now f source g ⊎ IsMarked book.colour g
     leads_later marking f source g leads =
-        elim (but_leads heap state.words seat.reached seat.part word (swap_within heap state book number rule here) (swap_part heap state book number rule here place).below
+        elim (but_leads heap state.words seat.reached seat.part word (swap_within heap state book number rule here) (swap_part heap state book number rule here place)
         (swap_no_spine heap state book number rule here place) (swapped_no_spine heap state book number rule here place value stamp holds names small word is_word) f source g leads)
         as (λ _. WordPointsTo heap now f source g ⊎ IsMarked book.colour g) [
           | inl still ↦ inl still
@@ -76,6 +76,6 @@ module _ (heap : Heap) (state : State) (book : Book) (number : ℕ) (rule : Rule
             | inl same ↦ subst (SpineStays heap state.words now) (sym same) (no_spine_stays heap state.words now seat.reached (swap_no_spine heap state book number rule here place)
                 (swapped_no_spine heap state book number rule here place value stamp holds names small word is_word))
             | inr apart ↦ same_spine heap state.words now f (same_beside heap state.words seat.reached seat.part word (swap_within heap state book number rule here)
-                (swap_part heap state book number rule here place).below f apart)
+                (swap_part heap state book number rule here place) f apart)
           ];
         }

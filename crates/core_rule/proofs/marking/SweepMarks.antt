@@ -7,7 +7,7 @@ use Rattle.core_machine.specs.collector.Sweeping.{after_swept, after_examined, a
 use Rattle.core_machine.specs.declared.collector.stage.Stage.{Stage}
 use Rattle.core_machine.specs.declared.collector.stage.Stage.TheVariants as stages
 use Rattle.core_rule.specs.Book.{Colour}
-use Rattle.core_rule.specs.Marking.{ScanStands, PassStands, AfterMarking, MarkingStands}
+use Rattle.core_rule.specs.Marking.{ScanStands, IsFewWords, PassStands, AfterMarking, MarkingStands}
 use Rattle.core_rule.specs.Sweep.{SweepStands, AreFreed, AreDead}
 use Rattle.core_rule.specs.Owners.{Owner}
 use Rattle.core_rule.proofs.owners.DeadOwners.{freed_on}
@@ -28,11 +28,12 @@ after_cleared_either P heap group kept on end = elim (leb_tells (suc (group + 1)
 
 module _ (heap : Heap) (words : List ℕ) (owner : ℕ → Owner) (colour : ℕ → Colour) (fragments : ℕ → List ℕ) (phase : ℕ) (sweeps : phase % 7 ≡ 5) (after : AfterMarking owner colour) where
   -- marking is over
-  swept_at : (stage : Stage) → ScanStands heap words owner colour fragments stage → PassStands colour stage → SweepStands heap owner colour phase stage
+  swept_at : (stage : Stage) → ScanStands heap words owner colour fragments stage → IsFewWords stage → PassStands colour stage → SweepStands heap owner colour phase stage
       → MarkingStands heap words owner colour fragments phase stage
-  swept_at stage scan pass sweep = record {
+  swept_at stage scan few pass sweep = record {
     grey = λ f grey. absurd (after.no_grey f grey);
     scan = scan;
+    few = few;
     pass = pass;
     sweep_stands = sweep;
     alive = λ going. absurd (going (inr (inr sweeps)));
@@ -41,17 +42,17 @@ module _ (heap : Heap) (words : List ℕ) (owner : ℕ → Owner) (colour : ℕ 
 
   -- the next group's turn comes where nothing is to be freed up to this one
   pub swept_further : (group : ℕ) → AreFreed owner (group + 1) → MarkingStands heap words owner colour fragments phase (after_swept heap group)
-  swept_further group freed = after_swept_either (MarkingStands heap words owner colour fragments phase) heap group (swept_at (stages.Sweeping (group + 1)) tt tt freed)
-      (λ last. swept_at stages.Advancing tt tt (λ is f i k less. freed f i k (omega (arith, less, last))))
+  swept_further group freed = after_swept_either (MarkingStands heap words owner colour fragments phase) heap group (swept_at (stages.Sweeping (group + 1)) tt tt tt freed)
+      (λ last. swept_at stages.Advancing tt tt tt (λ is f i k less. freed f i k (omega (arith, less, last))))
 
   module _ (group dead : ℕ) (small : dead < 2 ^ 16) (freed : AreFreed owner group) (are : AreDead owner group dead) where
     -- behind the last dead one they are freed, where there are any
     examined_all : MarkingStands heap words owner colour fragments phase (if dead == 0 then after_swept heap group else stages.Freeing group dead)
     examined_all = elim (eqb_tells dead 0) as (λ _. MarkingStands heap words owner colour fragments phase (if dead == 0 then after_swept heap group else stages.Freeing group dead)) [
       | inl none ↦ rw none.0 (swept_further group (freed_on owner group dead small are none.1 freed))
-      | inr some ↦ rw some.0 (swept_at (stages.Freeing group dead) tt tt (freed, are))
+      | inr some ↦ rw some.0 (swept_at (stages.Freeing group dead) tt tt tt (freed, are))
     ]
 
     pub examined_further : (place : Option ℕ) → MarkingStands heap words owner colour fragments phase (after_examined heap group dead place)
-    examined_further (Some place) = swept_at (stages.Examining group dead place) tt tt (freed, are)
+    examined_further (Some place) = swept_at (stages.Examining group dead place) tt tt tt (freed, are)
     examined_further None = examined_all

@@ -1,13 +1,13 @@
 -- The words with which an object is stored are those of its cells, which were never set.
 use Rattle.std.specs.Prelude.{if◌then◌else◌}
-use Rattle.std.proofs.Common.{◌≡◌, ℕ, zero, suc, ◌+◌, ◌-◌, ◌*◌, Bool, true, false, List, replicate, cond, slice_get, refl, ap, ◌∙◌, arith}
+use Rattle.std.proofs.Common.{◌≡◌, ℕ, zero, suc, ◌+◌, ◌-◌, ◌*◌, Bool, true, false, List, replicate, cond, slice_get, refl, arith}
 use Rattle.std.proofs.lemmas.Bool.Decides.{nat_tests}
 use Rattle.std.proofs.lemmas.List.{length-replicate}
 use Rattle.heap_words.specs.declared.name.Name.{Name}
 use Rattle.heap_words.specs.declared.spot.Spot.{Spot}
 use Rattle.heap_model.specs.declared.id.Id.{Id}
 use Rattle.heap_model.specs.graph.Graph.{fresh, unset}
-use Rattle.core_machine.specs.table.Newborn.{record_word_of, sentinel_word_of, array_word_of}
+use Rattle.core_machine.specs.table.Newborn.{record_word_of, array_word_of}
 use Rattle.core_rule.specs.Objects.{field_word, is_cell, record_object_word, array_object_word, object_word}
 
 -- the words of a record or an array of so many cells that were never set

@@ -50,7 +50,7 @@ use Rattle.core_rule.proofs.hand.Bodies.{bare_hand}
 use Rattle.core_rule.proofs.entries.PhasesTold.{told_cases, told_if}
 use Rattle.core_rule.proofs.looks.Words.{word_below}
 use Rattle.core_rule.proofs.runs.Plays.{behind_keeps, IsPlainReply, MayPlay, taking, giving, answering, saying, plain_keeps, finds_in_play}
-use Rattle.core_rule.proofs.entries.RecordCommands.{full_keeps}
+use Rattle.core_rule.proofs.entries.MakingCommands.{full_keeps}
 
 -- a seat that is about to be noted stands behind by its word
 abbrev pub NotedNow : Heap → List ℕ → Place → Type 0
@@ -137,7 +137,7 @@ refusal heap state book number rule here placed alone =
     (subst (λ n. GathersRight heap book.owner number (drop (book.begun number) book.history) seat.cursor n seat.given) refuses.0.all_tried stands.told.gathers) in
     let less : length seat.reserve + seat.given < need seat = omega (arith, refuses.0.too_few) in
     one heap book.history number (full_entry number seat) (eq-eqb number number refl)
-    (λ run. full_keeps seat.command refuses.0.makes.a_record heap true book.history number (length seat.reserve + seat.given)
+    (λ run. full_keeps seat.command refuses.0.makes.an_object heap true book.history number (length seat.reserve + seat.given)
     (omega (arith, own)) (omega (arith, own, fits.own.small_reserve)) less finds)
 
 -- where a seat that is noted stands behind by its word, it does so by the history

@@ -78,6 +78,15 @@ pub record SameGrants (heap : Heap) (book now : Book) : Type 0 where
       ≡ kept_words (length book.made) (node_at (graph_of heap book.history) book.made) book.owner book.fragments
   pub gone : now.gone ≡ book.gone
 
+-- also where it went on twice
+pub grants_on : (heap : Heap) (book middle now : Book) → SameGrants heap book middle → SameGrants heap middle now → SameGrants heap book now
+grants_on heap book middle now first then = record {
+  told = then.told ∙ first.told;
+  returned = then.returned ∙ first.returned;
+  kept = then.kept ∙ first.kept;
+  gone = then.gone ∙ first.gone;
+}
+
 -- so the budget stands after a seat's step
 pub budgets_stay : (heap : Heap) (state : State) (book : Book) (number : ℕ) (words : List ℕ) (seat : Seat) (now : Book) → number < heap.seats → length state.seats ≡ heap.seats
     → LeavesSpines heap state.words words → SameWeights (seat_at state number) seat → SameGrants heap book now

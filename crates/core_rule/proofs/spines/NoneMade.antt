@@ -44,15 +44,15 @@ pub record SameWeights (old now : Seat) : Type 0 where
   pub unplaced : unplaced_at now now.place ≡ unplaced_at old old.place
   pub refused : refused_at now now.place ≡ refused_at old old.place
 
-none_granted : (seat : Seat) (place : Place) → MakesNone place → granted_at seat place ≡ 0
+pub none_granted : (seat : Seat) (place : Place) → MakesNone place → granted_at seat place ≡ 0
 none_granted seat (places.Making place) none = absurd none
 none_granted seat _ none = refl
 
-none_unplaced : (seat : Seat) (place : Place) → MakesNone place → unplaced_at seat place ≡ 0
+pub none_unplaced : (seat : Seat) (place : Place) → MakesNone place → unplaced_at seat place ≡ 0
 none_unplaced seat (places.Making place) none = absurd none
 none_unplaced seat _ none = refl
 
-none_refused : (seat : Seat) (place : Place) → MakesNone place → refused_at seat place ≡ 0
+pub none_refused : (seat : Seat) (place : Place) → MakesNone place → refused_at seat place ≡ 0
 none_refused seat (places.Making place) none = absurd none
 none_refused seat _ none = refl
 

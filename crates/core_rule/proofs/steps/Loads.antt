@@ -2,6 +2,7 @@
 use Rattle.std.proofs.Common.{◌≡◌, ℕ, ◌<◌, false, List, [], ◌∷◌, ◌++◌, slice_set, refl, sym, ◌∙◌, subst, arith, ap}
 use Rattle.std.proofs.lemmas.Bool.{eq-eqb}
 use Rattle.std.proofs.lemmas.List.{append-nil}
+use Rattle.heap_words.specs.declared.spot.Spot.{Spot}
 use Rattle.heap_model.specs.declared.command.Command.{Command}
 use Rattle.heap_model.specs.declared.entry.Entry.{Entry}
 use Rattle.heap_model.specs.declared.entry.Entry.TheVariants.{Said}
@@ -23,7 +24,7 @@ use Rattle.core_machine.specs.seat.Fits.{IsAtRest, IsSilent}
 use Rattle.core_machine.specs.table.Layout.{at, put}
 use Rattle.core_machine.specs.machine.Machine.{State, seat_at}
 use Rattle.core_machine.specs.seat.Access.{has_barrier_of}
-use Rattle.core_machine.specs.seat.Seat.{Seat, with_entries, call_over, after_call}
+use Rattle.core_machine.specs.seat.Seat.{Seat, no_spot, with_entries, call_over, after_call}
 use Rattle.core_machine.specs.declared.seat.looks.Looks.{Looks}
 use Rattle.core_machine.specs.seat.Looks.{forgotten}
 use Rattle.core_machine.specs.machine.Value.{IsMachine}
@@ -33,14 +34,18 @@ use Rattle.core_rule.specs.Book.{Book}
 use Rattle.core_rule.specs.Counts.{OwnList}
 use Rattle.core_rule.specs.Cycle.{SeatInCycle}
 use Rattle.core_rule.specs.Gathers.{Began, IsAnswered}
-use Rattle.core_rule.specs.Objects.{cells_at}
+use Rattle.core_rule.specs.Objects.{node_at}
 use Rattle.core_rule.specs.Registers.{Registers}
-use Rattle.core_rule.specs.Rule.{Rule}
+use Rattle.core_rule.specs.Rule.{Rule, OwnStands}
+use Rattle.core_rule.specs.Spines.{WordStandsAhead}
 use Rattle.core_rule.specs.Ways.{WayStands}
 use Rattle.core_rule.proofs.colours.SpineStays.{same_sources}
 use Rattle.core_rule.proofs.marking.Marks.{Leaves, RootsGoOn, marks_go_on, leaves_words}
 use Rattle.core_rule.proofs.footprint.BookGoing.{book_stays}
-use Rattle.core_rule.proofs.steps.Assemble.{Keeps, seat_steps}
+use Rattle.core_rule.proofs.steps.Assemble.{Keeps, seat_steps, step_budgets}
+use Rattle.core_rule.proofs.spines.NoneMade.{MakesNone, none_has_place, none_used, none_weights}
+use Rattle.core_rule.proofs.spines.OtherWords.{spines_left_none}
+use Rattle.core_rule.proofs.spines.SpineFrames.{spine_away}
 use Rattle.core_rule.proofs.cycle.CycleHistory.{cycle_own}
 use Rattle.core_rule.proofs.entries.Others.{gathers_stay}
 use Rattle.core_rule.proofs.entries.OwnEntries.{counts_own, counts_same}
@@ -53,9 +58,9 @@ use Rattle.core_rule.proofs.cycle.CycleFrames.{leaves_same}
 use Rattle.core_rule.proofs.cycle.Unwatched.{IsUnwatchedAt, cycle_unwatched}
 
 -- the seat with other registers, elsewhere on its way, with what it has found for its collects, and with more entries
-abbrev pub went : Seat → List Register → ℕ → ℕ → ℕ → ℕ → Place → Looks → List Entry → Seat
-went seat registers reached links part loaded place looks added =
-    record seat { registers = registers; reached = reached; links = links; part = part; loaded = loaded; place = place; looks = looks; mine = seat.mine ++ added }
+abbrev pub went : Seat → List Register → ℕ → ℕ → ℕ → Spot → ℕ → Place → Looks → List Entry → Seat
+went seat registers reached links part address loaded place looks added =
+    record seat { registers = registers; reached = reached; links = links; part = part; address = address; loaded = loaded; place = place; looks = looks; mine = seat.mine ++ added }
 
 -- the state after a load, which writes back what it found
 abbrev pub loaded_state : Heap → State → ℕ → Address → Seat → State
@@ -64,30 +69,30 @@ loaded_state heap state number a seat = record state { words = put heap state.wo
 -- a call that has its way alone is over where its way is
 pub ends_went : (heap : Heap) (state : State) (book : Book) (number : ℕ) (a : Address) (registers : List Register) (looks : Looks) (added shown : List Entry)
     → IsAtRest (seat_at state number) → IsSilent (seat_at state number)
-    → (IsMachine heap (loaded_state heap state number a (went (seat_at state number) registers 0 0 0 0 places.Idle looks added))
-    → Keeps heap state (loaded_state heap state number a (went (seat_at state number) registers 0 0 0 0 places.Idle looks added)) book book.begun shown)
+    → (IsMachine heap (loaded_state heap state number a (went (seat_at state number) registers 0 0 0 no_spot 0 places.Idle looks added))
+    → Keeps heap state (loaded_state heap state number a (went (seat_at state number) registers 0 0 0 no_spot 0 places.Idle looks added)) book book.begun shown)
     → IsMachine heap (loaded_state heap state number a (with_entries (record (call_over (record (seat_at state number) { registers = registers })) { looks = looks }) added))
     → Keeps heap state (loaded_state heap state number a (with_entries (record (call_over (record (seat_at state number) { registers = registers })) { looks = looks }) added)) book book.begun shown
 ends_went heap state book number a registers looks added shown rest silent keeps =
     let seat : Seat = seat_at state number in
-    let same : with_entries (record (call_over (record seat { registers = registers })) { looks = looks }) added ≡ went seat registers 0 0 0 0 places.Idle looks added
+    let same : with_entries (record (call_over (record seat { registers = registers })) { looks = looks }) added ≡ went seat registers 0 0 0 no_spot 0 places.Idle looks added
     = ap (λ (s : Seat). record s { registers = registers; looks = looks; mine = seat.mine ++ added }) (over_way seat rest silent) in
     subst (λ (s : Seat). IsMachine heap (loaded_state heap state number a s) → Keeps heap state (loaded_state heap state number a s) book book.begun shown) (sym same) keeps
 
 -- and has forgotten what was found before where it ends with its reply
 pub over_went : (heap : Heap) (state : State) (book : Book) (number : ℕ) (a : Address) (registers : List Register) (added shown : List Entry)
     → IsAtRest (seat_at state number) → IsSilent (seat_at state number)
-    → (IsMachine heap (loaded_state heap state number a (went (seat_at state number) registers 0 0 0 0 places.Idle (forgotten (seat_at state number).looks) added))
-    → Keeps heap state (loaded_state heap state number a (went (seat_at state number) registers 0 0 0 0 places.Idle (forgotten (seat_at state number).looks) added)) book book.begun shown)
+    → (IsMachine heap (loaded_state heap state number a (went (seat_at state number) registers 0 0 0 no_spot 0 places.Idle (forgotten (seat_at state number).looks) added))
+    → Keeps heap state (loaded_state heap state number a (went (seat_at state number) registers 0 0 0 no_spot 0 places.Idle (forgotten (seat_at state number).looks) added)) book book.begun shown)
     → IsMachine heap (loaded_state heap state number a (with_entries (after_call (record (seat_at state number) { registers = registers })) added))
     → Keeps heap state (loaded_state heap state number a (with_entries (after_call (record (seat_at state number) { registers = registers })) added)) book book.begun shown
 over_went heap state book number a registers added shown rest silent keeps = ends_went heap state book number a registers (forgotten (seat_at state number).looks) added shown rest silent keeps
 
 module _ (heap : Heap) (state : State) (book : Book) (number : ℕ) (rule : Rule heap state book) (here : number < heap.seats) (a : Address)
-    (registers : List Register) (reached links part loaded : ℕ) (place : Place) (looks : Looks) (added : List Entry)
-    (machine : IsMachine heap (loaded_state heap state number a (went (seat_at state number) registers reached links part loaded place looks added))) where
+    (registers : List Register) (reached links part : ℕ) (address : Spot) (loaded : ℕ) (place : Place) (looks : Looks) (added : List Entry)
+    (machine : IsMachine heap (loaded_state heap state number a (went (seat_at state number) registers reached links part address loaded place looks added))) where
   abbrev new : Seat
-  new = went (seat_at state number) registers reached links part loaded place looks added
+  new = went (seat_at state number) registers reached links part address loaded place looks added
 
   -- the words are written back
   same_machine : IsMachine heap (record state { words = state.words; seats = slice_set state.seats number new })
@@ -109,55 +114,74 @@ module _ (heap : Heap) (state : State) (book : Book) (number : ℕ) (rule : Rule
   words_lead : Leaves heap state book rule state.words book
   words_lead = leaves_words heap state book rule state.words (same_sources heap state.words)
 
+  -- what the seat has is as before, where it makes no object
+  own_stays : MakesNone (seat_at state number).place → MakesNone place → OwnStands heap state.words book.owner book.spine_owner number new
+  own_stays before after =
+      let own = (rule.seats_stand number here).own in
+      record {
+        holding = own.holding;
+        stored = own.stored;
+        together = own.together;
+        spine = spine_away heap state.words state.words book.spine_owner number (seat_at state number) new (none_has_place (seat_at state number) (seat_at state number).place before)
+            (none_has_place new place after) own.spine;
+      }
+
   -- nothing is shown
-  pub load_goes : Registers (graph_of heap book.history) book.made book.owner book.fragments number registers place (target_of (seat_at state number).command)
+  pub load_goes : MakesNone (seat_at state number).place → MakesNone place
+      → Registers (graph_of heap book.history) book.made book.owner book.fragments number registers place (target_of (seat_at state number).command)
       → OwnList (graph_of heap book.history) book.history book.made book.owner book.fragments number new
-      → WayStands (cells_at (graph_of heap book.history) book.made) book.made book.owner book.fragments new place
+      → WayStands (node_at (graph_of heap book.history) book.made) book.made book.owner book.fragments new place
+      → WordStandsAhead book.owner book.spine_owner new place
       → Began book.history number (book.begun number) place
       → SeatInCycle heap state.words (phase book.history) (last_answer number book.history) (has_left number book.history) book.owner book.colour number new
       → RootsGoOn heap state book rule number here new
       → Keeps heap state (loaded_state heap state number a new) book book.begun []
-  load_goes held list way began cycle roots =
+  load_goes before after held list way ahead began cycle roots =
       let stands = rule.seats_stand number here in
       from_same book.begun []
       (seat_steps heap state book number state.words new book [] rule here same_machine (sym (append-nil book.history)) refl rule.heap_stands
       record {
-        own = record { holding = stands.own.holding; stored = stands.own.stored; together = stands.own.together };
-        names = record { registers = held; way = way };
+        own = own_stays before after;
+        names = record { registers = held; way = way; ahead = ahead };
         told = record {
           list = list;
           counts = counts_same (graph_of heap book.history) book.history number (seat_at state number) new refl refl refl refl stands.told.counts;
           began = began;
           gathers = stands.told.gathers;
+          used = none_used heap book.history number new place after;
         };
         cycle = cycle;
       }
       (λ r below apart other. other)
       (marks_go_on heap state book rule number here state.words book new words_lead refl roots)
+      (step_budgets heap state book number rule here state.words new book (spines_left_none heap state.words) (none_weights (seat_at state number) new before after)
+      record { told = refl; returned = refl; kept = refl; gone = refl })
       (book_stays heap state book book.history book.begun))
 
   module _ (command : Command) (reply : Reply) (nothing : effect_of (Said number command reply) ≡ no_effect)
       (after : Graph) (grows : after_reply (graph_of heap book.history) number command reply ≡ after) (only : OnlyRegisters (graph_of heap book.history) after number) where
     -- a reply is shown
-    pub load_tells : Accepts (graph_of heap book.history) (Said number command reply) → KeepsSpaceBy ButSpine heap false book.history (Said number command reply)
+    pub load_tells : MakesNone (seat_at state number).place → MakesNone place → Accepts (graph_of heap book.history) (Said number command reply) → KeepsSpaceBy ButSpine heap false book.history (Said number command reply)
         → Registers after book.made book.owner book.fragments number registers place (target_of (seat_at state number).command)
         → OwnList after (book.history ++ Said number command reply ∷ []) book.made book.owner book.fragments number new
-        → WayStands (cells_at after book.made) book.made book.owner book.fragments new place
+        → WayStands (node_at after book.made) book.made book.owner book.fragments new place
+        → WordStandsAhead book.owner book.spine_owner new place
         → IsAnswered place → is_leave_of number (Said number command reply) ≡ false
         → SeatInCycle heap state.words (phase book.history) (last_answer number book.history) (has_left number book.history) book.owner book.colour number new
         → RootsGoOn heap state book rule number here new
         → Keeps heap state (loaded_state heap state number a new) book book.begun (Said number command reply ∷ [])
-    load_tells accepts keeps held list way answers stays cycle roots =
+    load_tells before then accepts keeps held list way ahead answers stays cycle roots =
         let entry : Entry = Said number command reply in
         let g : Graph = graph_of heap book.history in
         let stands = rule.seats_stand number here in
         from_same book.begun (entry ∷ [])
         (told_keeps heap state book number state.words new command reply rule here same_machine
         (legal_more heap false book.history entry rule.heap_stands.legal accepts keeps)
-        record { controls = λ group below. refl; unkept = λ f part free within. refl }
+        record { controls = λ group below. refl; unkept = λ f part free within. refl; spines = spines_left_none heap state.words }
         (graph_replies g (after_reply g number command reply) number (rw grows only.changes) heap state.words book rule.heap_stands.ids rule.heap_stands.objects)
-        record { holding = stands.own.holding; stored = stands.own.stored; together = stands.own.together }
-        (rw grows record { registers = held; way = way })
+        (none_weights (seat_at state number) new before then) (no_part entry (λ e. e.words) nothing refl)
+        (own_stays before then)
+        (rw grows record { registers = held; way = way; ahead = ahead })
         (rw grows record {
           list = list;
           counts = counts_own g after book.history number (seat_at state number) new stands.told.counts entry (eq-eqb number number refl)
@@ -165,6 +189,7 @@ module _ (heap : Heap) (state : State) (book : Book) (number : ℕ) (rule : Rule
               (omega (arith, no_part entry (λ e. e.given) nothing refl, no_part entry (λ e. e.born) nothing refl, no_part entry (λ e. e.taken) nothing refl));
           began = began_told book.history entry number (book.begun number) (seat_at state number).place place answers stands.told.began;
           gathers = gathers_stay heap book.owner number book.history (book.begun number) entry (seat_at state number).cursor (seat_at state number).tried (seat_at state number).given stands.told.began.earlier stands.told.gathers;
+          used = none_used heap (book.history ++ entry ∷ []) number new place then;
         })
         rule.heap_stands.cycle
         (cycle_own heap state.words book.owner book.colour book.history entry (no_part entry (λ e. e.phases) nothing refl) number new cycle (no_part entry (λ e. e.answers) nothing refl) stays)

@@ -11,7 +11,7 @@ use Rattle.core_machine.specs.machine.Value.{IsMachine}
 use Rattle.core_machine.specs.seat.Commands.{target_of}
 use Rattle.core_machine.specs.seat.Fits.{IsAtRest, IsSilent}
 use Rattle.core_machine.specs.declared.seat.looks.Looks.{Looks}
-use Rattle.core_machine.specs.seat.Seat.{Seat, with_entries, call_over}
+use Rattle.core_machine.specs.seat.Seat.{Seat, no_spot, with_entries, call_over}
 use Rattle.core_rule.specs.Book.{Book}
 use Rattle.core_rule.specs.Gathers.{IsAnswered}
 use Rattle.core_rule.specs.Registers.{IsAwaited}
@@ -19,11 +19,12 @@ use Rattle.core_rule.specs.Rule.{Rule, SeatStands}
 use Rattle.core_rule.proofs.entries.InFlight.{began_on}
 use Rattle.core_rule.proofs.marking.CallRoots.{IsReachedNow}
 use Rattle.core_rule.proofs.marking.Marks.{roots_off_way}
+use Rattle.core_rule.proofs.spines.NoneMade.{MakesNone}
 use Rattle.core_rule.proofs.steps.Assemble.{Keeps}
 use Rattle.core_rule.proofs.steps.Loads.{went, went_cycle, loaded_state, load_goes, ends_went}
 
 module _ (heap : Heap) (state : State) (book : Book) (number : ℕ) (rule : Rule heap state book) (here : number < heap.seats) (a : Address) (looks : Looks)
-    (rest : IsAtRest (seat_at state number)) (silent : IsSilent (seat_at state number)) (busy : ¬ IsAnswered (seat_at state number).place)
+    (makes : MakesNone (seat_at state number).place) (rest : IsAtRest (seat_at state number)) (silent : IsSilent (seat_at state number)) (busy : ¬ IsAnswered (seat_at state number).place)
     (free : (r : ℕ) → ¬ IsAwaited (seat_at state number).place (target_of (seat_at state number).command) r) (told : (seat_at state number).mine ≡ filter (is_of number) book.history) where
   abbrev seat : Seat
   seat = seat_at state number
@@ -35,13 +36,13 @@ module _ (heap : Heap) (state : State) (book : Book) (number : ℕ) (rule : Rule
   pub quiet_ends : IsMachine heap (loaded_state heap state number a (with_entries (record (call_over seat) { looks = looks }) []))
       → Keeps heap state (loaded_state heap state number a (with_entries (record (call_over seat) { looks = looks }) [])) book book.begun []
   quiet_ends = ends_went heap state book number a seat.registers looks [] [] rest silent (λ machine.
-      let new : Seat = went seat seat.registers 0 0 0 0 places.Idle looks [] in
-      load_goes heap state book number rule here a seat.registers 0 0 0 0 places.Idle looks [] machine
+      let new : Seat = went seat seat.registers 0 0 0 no_spot 0 places.Idle looks [] in
+      load_goes heap state book number rule here a seat.registers 0 0 0 no_spot 0 places.Idle looks [] machine makes tt
       (λ r unawaited. stands.names.registers r (free r))
       record { awaited = []; own = append-nil new.mine ∙ append-nil seat.mine ∙ told; awaits = refl }
-      tt
+      tt tt
       (began_on book.history number (book.begun number) seat.place places.Idle busy stands.told.began)
-      (went_cycle heap state book number rule here a seat.registers 0 0 0 0 places.Idle looks [] machine tt)
+      (went_cycle heap state book number rule here a seat.registers 0 0 0 no_spot 0 places.Idle looks [] machine tt)
       (λ marks. roots_off_way (IsReachedNow heap state book) seat new refl tt))
 
   -- the call goes on at another place of a collect
@@ -49,11 +50,11 @@ module _ (heap : Heap) (state : State) (book : Book) (number : ℕ) (rule : Rule
       → Keeps heap state (loaded_state heap state number a (with_entries (record seat { place = places.Collecting place; looks = looks }) [])) book book.begun []
   quiet_goes place machine =
       let next = places.Collecting place in
-      let new : Seat = went seat seat.registers seat.reached seat.links seat.part seat.loaded next looks [] in
-      load_goes heap state book number rule here a seat.registers seat.reached seat.links seat.part seat.loaded next looks [] machine
+      let new : Seat = went seat seat.registers seat.reached seat.links seat.part seat.address seat.loaded next looks [] in
+      load_goes heap state book number rule here a seat.registers seat.reached seat.links seat.part seat.address seat.loaded next looks [] machine makes tt
       (λ r unawaited. stands.names.registers r (free r))
       record { awaited = []; own = append-nil new.mine ∙ append-nil seat.mine ∙ told; awaits = refl }
-      tt
+      tt tt
       (began_on book.history number (book.begun number) seat.place next busy stands.told.began)
-      (went_cycle heap state book number rule here a seat.registers seat.reached seat.links seat.part seat.loaded next looks [] machine tt)
+      (went_cycle heap state book number rule here a seat.registers seat.reached seat.links seat.part seat.address seat.loaded next looks [] machine tt)
       (λ marks. roots_off_way (IsReachedNow heap state book) seat new refl tt)

@@ -12,7 +12,7 @@ use Rattle.core_machine.specs.declared.place.Making.TheVariants.{Gathering, Retu
 use Rattle.core_machine.specs.declared.place.Place.{Place}
 use Rattle.core_machine.specs.declared.place.Place.TheVariants as places
 use Rattle.core_machine.specs.declared.place.Polling.TheVariants.{Asking, Shading, Answering}
-use Rattle.core_machine.specs.declared.place.Access.TheVariants.{LoadingMeta, Walking, Getting, Naming, LoadingOld, ShadingOld, ShadingNew, Swapping}
+use Rattle.core_machine.specs.declared.place.Access.TheVariants.{LoadingMeta, Walking, Locating, Indexing, Getting, Naming, LoadingOld, ShadingOld, ShadingNew, Swapping}
 use Rattle.core_machine.specs.machine.Machine.{State, seat_at, state_after_due, entries_shown, state_after, Begins, Can}
 use Rattle.core_machine.specs.Moves.{move_at, is_last_birth, last_birth_move, birth_move}
 use Rattle.core_machine.specs.machine.Value.{IsMachine}
@@ -49,6 +49,8 @@ module _ (heap : Heap) (state : State) (book : Book) (number : ℕ) (rule : Rule
   keeps_at places.Local placed machine = access.TellingStep.telling_keeps heap state book number rule here placed machine
   keeps_at (places.Access LoadingMeta) placed machine = access.OpenStep.open_keeps heap state book number rule here placed machine
   keeps_at (places.Access Walking) placed machine = access.OnwardStep.walk_keeps heap state book number rule here placed machine
+  keeps_at (places.Access Locating) placed machine = access.LocateStep.locate_keeps heap state book number rule here placed machine
+  keeps_at (places.Access Indexing) placed machine = access.IndexStep.index_keeps heap state book number rule here placed machine
   keeps_at (places.Access Getting) placed machine = access.GetStep.get_keeps heap state book number rule here placed machine
   keeps_at (places.Access Naming) placed machine = access.NameStep.name_keeps heap state book number rule here placed machine
   keeps_at (places.Access LoadingOld) placed machine = access.OldStep.old_keeps heap state book number rule here placed machine

@@ -19,6 +19,7 @@ use Rattle.core_machine.specs.seat.Access.{has_barrier_of, way_place_of, after_l
 use Rattle.core_machine.specs.seat.Commands.{field_of}
 use Rattle.core_machine.specs.seat.Seat.{Seat}
 use Rattle.core_machine.proofs.seat_lemmas.FieldPlaces.{field_cases}
+use Rattle.core_rule.specs.Book.{fragment_at}
 use Rattle.core_rule.specs.ControlWords.{Bits}
 use Rattle.core_rule.specs.Objects.{AreMade, Objects, node_at}
 use Rattle.core_rule.specs.Owners.{Owner}
@@ -113,6 +114,12 @@ module _ (heap : Heap) (words : List ℕ) (g : Graph) (made : List Id) (owner : 
   word_ahead seat locates = array_word (node_at g made locates.index) (field_of seat.command) locates.an_array locates.within
 
   -- by that its fragment is found, where the word is its spine's
+  pub payload_reached : (seat : Seat) (locates : Locates (node_at g made) made owner fragments seat)
+      → IsWordOf (spines locates.index) seat.address.half (seat.address.offset + field_of seat.command / 4) (field_of seat.command / 4)
+      → payload_in (at heap words (spine_place seat.address (field_of seat.command / 4))) ≡ fragment_at (fragments locates.index) (field_of seat.command / 4 + 1)
+  payload_reached seat locates its = rw (its.half_is, its.offset_is)
+      (payload_found heap words g made owner fragments limits bits ids objects locates.index locates.way.below locates.way.kept (field_of seat.command / 4) (word_ahead seat locates)).1
+
   pub finds_payload : (seat : Seat) (loaded : ℕ) (place : Access) (mine : List Entry) → seat.links ≡ 0 → (locates : Locates (node_at g made) made owner fragments seat)
       → IsWordOf (spines locates.index) seat.address.half (seat.address.offset + field_of seat.command / 4) (field_of seat.command / 4)
       → Finds (node_at g made) made owner fragments
@@ -124,8 +131,7 @@ module _ (heap : Heap) (words : List ℕ) (g : Graph) (made : List Id) (owner : 
       below = locates.way.below;
       kept = locates.way.kept;
       holds = locates.way.holds;
-      here = rw (its.half_is, its.offset_is)
-          (payload_found heap words g made owner fragments limits bits ids objects locates.index locates.way.below locates.way.kept (field_of seat.command / 4) (word_ahead seat locates)).1;
+      here = payload_reached seat locates its;
     };
     field = record {
       within = locates.within;

@@ -1,5 +1,5 @@
 -- The begin of a call that makes no object keeps the rule.
-use Rattle.std.proofs.Common.{ℕ, ◌<◌, [], length, drop, refl, ◌∙◌, append-nil}
+use Rattle.std.proofs.Common.{ℕ, ◌<◌, [], length, drop, refl, sym, ◌∙◌, append-nil}
 use Rattle.heap_model.specs.declared.command.Command.{Command}
 use Rattle.heap_model.specs.declared.heap.Heap.{Heap}
 use Rattle.heap_model.specs.account.Cycles.{graph_of}
@@ -14,7 +14,7 @@ use Rattle.core_machine.specs.seat.Registers.{register_in}
 use Rattle.core_machine.specs.seat.Seat.{Seat}
 use Rattle.core_machine.specs.machine.Value.{IsMachine}
 use Rattle.core_rule.specs.Book.{Book}
-use Rattle.core_rule.specs.Objects.{cells_at}
+use Rattle.core_rule.specs.Objects.{node_at}
 use Rattle.core_rule.specs.Registers.{HoldsValue}
 use Rattle.core_rule.specs.Rule.{Rule}
 use Rattle.core_rule.proofs.marking.CallRoots.{IsReachedNow, begin_roots}
@@ -25,9 +25,11 @@ use Rattle.core_rule.proofs.hand.EmptyHand.{nothing_together, none_stored, gathe
 use Rattle.core_rule.proofs.cycle.FreshCycle.{cycle_fresh}
 use Rattle.core_rule.proofs.entries.OwnEntries.{counts_same}
 use Rattle.core_rule.proofs.entries.SeatLists.{all_told}
-use Rattle.core_rule.proofs.entries.Starting.{Starts, starts_other}
+use Rattle.core_rule.proofs.spines.NoneMade.{MakesNone, none_has_place, none_granted, none_unplaced, none_refused}
+use Rattle.core_rule.proofs.spines.SpineFrames.{spine_away}
+use Rattle.core_rule.proofs.entries.Starting.{bare_spineless, Starts, starts_other}
 
--- the begin of any call but a new object's keeps the rule
+-- the begin of any call but a new record's keeps the rule
 pub begin_others_keep : (heap : Heap) (state : State) (book : Book) (number : ℕ) (command : Command) → Rule heap state book → number < heap.seats
     → MayBegin (seat_at state number) command → (IsRecord command → ⊥) → IsMachine heap (state_after heap state (Begins number command))
     → Keeps heap state (state_after heap state (Begins number command)) book (begins number (length book.history) book.begun) []
@@ -40,17 +42,20 @@ begin_others_keep heap state book number command rule here may other machine =
     let rest : IsAtRest old = rw may.idle at (seat_fits rule number here).at_place in
     let holds : (r : ℕ) → HoldsValue book.made book.owner book.fragments (register_in old.registers r) (register_value g number r)
     = λ r. stands.names.registers r (none_awaited old.place places.Idle (target_of old.command) r may.idle (λ none. none)) in
-    let start : Starts g (cells_at g book.made) book.made book.owner book.fragments number seat next
-    = starts_other g (cells_at g book.made) book.made book.owner book.fragments number heap seat command other may.served refl (λ r. (register_value g number r, holds r)) in
+    let start : Starts g (node_at g book.made) book.made book.owner book.fragments number seat next
+    = starts_other g (node_at g book.made) book.made book.owner book.fragments number heap seat command other may.served refl (λ r. (register_value g number r, holds r)) in
     let own = start.own in
     let same = own.same in
+    let bare = bare_spineless book.owner number next next.place start.bare in
+    let before : MakesNone old.place = rw may.idle tt in
     seat_begins heap state book number next rule here machine record {
       own = record {
         holding = holding_as book.owner number old.reserve old.hand old.body next.reserve next.hand next.body own.reserve own.hand own.body stands.own.holding;
         stored = none_stored heap state.words number next (same.stored ∙ rest.none_stored);
         together = nothing_together heap next.cursor next.tried next.hand next.body (own.hand ∙ rest.empty_hand) (own.body ∙ rest.no_body);
+        spine = spine_away heap state.words state.words book.spine_owner number old next (none_has_place old old.place before) bare.no_place stands.own.spine;
       };
-      names = record { registers = λ r awake. rw same.registers (holds r); way = start.way };
+      names = record { registers = λ r awake. rw same.registers (holds r); way = start.way; ahead = bare.no_word book.spine_owner };
       told = record {
         list = record {
           awaited = [];
@@ -60,8 +65,13 @@ begin_others_keep heap state book number command rule here may other machine =
         counts = counts_same g book.history number old next same.made same.sets same.left (rw (own.reserve, own.hand, own.body) refl) stands.told.counts;
         began = began_now heap state.words book number next.place;
         gathers = gathers_none heap book.owner number (drop (begins number (length book.history) book.begun number) book.history) next.cursor next.tried next.given (own.tried ∙ rest.none_tried) (own.given ∙ rest.none_given);
+        used = bare.none_used heap book.history;
       };
       cycle = cycle_fresh heap state.words book.owner book.colour (phase book.history) (last_answer number book.history) (has_left number book.history) number old next
           record { answered = same.answered; left = same.left; asked = same.asked } start.fresh stands.cycle;
     }
-    same.answered (λ marks roots. begin_roots (IsReachedNow heap state book) heap seat command other may.served roots.registers)
+    same.answered record {
+      granted = bare.none_granted ∙ sym (none_granted old old.place before);
+      unplaced = bare.none_unplaced ∙ sym (none_unplaced old old.place before);
+      refused = bare.none_refused ∙ sym (none_refused old old.place before);
+    } (λ marks roots. begin_roots (IsReachedNow heap state book) heap seat command other may.served roots.registers)

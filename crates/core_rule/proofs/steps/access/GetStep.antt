@@ -26,18 +26,18 @@ use Rattle.core_machine.specs.declared.seat.register.Register.TheVariants as reg
 use Rattle.core_machine.specs.seat.Commands.{target_of, field_of}
 use Rattle.core_machine.specs.seat.FitsAccess.{SeatIsAtGet, IsGet}
 use Rattle.core_machine.specs.table.Layout.{at}
-use Rattle.core_machine.specs.table.Decode.{head_of, id_of, stamp_of, plain_of}
+use Rattle.core_machine.specs.table.Decode.{head_of, id_of, is_meta, stamp_of, plain_of}
 use Rattle.core_machine.specs.machine.Machine.{State, seat_at}
 use Rattle.core_machine.specs.seat.Access.{after_get}
 use Rattle.core_machine.specs.seat.AccessMoves.{get_move, got_adds, got_shows, reply_entries}
 use Rattle.core_machine.specs.seat.Registers.{value_of, register_head}
-use Rattle.core_machine.specs.seat.Seat.{Seat, with_entries}
+use Rattle.core_machine.specs.seat.Seat.{Seat, no_spot, with_entries}
 use Rattle.core_machine.specs.machine.Value.{IsMachine}
 use Rattle.core_rule.proofs.entries.AtRest.{seat_fits, spent_own, few_own}
 use Rattle.core_rule.specs.Book.{Book, id_at, object_number, object_head}
 use Rattle.core_rule.specs.Gathers.{IsAnswered}
 use Rattle.core_rule.specs.Roots.{IsInMarking}
-use Rattle.core_rule.specs.Objects.{NamesKept, cells_at, value_word}
+use Rattle.core_rule.specs.Objects.{NamesKept, node_at, cells_at, value_word}
 use Rattle.core_rule.specs.Registers.{HoldsValue, IsAwaited}
 use Rattle.core_rule.specs.Rule.{Rule}
 use Rattle.core_rule.specs.Ways.{Finds}
@@ -55,6 +55,7 @@ use Rattle.core_rule.proofs.entries.OwnEntries.{own_entries}
 use Rattle.core_rule.proofs.entries.PhaseEntries.{no_leave_told}
 use Rattle.core_rule.proofs.graph.PutRegister.{put_only, put_target, put_rest, registers_filled}
 use Rattle.core_rule.proofs.entries.SeatLists.{list_more}
+use Rattle.core_rule.proofs.ways.LoadedObjects.{field_plain}
 use Rattle.core_rule.proofs.ways.Told.{HasRoom, named_head, register_plain, stamp_in-value, head_in-value, plain_in-value}
 
 module _ (heap : Heap) (state : State) (book : Book) (number : ℕ) (rule : Rule heap state book) (here : number < heap.seats)
@@ -76,9 +77,9 @@ module _ (heap : Heap) (state : State) (book : Book) (number : ℕ) (rule : Rule
   filled_keeps : (new : Register) (stamp : ℕ) → register_head new ≡ None → HoldsValue book.made book.owner book.fragments new (value_of new)
       → Accepts (graph_of heap book.history) (Said number (seat_at state number).command (Got (value_of new) stamp))
       → IsMachine heap (loaded_state heap state number (Word (seat_at state number).reached (seat_at state number).part)
-      (went (seat_at state number) (slice_set (seat_at state number).registers (target_of (seat_at state number).command) new) 0 0 0 0 places.Idle (forgotten (seat_at state number).looks) (reply_entries number (seat_at state number) (Got (value_of new) stamp))))
+      (went (seat_at state number) (slice_set (seat_at state number).registers (target_of (seat_at state number).command) new) 0 0 0 no_spot 0 places.Idle (forgotten (seat_at state number).looks) (reply_entries number (seat_at state number) (Got (value_of new) stamp))))
       → Keeps heap state (loaded_state heap state number (Word (seat_at state number).reached (seat_at state number).part)
-      (went (seat_at state number) (slice_set (seat_at state number).registers (target_of (seat_at state number).command) new) 0 0 0 0 places.Idle (forgotten (seat_at state number).looks) (reply_entries number (seat_at state number) (Got (value_of new) stamp))))
+      (went (seat_at state number) (slice_set (seat_at state number).registers (target_of (seat_at state number).command) new) 0 0 0 no_spot 0 places.Idle (forgotten (seat_at state number).looks) (reply_entries number (seat_at state number) (Got (value_of new) stamp))))
       book book.begun (reply_entries number (seat_at state number) (Got (value_of new) stamp))
   filled_keeps new stamp none holds accepts machine =
       let seat : Seat = seat_at state number in
@@ -86,16 +87,16 @@ module _ (heap : Heap) (state : State) (book : Book) (number : ℕ) (rule : Rule
       let stands = rule.seats_stand number here in
       let reply : Reply = Got (value_of new) stamp in
       let entry : Entry = Said number seat.command reply in
-      load_tells heap state book number rule here (Word seat.reached seat.part) (slice_set seat.registers (target_of seat.command) new) 0 0 0 0 places.Idle (forgotten (seat_at state number).looks) (entry ∷ []) machine
+      load_tells heap state book number rule here (Word seat.reached seat.part) (slice_set seat.registers (target_of seat.command) new) 0 0 0 no_spot 0 places.Idle (forgotten (seat_at state number).looks) (entry ∷ []) machine
       seat.command reply refl (with_register g number (target_of seat.command) (value_of new)) (graph_got g number (value_of new) stamp seat.command a_get)
-      (put_only g number (target_of seat.command) (value_of new) present) accepts
+      (put_only g number (target_of seat.command) (value_of new) present) (rw place tt) tt accepts
       (keeps_got heap false book.history number (spent_own heap state book number rule here (at_rest heap state book number rule here Getting place)) (few_own heap state book number rule here (at_rest heap state book number rule here Getting place)) (value_of new) stamp seat.command a_get)
       (λ r unawaited. registers_filled book.made book.owner book.fragments g number (target_of seat.command) (value_of new) seat.registers new present in_seat in_graph holds (λ x apart. held x) r)
       (list_more g book.made book.owner book.fragments number seat book.history (subst IsAnswered place) stands.told.list (with_register g number (target_of seat.command) (value_of new)) _ _ (entry ∷ []) [] (entry ∷ []) refl refl
       (own_entries number book.history entry (eq-eqb number number refl)) refl)
-      tt tt (no_leave_told number number seat.command reply (λ leaves. subst IsGet leaves a_get))
-      (went_cycle heap state book number rule here (Word seat.reached seat.part) (slice_set seat.registers (target_of seat.command) new) 0 0 0 0 places.Idle (forgotten (seat_at state number).looks) (entry ∷ []) machine tt)
-      (λ marks roots. roots_over (IsReachedNow heap state book) (went seat (slice_set seat.registers (target_of seat.command) new) 0 0 0 0 places.Idle (forgotten (seat_at state number).looks) (entry ∷ [])) tt
+      tt tt tt (no_leave_told number number seat.command reply (λ leaves. subst IsGet leaves a_get))
+      (went_cycle heap state book number rule here (Word seat.reached seat.part) (slice_set seat.registers (target_of seat.command) new) 0 0 0 no_spot 0 places.Idle (forgotten (seat_at state number).looks) (entry ∷ []) machine tt)
+      (λ marks roots. roots_over (IsReachedNow heap state book) (went seat (slice_set seat.registers (target_of seat.command) new) 0 0 0 no_spot 0 places.Idle (forgotten (seat_at state number).looks) (entry ∷ [])) tt
       (heads_put (IsReachedNow heap state book) seat.registers (target_of seat.command) new in_seat (none_holds (IsReachedNow heap state book) (register_head new) none) roots.registers))
 
   -- a reference awaits its object's name, and the history has the reply
@@ -103,9 +104,9 @@ module _ (heap : Heap) (state : State) (book : Book) (number : ℕ) (rule : Rule
       → (IsInMarking state.collector → IsReachedNow heap state book (seat_at state number).reached → IsReachedNow heap state book (object_head book.made book.fragments id))
       → Accepts (graph_of heap book.history) (Said number (seat_at state number).command (Got (values.Object id) (stamp_of found)))
       → IsMachine heap (loaded_state heap state number (Word (seat_at state number).reached (seat_at state number).part)
-      (went (seat_at state number) (seat_at state number).registers (seat_at state number).reached (seat_at state number).links (seat_at state number).part found (places.Access Naming) (seat_at state number).looks []))
+      (went (seat_at state number) (seat_at state number).registers (seat_at state number).reached (seat_at state number).links (seat_at state number).part (seat_at state number).address found (places.Access Naming) (seat_at state number).looks []))
       → Keeps heap state (loaded_state heap state number (Word (seat_at state number).reached (seat_at state number).part)
-      (went (seat_at state number) (seat_at state number).registers (seat_at state number).reached (seat_at state number).links (seat_at state number).part found (places.Access Naming) (seat_at state number).looks []))
+      (went (seat_at state number) (seat_at state number).registers (seat_at state number).reached (seat_at state number).links (seat_at state number).part (seat_at state number).address found (places.Access Naming) (seat_at state number).looks []))
       book book.begun (reply_entries number (seat_at state number) (Got (values.Object id) (stamp_of found)))
   pending_keeps found id kept loads comes accepts machine =
       let seat : Seat = seat_at state number in
@@ -115,16 +116,16 @@ module _ (heap : Heap) (state : State) (book : Book) (number : ℕ) (rule : Rule
       let stands = rule.seats_stand number here in
       let reply : Reply = Got value (stamp_of found) in
       let entry : Entry = Said number seat.command reply in
-      load_tells heap state book number rule here (Word seat.reached seat.part) seat.registers seat.reached seat.links seat.part found (places.Access Naming) (seat_at state number).looks [] machine
-      seat.command reply refl (with_register g number d value) (graph_got g number value (stamp_of found) seat.command a_get) (put_only g number d value present) accepts
+      load_tells heap state book number rule here (Word seat.reached seat.part) seat.registers seat.reached seat.links seat.part seat.address found (places.Access Naming) (seat_at state number).looks [] machine
+      seat.command reply refl (with_register g number d value) (graph_got g number value (stamp_of found) seat.command a_get) (put_only g number d value present) (rw place tt) tt accepts
       (keeps_got heap false book.history number (spent_own heap state book number rule here (at_rest heap state book number rule here Getting place)) (few_own heap state book number rule here (at_rest heap state book number rule here Getting place)) value (stamp_of found) seat.command a_get)
       (λ r unawaited. subst (λ x. HoldsValue book.made book.owner book.fragments (slice_index_or seat.registers r registers.Nil) x) (sym (put_rest g number d value present r unawaited)) (held r))
       (list_more g book.made book.owner book.fragments number seat book.history (subst IsAnswered place) stands.told.list (with_register g number d value) _ _ [] (entry ∷ []) (entry ∷ []) refl refl
       (own_entries number book.history entry (eq-eqb number number refl))
       (record { id = id; kept = kept; loads = loads; held = put_target g number d value present in_graph; told = refl }))
-      tt tt (no_leave_told number number seat.command reply (λ leaves. subst IsGet leaves a_get))
-      (went_cycle heap state book number rule here (Word seat.reached seat.part) seat.registers seat.reached seat.links seat.part found (places.Access Naming) (seat_at state number).looks [] machine tt)
-      (λ marks roots. roots_on_way (IsReachedNow heap state book) seat (went seat seat.registers seat.reached seat.links seat.part found (places.Access Naming) (seat_at state number).looks []) Naming refl refl
+      tt tt tt (no_leave_told number number seat.command reply (λ leaves. subst IsGet leaves a_get))
+      (went_cycle heap state book number rule here (Word seat.reached seat.part) seat.registers seat.reached seat.links seat.part seat.address found (places.Access Naming) (seat_at state number).looks [] machine tt)
+      (λ marks roots. roots_on_way (IsReachedNow heap state book) seat (went seat seat.registers seat.reached seat.links seat.part seat.address found (places.Access Naming) (seat_at state number).looks []) Naming refl refl
       (some_holds (IsReachedNow heap state book) (head_of found) (object_head book.made book.fragments id) loads (comes marks (at_call (IsReachedNow heap state book) seat Getting place roots))) roots)
 
 -- loading a field keeps the rule
@@ -141,7 +142,7 @@ get_keeps heap state book number rule here place machine =
     let bits = heap_stands.control_words in
     let fits : SeatIsAtGet seat × (seat.loaded ≡ 0) = rw place at (seat_fits rule number here).way_at_place in
     let gets = fits.0 in
-    let finds : Finds (cells_at g book.made) book.made book.owner book.fragments seat = rw place at stands.names.way in
+    let finds : Finds (node_at g book.made) book.made book.owner book.fragments seat = rw place at stands.names.way in
     let index : ℕ = finds.index in
     let way = finds.way in
     let cell : Cell = get_or (cells_at g book.made index) field unset in
@@ -150,6 +151,7 @@ get_keeps heap state book number rule here place machine =
     let room : HasRoom head cell.value = has_room heap words g book.made book.owner book.fragments rule.machine.limits bits cell.value named.0 in
     let word : found ≡ value_word head cell.value cell.stamp
     = cell_reached heap words g book.made book.owner book.fragments rule.machine.limits bits heap_stands.ids heap_stands.objects seat finds gets.2.arrived cell there in
+    let plain_word : is_meta found ≡ false = field_plain heap words g book.made book.owner book.fragments rule.machine.limits bits heap_stands.ids heap_stands.objects seat gets.2.arrived finds in
     let stamp : stamp_of found ≡ cell.stamp = ap stamp_of word ∙ stamp_in-value head cell.value cell.stamp room named.1 in
     let plain : plain_of found ≡ register_plain cell.value = ap plain_of word ∙ plain_in-value head cell.value cell.stamp room named.1 in
     let loads : head_of found ≡ named_head head cell.value = ap head_of word ∙ head_in-value head cell.value cell.stamp room named.1 in
@@ -178,7 +180,7 @@ get_keeps heap state book number rule here place machine =
           ∙ id_at-number_of book.made id kept.0 in
           subst (λ x. Keeps heap state (loaded_state heap state number (Word seat.reached seat.part) (with_entries (after_get seat found (Some (head id))) [])) book book.begun (reply_entries number seat (Got (values.Object x) (stamp_of found)))) (sym name)
           (pending_keeps heap state book number rule here place gets.1 gets.0.in_range found id kept (loads ∙ ap (named_head head) e)
-          (λ marks comes. field_comes heap state book number rule here marks comes gets.2.field_part (head id) record { index = object_number book.made id; below = kept.0; kept = kept.1; is = refl } (loads ∙ ap (named_head head) e))
+          (λ marks comes. field_comes heap state book number rule here marks comes gets.2.part_within plain_word (head id) record { index = object_number book.made id; below = kept.0; kept = kept.1; is = refl } (loads ∙ ap (named_head head) e))
           (subst (λ v. Accepts g (Said number seat.command (Got v (stamp_of found)))) e accepted) machine)
     ] in
     subst goal (sym loads) (by_value cell.value refl) machine

@@ -20,7 +20,7 @@ use Rattle.core_machine.specs.table.Layout.{at}
 use Rattle.core_machine.specs.table.Decode.{head_of, id_of, stamp_of}
 use Rattle.core_machine.specs.machine.Machine.{seat_at}
 use Rattle.core_machine.specs.seat.AccessMoves.{name_move, loaded_head_of, reply_entries}
-use Rattle.core_machine.specs.seat.Seat.{Seat}
+use Rattle.core_machine.specs.seat.Seat.{Seat, no_spot}
 use Rattle.core_rule.specs.Book.{object_number, object_head}
 use Rattle.core_rule.specs.Counts.{IsAwaitingName}
 use Rattle.core_rule.specs.Registers.{Registers, HoldsValue}
@@ -60,17 +60,17 @@ name_keeps heap state book number rule here place machine =
     let added : List Entry = reply_entries number seat (Got (values.Object (id_of found)) (stamp_of seat.loaded)) in
     let told : stands.told.list.awaited ≡ added = awaits.told ∙ ap (λ x. reply_entries number seat (Got (values.Object x) (stamp_of seat.loaded))) (sym name) in
     over_went heap state book number (Word at_name 1) (slice_set seat.registers d (registers.Object at_name (id_of found))) added [] (rw place at (seat_fits rule number here).at_place) (rw place at (seat_fits rule number here).answer_at_place) (λ machine.
-    load_goes heap state book number rule here (Word at_name 1) (slice_set seat.registers d (registers.Object at_name (id_of found))) 0 0 0 0 places.Idle (forgotten seat.looks) added machine
+    load_goes heap state book number rule here (Word at_name 1) (slice_set seat.registers d (registers.Object at_name (id_of found))) 0 0 0 no_spot 0 places.Idle (forgotten seat.looks) added machine (rw place tt) tt
     (λ r unawaited. registers_with book.made book.owner book.fragments g number d seat.registers (registers.Object at_name (id_of found)) within holds before r)
     (record {
       awaited = [];
       own = append-nil (seat.mine ++ added) ∙ ap (λ (x : List Entry). seat.mine ++ x) (sym told) ∙ stands.told.list.own;
       awaits = refl;
     })
-    tt
+    tt tt
     (record { earlier = stands.told.began.earlier; unanswered = λ busy. absurd (busy tt) })
-    (went_cycle heap state book number rule here (Word at_name 1) (slice_set seat.registers d (registers.Object at_name (id_of found))) 0 0 0 0 places.Idle (forgotten seat.looks) added machine tt)
-    (λ marks roots. roots_over (IsReachedNow heap state book) (went seat (slice_set seat.registers d (registers.Object at_name (id_of found))) 0 0 0 0 places.Idle (forgotten seat.looks) added) tt
+    (went_cycle heap state book number rule here (Word at_name 1) (slice_set seat.registers d (registers.Object at_name (id_of found))) 0 0 0 no_spot 0 places.Idle (forgotten seat.looks) added machine tt)
+    (λ marks roots. roots_over (IsReachedNow heap state book) (went seat (slice_set seat.registers d (registers.Object at_name (id_of found))) 0 0 0 no_spot 0 places.Idle (forgotten seat.looks) added) tt
     (heads_put (IsReachedNow heap state book) seat.registers d (registers.Object at_name (id_of found)) within
     (subst (IsReachedNow heap state book) (sym head) (of_some (IsReachedNow heap state book) (head_of seat.loaded) (object_head book.made book.fragments id) awaits.loads (at_call (IsReachedNow heap state book) seat Naming place roots)))
     roots.registers))) machine

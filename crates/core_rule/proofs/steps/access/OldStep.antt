@@ -1,5 +1,5 @@
 -- The load of the old value of a set keeps the rule.
-use Rattle.std.proofs.Common.{◌≡◌, ℕ, true, [], ◌++◌, Option, Some, None, inl, refl, sym, ap, ◌∙◌}
+use Rattle.std.proofs.Common.{◌≡◌, ℕ, true, false, [], ◌++◌, Option, Some, None, inl, refl, sym, ap, ◌∙◌}
 use Rattle.heap_model.specs.account.Cycles.{graph_of}
 use Rattle.heap_model.specs.graph.Graph.{Graph}
 use Rattle.core_machine.specs.declared.table.address.Address.TheVariants.{Word}
@@ -8,7 +8,7 @@ use Rattle.core_machine.specs.declared.place.Access.{Access}
 use Rattle.core_machine.specs.declared.place.Access.TheVariants.{LoadingOld, ShadingOld, ShadingNew, Swapping}
 use Rattle.core_machine.specs.seat.FitsAccess.{SeatIsAtSet}
 use Rattle.core_machine.specs.table.Layout.{at}
-use Rattle.core_machine.specs.table.Decode.{head_of}
+use Rattle.core_machine.specs.table.Decode.{head_of, is_meta}
 use Rattle.core_machine.specs.machine.Machine.{seat_at}
 use Rattle.core_machine.specs.seat.Access.{has_barrier_of, after_old_load}
 use Rattle.core_machine.specs.seat.AccessMoves.{old_move, new_register_of}
@@ -17,13 +17,13 @@ use Rattle.core_machine.specs.seat.Seat.{Seat, with_entries}
 use Rattle.core_machine.specs.machine.Value.{IsMachine}
 use Rattle.core_rule.specs.Colours.{IsMarked, WordPointsTo}
 use Rattle.core_rule.specs.Roots.{IsInMarking, OfRoots}
-use Rattle.core_rule.specs.Objects.{cells_at}
+use Rattle.core_rule.specs.Objects.{node_at}
 use Rattle.core_rule.specs.Ways.{Finds}
 use Rattle.core_rule.proofs.steps.Assemble.{Keeps, StepKeeps, seat_fits}
 use Rattle.core_rule.proofs.colours.SourceCases.{lead_of_word}
-use Rattle.core_rule.proofs.cycle.Barriers.{later_lead}
 use Rattle.core_rule.proofs.steps.BarrierSteps.{new_cases, loads_on}
-use Rattle.core_rule.proofs.ways.LoadedObjects.{loaded_kept}
+use Rattle.core_rule.proofs.ways.LoadedObjects.{loaded_kept, field_plain}
+use Rattle.core_rule.proofs.ways.ArrayWords.{plain_lead}
 use Rattle.core_rule.proofs.steps.Loads.{went, loaded_state}
 use Rattle.core_rule.proofs.ways.OnwardWays.{finds_at, none_old}
 use Rattle.core_rule.proofs.lists.Options.{none_holds, some_holds}
@@ -36,26 +36,27 @@ old_keeps heap state book number rule here place machine =
     let g : Graph = graph_of heap book.history in
     let old = rule.heap_stands in
     let fits : SeatIsAtSet seat × (has_barrier_of seat ≡ true) × (seat.loaded ≡ 0) = rw place at (seat_fits rule number here).way_at_place in
-    let finds : Finds (cells_at g book.made) book.made book.owner book.fragments seat = rw place at (rule.seats_stand number here).names.way in
+    let finds : Finds (node_at g book.made) book.made book.owner book.fragments seat = rw place at (rule.seats_stand number here).names.way in
     let found : ℕ = at heap state.words (Word seat.reached seat.part) in
+    let plain : is_meta found ≡ false = field_plain heap state.words g book.made book.owner book.fragments rule.machine.limits old.control_words old.ids old.objects seat fits.0.2.arrived finds in
     let new_head : Option ℕ = register_head (new_register_of seat) in
     let on = loads_on heap state book number rule here LoadingOld place (λ answered. answered) (λ d r awaited. awaited) found in
-    let at_next = λ (next : Access). finds_at (cells_at g book.made) book.made book.owner book.fragments seat found next (seat.mine ++ []) finds in
-    let leads : (x : ℕ) → WordPointsTo heap state.words seat.reached seat.part x → head_of found ≡ Some x = λ x leads. sym (later_lead seat.part found fits.0.2.field_part.some) ∙ lead_of_word heap state.words seat.reached seat.part x fits.0.2.field_part.below leads in
-    let unloaded = λ (next : Access). none_old book.made book.owner book.fragments (went seat seat.registers seat.reached seat.links seat.part found (places.Access next) seat.looks []) in
+    let at_next = λ (next : Access). finds_at (node_at g book.made) book.made book.owner book.fragments seat found next (seat.mine ++ []) finds in
+    let leads : (x : ℕ) → WordPointsTo heap state.words seat.reached seat.part x → head_of found ≡ Some x = λ x leads. sym (plain_lead seat.part found plain) ∙ lead_of_word heap state.words seat.reached seat.part x fits.0.2.part_within leads in
+    let unloaded = λ (next : Access). none_old book.made book.owner book.fragments (went seat seat.registers seat.reached seat.links seat.part seat.address found (places.Access next) seat.looks []) in
     let reached = λ (marks : IsInMarking state.collector) (roots : OfRoots (IsReachedNow heap state book) seat). at_call (IsReachedNow heap state book) seat LoadingOld place roots in
     let goal = λ (o : Option ℕ). IsMachine heap (loaded_state heap state number (Word seat.reached seat.part) (with_entries (after_old_load (record seat { loaded = found }) o) []))
     → Keeps heap state (loaded_state heap state number (Word seat.reached seat.part) (with_entries (after_old_load (record seat { loaded = found }) o) [])) book book.begun [] in
     let by_head : (o : Option ℕ) → head_of found ≡ o → goal o = λ o. elim o as (λ x. head_of found ≡ x → goal x) [
-      | None ↦ λ none. new_cases (λ next. IsMachine heap (loaded_state heap state number (Word seat.reached seat.part) (went seat seat.registers seat.reached seat.links seat.part found (places.Access next) seat.looks []))
-          → Keeps heap state (loaded_state heap state number (Word seat.reached seat.part) (went seat seat.registers seat.reached seat.links seat.part found (places.Access next) seat.looks [])) book book.begun []) new_head
-          (λ no_new. on Swapping (λ s. refl) (at_next Swapping, unloaded Swapping none) (λ making x lead. absurd (cc (none, leads x lead)))
+      | None ↦ λ none. new_cases (λ next. IsMachine heap (loaded_state heap state number (Word seat.reached seat.part) (went seat seat.registers seat.reached seat.links seat.part seat.address found (places.Access next) seat.looks []))
+          → Keeps heap state (loaded_state heap state number (Word seat.reached seat.part) (went seat seat.registers seat.reached seat.links seat.part seat.address found (places.Access next) seat.looks [])) book book.begun []) new_head
+          (λ no_new. on Swapping (λ s. refl) (λ s. tt) (at_next Swapping, unloaded Swapping none) (λ making x lead. absurd (cc (none, leads x lead)))
           (λ is_on. (none_holds (IsMarked book.colour) (head_of found) none, none_holds (IsMarked book.colour) new_head no_new)) reached)
-          (λ f some. on ShadingNew (λ s. refl) (at_next ShadingNew, unloaded ShadingNew none) (λ making x lead. absurd (cc (none, leads x lead))) (none_holds (IsMarked book.colour) (head_of found) none) reached)
+          (λ f some. on ShadingNew (λ s. refl) (λ s. tt) (at_next ShadingNew, unloaded ShadingNew none) (λ making x lead. absurd (cc (none, leads x lead))) (none_holds (IsMarked book.colour) (head_of found) none) reached)
       | Some f ↦ λ some.
           let head = loaded_kept heap state.words g book.made book.owner book.fragments rule.machine.limits old.control_words old.ids old.objects seat fits.0.2.arrived finds f some in
-          on ShadingOld (λ s. refl) (at_next ShadingOld, record { index = head.index; below = head.below; kept = head.kept; loads = some ∙ ap Some head.is })
+          on ShadingOld (λ s. refl) (λ s. tt) (at_next ShadingOld, record { index = head.index; below = head.below; kept = head.kept; loads = some ∙ ap Some head.is })
           (λ making x lead. inl (leads x lead)) tt
-          (λ marks roots. (reached marks roots, some_holds (IsReachedNow heap state book) (head_of found) f some (field_comes heap state book number rule here marks (reached marks roots) fits.0.2.field_part f head some)))
+          (λ marks roots. (reached marks roots, some_holds (IsReachedNow heap state book) (head_of found) f some (field_comes heap state book number rule here marks (reached marks roots) fits.0.2.part_within plain f head some)))
     ] in
     by_head (head_of found) refl machine

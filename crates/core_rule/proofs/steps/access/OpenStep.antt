@@ -1,5 +1,6 @@
 -- Loading an object's length keeps the rule.
-use Rattle.std.proofs.Common.{◌≡◌, ℕ, ◌<◌, ◌≤◌, ltb, false, [], ◌∷◌, length, Option, Some, None, refl, sym, ap, ◌∙◌, subst, arith}
+use Rattle.std.proofs.Common.{◌≡◌, ℕ, ◌+◌, ◌%◌, ◌<◌, ◌≤◌, ltb, false, [], ◌∷◌, length, Option, Some, None, refl, sym, ap, ◌∙◌, subst, arith}
+use Rattle.std.specs.Prelude.{if◌then◌else◌}
 use Rattle.std.proofs.lemmas.Bool.{cond_both, ltb-true, ltb-false, eq-eqb}
 use Rattle.heap_model.specs.declared.command.Command.{Command}
 use Rattle.heap_model.specs.declared.command.Command.TheVariants as commands
@@ -15,24 +16,24 @@ use Rattle.heap_model.specs.account.Effects.{effect_of, no_effect}
 use Rattle.heap_model.specs.graph.Growth.{after_reply}
 use Rattle.heap_model.specs.graph.Legal.{Accepts}
 use Rattle.heap_model.specs.account.PhaseCounts.{is_leave_of}
-use Rattle.heap_model.specs.graph.Graph.{Graph}
+use Rattle.heap_model.specs.graph.Graph.{Graph, Node}
 use Rattle.core_machine.specs.seat.Looks.{forgotten}
 use Rattle.core_machine.specs.declared.table.address.Address.TheVariants.{Word}
 use Rattle.core_machine.specs.declared.place.Place.TheVariants as places
-use Rattle.core_machine.specs.declared.place.Access.TheVariants.{LoadingMeta}
+use Rattle.core_machine.specs.declared.place.Access.TheVariants.{LoadingMeta, Locating}
 use Rattle.core_machine.specs.seat.Commands.{target_of, field_of}
 use Rattle.core_machine.specs.seat.FitsAccess.{NamesObject, NamesField, SeatIsAtHead}
 use Rattle.core_machine.specs.table.Layout.{at}
-use Rattle.core_machine.specs.table.Decode.{length_of}
+use Rattle.core_machine.specs.table.Decode.{length_of, array_length_of}
 use Rattle.core_machine.specs.machine.Machine.{State, seat_at}
-use Rattle.core_machine.specs.seat.Access.{row_of, part_of, meta_reply_of, after_meta}
+use Rattle.core_machine.specs.seat.Access.{row_of, part_of, meta_reply_of, after_meta, after_length}
 use Rattle.core_machine.specs.seat.AccessMoves.{open_move, reply_entries, reply_entries_if}
-use Rattle.core_machine.specs.seat.Seat.{Seat, with_entries}
+use Rattle.core_machine.specs.seat.Seat.{Seat, no_spot, with_entries}
 use Rattle.core_machine.specs.machine.Value.{IsMachine}
 use Rattle.core_rule.proofs.entries.AtRest.{seat_fits, spent_own, few_own}
 use Rattle.core_rule.specs.Book.{Book, id_at}
 use Rattle.core_rule.specs.Gathers.{IsAnswered}
-use Rattle.core_rule.specs.Objects.{cells_at}
+use Rattle.core_rule.specs.Objects.{node_at, cells_at}
 use Rattle.core_rule.specs.Registers.{IsAwaited}
 use Rattle.core_rule.specs.Rule.{Rule}
 use Rattle.core_rule.specs.Ways.{SetsOut}
@@ -40,10 +41,11 @@ use Rattle.core_rule.proofs.steps.Assemble.{Keeps, StepKeeps}
 use Rattle.core_rule.proofs.ways.AtObject.{is_present, way_object, at_rest}
 use Rattle.core_rule.proofs.marking.CallRoots.{IsReachedNow, at_call}
 use Rattle.core_rule.proofs.marking.Marks.{roots_off_way}
-use Rattle.core_rule.proofs.ways.KeptWords.{length_found}
+use Rattle.core_rule.proofs.ways.KeptWords.{by_kind, length_found, array_length_found}
 use Rattle.core_rule.proofs.steps.Loads.{went_cycle, went, loaded_state, load_tells, over_went}
 use Rattle.core_rule.proofs.graph.ObjectReplies.{IsLen, accepts_length, accepts_no_field, graph_length, graph_no_field, keeps_length, keeps_no_field}
 use Rattle.core_rule.proofs.steps.access.OnwardStep.{onward_keeps}
+use Rattle.core_rule.proofs.steps.access.WaySteps.{way_goes}
 use Rattle.core_rule.proofs.entries.OwnEntries.{own_entries}
 use Rattle.core_rule.proofs.entries.PhaseEntries.{no_leave_told}
 use Rattle.core_rule.proofs.graph.PutRegister.{only_none}
@@ -62,6 +64,10 @@ meta_cases P _ found is len more past = absurd is
 
 module _ (heap : Heap) (state : State) (book : Book) (number : ℕ) (rule : Rule heap state book) (here : number < heap.seats)
     (place : (seat_at state number).place ≡ places.Access LoadingMeta) where
+  -- the way stands at an object's first fragment
+  set_out : SetsOut book.made book.owner book.fragments (seat_at state number)
+  set_out = rw place at (rule.seats_stand number here).names.way
+
   -- a reply at the meta, which changes nothing of the graph
   met_keeps : (reply : Reply) → effect_of (Said number (seat_at state number).command reply) ≡ no_effect
       → after_reply (graph_of heap book.history) number (seat_at state number).command reply ≡ graph_of heap book.history
@@ -69,32 +75,74 @@ module _ (heap : Heap) (state : State) (book : Book) (number : ℕ) (rule : Rule
       → KeepsSpaceBy ButSpine heap false book.history (Said number (seat_at state number).command reply)
       → is_leave_of number (Said number (seat_at state number).command reply) ≡ false
       → IsMachine heap (loaded_state heap state number (Word (seat_at state number).reached 0)
-      (went (seat_at state number) (seat_at state number).registers 0 0 0 0 places.Idle (forgotten (seat_at state number).looks) (reply_entries number (seat_at state number) reply)))
+      (went (seat_at state number) (seat_at state number).registers 0 0 0 no_spot 0 places.Idle (forgotten (seat_at state number).looks) (reply_entries number (seat_at state number) reply)))
       → Keeps heap state (loaded_state heap state number (Word (seat_at state number).reached 0)
-      (went (seat_at state number) (seat_at state number).registers 0 0 0 0 places.Idle (forgotten (seat_at state number).looks) (reply_entries number (seat_at state number) reply))) book book.begun (reply_entries number (seat_at state number) reply)
+      (went (seat_at state number) (seat_at state number).registers 0 0 0 no_spot 0 places.Idle (forgotten (seat_at state number).looks) (reply_entries number (seat_at state number) reply))) book book.begun (reply_entries number (seat_at state number) reply)
   met_keeps reply nothing stays accepts keeps stays_here machine =
       let seat : Seat = seat_at state number in
       let g : Graph = graph_of heap book.history in
       let stands = rule.seats_stand number here in
       let entry : Entry = Said number seat.command reply in
-      load_tells heap state book number rule here (Word seat.reached 0) seat.registers 0 0 0 0 places.Idle (forgotten (seat_at state number).looks) (entry ∷ []) machine seat.command reply nothing g stays (only_none g number)
+      load_tells heap state book number rule here (Word seat.reached 0) seat.registers 0 0 0 no_spot 0 places.Idle (forgotten (seat_at state number).looks) (entry ∷ []) machine seat.command reply nothing g stays (only_none g number)
+      (rw place tt) tt
       accepts keeps
       (λ r unawaited. stands.names.registers r (subst (λ p. IsAwaited p (target_of seat.command) r) place))
       (list_more g book.made book.owner book.fragments number seat book.history (subst IsAnswered place) stands.told.list g _ _ (entry ∷ []) [] (entry ∷ []) refl refl
       (own_entries number book.history entry (eq-eqb number number refl)) refl)
-      tt tt stays_here
-      (went_cycle heap state book number rule here (Word seat.reached 0) seat.registers 0 0 0 0 places.Idle (forgotten (seat_at state number).looks) (entry ∷ []) machine tt)
-      (λ marks. roots_off_way (IsReachedNow heap state book) seat (went seat seat.registers 0 0 0 0 places.Idle (forgotten (seat_at state number).looks) (entry ∷ [])) refl tt)
+      tt tt tt stays_here
+      (went_cycle heap state book number rule here (Word seat.reached 0) seat.registers 0 0 0 no_spot 0 places.Idle (forgotten (seat_at state number).looks) (entry ∷ []) machine tt)
+      (λ marks. roots_off_way (IsReachedNow heap state book) seat (went seat seat.registers 0 0 0 no_spot 0 places.Idle (forgotten (seat_at state number).looks) (entry ∷ [])) refl tt)
+
+  -- the object has the field: the way of a record goes on by its links, and that of an array by its spine
+  length_keeps : field_of (seat_at state number).command < length (cells_at (graph_of heap book.history) book.made set_out.index)
+      → IsMachine heap (loaded_state heap state number (Word (seat_at state number).reached 0)
+      (with_entries (after_length (seat_at state number) (at heap state.words (Word (seat_at state number).reached 0)) (array_length_of (at heap state.words (Word (seat_at state number).reached 0)))) []))
+      → Keeps heap state (loaded_state heap state number (Word (seat_at state number).reached 0)
+      (with_entries (after_length (seat_at state number) (at heap state.words (Word (seat_at state number).reached 0)) (array_length_of (at heap state.words (Word (seat_at state number).reached 0)))) [])) book book.begun []
+  length_keeps within =
+      let seat : Seat = seat_at state number in
+      let g : Graph = graph_of heap book.history in
+      let found : ℕ = at heap state.words (Word seat.reached 0) in
+      let stands = rule.heap_stands in
+      let opens : SeatIsAtHead seat = rw place at (seat_fits rule number here).way_at_place in
+      let out = set_out in
+      let index : ℕ = out.index in
+      let way = out.way in
+      let object : Node = node_at g book.made index in
+      let reaches = at_call (IsReachedNow heap state book) seat LoadingMeta place in
+      let cells : array_length_of found ≡ (if object.array then Some (length object.cells) else None)
+      = ap (λ f. array_length_of (at heap state.words (Word f 0))) way.here
+      ∙ array_length_found heap state.words g book.made book.owner book.fragments rule.machine.limits stands.control_words stands.ids stands.objects index way.below way.kept in
+      let goes : Option ℕ → Type 0 = λ length. IsMachine heap (loaded_state heap state number (Word seat.reached 0) (with_entries (after_length seat found length) []))
+      → Keeps heap state (loaded_state heap state number (Word seat.reached 0) (with_entries (after_length seat found length) [])) book book.begun [] in
+      by_kind heap state.words g book.made book.owner book.fragments rule.machine.limits stands.control_words stands.ids stands.objects index way.below way.kept (goes (array_length_of found))
+      (λ kind. let is : array_length_of found ≡ Some (length object.cells) = cells ∙ ap (λ b. if b then Some (length object.cells) else None) kind in subst goes (sym is)
+      (way_goes heap state book number rule here LoadingMeta place (λ answered. answered) (λ d r awaited. awaited) (Word seat.reached 0) seat.reached 0 (field_of seat.command % 4) seat.address Locating refl
+      record {
+        index = index;
+        way = record { below = way.below; kept = way.kept; holds = way.holds; here = way.here };
+        an_array = kind;
+        within = within;
+        there = refl;
+      }
+      tt tt (λ marks roots. reaches roots)))
+      (λ kind. let is : array_length_of found ≡ None = cells ∙ ap (λ b. if b then Some (length object.cells) else None) kind in subst goes (sym is)
+      (onward_keeps heap state book number rule here LoadingMeta place (λ answered. answered) (λ d r awaited. awaited)
+      opens.none_loaded reaches (row_of (field_of seat.command)) (part_of (field_of seat.command)) record {
+        index = index;
+        row = 0;
+        way = record { below = way.below; kept = way.kept; holds = way.holds; here = way.here };
+        field = record { within = within; leads = (let row : 0 + row_of (field_of seat.command) ≡ row_of (field_of seat.command) = omega arith in row) ∙ rw kind refl; linked = λ array. absurd (cc (kind, array)); there = rw kind refl };
+      }))
 
 -- loading the length keeps the rule
 pub open_keeps : StepKeeps (places.Access LoadingMeta) (λ heap. open_move)
 open_keeps heap state book number rule here place machine =
     let seat : Seat = seat_at state number in
     let g : Graph = graph_of heap book.history in
-    let stands = rule.seats_stand number here in
     let found : ℕ = at heap state.words (Word seat.reached 0) in
     let opens : SeatIsAtHead seat = rw place at (seat_fits rule number here).way_at_place in
-    let out : SetsOut book.made book.owner book.fragments seat = rw place at stands.names.way in
+    let out = set_out heap state book number rule here place in
     let index : ℕ = out.index in
     let way = out.way in
     let id : Id = id_at book.made index in
@@ -114,13 +162,7 @@ open_keeps heap state book number rule here place machine =
     (λ len. ends (replies.Length (length_of found)) (met_keeps heap state book number rule here place (replies.Length (length_of found)) refl (graph_length g number (length_of found) seat.command len)
     (subst (λ n. Accepts g (Said number seat.command (replies.Length n))) (sym size) (accepts_length g number id seat.command opens.works.in_range present made held len))
     (keeps_length heap false book.history number enough little (length_of found) seat.command len) (leaves_none (replies.Length (length_of found)))))
-    (λ field more. onward_keeps heap state book number rule here (subst IsAnswered place) (λ d r. subst (λ p. IsAwaited p d r) place)
-    opens.none_loaded (at_call (IsReachedNow heap state book) seat LoadingMeta place) (row_of (field_of seat.command)) (part_of (field_of seat.command)) record {
-      index = index;
-      row = 0;
-      way = record { below = way.below; kept = way.kept; holds = way.holds; here = way.here };
-      field = record { within = omega (arith, more, size); leads = omega arith; there = refl };
-    })
+    (λ field more. length_keeps heap state book number rule here place (omega (arith, more, size)))
     (λ field past. ends replies.NoField (met_keeps heap state book number rule here place replies.NoField refl (graph_no_field g number seat.command field)
     (accepts_no_field g number id seat.command opens.works.in_range present made held field (omega (arith, past, size)))
     (keeps_no_field heap false book.history number enough little seat.command field) (leaves_none replies.NoField)))

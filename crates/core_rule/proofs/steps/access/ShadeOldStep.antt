@@ -18,7 +18,7 @@ use Rattle.core_rule.specs.Book.{Colour, fragment_at}
 use Rattle.core_rule.specs.Colours.{IsMarked, WordPointsTo, IsBetween}
 use Rattle.core_rule.specs.Flight.{DeletionBarrier, FieldStands, WhileAccess}
 use Rattle.core_rule.specs.Roots.{IsInMarking, OfRoots}
-use Rattle.core_rule.specs.Objects.{cells_at}
+use Rattle.core_rule.specs.Objects.{node_at}
 use Rattle.core_rule.specs.Ways.{Finds, LoadedKept}
 use Rattle.core_rule.proofs.steps.Assemble.{Keeps, StepKeeps, seat_fits}
 use Rattle.core_rule.proofs.steps.BarrierSteps.{new_cases, shades_on, leads_back}
@@ -38,7 +38,7 @@ shade_old_keeps heap state book number rule here place machine =
     let p : ℕ = phase book.history in
     let stands = rule.seats_stand number here in
     let fits : SeatIsAtSet seat × (has_barrier_of seat ≡ true) × IsSome (head_of seat.loaded) = rw place at (seat_fits rule number here).way_at_place in
-    let way : Finds (cells_at g book.made) book.made book.owner book.fragments seat × LoadedKept book.made book.owner book.fragments seat = rw place at stands.names.way in
+    let way : Finds (node_at g book.made) book.made book.owner book.fragments seat × LoadedKept book.made book.owner book.fragments seat = rw place at stands.names.way in
     let f : ℕ = loaded_head_of seat in
     let is : f ≡ fragment_at (book.fragments way.1.index) 0 = from_some (head_of seat.loaded) _ way.1.loads in
     let loads : head_of seat.loaded ≡ Some f = way.1.loads ∙ ap Some (sym is) in
@@ -47,7 +47,7 @@ shade_old_keeps heap state book number rule here place machine =
     let coloured : ℕ → Colour = with_mark book.colour f in
     let on = shades_on heap state book number rule here ShadingOld place (λ answered. answered) (λ d r awaited. awaited) f head fits.1 in
     let back = leads_back heap state book number rule here ShadingOld place (λ answered. answered) (λ d r awaited. awaited) f head fits.1 in
-    let at_next = λ (next : Access). finds_at (cells_at g book.made) book.made book.owner book.fragments seat seat.loaded next (seat.mine ++ []) way.0 in
+    let at_next = λ (next : Access). finds_at (node_at g book.made) book.made book.owner book.fragments seat seat.loaded next (seat.mine ++ []) way.0 in
     let kept_at = λ (next : Access) (some : IsSome (head_of seat.loaded)). loaded_at book.made book.owner book.fragments seat next (seat.mine ++ []) way.1 in
     let marked : IfSome (head_of seat.loaded) (IsMarked coloured) = some_holds (IsMarked coloured) (head_of seat.loaded) f loads (mark_marks book.colour f) in
     let watched : IsBetween 2 5 p → IsBetween 2 5 seat.answered → DeletionBarrier heap state.words book.colour seat.reached seat.part (head_of seat.loaded)
@@ -64,7 +64,7 @@ shade_old_keeps heap state book number rule here place machine =
     new_cases (λ next. IsMachine heap (record state { words = words_shaded heap state book number rule here f head.index head.kept head.is; seats = slice_set state.seats number (shading seat seat.shaded (places.Access next)) })
     → Keeps heap state (record state { words = words_shaded heap state book number rule here f head.index head.kept head.is; seats = slice_set state.seats number (shading seat seat.shaded (places.Access next)) }) book book.begun [])
     (register_head (new_register_of seat))
-    (λ no_new. on Swapping (λ s. refl) (at_next Swapping, kept_at Swapping) (λ making snapped. field making snapped)
+    (λ no_new. on Swapping (λ s. refl) (λ s. tt) (at_next Swapping, kept_at Swapping) (λ making snapped. field making snapped)
     (λ making is_on. (marked, none_holds (IsMarked coloured) (register_head (new_register_of seat)) no_new)) comes reached named)
-    (λ x some. on ShadingNew (λ s. refl) (at_next ShadingNew, kept_at ShadingNew) field (λ making. marked) comes reached named)
+    (λ x some. on ShadingNew (λ s. refl) (λ s. tt) (at_next ShadingNew, kept_at ShadingNew) field (λ making. marked) comes reached named)
     machine

@@ -33,14 +33,14 @@ use Rattle.core_machine.specs.table.Layout.{at, put, InTable}
 use Rattle.core_machine.specs.table.Decode.{stamp_of}
 use Rattle.core_machine.specs.machine.Machine.{seat_at}
 use Rattle.core_machine.specs.Move.{seat_after}
-use Rattle.core_machine.specs.seat.Access.{has_barrier_of, row_of, part_of}
+use Rattle.core_machine.specs.seat.Access.{has_barrier_of}
 use Rattle.core_machine.specs.seat.AccessMoves.{swap_move, new_word_of}
 use Rattle.core_machine.specs.seat.Registers.{register_in}
 use Rattle.core_machine.specs.seat.Seat.{Seat, HasNumberLeft}
 use Rattle.core_rule.specs.Book.{fragment_at, id_at, object_head}
-use Rattle.core_rule.specs.Objects.{AreMade, NamesKept, Objects, cells_in, cells_at, value_word}
+use Rattle.core_rule.specs.Objects.{AreMade, NamesKept, Objects, node_at, value_word}
 use Rattle.core_rule.specs.Registers.{HoldsValue}
-use Rattle.core_rule.specs.Ways.{Finds, OldKept}
+use Rattle.core_rule.specs.Ways.{Finds, OldKept, row_in, part_in}
 use Rattle.core_rule.proofs.steps.Assemble.{StepKeeps}
 use Rattle.core_rule.proofs.entries.AtRest.{seat_fits, in_flight, spent_own, few_own, none_awaited}
 use Rattle.core_rule.proofs.graph.CellSet.{Sets, sets_cell}
@@ -48,7 +48,8 @@ use Rattle.core_rule.proofs.objects.CellWords.{stamp_of_value, register_is_value
 use Rattle.core_rule.proofs.cycle.CycleHistory.{cycle_own}
 use Rattle.core_rule.proofs.entries.Legality.{legal_more, keeps_said}
 use Rattle.core_rule.proofs.ways.KeptWords.{field_reached}
-use Rattle.core_rule.proofs.objects.ObjectsSet.{made_node, ids_set, lengths_stay, found_is, objects_set, set_unkept}
+use Rattle.core_rule.proofs.graph.SameNodes.{made_node}
+use Rattle.core_rule.proofs.objects.ObjectsSet.{ids_set, shapes_set, found_is, objects_set, set_unkept}
 use Rattle.core_rule.proofs.entries.PhaseEntries.{no_leave_told}
 use Rattle.core_rule.proofs.steps.ReplyStep.{reply_keeps}
 use Rattle.core_rule.proofs.entries.SeatLists.{all_told}
@@ -99,8 +100,8 @@ swap_keeps heap state book number rule here place machine =
     let rest : IsAtRest seat = rw place at (seat_fits rule number here).at_place in
     let fits : FitsSets seat × (has_barrier_of seat ≡ false → seat.loaded ≡ 0) = rw place at (seat_fits rule number here).way_at_place in
     let a_set : IsSet seat.command = fits.0.1 in
-    let way : Finds (cells_at g book.made) book.made book.owner book.fragments seat × OldKept book.made book.owner book.fragments seat = rw place at stands.names.way in
-    let finds : Finds (cells_at g book.made) book.made book.owner book.fragments seat = way.0 in
+    let way : Finds (node_at g book.made) book.made book.owner book.fragments seat × OldKept book.made book.owner book.fragments seat = rw place at stands.names.way in
+    let finds : Finds (node_at g book.made) book.made book.owner book.fragments seat = way.0 in
     let present : (graph_seat g number).left ≡ false = stands.told.counts.leaves ∙ in_flight rule number here (λ idle. absurd (cc (place, idle))) in
     let silent : IsSilent seat = rw place at (seat_fits rule number here).answer_at_place in
     let holds : (r : ℕ) → HoldsValue book.made book.owner book.fragments (register_in seat.registers r) (register_value g number r)
@@ -108,13 +109,14 @@ swap_keeps heap state book number rule here place machine =
     let n : ℕ = finds.index in
     let i : ℕ = field_of seat.command in
     let id : Id = id_at book.made n in
-    let cells : List Cell = cells_at g book.made n in
+    let object : Node = node_at g book.made n in
+    let cells : List Cell = object.cells in
     let objects = rule.heap_stands.objects in
     let ids : AreMade g book.made = rule.heap_stands.ids in
-    let there = made_node (node g id) (ids.in_graph n finds.way.below) in
+    let there : node g id ≡ Some object = made_node (node g id) (ids.in_graph n finds.way.below) in
     let old : Cell = get_or cells i unset in
     let old_there : slice_get cells i ≡ Some old = slice_get-get_or cells i unset finds.field.within in
-    let field : Address = Word (fragment_at (book.fragments n) (row_of i)) (part_of i) in
+    let field : Address = Word (fragment_at (book.fragments n) (row_in object i)) (part_in object i) in
     let arrived : Word seat.reached seat.part ≡ field
     = field_reached heap state.words g book.made book.owner book.fragments rule.machine.limits rule.heap_stands.control_words ids objects seat finds fits.0.2.arrived in
     let word : ℕ = new_word_of number seat in
@@ -126,35 +128,34 @@ swap_keeps heap state book number rule here place machine =
     let now : Graph = after_reply g number seat.command (replies.Was stamp) in
     let grown : now ≡ write (count_set g number) (values.Object id) i cell
     = set_graph seat.command a_set g number stamp ∙ ap (λ (x : Value). write (count_set g number) x i cell) refers in
-    let sets : Sets g now number id i cell = subst (λ (x : Graph). Sets g x number id i cell) (sym grown) (sets_cell g number id i cell there.0 present there.1) in
+    let sets : Sets g now number id i cell = subst (λ (x : Graph). Sets g x number id i cell) (sym grown) (sets_cell g number id i cell object present there) in
     let numbered : seat.sets + 1 < 2 ^ 26 = set_numbered seat.command a_set seat.made seat.sets fits.0.0.numbered in
     let few : (graph_seat g number).sets + 1 < 2 ^ 26 = omega (arith, numbered, stands.told.counts.stamped) in
     let old_stamp : stamp ≡ old.stamp
     = ap (λ a. stamp_of (at heap state.words a)) arrived
-    ∙ ap stamp_of (found_is heap state.words g now number book.made book.owner book.fragments n i cell word ids objects finds.way.below finds.way.kept sets finds.field.within old old_there)
+    ∙ ap stamp_of (found_is heap state.words g now number book.made book.owner book.fragments book.spines n i cell word ids objects finds.way.below finds.way.kept sets finds.field.within old old_there)
     ∙ stamp_of_value (object_head book.made book.fragments) old.value old.stamp (objects.named n i finds.way.below finds.way.kept old old_there).1 in
-    let cells_there : slice_get there.0.cells i ≡ Some old = ap (λ (o : Option Node). slice_get (cells_in o) i) (sym there.1) ∙ old_there in
     let is_word : word ≡ value_word (object_head book.made book.fragments) cell.value cell.stamp
     = register_is_value book.made book.owner book.fragments (register_in seat.registers (source_of seat.command)) cell.value (set_stamp number (seat.sets + 1)) (holds (source_of seat.command))
     ∙ ap (λ s. value_word (object_head book.made book.fragments) cell.value (set_stamp number (s + 1))) stands.told.counts.stamped in
     let small : cell.stamp < 2 ^ 32 = omega (arith, few, here, rule.machine.limits.seats_fit) in
     let names : NamesKept book.made book.owner book.fragments cell.value × (cell.stamp < 2 ^ 32)
     = (register_names book.made book.owner book.fragments (register_in seat.registers (source_of seat.command)) cell.value (holds (source_of seat.command)), small) in
-    let inside : InTable heap field = subst (InTable heap) arrived ((seat_fits rule number here).way.reached_within, fits.0.2.field_part.below) in
+    let inside : InTable heap field = subst (InTable heap) arrived ((seat_fits rule number here).way.reached_within, fits.0.2.part_within) in
     reply_keeps heap state book number (put heap state.words (Word seat.reached seat.part) word) (seat_after (swap_move number seat) found) seat.command (replies.Was stamp) rule here machine
-    refl rest (all_told stands.told.list (rw place at stands.told.list.awaits))
+    refl (rw place tt) rest (all_told stands.told.list (rw place at stands.told.list.awaits))
     (legal_more heap false book.history (entries.Said number seat.command (replies.Was stamp)) rule.heap_stands.legal
-    (present, fits.0.0.in_range, set_says seat.command a_set g number id there.0 old stamp refers there.1 cells_there old_stamp few)
+    (present, fits.0.0.in_range, set_says seat.command a_set g number id object old stamp refers there old_there old_stamp few)
     (keeps_said heap false book.history number seat.command (replies.Was stamp) refl tt tt (set_shows seat.command a_set heap book.history number stamp)
     (spent_own heap state book number rule here rest) (omega (arith, set_most seat.command a_set, few_own heap state book number rule here rest))))
     (subst (λ a. SameUnkept heap book.owner state.words (put heap state.words a word)) (sym arrived)
-    (set_unkept heap state.words g now number book.made book.owner book.fragments n i cell word ids objects finds.way.below finds.way.kept sets finds.field.within))
+    (set_unkept heap state.words g now number book.made book.owner book.fragments book.spines n i cell word ids objects finds.way.below finds.way.kept sets finds.field.within inside.0))
     record {
-      ids = ids_set heap state.words g now number book.made book.owner book.fragments n i cell word ids objects finds.way.below finds.way.kept sets finds.field.within;
-      objects = subst (λ a. Objects heap (put heap state.words a word) now book.made book.owner book.fragments) (sym arrived)
-          (objects_set heap state.words g now number book.made book.owner book.fragments n i cell word ids objects finds.way.below finds.way.kept sets finds.field.within
+      ids = ids_set heap state.words g now number book.made book.owner book.fragments book.spines n i cell word ids objects finds.way.below finds.way.kept sets finds.field.within;
+      objects = subst (λ a. Objects heap (put heap state.words a word) now book.made book.owner book.fragments book.spines) (sym arrived)
+          (objects_set heap state.words g now number book.made book.owner book.fragments book.spines n i cell word ids objects finds.way.below finds.way.kept sets finds.field.within
           rule.machine.table inside.0 is_word names);
-      lengths = lengths_stay heap state.words g now number book.made book.owner book.fragments n i cell word ids objects finds.way.below finds.way.kept sets finds.field.within;
+      shapes = shapes_set heap state.words g now number book.made book.owner book.fragments book.spines n i cell word ids objects finds.way.below finds.way.kept sets finds.field.within;
       others = sets.others;
     }
     record {

@@ -32,7 +32,7 @@ telling_keeps heap state book number rule here place machine =
     let present : (graph_seat g number).left ≡ false = stands.told.counts.leaves ∙ in_flight rule number here (λ idle. absurd (cc (place, idle))) in
     let silent : IsSilent seat = rw place at (seat_fits rule number here).answer_at_place in
     local_reply_keeps heap state book number Phase (seat_after (local_move number seat) (at heap state.words Phase)) (local_reply_of seat.registers seat.command) rule here machine
-    at_place.0 (all_told stands.told.list (rw place at stands.told.list.awaits)) present at_place.1
+    (rw place tt) at_place.0 (all_told stands.told.list (rw place at stands.told.list.awaits)) present at_place.1
     (local_replies heap book.history g number book.made book.owner book.fragments seat.registers present (seat_fits rule number here).own.registers_whole (registers_length heap book.history number present)
     (λ i. stands.names.registers i (none_awaited seat.place places.Local (target_of seat.command) i place (λ none. none))) seat.command at_place.1 at_place.2)
     (no_leave_told number number seat.command (local_reply_of seat.registers seat.command) (λ leaves. subst (IsLocal seat.registers) leaves at_place.2))

@@ -17,9 +17,10 @@ use Rattle.core_machine.specs.seat.Registers.{register_in}
 use Rattle.core_machine.specs.seat.Seat.{Seat}
 use Rattle.core_rule.specs.Book.{Book}
 use Rattle.core_rule.specs.Counts.{Awaits}
-use Rattle.core_rule.specs.Objects.{cells_at}
+use Rattle.core_rule.specs.Objects.{node_at}
 use Rattle.core_rule.specs.Registers.{HoldsValue}
 use Rattle.core_rule.specs.Rule.{Rule}
+use Rattle.core_rule.specs.Spines.{WordStandsAhead}
 use Rattle.core_rule.specs.Ways.{WayStands}
 use Rattle.core_rule.proofs.cycle.FreshCycle.{cycle_fresh}
 use Rattle.core_rule.proofs.entries.AtRest.{seat_fits, none_awaited}
@@ -30,6 +31,8 @@ use Rattle.core_rule.proofs.entries.Starting.{IsFresh}
 use Rattle.core_rule.proofs.hand.EmptyHand.{nothing_together, none_stored, gathers_none}
 use Rattle.core_rule.proofs.marking.CallRoots.{IsReachedNow}
 use Rattle.core_rule.proofs.marking.Marks.{IsOffWay, roots_off_way}
+use Rattle.core_rule.proofs.spines.NoneMade.{MakesNone, none_has_place, none_used, none_weights}
+use Rattle.core_rule.proofs.spines.SpineFrames.{spine_away}
 use Rattle.core_rule.proofs.steps.Assemble.{Keeps, seat_begins}
 
 -- an inner call begins on no way, and no later than the first place of an answer
@@ -45,6 +48,13 @@ fresh Answer = tt
 fresh (Behind other) = tt
 fresh (Note reply) = tt
 
+-- and makes no object
+makes_none : (inner : Inner) → MakesNone (inner_place inner)
+makes_none Look = tt
+makes_none Answer = tt
+makes_none (Behind other) = tt
+makes_none (Note reply) = tt
+
 pub begin_inner_keeps : (heap : Heap) (state : State) (book : Book) (number : ℕ) (inner : Inner) → Rule heap state book → number < heap.seats
     → MayBeginInner heap number (seat_at state number) inner → IsMachine heap (state_after heap state (BeginsInner number inner))
     → Keeps heap state (state_after heap state (BeginsInner number inner)) book (begins number (length book.history) book.begun) []
@@ -53,6 +63,7 @@ begin_inner_keeps heap state book number inner rule here may machine =
     let next : Seat = after_inner_begin old inner in
     let g : Graph = graph_of heap book.history in
     let stands = rule.seats_stand number here in
+    let before : MakesNone old.place = rw may.idle tt in
     let rest : IsAtRest old = rw may.idle at (seat_fits rule number here).at_place in
     let holds : (r : ℕ) → HoldsValue book.made book.owner book.fragments (register_in old.registers r) (register_value g number r)
     = λ r. stands.names.registers r (none_awaited old.place places.Idle (target_of old.command) r may.idle (λ none. none)) in
@@ -61,8 +72,9 @@ begin_inner_keeps heap state book number inner rule here may machine =
         holding = stands.own.holding;
         stored = none_stored heap state.words number next rest.none_stored;
         together = nothing_together heap next.cursor next.tried next.hand next.body rest.empty_hand rest.no_body;
+        spine = spine_away heap state.words state.words book.spine_owner number old next (none_has_place old old.place before) (none_has_place next next.place (makes_none inner)) stands.own.spine;
       };
-      names = record { registers = λ r awake. holds r; way = way_stands inner };
+      names = record { registers = λ r awake. holds r; way = way_stands inner; ahead = ahead inner };
       told = record {
         list = record {
           awaited = [];
@@ -72,17 +84,24 @@ begin_inner_keeps heap state book number inner rule here may machine =
         counts = counts_same g book.history number old next refl refl refl refl stands.told.counts;
         began = began_now heap state.words book number next.place;
         gathers = gathers_none heap book.owner number (drop (begins number (length book.history) book.begun number) book.history) next.cursor next.tried next.given rest.none_tried rest.none_given;
+        used = none_used heap book.history number next next.place (makes_none inner);
       };
       cycle = cycle_fresh heap state.words book.owner book.colour (phase book.history) (last_answer number book.history) (has_left number book.history) number old next
           record { answered = refl; left = refl; asked = refl } (fresh inner) stands.cycle;
     }
-    refl (λ marks. roots_off_way (IsReachedNow heap state book) old next refl (off_way inner))
+    refl (none_weights old next before (makes_none inner)) (λ marks. roots_off_way (IsReachedNow heap state book) old next refl (off_way inner))
   where
-    way_stands : (its : Inner) → WayStands (cells_at (graph_of heap book.history) book.made) book.made book.owner book.fragments (after_inner_begin (seat_at state number) inner) (inner_place its)
+    way_stands : (its : Inner) → WayStands (node_at (graph_of heap book.history) book.made) book.made book.owner book.fragments (after_inner_begin (seat_at state number) inner) (inner_place its)
     way_stands Look = tt
     way_stands Answer = tt
     way_stands (Behind other) = tt
     way_stands (Note reply) = tt
+
+    ahead : (its : Inner) → WordStandsAhead book.owner book.spine_owner (after_inner_begin (seat_at state number) inner) (inner_place its)
+    ahead Look = tt
+    ahead Answer = tt
+    ahead (Behind other) = tt
+    ahead (Note reply) = tt
 
     none_awaits : (its : Inner) → Awaits (graph_of heap book.history) book.made book.owner book.fragments number (after_inner_begin (seat_at state number) inner) (inner_place its) []
     none_awaits Look = refl

@@ -47,12 +47,12 @@ module _ (heap : Heap) (state : State) (book : Book) (number : ℕ) (rule : Rule
   -- the call ends with what was found
   found_ends : (a : Address) (looks : Looks) → IsMachine heap (loaded_state heap state number a (with_entries (record (call_over seat) { looks = looks }) []))
       → Keeps heap state (loaded_state heap state number a (with_entries (record (call_over seat) { looks = looks }) [])) book book.begun []
-  found_ends a looks = quiet_ends heap state book number rule here a looks fits.0 silent (subst IsAnswered place) free told
+  found_ends a looks = quiet_ends heap state book number rule here a looks (rw place tt) fits.0 silent (subst IsAnswered place) free told
 
   -- or goes on
   found_goes : (a : Address) (looks : Looks) (next : Collecting) → IsMachine heap (loaded_state heap state number a (with_entries (record seat { place = places.Collecting next; looks = looks }) []))
       → Keeps heap state (loaded_state heap state number a (with_entries (record seat { place = places.Collecting next; looks = looks }) [])) book book.begun []
-  found_goes a looks = quiet_goes heap state book number rule here a looks fits.0 silent (subst IsAnswered place) free told
+  found_goes a looks = quiet_goes heap state book number rule here a looks (rw place tt) fits.0 silent (subst IsAnswered place) free told
 
 pub look_keeps : StepKeeps (places.Collecting Looking) (λ heap number. look_move)
 look_keeps heap state book number rule here place = found_ends heap state book number rule here Looking place Phase (looked (at heap state.words Phase) (seat_at state number).looks)

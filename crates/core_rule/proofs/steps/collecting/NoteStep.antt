@@ -95,7 +95,7 @@ module _ (heap : Heap) (state : State) (book : Book) (number : ℕ) (rule : Rule
       let stands = rule.seats_stand number here in
       let silent : IsSilent seat = rw place at (seat_fits rule number here).answer_at_place in
       let present : (graph_seat g number).left ≡ false = stands.told.counts.leaves ∙ in_flight rule number here (λ idle. absurd (cc (place, idle))) in
-      local_reply_keeps heap state book number Phase now (noted_reply reply) rule here machine fits.0 (all_told stands.told.list (rw place at stands.told.list.awaits)) present
+      local_reply_keeps heap state book number Phase now (noted_reply reply) rule here machine (rw place tt) fits.0 (all_told stands.told.list (rw place at stands.told.list.awaits)) present
       (subst IsCommand (sym fits.1) tt)
       (subst (λ c. IsLocalReply heap book.history g number book.made book.owner book.fragments c (noted_reply reply) seat.registers) (sym fits.1) (local reply fits.2))
       (no_leave_told number number seat.command (noted_reply reply) (λ leaves. absurd (cc (leaves, fits.1))))

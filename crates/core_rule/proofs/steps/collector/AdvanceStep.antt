@@ -21,7 +21,7 @@ use Rattle.core_rule.proofs.steps.collector.PhaseTurn.{BeginsNext, words_next, l
 advance_begins : (p : ℕ) → BeginsNext (Advance p)
 advance_begins p = record {
   phases = refl;
-  uses = record { taken = refl; given = refl; freed = refl };
+  uses = record { taken = refl; given = refl; freed = refl; words = refl; returned = refl };
   answers = refl;
   nobodys = λ r. refl;
   no_leave = λ r. refl;
@@ -73,6 +73,7 @@ module _ (heap : Heap) (state : State) (book : Book) (rule : Rule heap state boo
   marks_then = record {
     grey = rule.marks_stand.heap_marks.grey;
     scan = tt;
+    few = tt;
     pass = tt;
     sweep_stands = tt;
     alive = alive_then;

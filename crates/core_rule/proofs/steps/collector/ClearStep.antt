@@ -1,5 +1,5 @@
 -- The collector clears the marks of a group: that keeps the rule.
-use Rattle.std.proofs.Common.{◌≡◌, ℕ, ◌+◌, ◌%◌, ◌≤◌, List, [], sym, ap, ◌∙◌, subst, arith, inl}
+use Rattle.std.proofs.Common.{◌≡◌, ℕ, ◌+◌, ◌%◌, ◌≤◌, List, [], refl, sym, ap, ◌∙◌, subst, arith, inl}
 use Rattle.std.proofs.lemmas.List.{append-nil}
 use Rattle.heap_model.specs.declared.heap.Heap.{Heap}
 use Rattle.heap_model.specs.account.PhaseCounts.{phase}
@@ -11,15 +11,15 @@ use Rattle.core_machine.specs.declared.table.address.Address.TheVariants.{Contro
 use Rattle.core_machine.specs.machine.Machine.{State}
 use Rattle.core_machine.specs.table.Layout.{at}
 use Rattle.core_rule.specs.Book.{Book}
-use Rattle.core_rule.specs.Marking.{ScanStands, PassStands, MarkingStands}
+use Rattle.core_rule.specs.Marking.{ScanStands, IsFewWords, PassStands, MarkingStands}
 use Rattle.core_rule.specs.Sweep.{IsSettled, SweepStands, AreCleared}
 use Rattle.core_rule.specs.Rule.{Rule}
 use Rattle.core_rule.proofs.footprint.BookGoing.{colours_go}
-use Rattle.core_rule.proofs.frames.Clearing.{words_cleared, book_cleared, heap_cleared, seat_cleared}
+use Rattle.core_rule.proofs.frames.Clearing.{words_cleared, book_cleared, leaves_spines, heap_cleared, seat_cleared}
 use Rattle.core_rule.proofs.marking.Marks.{settled_phase}
 use Rattle.core_rule.proofs.marking.SweepMarks.{after_cleared_either}
 use Rattle.core_rule.proofs.steps.collector.ColourTurn.{at_stage, agrees_at}
-use Rattle.core_rule.proofs.steps.TurnSteps.{StageKeeps, quiet, turn_steps}
+use Rattle.core_rule.proofs.steps.TurnSteps.{StageKeeps, quiet, turn_steps, turn_budgets}
 use Rattle.core_rule.proofs.words.SweepWords.{cleared_further, cleared_grey, cleared_in, cleared_was}
 
 module _ (heap : Heap) (state : State) (book : Book) (rule : Rule heap state book) (group kept : ℕ) (clearing : state.collector.stage ≡ stages.Clearing group kept) where
@@ -43,11 +43,12 @@ module _ (heap : Heap) (state : State) (book : Book) (rule : Rule heap state boo
   words = words_cleared heap state book rule group fits.group_within
 
   -- what stands at a stage of the clearing
-  marks_at : (stage : Stage) → ScanStands heap words book.owner now.colour book.fragments stage → PassStands now.colour stage
+  marks_at : (stage : Stage) → ScanStands heap words book.owner now.colour book.fragments stage → IsFewWords stage → PassStands now.colour stage
       → SweepStands heap book.owner now.colour state.collector.phase stage → MarkingStands heap words book.owner now.colour book.fragments state.collector.phase stage
-  marks_at stage scan pass sweep = record {
+  marks_at stage scan few pass sweep = record {
     grey = λ f grey. rule.marks_stand.heap_marks.grey f (cleared_grey group book.colour f grey);
     scan = scan;
+    few = few;
     pass = pass;
     sweep_stands = sweep;
     alive = λ going. rule.marks_stand.heap_marks.alive (unsettled state.collector.stage);
@@ -60,8 +61,8 @@ module _ (heap : Heap) (state : State) (book : Book) (rule : Rule heap state boo
 
   marks : (n : ℕ) → MarkingStands heap words book.owner now.colour book.fragments state.collector.phase (after_cleared heap group n)
   marks n = after_cleared_either (MarkingStands heap words book.owner now.colour book.fragments state.collector.phase) heap group n
-      (marks_at (stages.Clearing (group + 1) n) tt tt (cleared_further group book.colour cleared))
-      (λ all. marks_at (stages.Ending n) tt tt (cleared_all all))
+      (marks_at (stages.Clearing (group + 1) n) tt tt tt (cleared_further group book.colour cleared))
+      (λ all. marks_at (stages.Ending n) tt tt tt (cleared_all all))
 
 pub clear_keeps : (group kept : ℕ) → StageKeeps (stages.Clearing group kept)
 clear_keeps group kept heap state book rule clearing machine =
@@ -77,4 +78,6 @@ clear_keeps group kept heap state book rule clearing machine =
       heap_marks = marks heap state book rule group kept clearing (kept + taken_count_of (at heap state.words (Control group)));
       roots = λ r below is. absurd (omega (arith, is.phase, fits.for_clearing));
     }
+    (turn_budgets heap state book rule (words_cleared heap state book rule group fits.group_within) (quiet (at_stage state.collector stage)) (book_cleared heap state book rule group fits.group_within)
+    (leaves_spines heap state book rule group fits.group_within) record { told = refl; returned = refl; kept = refl; gone = refl })
     (colours_go heap state book (cleared_in group book.colour) (λ f i k owned below marked. inl (cleared_was group book.colour f marked)))

@@ -1,5 +1,5 @@
 -- A turn of the collector that colours a fragment keeps the rule.
-use Rattle.std.proofs.Common.{◌≡◌, ◌≢◌, ℕ, ◌<◌, List, [], sym, ◌∙◌}
+use Rattle.std.proofs.Common.{◌≡◌, ◌≢◌, ℕ, ◌<◌, List, [], refl, sym, ◌∙◌}
 use Rattle.std.proofs.lemmas.List.{append-nil}
 use Rattle.heap_model.specs.declared.heap.Heap.{Heap}
 use Rattle.core_machine.specs.collector.Collector.{Collector}
@@ -17,10 +17,10 @@ use Rattle.core_rule.specs.Paths.{IsReached}
 use Rattle.core_rule.specs.Phases.{CollectorAgrees}
 use Rattle.core_rule.specs.Rule.{Rule}
 use Rattle.core_rule.proofs.footprint.BookGoing.{ColoursGoOn, colours_go}
-use Rattle.core_rule.proofs.frames.Recoloured.{Recolours, heap_recoloured, seat_recoloured}
+use Rattle.core_rule.proofs.frames.Recoloured.{Recolours, leaves_spines, heap_recoloured, seat_recoloured}
 use Rattle.core_rule.proofs.marking.Marks.{roots_more}
 use Rattle.core_rule.proofs.steps.Assemble.{Keeps}
-use Rattle.core_rule.proofs.steps.TurnSteps.{after_turn, quiet, turn_steps, load_turns}
+use Rattle.core_rule.proofs.steps.TurnSteps.{after_turn, quiet, turn_steps, turn_budgets, load_turns}
 
 -- the collector at another stage
 abbrev pub at_stage : Collector → Stage → Collector
@@ -53,7 +53,10 @@ module _ (heap : Heap) (state : State) (book : Book) (rule : Rule heap state boo
       turn_steps heap state book (put heap state.words (Control g) n) (quiet (at_stage state.collector stage)) (record book { colour = coloured }) [] rule machine (sym (append-nil book.history))
       (heap_recoloured heap state book rule g n below coloured new) (λ r less stands. seat_recoloured heap state book rule g n below coloured new r less stands)
       (agrees_at heap state book rule stage)
-      record { heap_marks = marks; roots = roots_at (put heap state.words (Control g) n) coloured goes reached } (colours_go heap state book coloured named)
+      record { heap_marks = marks; roots = roots_at (put heap state.words (Control g) n) coloured goes reached }
+      (turn_budgets heap state book rule (put heap state.words (Control g) n) (quiet (at_stage state.collector stage)) (record book { colour = coloured })
+      (leaves_spines heap state book rule g n below coloured new) record { told = refl; returned = refl; kept = refl; gone = refl })
+      (colours_go heap state book coloured named)
 
   -- a turn that loads
   pub load_turns_on : (a : Address) → IsMachine heap (after_turn state (put heap state.words a (at heap state.words a)) (quiet (at_stage state.collector stage)))

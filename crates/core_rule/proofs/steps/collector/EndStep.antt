@@ -23,7 +23,7 @@ use Rattle.core_rule.proofs.steps.collector.PhaseTurn.{BeginsNext, words_next, p
 end_begins : (cycle kept : ℕ) → BeginsNext (Ends cycle kept)
 end_begins cycle kept = record {
   phases = refl;
-  uses = record { taken = refl; given = refl; freed = refl };
+  uses = record { taken = refl; given = refl; freed = refl; words = refl; returned = refl };
   answers = refl;
   nobodys = λ r. refl;
   no_leave = λ r. refl;
@@ -76,6 +76,7 @@ module _ (kept : ℕ) (heap : Heap) (state : State) (book : Book) (rule : Rule h
   marks_then = record {
     grey = rule.marks_stand.heap_marks.grey;
     scan = tt;
+    few = tt;
     pass = tt;
     sweep_stands = tt;
     alive = λ unsettled. none_dead;

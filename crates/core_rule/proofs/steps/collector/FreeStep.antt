@@ -20,12 +20,12 @@ use Rattle.core_rule.specs.Rule.{Rule}
 use Rattle.core_rule.proofs.entries.PhaseEntries.{phase_stays, answered_stays, left_stays}
 use Rattle.core_rule.proofs.footprint.BookGoing.{owners_go}
 use Rattle.core_rule.proofs.footprint.OwnersGo.{free_goes}
-use Rattle.core_rule.proofs.frames.Freeing.{words_freed, book_freed, heap_freed, seat_freed}
+use Rattle.core_rule.proofs.frames.Freeing.{words_freed, book_freed, leaves_spines, grants_freed, heap_freed, seat_freed}
 use Rattle.core_rule.proofs.marking.SweepMarks.{swept_further}
 use Rattle.core_rule.proofs.owners.DeadOwners.{set_dead, after_freed, freed_further}
 use Rattle.core_rule.proofs.steps.Assemble.{Keeps}
 use Rattle.core_rule.proofs.owners.OwnerLemmas.{is_dead}
-use Rattle.core_rule.proofs.steps.TurnSteps.{StageKeeps, after_turn, turn_steps}
+use Rattle.core_rule.proofs.steps.TurnSteps.{StageKeeps, after_turn, turn_steps, turn_budgets}
 use Rattle.core_rule.proofs.words.SetBits.{set_in, length-set}
 
 module _ (heap : Heap) (state : State) (book : Book) (rule : Rule heap state book) (group dead : ℕ) (freeing : state.collector.stage ≡ stages.Freeing group dead) where
@@ -81,6 +81,8 @@ module _ (heap : Heap) (state : State) (book : Book) (rule : Rule heap state boo
       (seat_freed heap state book rule group dead fits.sweeps.group_within fits.dead_within told.1)
       agrees
       record { heap_marks = marks; roots = λ r below is. absurd (omega (arith, is.phase, fits.sweeps.for_sweep)) }
+      (turn_budgets heap state book rule words (freed (length (set_in group dead))) now
+      (leaves_spines heap state book rule group dead fits.sweeps.group_within fits.dead_within told.1) (grants_freed heap state book rule group dead fits.sweeps.group_within fits.dead_within told.1))
       (owners_go heap state book now.history book.begun now.owner (free_goes (length book.made) book.owner (set_in group dead)
       (λ f there. is_dead (book.owner f) (set_dead book.owner group dead fits.dead_within told.1 f there))))
 

@@ -14,7 +14,7 @@ use Rattle.core_machine.specs.seat.Fits.{FitsStage}
 use Rattle.core_machine.specs.table.Layout.{at}
 use Rattle.core_machine.specs.machine.Machine.{State, seat_at}
 use Rattle.core_rule.specs.Book.{Book}
-use Rattle.core_rule.specs.Marking.{ScanStands, PassStands}
+use Rattle.core_rule.specs.Marking.{ScanStands, IsFewWords, PassStands}
 use Rattle.core_rule.specs.Sweep.{SweepStands}
 use Rattle.core_rule.specs.Rule.{Rule, MarksStand}
 use Rattle.core_rule.specs.Phases.{CollectorAgrees}
@@ -77,11 +77,12 @@ module _ (heap : Heap) (state : State) (book : Book) (rule : Rule heap state boo
 
   -- of marking nothing changes, wherever it goes on
   marks_stage : (stage : Stage) (looked : ℕ) → (state.collector.phase % 7 ≡ 3 → stage ≢ stages.Advancing) → ScanStands heap state.words book.owner book.colour book.fragments stage
-      → PassStands book.colour stage → SweepStands heap book.owner book.colour state.collector.phase stage → MarksNow (record state.collector { stage = stage; looked = looked })
-  marks_stage stage looked goes scan pass sweep = record {
+      → IsFewWords stage → PassStands book.colour stage → SweepStands heap book.owner book.colour state.collector.phase stage → MarksNow (record state.collector { stage = stage; looked = looked })
+  marks_stage stage looked goes scan few pass sweep = record {
     heap_marks = record {
       grey = rule.marks_stand.heap_marks.grey;
       scan = scan;
+      few = few;
       pass = pass;
       sweep_stands = sweep;
       alive = λ going. rule.marks_stand.heap_marks.alive
@@ -92,17 +93,17 @@ module _ (heap : Heap) (state : State) (book : Book) (rule : Rule heap state boo
   }
 
   marks_looking : (looked : ℕ) → MarksNow (record state.collector { looked = looked })
-  marks_looking looked = subst (λ stage. MarksNow (record state.collector { stage = stage; looked = looked })) (sym looking) (marks_stage stages.Looking looked (λ third e. cc) tt tt tt)
+  marks_looking looked = subst (λ stage. MarksNow (record state.collector { stage = stage; looked = looked })) (sym looking) (marks_stage stages.Looking looked (λ third e. cc) tt tt tt tt)
 
   -- it begins the phase's work, or goes on to the next phase
   marks_last : MarksNow (after_last_look heap state.collector)
   marks_last = elim (eqb_tells (state.collector.phase % 7) 3) as (λ _. MarksNow (after_last_look heap state.collector)) [
-    | inl third ↦ rw third.0 (marks_stage (stages.Passing 0 false) heap.seats (λ is e. cc) tt (λ f grey. (f, grey, omega arith)) tt)
+    | inl third ↦ rw third.0 (marks_stage (stages.Passing 0 false) heap.seats (λ is e. cc) tt tt (λ f grey. (f, grey, omega arith)) tt)
     | inr other ↦ rw other.0 (elim (eqb_tells (state.collector.phase % 7) 5) as (λ _. MarksNow (record state.collector { looked = heap.seats; stage = later_work state.collector.phase })) [
-      | inl sweeps ↦ rw sweeps.0 (marks_stage (stages.Sweeping 0) heap.seats (λ is e. cc) tt tt (λ f i k none. absurd (omega (arith, none))))
+      | inl sweeps ↦ rw sweeps.0 (marks_stage (stages.Sweeping 0) heap.seats (λ is e. cc) tt tt tt (λ f i k none. absurd (omega (arith, none))))
       | inr neither ↦ rw neither.0 (elim (eqb_tells (state.collector.phase % 7) 6) as (λ _. MarksNow (record state.collector { looked = heap.seats; stage = last_work state.collector.phase })) [
-        | inl clears ↦ rw clears.0 (marks_stage (stages.Clearing 0 0) heap.seats (λ is e. cc) tt tt (λ f none. absurd (omega (arith, none))))
-        | inr none ↦ rw none.0 (marks_stage stages.Advancing heap.seats (λ third. absurd (other.1 third)) tt tt (λ swept. absurd (neither.1 swept)))
+        | inl clears ↦ rw clears.0 (marks_stage (stages.Clearing 0 0) heap.seats (λ is e. cc) tt tt tt (λ f none. absurd (omega (arith, none))))
+        | inr none ↦ rw none.0 (marks_stage stages.Advancing heap.seats (λ third. absurd (other.1 third)) tt tt tt (λ swept. absurd (neither.1 swept)))
       ])
     ])
   ]

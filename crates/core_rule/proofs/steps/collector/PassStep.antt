@@ -12,15 +12,15 @@ use Rattle.core_machine.specs.machine.Machine.{State}
 use Rattle.core_machine.specs.machine.Value.{IsMachine}
 use Rattle.core_machine.specs.table.Layout.{at, put}
 use Rattle.core_rule.specs.Book.{Book, Grey}
-use Rattle.core_rule.specs.Marking.{ScanStands, PassStands, MarkingStands}
+use Rattle.core_rule.specs.Marking.{ScanStands, IsFewWords, PassStands, MarkingStands}
 use Rattle.core_rule.specs.Sweep.{SweepStands}
 use Rattle.core_rule.specs.Phases.{CollectorAgrees}
 use Rattle.core_rule.specs.Rule.{Rule}
 use Rattle.core_rule.proofs.footprint.OwnersGo.{settled_go}
 use Rattle.core_rule.proofs.marking.Marks.{marks_at, none_dead}
 use Rattle.core_rule.proofs.marking.GreyPlaces.{lowest_is_grey, pass_further, nothing_grey, pass_anew, scan_anew}
-use Rattle.core_rule.proofs.marking.Settled.{settled_book}
 use Rattle.core_rule.proofs.marking.SettledBook.{heap_settles, seat_settles, marking_settles}
+use Rattle.core_rule.proofs.spines.DyingWords.{settled_book, budgets_settle}
 use Rattle.core_rule.proofs.steps.Assemble.{Keeps}
 use Rattle.core_rule.proofs.steps.TurnSteps.{StageKeeps, after_turn, quiet, load_turns, load_turns_with}
 
@@ -49,32 +49,33 @@ module _ (heap : Heap) (state : State) (book : Book) (rule : Rule heap state boo
   collector_at stage = record { log = rule.collector_stands.log; phase_told = rule.collector_stands.phase_told; looked = rule.collector_stands.looked }
 
   -- marking goes on, where a scan and a pass stand at the stage
-  goes_further : (stage : Stage) → stage ≢ stages.Advancing → ScanStands heap state.words book.owner book.colour book.fragments stage → PassStands book.colour stage
+  goes_further : (stage : Stage) → stage ≢ stages.Advancing → ScanStands heap state.words book.owner book.colour book.fragments stage → IsFewWords stage → PassStands book.colour stage
       → SweepStands heap book.owner book.colour state.collector.phase stage → KeepsAt stage
-  goes_further stage on scan pass sweep machine = load_turns heap state book (Control group) (goes_to stage) rule machine (collector_at stage) record {
-    heap_marks = marks_at heap state.words book.owner book.colour book.fragments state.collector.phase stage passes.marks.for_marking on marks.grey scan pass sweep
+  goes_further stage on scan few pass sweep machine = load_turns heap state book (Control group) (goes_to stage) rule machine (collector_at stage) record {
+    heap_marks = marks_at heap state.words book.owner book.colour book.fragments state.collector.phase stage passes.marks.for_marking on marks.grey scan few pass sweep
         (none_dead heap state book rule passes.marks.for_marking goes_on);
     roots = λ r below is answered. rule.marks_stand.roots r below (record { phase = is.phase; goes_on = goes_on }) answered;
   }
 
   -- it ends where nothing is grey
   ends : ((f : ℕ) → book.colour f ≢ Grey) → KeepsAt stages.Advancing
-  ends none machine = load_turns_with heap state book (Control group) (goes_to stages.Advancing) (settled_book book) rule machine refl
+  ends none machine = load_turns_with heap state book (Control group) (goes_to stages.Advancing) (settled_book heap book) rule machine refl
       (heap_settles heap state book rule passes.marks goes_on none) (seat_settles heap state book rule passes.marks goes_on none) (collector_at stages.Advancing)
       record { heap_marks = marking_settles heap state book rule passes.marks goes_on none; roots = λ r below is. absurd (is.goes_on refl) }
+      (budgets_settle heap state book (goes_to stages.Advancing) rule.budgets)
       record { made = λ i below. refl; owners = settled_go (length book.made) book.owner book.colour; marked = λ f i k owned below marked. inl marked }
 
   module _ (none : lowest_grey_of word ≡ None) where
     -- the last group was seen
     behind_all : heap.groups ≤ group + 1 → (some : Bool) → found ≡ some → KeepsAt (after_last_group some)
-    behind_all last true is = goes_further (stages.Passing 0 false) (λ e. cc) tt (pass_anew book.colour) tt
+    behind_all last true is = goes_further (stages.Passing 0 false) (λ e. cc) tt tt (pass_anew book.colour) tt
     behind_all last false is =
         ends (nothing_grey heap state.words book.colour group rule.machine.table passes.group_within rule.heap_stands.cycle.marks none last
         (subst (λ b. PassStands book.colour (stages.Passing group b)) is marks.pass))
 
     after_none : KeepsAt (after_group heap group found)
     after_none = elim (leb_tells (suc (group + 1)) heap.groups) as (λ _. KeepsAt (after_group heap group found)) [
-      | inl more ↦ rw more.0 (goes_further (stages.Passing (group + 1) found) (λ e. cc) tt
+      | inl more ↦ rw more.0 (goes_further (stages.Passing (group + 1) found) (λ e. cc) tt tt
           (pass_further heap state.words book.colour group rule.machine.table passes.group_within rule.heap_stands.cycle.marks none found marks.pass) tt)
       | inr all ↦ rw all.0 (behind_all (omega (arith, all.1)) found refl)
     ]
@@ -82,7 +83,7 @@ module _ (heap : Heap) (state : State) (book : Book) (rule : Rule heap state boo
   passes_on : (place : Option ℕ) → lowest_grey_of word ≡ place → KeepsAt (after_pass heap group found place)
   passes_on None is = after_none is
   passes_on (Some place) is = goes_further (stages.Scanning (record { fragment = 16 * group + place; part = 0; steps = 0 })) (λ e. cc)
-      (scan_anew heap state.words book.colour (16 * group + place) (lowest_is_grey heap state.words book.colour group rule.machine.table passes.group_within rule.heap_stands.cycle.marks place is)) tt tt
+      (scan_anew heap state.words book.colour (16 * group + place) (lowest_is_grey heap state.words book.colour group rule.machine.table passes.group_within rule.heap_stands.cycle.marks place is)) tt tt tt
 
 pub pass_keeps : (group : ℕ) (found : Bool) → StageKeeps (stages.Passing group found)
 pass_keeps group found heap state book rule passing machine = passes_on heap state book rule group found passing (lowest_grey_of (at heap state.words (Control group))) refl machine

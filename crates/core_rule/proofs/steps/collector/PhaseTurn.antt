@@ -30,16 +30,17 @@ use Rattle.core_rule.proofs.marking.GoneRoots.{gone_roots}
 use Rattle.core_rule.proofs.entries.AtRest.{seat_fits}
 use Rattle.core_rule.proofs.words.Addresses.{at-put_apart}
 use Rattle.core_rule.proofs.steps.Assemble.{Keeps}
-use Rattle.core_rule.proofs.steps.TurnSteps.{after_turn, turn_steps}
+use Rattle.core_rule.proofs.steps.TurnSteps.{after_turn, turn_steps, turn_budgets}
 use Rattle.core_rule.proofs.cycle.CycleFrames.{cycle_told}
 use Rattle.core_rule.proofs.footprint.BookGoing.{book_stays}
-use Rattle.core_rule.proofs.frames.EntryFrames.{UsesNothing, fragments_phase, heap_past, seat_past}
+use Rattle.core_rule.proofs.frames.EntryFrames.{UsesNothing, fragments_phase, heap_past, seat_past, grants_past}
 use Rattle.core_rule.proofs.colours.LeadsFrames.{leads_ahead}
 use Rattle.core_rule.proofs.colours.MarkWords.{marks_same}
 use Rattle.core_rule.proofs.cycle.NextPhase.{cycle_next}
 use Rattle.core_rule.proofs.entries.PhaseEntries.{phase_rises, answered_stays, left_stays}
 use Rattle.core_rule.proofs.graph.SameNodes.{SameNodes, nodes_same}
 use Rattle.core_rule.proofs.frames.SeatFrames.{with_entry}
+use Rattle.core_rule.proofs.spines.OtherWords.{spines_left_phase}
 
 -- the entry begins a phase, is the collector's, and changes nothing else
 pub record BeginsNext (entry : Entry) : Type 0 where
@@ -128,4 +129,6 @@ module _ (heap : Heap) (state : State) (book : Book) (rule : Rule heap state boo
         looked = λ number none below present. absurd (omega (arith, none));
       }
       record { heap_marks = marks; roots = λ r below marking answered. no_roots r below answered }
+      (turn_budgets heap state book rule words_next begun_collector later (spines_left_phase heap state.words next)
+      (grants_past heap state.words words_next (fragments_phase heap state.words next) book entry nodes begins.uses))
       (book_stays heap state book later.history book.begun)

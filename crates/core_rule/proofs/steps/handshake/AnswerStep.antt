@@ -48,7 +48,7 @@ use Rattle.core_rule.proofs.marking.Marks.{MarksGoOn, Leaves, leaves_words, heap
 use Rattle.core_rule.proofs.entries.AnswerEntries.{graph_answer, graph_reply, phase_answer, accepts_reply, has_answered, keeps_answer, keeps_reply}
 use Rattle.core_rule.proofs.cycle.AnswerWords.{fragments_answer, heap_cycle_answer, leaves_answer}
 use Rattle.core_rule.proofs.footprint.BookGoing.{book_stays}
-use Rattle.core_rule.proofs.steps.Assemble.{seat_steps, MoveKeeps, StepKeeps}
+use Rattle.core_rule.proofs.steps.Assemble.{seat_steps, step_budgets, MoveKeeps, StepKeeps}
 use Rattle.core_rule.proofs.entries.PhasesTold.{answers_by}
 use Rattle.core_rule.proofs.entries.AtRest.{seat_fits, in_flight, none_awaited, spent_own, few_own}
 use Rattle.core_rule.proofs.cycle.CycleFrames.{cycle_stays}
@@ -57,16 +57,19 @@ use Rattle.core_rule.proofs.cycle.CycleHistory.{heap_cycle_more, cycle_own, cycl
 use Rattle.heap_model.specs.account.Space.{taken_of, spent_of}
 use Rattle.core_rule.proofs.hand.Bodies.{bare_hand}
 use Rattle.core_rule.proofs.hand.EmptyHand.{nothing_together, none_stored, gathers_none, holding_as}
-use Rattle.core_rule.proofs.frames.EntryFrames.{SameFragments, heap_past, seat_past}
+use Rattle.core_rule.proofs.frames.EntryFrames.{SameFragments, UsesNothing, heap_past, seat_past, grants_past}
 use Rattle.core_rule.proofs.hand.HandMoves.{bears_nothing}
 use Rattle.core_rule.proofs.entries.InFlight.{began_idle, began_past}
 use Rattle.core_rule.proofs.entries.Legality.{legal_more}
 use Rattle.core_rule.proofs.entries.Others.{of_other}
 use Rattle.core_rule.proofs.entries.OwnEntries.{own_grows, counts_own}
 use Rattle.core_rule.proofs.entries.PhaseEntries.{left_stays, no_leave_told}
-use Rattle.core_rule.proofs.frames.Replying.{heap_told, other_told}
+use Rattle.core_rule.proofs.frames.Replying.{heap_told, other_told, grants_told}
 use Rattle.core_rule.proofs.graph.SameNodes.{SameNodes, nodes_same}
 use Rattle.core_rule.proofs.frames.SeatFrames.{with_entry}
+use Rattle.core_rule.proofs.spines.BudgetFrames.{SameGrants, grants_on}
+use Rattle.core_rule.proofs.spines.NoneMade.{MakesNone, none_has_place, none_weights}
+use Rattle.core_rule.proofs.spines.SpineFrames.{spine_away}
 use Rattle.core_rule.proofs.entries.SeatLists.{all_told}
 
 -- the answer of a call of this command
@@ -134,12 +137,22 @@ module _ (heap : Heap) (state : State) (book : Book) (number : ℕ) (rule : Rule
   nodes : SameNodes g (graph_of heap middle.history)
   nodes = nodes_same g (graph_of heap middle.history) graph
 
+  uses : UsesNothing first
+  uses = record { taken = refl; given = refl; freed = refl; words = refl; returned = refl }
+
   heap_middle : HeapStands heap words middle
   heap_middle =
-      heap_past heap state.words words same book first nodes record { taken = refl; given = refl; freed = refl }
+      heap_past heap state.words words same book first nodes uses
       (legal_more heap false book.history first rule.heap_stands.legal present (keeps_answer heap book number p commands.Poll refl asks.now next))
       (heap_cycle_more heap words book.owner book.colour book.history first refl book.fragments
       (heap_cycle_answer heap state.words number p small (phase book.history) book.owner book.colour book.fragments rule.heap_stands.cycle)) rule.heap_stands
+
+  -- no object is made, and as many spine words are granted
+  makes : MakesNone seat.place
+  makes = rw place tt
+
+  grants_middle : SameGrants heap book middle
+  grants_middle = grants_past heap state.words words same book first nodes uses
 
   own_cycle : (looks : Looks) (added : List Entry)
       → SeatInCycle heap words (phase middle.history) (last_answer number middle.history) (has_left number middle.history) book.owner book.colour number (ended looks added)
@@ -159,11 +172,12 @@ module _ (heap : Heap) (state : State) (book : Book) (number : ℕ) (rule : Rule
     };
   }
 
-  own_part : (looks : Looks) (added : List Entry) → OwnStands heap words book.owner number (ended looks added)
+  own_part : (looks : Looks) (added : List Entry) → OwnStands heap words book.owner book.spine_owner number (ended looks added)
   own_part looks added = record {
     holding = holding_as book.owner number seat.reserve seat.hand seat.body seat.reserve [] [] refl (sym rest.empty_hand) (sym rest.no_body) stands.own.holding;
     stored = none_stored heap words number (ended looks added) refl;
     together = nothing_together heap seat.cursor 0 [] [] refl refl;
+    spine = spine_away heap state.words words book.spine_owner number seat (ended looks added) (none_has_place seat seat.place makes) (λ has. has) stands.own.spine;
   }
 
   holds : (i : ℕ) → HoldsValue book.made book.owner book.fragments (register_in seat.registers i) (register_value g number i)
@@ -203,7 +217,7 @@ module _ (heap : Heap) (state : State) (book : Book) (number : ℕ) (rule : Rule
       seat_steps heap state book number words now middle (first ∷ []) rule here machine refl refl heap_middle
       record {
         own = own_part seat.looks (first ∷ []);
-        names = record { registers = rw graph (λ i awake. holds i); way = tt };
+        names = record { registers = rw graph (λ i awake. holds i); way = tt; ahead = tt };
         told = record {
           list = record { awaited = []; own = append-nil now.mine ∙ mine_middle; awaits = refl };
           counts = counts_own g (graph_of heap middle.history) book.history number seat now stands.told.counts first own
@@ -211,10 +225,13 @@ module _ (heap : Heap) (state : State) (book : Book) (number : ℕ) (rule : Rule
               (omega (arith, bare_hand seat.reserve seat.hand seat.body (spent_of number book.history) (taken_of number book.history) rest.empty_hand rest.no_body stands.told.counts.unborn, stands.told.counts.unborn));
           began = began_idle book.history first number (book.begun number) seat.place stands.told.began;
           gathers = gathers_none heap book.owner number (drop (book.begun number) middle.history) now.cursor 0 0 refl refl;
+          used = tt;
         };
         cycle = own_cycle seat.looks (first ∷ []);
       }
-      other_middle (marks_on middle.history seat.looks (first ∷ [])) (book_stays heap state book middle.history book.begun)
+      other_middle (marks_on middle.history seat.looks (first ∷ []))
+      (step_budgets heap state book number rule here words now middle same.spines (none_weights seat now makes tt) grants_middle)
+      (book_stays heap state book middle.history book.begun)
 
   -- and that of a poll with its reply
   abbrev second : Entry
@@ -244,7 +261,7 @@ module _ (heap : Heap) (state : State) (book : Book) (number : ℕ) (rule : Rule
       (rw graph stands.told.counts.numbered) (rw graph stands.told.counts.stamped) (rw graph stands.told.counts.leaves) (omega arith) in
       record {
         own = own_part (forgotten seat.looks) (first ∷ second ∷ []);
-        names = record { registers = rw (graph_then ∙ graph) (λ i awake. holds i); way = tt };
+        names = record { registers = rw (graph_then ∙ graph) (λ i awake. holds i); way = tt; ahead = tt };
         told = record {
           list = record {
             awaited = [];
@@ -257,6 +274,7 @@ module _ (heap : Heap) (state : State) (book : Book) (number : ℕ) (rule : Rule
               (omega (arith, bare_hand seat.reserve seat.hand seat.body (spent_of number middle.history) (taken_of number middle.history) rest.empty_hand rest.no_body counts_middle.unborn));
           began = began_idle middle.history second number (book.begun number) seat.place (began_past book.history first number (book.begun number) seat.place seat.place refl (λ busy. busy) stands.told.began);
           gathers = gathers_none heap book.owner number (drop (book.begun number) later.history) now.cursor 0 0 refl refl;
+          used = tt;
         };
         cycle = cycle_own heap words book.owner book.colour middle.history second refl number now (own_cycle (forgotten seat.looks) (first ∷ second ∷ [])) refl
             (no_leave_told number number commands.Poll (replies.Phase p) (λ leaves. cc leaves));
@@ -268,7 +286,10 @@ module _ (heap : Heap) (state : State) (book : Book) (number : ℕ) (rule : Rule
 
   poll_kept : MoveKeeps heap state book number (answering number seat commands.Poll)
   poll_kept machine = seat_steps heap state book number words now later (first ∷ second ∷ []) rule here machine (append_assoc book.history (first ∷ []) (second ∷ [])) refl heap_later own_stands other_stands
-      (marks_on later.history (forgotten seat.looks) (first ∷ second ∷ [])) (book_stays heap state book later.history book.begun)
+      (marks_on later.history (forgotten seat.looks) (first ∷ second ∷ []))
+      (step_budgets heap state book number rule here words now later same.spines (none_weights seat now makes tt)
+      (grants_on heap book middle later grants_middle (grants_told heap words middle second refl nodes_then)))
+      (book_stays heap state book later.history book.begun)
 
   -- so each answer keeps the rule
   pub answer_kept : MoveKeeps heap state book number (answer_move number seat)

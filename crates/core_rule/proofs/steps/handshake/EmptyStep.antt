@@ -24,15 +24,17 @@ use Rattle.core_rule.specs.Gathers.{IsAnswered}
 use Rattle.core_rule.proofs.footprint.BookGoing.{owners_go}
 use Rattle.core_rule.proofs.footprint.OwnersGo.{give_goes}
 use Rattle.core_rule.proofs.frames.SeatFrames.{registers_owners}
-use Rattle.core_rule.proofs.steps.Assemble.{seat_steps, StepKeeps}
+use Rattle.core_rule.proofs.steps.Assemble.{seat_steps, step_budgets, StepKeeps}
 use Rattle.core_rule.proofs.entries.AtRest.{seat_fits, in_flight, own_reserve, none_awaited}
 use Rattle.core_rule.proofs.hand.EmptyHand.{nothing_together, gathers_none}
-use Rattle.core_rule.proofs.frames.GivingBack.{words_given, book_given, graph_given, kept_given, heap_given, cycle_given, other_given, marks_given}
+use Rattle.core_rule.proofs.frames.GivingBack.{words_given, book_given, graph_given, kept_given, leaves_spines, grants_given, heap_given, cycle_given, other_given, marks_given}
 use Rattle.core_rule.proofs.entries.InFlight.{began_past}
 use Rattle.core_rule.proofs.entries.OwnEntries.{counts_own, own_grows}
 use Rattle.core_rule.proofs.hand.ReserveGiven.{reserve_held, reserve_once, holding_emptied, emptied_bits}
 use Rattle.core_rule.proofs.entries.SeatLists.{whole_list, all_told}
 use Rattle.core_rule.proofs.hand.StoredFrames.{stored_control}
+use Rattle.core_rule.proofs.spines.NoneMade.{MakesNone, none_has_place, none_weights}
+use Rattle.core_rule.proofs.spines.SpineFrames.{spine_away}
 
 -- the give back keeps the rule
 pub empty_keeps : StepKeeps (places.Leaving Emptying) (λ heap. empty_move)
@@ -54,7 +56,9 @@ empty_keeps heap state book number rule here place machine =
     let kept = kept_given heap state book number rule here seat.cursor fs below held once in
     let later : Book = book_given heap state book number rule here seat.cursor fs below held once in
     let own : length fs + spent_of number book.history ≡ taken_of number book.history = own_reserve heap state book number rule here rest in
-    seat_steps heap state book number (words_given heap state book number rule here seat.cursor fs below held once) now later (entry ∷ []) rule here machine refl refl
+    let words : List ℕ = words_given heap state book number rule here seat.cursor fs below held once in
+    let makes : MakesNone seat.place = rw place tt in
+    seat_steps heap state book number words now later (entry ∷ []) rule here machine refl refl
     (heap_given heap state book number rule here seat.cursor fs below held once
     (emptied_bits book.owner number fs seat.hand seat.body stands.own.holding heap state.words seat.cursor rule.machine.table below (seat_fits rule number here).own.reserve_of_cursor rule.heap_stands.control_words)
     present at_place.2 (omega (arith, own)))
@@ -63,11 +67,13 @@ empty_keeps heap state book number rule here place machine =
         holding = holding_emptied book.owner number fs seat.hand seat.body stands.own.holding;
         stored = stored_control heap state.words number seat seat.cursor _ below stands.own.stored;
         together = nothing_together heap seat.cursor seat.tried seat.hand seat.body rest.empty_hand rest.no_body;
+        spine = spine_away heap state.words words book.spine_owner number seat now (none_has_place seat seat.place makes) (λ has. has) stands.own.spine;
       };
       names = record {
         registers = rw graph (λ r fresh. registers_owners book.owner later.owner kept book.made book.fragments g number seat.registers seat.place (target_of seat.command) stands.names.registers r
             (none_awaited seat.place (places.Leaving Emptying) (target_of seat.command) r place (λ none. none)));
         way = tt;
+        ahead = tt;
       };
       told = record {
         list = whole_list (graph_of heap later.history) later.history book.made later.owner book.fragments number now refl (own_grows number book.history seat.mine entry (eq-eqb number number refl) told);
@@ -75,9 +81,12 @@ empty_keeps heap state book number rule here place machine =
             stands.told.counts.numbered stands.told.counts.stamped stands.told.counts.leaves (omega arith));
         began = began_past book.history entry number (book.begun number) seat.place (places.Leaving Parting) refl (λ still. subst IsAnswered place) stands.told.began;
         gathers = gathers_none heap later.owner number (drop (book.begun number) later.history) seat.cursor seat.tried seat.given rest.none_tried rest.none_given;
+        used = tt;
       };
       cycle = cycle_given heap state book number rule here seat.cursor fs below held once now record { answered = refl; left = refl; asked = refl } tt;
     }
     (other_given heap state book number rule here seat.cursor fs below held once)
     (marks_given heap state book number rule here seat.cursor fs below held once now refl refl tt)
+    (step_budgets heap state book number rule here words now later (leaves_spines heap state book number rule here seat.cursor fs below held once) (none_weights seat now makes tt)
+    (grants_given heap state book number rule here seat.cursor fs below held once))
     (owners_go heap state book later.history book.begun later.owner (give_goes (length book.made) book.owner fs number held))

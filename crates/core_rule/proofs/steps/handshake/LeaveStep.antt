@@ -74,18 +74,18 @@ leave_keeps heap state book number rule here place machine =
     let party_now : graph_seat now number ≡ gone g number = ap (λ x. graph_seat x number) grown ∙ party_is g number (gone g number) present in
     let empty : length seat.reserve ≡ 0 = ap length at_place.2 in
     let same : SameFragments heap state.words words = fragments_answer heap state.words number LEFT small in
-    let objects : Objects heap words g book.made book.owner book.fragments
-    = objects_words heap state.words words g book.made book.owner book.fragments (λ f i k part is within. same.parts f part) rule.heap_stands.objects in
+    let objects : Objects heap words g book.made book.owner book.fragments book.spines
+    = objects_words heap state.words words g book.made book.owner book.fragments book.spines (λ f i k part is within. same.parts f part) (λ i j below is within. same.spines.spines _ _) rule.heap_stands.objects in
     let left : Entry = entries.Said number seat.command replies.Done in
     let leaves : is_leave_of number left ≡ true = ap (λ c. is_leave_of number (entries.Said number c replies.Done)) at_place.1 ∙ eq-eqb number number refl in
     let told = stands.cycle.answers_told in
     reply_keeps heap state book number words (seat_after (leave_move number seat) (at heap state.words (Answer number))) seat.command replies.Done rule here machine
-    refl at_place.0 (all_told stands.told.list (rw place at stands.told.list.awaits))
+    refl (rw place tt) at_place.0 (all_told stands.told.list (rw place at stands.told.list.awaits))
     (legal_more heap false book.history (entries.Said number seat.command replies.Done) rule.heap_stands.legal
     (present, subst IsCommand (sym at_place.1) tt, subst (λ c. Says g number c replies.Done) (sym at_place.1) refl)
     (keeps_said heap false book.history number seat.command replies.Done refl tt tt (subst (λ c. ShowsPhases heap false book.history number c replies.Done) (sym at_place.1) tt)
     (spent_own heap state book number rule here at_place.0) (omega (arith, empty, own_reserve heap state book number rule here at_place.0))))
-    record { controls = same.controls; unkept = λ f part free within. same.parts f part }
+    record { controls = same.controls; unkept = λ f part free within. same.parts f part; spines = same.spines }
     (graph_replies g now number changes heap words book rule.heap_stands.ids objects)
     record {
       idle = refl;

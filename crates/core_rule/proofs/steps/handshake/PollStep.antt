@@ -32,7 +32,7 @@ use Rattle.core_rule.specs.Rule.{Rule, SeatStands}
 use Rattle.core_rule.proofs.colours.SpineStays.{same_sources}
 use Rattle.core_rule.proofs.marking.Marks.{roots_off_way, leaves_words, marks_off_way}
 use Rattle.core_rule.proofs.footprint.BookGoing.{book_stays}
-use Rattle.core_rule.proofs.steps.Assemble.{Keeps, seat_steps, StepKeeps}
+use Rattle.core_rule.proofs.steps.Assemble.{Keeps, seat_steps, step_budgets, StepKeeps}
 use Rattle.core_rule.proofs.cycle.Roots.{roots_marked}
 use Rattle.core_rule.proofs.entries.AtRest.{seat_fits, in_flight, none_awaited}
 use Rattle.core_rule.proofs.entries.InFlight.{began_on}
@@ -43,6 +43,9 @@ use Rattle.core_rule.proofs.entries.PhaseEntries.{no_leave_told}
 use Rattle.core_rule.proofs.graph.PutRegister.{only_none}
 use Rattle.core_rule.proofs.entries.SeatLists.{all_told}
 use Rattle.core_rule.proofs.entries.PhasesTold.{answers_by}
+use Rattle.core_rule.proofs.spines.NoneMade.{none_has_place, none_weights}
+use Rattle.core_rule.proofs.spines.OtherWords.{spines_left_none}
+use Rattle.core_rule.proofs.spines.SpineFrames.{spine_away}
 use Rattle.core_rule.proofs.steps.QuietLoads.{quiet_ends}
 use Rattle.core_rule.specs.Registers.{IsAwaited}
 use Rattle.heap_model.specs.declared.command.Command.{Command}
@@ -112,7 +115,7 @@ module _ (heap : Heap) (state : State) (book : Book) (number : ℕ) (rule : Rule
       let next = λ (c : Command). with_entries (after_call seat) (entries.Said number c (replies.Phase found) ∷ []) in
       subst (λ c. IsMachine heap (record state { words = put heap state.words Phase found; seats = slice_set state.seats number (next c) })
       → Keeps heap state (record state { words = put heap state.words Phase found; seats = slice_set state.seats number (next c) }) book book.begun (entries.Said number c (replies.Phase found) ∷ [])) polls
-      (λ machine. local_reply_keeps heap state book number Phase (next seat.command) (replies.Phase found) rule here machine rest mine_told (stands.told.counts.leaves ∙ stays)
+      (λ machine. local_reply_keeps heap state book number Phase (next seat.command) (replies.Phase found) rule here machine (rw place tt) rest mine_told (stands.told.counts.leaves ∙ stays)
       (subst IsCommand (sym polls) tt)
       (subst (λ c. IsLocalReply heap book.history g number book.made book.owner book.fragments c (replies.Phase found) seat.registers) (sym polls) local)
       (no_leave_told number number seat.command (replies.Phase found) (λ leaves. absurd (cc (leaves, polls))))
@@ -121,7 +124,7 @@ module _ (heap : Heap) (state : State) (book : Book) (number : ℕ) (rule : Rule
 
   -- and a collect doesn't
   collect_ends : PollKeeps heap state book number commands.Collect true
-  collect_ends = quiet_ends heap state book number rule here Phase seat.looks rest asks.0 (rw place (λ same. same)) (λ r awaited. subst (λ x. IsAwaited x (target_of seat.command) r) place awaited) mine_told
+  collect_ends = quiet_ends heap state book number rule here Phase seat.looks (rw place tt) rest asks.0 (rw place (λ same. same)) (λ r awaited. subst (λ x. IsAwaited x (target_of seat.command) r) place awaited) mine_told
 
   -- it hasn't, so that it is one phase behind
   own_cycle : found ≢ seat.answered
@@ -150,18 +153,26 @@ module _ (heap : Heap) (state : State) (book : Book) (number : ℕ) (rule : Rule
       → Keeps heap state (record state { words = words; seats = slice_set state.seats number next }) book book.begun []) (sym (put-at heap state.words Phase))
       (λ same. seat_steps heap state book number state.words next book [] rule here same (sym (append-nil book.history)) refl rule.heap_stands
       record {
-        own = record { holding = stands.own.holding; stored = stands.own.stored; together = stands.own.together };
-        names = record { registers = λ i awake. holds i; way = tt };
+        own = record {
+          holding = stands.own.holding;
+          stored = stands.own.stored;
+          together = stands.own.together;
+          spine = spine_away heap state.words state.words book.spine_owner number seat next (none_has_place seat seat.place (rw place tt)) (λ has. has) stands.own.spine;
+        };
+        names = record { registers = λ i awake. holds i; way = tt; ahead = tt };
         told = record {
           list = record { awaited = []; own = append-nil next.mine ∙ append-nil seat.mine ∙ mine_told; awaits = refl };
           counts = counts_same g book.history number seat next refl refl refl refl stands.told.counts;
           began = began_on book.history number (book.begun number) seat.place next.place (rw place (λ same. same)) stands.told.began;
           gathers = stands.told.gathers;
+          used = tt;
         };
         cycle = own_cycle apart;
       }
       (λ r below apart other. other)
       (marks_off_way heap state book rule number here state.words book next (leaves_words heap state book rule state.words (same_sources heap state.words)) refl refl tt)
+      (step_budgets heap state book number rule here state.words next book (spines_left_none heap state.words) (none_weights seat next (rw place tt) tt)
+      record { told = refl; returned = refl; kept = refl; gone = refl })
       (book_stays heap state book book.history book.begun)) machine
 
   poll_kept : PollKeeps heap state book number seat.command (found == seat.answered)

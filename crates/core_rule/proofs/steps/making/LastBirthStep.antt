@@ -55,7 +55,7 @@ use Rattle.core_rule.proofs.entries.OwnEntries.{own_grows}
 use Rattle.core_rule.proofs.owners.OwnerFrames.{owners_kept}
 use Rattle.core_rule.proofs.owners.OwnerLemmas.{own_keeps_none, own_not_boards}
 use Rattle.core_rule.proofs.entries.PhaseEntries.{no_leave_told}
-use Rattle.core_rule.proofs.entries.RecordCommands.{need_made, ranges_made}
+use Rattle.core_rule.proofs.entries.MakingCommands.{need_made, ranges_made}
 use Rattle.core_rule.proofs.frames.SeatFrames.{same_party, told_other, seat_left}
 use Rattle.core_rule.proofs.entries.SeatLists.{making_list, whole_list}
 use Rattle.core_rule.proofs.hand.StoredFrames.{stored_control}

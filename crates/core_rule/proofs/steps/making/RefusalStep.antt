@@ -36,7 +36,7 @@ use Rattle.core_rule.proofs.cycle.MakingCycle.{cycle_goes_on}
 use Rattle.core_rule.proofs.entries.Others.{of_other}
 use Rattle.core_rule.proofs.entries.OwnEntries.{own_grows, counts_own}
 use Rattle.core_rule.proofs.entries.PhaseEntries.{no_leave_told}
-use Rattle.core_rule.proofs.entries.RecordCommands.{graph_full, accepts_full, full_keeps}
+use Rattle.core_rule.proofs.entries.MakingCommands.{graph_full, accepts_full, full_keeps}
 use Rattle.core_rule.proofs.gather.Refusals.{finds_in_run}
 use Rattle.core_rule.proofs.graph.SameNodes.{nodes_same}
 use Rattle.core_rule.proofs.entries.SeatLists.{making_list, whole_list}
@@ -74,7 +74,7 @@ refusal_keeps heap state book number rule here place machine =
     (sym (put-at heap state.words Phase))
     (seat_steps heap state book number state.words (seat_after (refusal_move number seat) (at heap state.words Phase)) (record book { history = history }) (entry ∷ [])
     rule here whole refl refl
-    (heap_past heap state.words state.words (fragments_same heap state.words) book entry nodes record { taken = refl; given = refl; freed = refl } legal
+    (heap_past heap state.words state.words (fragments_same heap state.words) book entry nodes record { taken = refl; given = refl; freed = refl; words = refl; returned = refl } legal
     (heap_cycle_more heap state.words book.owner book.colour book.history entry refl book.fragments rule.heap_stands.cycle) rule.heap_stands)
     record {
       own = record {

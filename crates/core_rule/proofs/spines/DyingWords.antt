@@ -1,0 +1,147 @@
+-- The spine words of arrays that are to be freed are nobody's once marking has ended, and count as gone.
+use Rattle.std.proofs.Common.{◌≡◌, ◌≢◌, ℕ, ◌+◌, ◌-◌, ◌/◌, ◌<◌, ◌≤◌, List, length, refl, sym, ap, ◌∙◌, subst, arith}
+use Rattle.heap_words.specs.declared.spot.Spot.{Spot}
+use Rattle.heap_model.specs.declared.heap.Heap.{Heap}
+use Rattle.heap_model.specs.account.Cycles.{graph_of}
+use Rattle.heap_model.specs.graph.Graph.{Node}
+use Rattle.heap_model.specs.graph.Sizes.{spine_words_of}
+use Rattle.core_machine.specs.collector.Collector.{Collector}
+use Rattle.core_machine.specs.declared.place.Access.TheVariants.{Indexing}
+use Rattle.core_machine.specs.declared.place.Place.{Place}
+use Rattle.core_machine.specs.declared.place.Place.TheVariants as places
+use Rattle.core_machine.specs.machine.Machine.{State}
+use Rattle.core_machine.specs.seat.Commands.{field_of}
+use Rattle.core_machine.specs.seat.Seat.{Seat}
+use Rattle.core_rule.specs.Book.{Book, Colour, White, Grey, Black, fragment_at}
+use Rattle.core_rule.specs.Budgets.{BudgetsStand, kept_weight, kept_words}
+use Rattle.core_rule.specs.Objects.{IsKept, node_at}
+use Rattle.core_rule.specs.Owners.{Owner, Free, Taken, Borne, Kept, Dead, SpineOwner, Open, Placed, Spined, Gone}
+use Rattle.core_rule.specs.Spines.{SpinesStand, SpineInHand, WordStandsAhead}
+use Rattle.core_rule.proofs.lists.SumLemmas.{sum_le}
+use Rattle.core_rule.proofs.marking.Settled.{settled_owner, settled_owners, settled_was, settled_stays}
+
+-- what becomes of an array's spine word by the colour of the array's first fragment
+abbrev pub settled_array : Colour → ℕ → ℕ → SpineOwner
+settled_array White i k = Gone
+settled_array _ i k = Spined i k
+
+-- what becomes of a spine word by the colours of first fragments
+abbrev pub settled_word : (ℕ → Colour) → SpineOwner → SpineOwner
+settled_word heads (Spined i k) = settled_array (heads i) i k
+settled_word heads o = o
+
+-- the colour of an object's first fragment
+abbrev pub head_colour : (ℕ → Colour) → (ℕ → List ℕ) → ℕ → Colour
+head_colour colour fragments i = colour (fragment_at (fragments i) 0)
+
+-- the book once marking has ended: what is white of kept objects is to be freed, and the spine words of those are gone
+abbrev pub settled_book : Heap → Book → Book
+settled_book heap book = record book {
+  owner = settled_owners book.owner book.colour;
+  spine_owner = λ half offset. settled_word (head_colour book.colour book.fragments) (book.spine_owner half offset);
+  gone = book.gone + (kept_words (length book.made) (node_at (graph_of heap book.history) book.made) book.owner book.fragments
+      - kept_words (length book.made) (node_at (graph_of heap book.history) book.made) (settled_owners book.owner book.colour) book.fragments);
+}
+
+module _ (heads : ℕ → Colour) where
+  -- what a seat has it had
+  pub placed_was : (o : SpineOwner) (number k : ℕ) → settled_word heads o ≡ Placed number k → o ≡ Placed number k
+  placed_was (Spined i j) number k is = absurd (by (heads i) is)
+    where
+      by : (c : Colour) → settled_array c i j ≢ Placed number k
+      by White e = cc
+      by Grey e = cc
+      by Black e = cc
+  placed_was _ number k is = is
+
+  -- and an array, whose first fragment is marked
+  pub spined_was : (o : SpineOwner) (i k : ℕ) → settled_word heads o ≡ Spined i k → (o ≡ Spined i k) × (heads i ≢ White)
+  spined_was (Spined j m) i k is = by (heads j) refl is
+    where
+      same : (c : Colour) → heads j ≡ c → c ≢ White → Spined j m ≡ Spined i k → (Spined j m ≡ Spined i k) × (heads i ≢ White)
+      same c is_c dark e = let index : j ≡ i = cc in (e, λ white. dark (sym is_c ∙ ap heads index ∙ white))
+
+      by : (c : Colour) → heads j ≡ c → settled_array c j m ≡ Spined i k → (Spined j m ≡ Spined i k) × (heads i ≢ White)
+      by White is_c e = absurd (cc)
+      by Grey is_c e = same Grey is_c (λ white. absurd (cc)) e
+      by Black is_c e = same Black is_c (λ white. absurd (cc)) e
+  spined_was _ i k is = absurd (cc)
+
+  -- an array whose first fragment is marked keeps its own
+  pub spined_stays : (o : SpineOwner) (i k : ℕ) → o ≡ Spined i k → heads i ≢ White → settled_word heads o ≡ Spined i k
+  spined_stays o i k is dark = ap (settled_word heads) is ∙ by (heads i) dark
+    where
+      by : (c : Colour) → c ≢ White → settled_array c i k ≡ Spined i k
+      by White some = absurd (some refl)
+      by Grey some = refl
+      by Black some = refl
+
+  -- and a seat its own
+  pub placed_stays : (o : SpineOwner) (number k : ℕ) → o ≡ Placed number k → settled_word heads o ≡ Placed number k
+  placed_stays o number k is = ap (settled_word heads) is
+
+module _ (heap : Heap) (words : List ℕ) (owner : ℕ → Owner) (colour : ℕ → Colour) (fragments : ℕ → List ℕ) (spine_owner : ℕ → ℕ → SpineOwner) where
+  abbrev later : ℕ → Owner
+  later = settled_owners owner colour
+
+  abbrev heads : ℕ → Colour
+  heads = head_colour colour fragments
+
+  abbrev words_later : ℕ → ℕ → SpineOwner
+  words_later half offset = settled_word heads (spine_owner half offset)
+
+  -- so the spine words stand
+  pub spines_settle : (seats made : ℕ) (nodes : ℕ → Node) (spines : ℕ → Spot) → SpinesStand heap words seats made nodes owner fragments spines spine_owner
+      → SpinesStand heap words seats made nodes later fragments spines words_later
+  spines_settle seats made nodes spines old = record {
+    spot = old.spot;
+    before = λ half offset some. old.before half offset (λ is. some (ap (settled_word heads) is));
+    seated = λ half offset number k is. old.seated half offset number k (placed_was heads (spine_owner half offset) number k is);
+    kept = λ i j below is within.
+        let was = settled_was (owner (fragment_at (fragments i) 0)) (colour (fragment_at (fragments i) 0)) i 0 is in
+        spined_stays heads _ i j (old.kept i j below was.0 within) was.1;
+    back = λ half offset i j is.
+        let was = spined_was heads (spine_owner half offset) i j is in
+        let one = old.back half offset i j was.0 in
+        (one.0, settled_stays _ _ i 0 one.1 was.1, one.2, one.3);
+  }
+
+  -- and those that a seat has
+  pub spine_settles : (number : ℕ) (seat : Seat) → SpineInHand heap words spine_owner number seat → SpineInHand heap words words_later number seat
+  spine_settles number seat old = record {
+    placed = λ has j less. placed_stays heads _ number j (old.placed has j less);
+    own = λ half offset j is. old.own half offset j (placed_was heads (spine_owner half offset) number j is);
+    stored = old.stored;
+  }
+
+  -- and the one that a call is about to load
+  pub ahead_settles : ((f i k : ℕ) → owner f ≡ Kept i k → colour f ≢ White → heads i ≢ White) → (seat : Seat) (place : Place)
+      → WordStandsAhead owner spine_owner seat place → WordStandsAhead later words_later seat place
+  ahead_settles dark seat (places.Access Indexing) ahead = λ i is.
+      let was = settled_was (owner seat.reached) (colour seat.reached) i 0 is in
+      spined_stays heads _ i (field_of seat.command / 4) (ahead i was.0) (dark seat.reached i 0 was.0 was.1)
+  ahead_settles dark seat _ ahead = tt
+
+  -- no more words are kept then
+  weight_less : (i n : ℕ) (o : Owner) (c : Colour) → kept_weight i n (settled_owner o c) ≤ kept_weight i n o
+  weight_less i n (Kept j k) White = omega arith
+  weight_less i n (Kept j k) Grey = omega arith
+  weight_less i n (Kept j k) Black = omega arith
+  weight_less i n _ c = omega arith
+
+  pub kept_less : (made : ℕ) (nodes : ℕ → Node) → kept_words made nodes later fragments ≤ kept_words made nodes owner fragments
+  kept_less made nodes = sum_le made (λ i. kept_weight i (spine_words_of (nodes i)) (later (fragment_at (fragments i) 0))) (λ i. kept_weight i (spine_words_of (nodes i)) (owner (fragment_at (fragments i) 0)))
+      (λ i below. weight_less i (spine_words_of (nodes i)) (owner (fragment_at (fragments i) 0)) (colour (fragment_at (fragments i) 0)))
+
+-- as many spine words are granted
+pub budgets_settle : (heap : Heap) (state : State) (book : Book) (collector : Collector) → BudgetsStand heap state book
+    → BudgetsStand heap (record state { words = state.words; collector = collector }) (settled_book heap book)
+budgets_settle heap state book collector old =
+    let less = kept_less heap state.words book.owner book.colour book.fragments book.spine_owner (length book.made) (node_at (graph_of heap book.history) book.made) in
+    record {
+      exact = omega (arith, old.exact, less);
+      word = omega (arith, old.word, less);
+      told = omega (arith, old.told, less);
+      low = omega (arith, old.low, less);
+      none_returned = old.none_returned;
+    }
