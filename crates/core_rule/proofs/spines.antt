@@ -7,3 +7,7 @@ pub mod UsedWords
 pub mod DyingWords
 pub mod WeightSums
 pub mod BudgetSteps
+pub mod SpotClaims
+pub mod SpineStores
+pub mod SpineBirths
+pub mod UsedFound

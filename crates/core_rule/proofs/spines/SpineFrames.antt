@@ -31,9 +31,6 @@ same_kept owner = record { stays = λ f i k is. is; was = λ f i k is. is }
 pub same_shapes : (nodes : ℕ → Node) (i : ℕ) → SameShape (nodes i) (nodes i)
 same_shapes nodes i = shape_same (nodes i) (nodes i) refl
 
--- the next spine has its place where the spot stays
-same_spot : (heap : Heap) (words now : List ℕ) → LeavesSpines heap words now → next_spine heap now ≡ next_spine heap words
-same_spot heap words now leaves = ap spot_in leaves.spot
 
 module _ (heap : Heap) (words now : List ℕ) (leaves : LeavesSpines heap words now) (seats made : ℕ) (spines : ℕ → Spot) (fragments : ℕ → List ℕ) (spine_owner : ℕ → ℕ → SpineOwner) where
   -- the same are kept, and have as many spine words
