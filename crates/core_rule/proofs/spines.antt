@@ -11,3 +11,4 @@ pub mod SpotClaims
 pub mod SpineStores
 pub mod SpineBirths
 pub mod UsedFound
+pub mod IdleBudgets
