@@ -6,7 +6,7 @@ ghost use Rattle.heap_runs.specs.Playing.{HasAnsweredLines, HaveLeft, AllGone, N
 
 use crate::play_heap::PlayHeap;
 use crate::playing::noting::{note_call, note_cycle, note_turns};
-use crate::playing::use_count::in_use;
+use crate::playing::use_count::{in_use, words_in_use};
 use core_rule::law_sweep_exact;
 use heap_model::limits::GROUP_FRAGMENTS;
 use heap_model::phase_plan::{CYCLE_PHASES, REST};
@@ -90,7 +90,7 @@ pub fn play<H: PlayHeap + Drop>(
         before: history.len(),
         used: in_use(&heap, whole.entries()),
         total: u64::from(GROUP_FRAGMENTS) * u64::from(heap.groups),
-        spine: 0,
+        spine: words_in_use(&heap, whole.entries()),
         budget: u64::from(heap.spine),
     };
     leave_all(&mut whole, &mut history, script)?;
