@@ -12,3 +12,4 @@ pub mod SpineStores
 pub mod SpineBirths
 pub mod UsedFound
 pub mod ListedSources
+pub mod IdleBudgets

@@ -1,5 +1,5 @@
 -- The laws over every list of events.
-use Rattle.std.specs.Prelude.{◌≡◌, ◌≢◌, ℕ, ◌+◌, ◌*◌, ◌%◌, ◌<◌, true, List, [], ◌∷◌, ◌++◌, length, filter, All}
+use Rattle.std.specs.Prelude.{◌≡◌, ◌≢◌, ℕ, ◌+◌, ◌*◌, ◌%◌, ◌<◌, ◌≤◌, true, List, [], ◌∷◌, ◌++◌, length, filter, All}
 use Rattle.heap_model.specs.declared.heap.Heap.{Heap}
 use Rattle.heap_model.specs.declared.entry.Entry.{Entry}
 use Rattle.heap_model.specs.declared.entry.Entry.TheVariants.{Answers}
@@ -10,7 +10,7 @@ use Rattle.heap_model.specs.account.Noting.{is_collectors}
 use Rattle.heap_model.specs.account.PhaseCounts.{phase, last_answer}
 use Rattle.heap_model.specs.PhasePlan.{cycle_phases, marking}
 use Rattle.heap_model.specs.account.Phases.{IsBehind}
-use Rattle.heap_model.specs.account.Space.{fragments_gained, fragments_lost}
+use Rattle.heap_model.specs.account.Space.{fragments_gained, fragments_lost, words_granted, words_returned}
 use Rattle.heap_model.specs.declared.calls.collector_calls.Turn.TheVariants.{Waits}
 use Rattle.heap_model.specs.calls.CollectorCalls.{CollectorState, ComesTo}
 use Rattle.core_machine.specs.declared.place.Place.TheVariants.{Idle}
@@ -19,7 +19,7 @@ use Rattle.core_machine.specs.collector.Collector.{next_turn}
 use Rattle.heap_model.specs.declared.calls.collect.Inner.{Inner}
 use Rattle.heap_model.specs.declared.calls.collect.Inner.TheVariants.{Note}
 use Rattle.heap_model.specs.declared.calls.collect.CollectReply.TheVariants as notes
-use Rattle.core_machine.specs.declared.table.address.Address.TheVariants.{Phase, Answer}
+use Rattle.core_machine.specs.declared.table.address.Address.TheVariants.{Phase, Answer, Budget}
 use Rattle.core_machine.specs.table.Layout.{at}
 use Rattle.core_machine.specs.machine.Machine.{State, seat_at, found_by, Event, Begins, BeginsInner, Steps, Turns, Can, state_after, entries, Run, state_after_all, history}
 use Rattle.core_machine.specs.machine.Opening.{IsOpening}
@@ -86,6 +86,11 @@ WholeCallsPlay = (heap : Heap) (state : State) (events : List Event) → IsHeap 
 abbrev pub FreeIsUnused : Type 0
 FreeIsUnused = (heap : Heap) (state : State) (book : Book) → Rule heap state book
     → free_count heap state.words + fragments_gained book.history ≡ 16 * heap.groups + fragments_lost book.history
+
+-- between calls the budget word is the spine words that are in use, and these are no more than the heap has
+abbrev pub WordsAreUsed : Type 0
+WordsAreUsed = (heap : Heap) (state : State) (book : Book) → Rule heap state book → AllIdle state
+    → (at heap state.words Budget + words_returned book.history ≡ words_granted book.history) × (at heap state.words Budget ≤ heap.spine)
 
 -- where a turn answers that it waits for a seat, that seat is there, and by the history it hasn't left and has answered the phase before the one told
 abbrev pub EachWaitIsBehind : Type 0

@@ -1,4 +1,4 @@
-ghost use Rattle.core_rule.specs.Laws.{EachEventKeeps, EveryRunKeeps, WholeCallsPlay, FreeIsUnused, EachBirthHasItsColour, EachAnswerIsMarked, EachWaitIsBehind, EachTurnComesTo};
+ghost use Rattle.core_rule.specs.Laws.{EachEventKeeps, EveryRunKeeps, WholeCallsPlay, FreeIsUnused, WordsAreUsed, EachBirthHasItsColour, EachAnswerIsMarked, EachWaitIsBehind, EachTurnComesTo};
 ghost use Rattle.core_rule.specs.HeldLaws.{EachHeldIsTaken, NoClaimTakesHeld, NoFreeTakesHeld, EachHeldIsMarked};
 ghost use Rattle.core_rule.specs.TurnsLeft.{EachTurnLeavesFewer};
 
@@ -8,6 +8,7 @@ pub fn law_every_run()
     ensures run { EveryRunKeeps }
     ensures play { WholeCallsPlay }
     ensures free { FreeIsUnused }
+    ensures words { WordsAreUsed }
     ensures births { EachBirthHasItsColour }
     ensures answers { EachAnswerIsMarked }
     ensures waits { EachWaitIsBehind }

@@ -74,14 +74,14 @@ module _ (counts : EachCallCounts) (others : EachCallSparesOthers) (heap : Heap)
   ]
 
   -- the lines with the call's line
-  pub answered_call : (read : List Line) → (command ≢ Collect → IsServed command) → command ≢ Leave → HasAnsweredLines heap old before read → HasAnsweredLines heap new after (read ++ lines.Seat seat command ∷ [])
-  answered_call read served stays has =
-      let tells = tells_call old new seat command notes.reply served notes.answers in
+  pub answered_call : (read : List Line) → command ≢ Leave → HasAnsweredLines heap old before read → HasAnsweredLines heap new after (read ++ lines.Seat seat command ∷ [])
+  answered_call read stays has =
+      let tells = tells_call old new seat command notes.reply notes.answers in
       let said : List Entry = entries.Said seat command notes.reply ∷ [] in
       let noted : after ≡ before ++ (tells.before ++ said) = notes.noted ∙ ap (λ (l : List Entry). before ++ l) (noted_is old new before after seat command notes tells) in
       let long = length-append read (lines.Seat seat command ∷ []) in
       record {
-        follows = follows_call heap old new before after seat command served notes has.follows;
+        follows = follows_call heap old new before after seat command notes has.follows;
         present = λ number below. still_there number (λ same. stays) (has.present number below);
         few = λ number below. subst (DoesFew new number) (sym long) (few_still number (length read) (has.few number below));
         commands = ap (flat_map lines_answered) noted ∙ flat_map-append lines_answered before (tells.before ++ said)
@@ -132,7 +132,7 @@ answered_none heap state history of_heap fresh none =
     let graphs : graph_after (opening state.heap) state.entries ≡ opening heap = ap (λ h. graph_after (opening h) state.entries) of_heap ∙ ap (graph_after (opening heap)) fresh in
     let open_ = λ (number : ℕ) (below : number < heap.seats). ap (λ (g : Graph). graph_seat g number) graphs ∙ get_or-replicate heap.seats number opening_graph_seat absent_graph_seat below in
     rw none (record {
-      follows = record { of_heap = of_heap; same = sym fresh; right = tt; none_granted = ap words_granted fresh };
+      follows = record { of_heap = of_heap; same = sym fresh; right = tt };
       present = λ number below. ap (λ (seat : GraphSeat). seat.left) (open_ number below);
       few = λ number below. record {
         few_objects = omega (arith, ap (λ (seat : GraphSeat). length seat.objects) (open_ number below));

@@ -1,20 +1,16 @@
 -- What comes before a reply is the seat's, and tells no reply.
-use Rattle.std.proofs.Common.{◌≡◌, ℕ, Bool, true, false, cond, eqb, List, [], ◌∷◌, ◌++◌, inl, inr, refl, arith}
+use Rattle.std.proofs.Common.{◌≡◌, ℕ, Bool, true, false, cond, eqb, List, [], ◌∷◌, ◌++◌, inl, inr, refl}
 use Rattle.std.specs.List.{AllByRecursion, flat_map}
-use Rattle.std.proofs.lemmas.List.Sums.{sum_by-append, sum_by-cons}
 use Rattle.heap_model.specs.declared.command.Command.{Command}
 use Rattle.heap_model.specs.declared.command.Command.TheVariants as commands
 use Rattle.heap_model.specs.declared.entry.Entry.{Entry}
 use Rattle.heap_model.specs.declared.entry.Entry.TheVariants.{Said, Takes, GivesBack, Answers}
 use Rattle.heap_model.specs.declared.reply.Reply.{Reply}
 use Rattle.heap_model.specs.declared.reply.Reply.TheVariants as replies
-use Rattle.heap_model.specs.account.Effects.{effect_of}
-use Rattle.heap_model.specs.account.Space.{words_granted}
 use Rattle.heap_model.specs.account.Turned.{is_of_heap}
-use Rattle.heap_model.specs.Needs.{words_by, record_fragments, array_fragments}
+use Rattle.heap_model.specs.Needs.{record_fragments, array_fragments}
 use Rattle.heap_model.specs.calls.SeatCalls.{ComesBefore, ClaimsBefore, ArrayBefore, AnswersBefore, takes_of, gives_of}
 use Rattle.core_machine.specs.machine.Calls.{IsBeside}
-use Rattle.core_machine.specs.seat.Commands.{IsServed}
 use Rattle.heap_runs.specs.Play.{lines_answered}
 
 beside_takes : (number : ℕ) (counts : List ℕ) → AllByRecursion (IsBeside number) (takes_of number counts)
@@ -67,30 +63,3 @@ beside_of_heap number (Takes q count ∷ entries) beside = (refl, beside_of_heap
 beside_of_heap number (GivesBack q count ∷ entries) beside = (refl, beside_of_heap number entries beside.1)
 beside_of_heap number (Answers q phase ∷ entries) beside = (refl, beside_of_heap number entries beside.1)
 beside_of_heap number (_ ∷ entries) beside = absurd beside.0
-
--- and it grants no spine words
-beside_grants : (number : ℕ) (entries : List Entry) → AllByRecursion (IsBeside number) entries → words_granted entries ≡ 0
-beside_grants number [] beside = refl
-beside_grants number (Takes q count ∷ entries) beside = beside_grants number entries beside.1
-beside_grants number (GivesBack q count ∷ entries) beside = beside_grants number entries beside.1
-beside_grants number (Answers q phase ∷ entries) beside = beside_grants number entries beside.1
-beside_grants number (_ ∷ entries) beside = absurd beside.0
-
--- no call that is served makes an array
-no_words : (command : Command) (reply : Reply) → IsServed command → words_by command reply ≡ 0
-no_words (commands.Array d cells) reply served = absurd served
-no_words command (replies.Made id) served = refl
-no_words command reply served = refl
-
-pub granted_more : (entries before : List Entry) (number : ℕ) (command : Command) (reply : Reply) → IsServed command → AllByRecursion (IsBeside number) before
-    → words_granted (entries ++ (before ++ Said number command reply ∷ [])) ≡ words_granted entries
-granted_more entries before number command reply served beside =
-    let words = λ (e : Entry). (effect_of e).words in
-    omega (
-      arith,
-      sum_by-append words entries (before ++ Said number command reply ∷ []),
-      sum_by-append words before (Said number command reply ∷ []),
-      sum_by-cons words (Said number command reply) [],
-      no_words command reply served,
-      beside_grants number before beside,
-    )

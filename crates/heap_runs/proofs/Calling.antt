@@ -17,13 +17,21 @@ use Rattle.heap_model.specs.calls.SeatReplies.{next_id}
 use Rattle.core_machine.specs.declared.place.Place.TheVariants.{Idle}
 use Rattle.core_machine.specs.machine.Calls.{call_events, PlaysCall, AnswersNew, TellsLeave, free_count, within_reach}
 use Rattle.core_machine.specs.machine.Machine.{State, seat_at, Begins, Can, Event, Run, state_after_all, history}
+use Rattle.core_machine.specs.seat.Commands.{IsServed}
+use Rattle.core_machine.specs.seat.Making.{next_object_id}
 use Rattle.core_machine.specs.seat.Seat.{Seat}
-use Rattle.core_rule.specs.Laws.{OneCallAtATime, StandsFor, FreeIsUnused}
+use Rattle.core_rule.specs.Laws.{OneCallAtATime, StandsFor, FreeIsUnused, WordsAreUsed}
 use Rattle.heap_runs.specs.MachineHeap.{MachineHeapValue, play_state_of, WholeCalls, IsBetweenCalls, CallsOnce}
 use Rattle.heap_runs.specs.PlayHeap.{MayCall, AnswersOnce, IsEnough, seat_state_of}
+use Rattle.heap_runs.proofs.ArrayCalls.{answers_array}
 use Rattle.heap_runs.proofs.OneSeat.{after_call, call_alone}
 use Rattle.heap_runs.proofs.Runs.{Run-append, OneCall-append, after_all-append, history-append}
-use Rattle.heap_runs.proofs.Standing.{own_reserve, answered_last, gone_is, made_is, phase_near, number_left}
+use Rattle.heap_runs.proofs.Standing.{words_used, own_reserve, answered_last, gone_is, made_is, phase_near, number_left}
+
+-- every command but a collect is served
+served_once : (command : Command) → command ≢ commands.Collect → IsServed command
+served_once commands.Collect once = absurd (once refl)
+served_once _ once = tt
 
 -- a command that may be called may be begun
 pub may_begin : (whole : MachineHeapValue) (number : ℕ) (command : Command) → command ≢ commands.Collect → StandsFor whole.machine.heap whole.machine.state [] whole.entries
@@ -37,7 +45,7 @@ may_begin whole number command once s between may =
       record {
         idle = idle;
         present = sym (gone_is heap state whole.entries s number may.within idle) ∙ may.present;
-        served = may.served once;
+        served = served_once command once;
         in_range = may.in_range;
         numbered = number_left heap state whole.entries s number may.within idle command (number_again command may.numbered);
       },
@@ -82,11 +90,11 @@ module _ (heap : Heap) (old new : State) (told : List Entry) (number : ℕ) (com
       }
 
 -- the machine's call is one of a heap that is played on
-pub answers_call : FreeIsUnused → (old new : MachineHeapValue) (number : ℕ) (command : Command) (reply : Reply) → StandsFor old.machine.heap old.machine.state [] old.entries
+pub answers_call : FreeIsUnused → WordsAreUsed → (old new : MachineHeapValue) (number : ℕ) (command : Command) (reply : Reply) → StandsFor old.machine.heap old.machine.state [] old.entries
     → IsBetweenCalls old.machine.heap old.machine.state old.entries → MayCall (play_state_of old) number command → CallsOnce old new number command reply
     → old.spare + length old.entries ≤ new.spare + length new.entries → new.turns ≡ old.turns → new.last_turn ≡ old.last_turn
     → AnswersOnce (play_state_of old) (play_state_of new) number command reply
-answers_call unused old new number command reply s between may calls spare turns last =
+answers_call unused words old new number command reply s between may calls spare turns last =
     let heap = old.machine.heap in
     let state = old.machine.state in
     let within : number < length state.seats = rw s.stands.rule.machine.seated may.within in
@@ -97,6 +105,7 @@ answers_call unused old new number command reply s between may calls spare turns
     let last_is = answered_last heap state old.entries s number may.within idle in
     let free : free_count heap state.words + fragments_gained old.entries ≡ 16 * heap.groups + fragments_lost old.entries
     = subst (λ es. free_count heap state.words + fragments_gained es ≡ 16 * heap.groups + fragments_lost es) s.grown (unused heap state s.book s.stands.rule) in
+    let next : next_object_id number seat ≡ next_id (seat_state_of (play_state_of old) number) = ap (heap_ids.Made number) (made_is heap state old.entries s number may.within idle) in
     record {
       adds = record {
         heap = calls.same_heap;
@@ -115,8 +124,9 @@ answers_call unused old new number command reply s between may calls spare turns
       made = λ record_. (
         λ made. enough_where_made (calls.answer record_) made had free,
         λ enough. (calls.answer record_).made (omega (arith, enough, had, free))
-            ∙ ap (λ n. Made (heap_ids.Made number n)) (made_is heap state old.entries s number may.within idle),
+            ∙ ap Made next,
       );
+      array = λ array. answers_array old new.machine.state number command reply (calls.array array) between.calls.limits (words_used heap state old.entries s words between.all_idle) had free next;
     }
   where
     leave_is_done : command ≡ commands.Leave → (call : PlaysCall old.machine.heap old.machine.state new.machine.state number command reply) → TellsLeave old.machine.state new.machine.state number → reply ≡ Done

@@ -52,10 +52,10 @@ rightly_more heap before (entry ∷ front) behind right more =
     (right.0, rightly_more heap (before ++ entry ∷ []) front behind right.1 (subst (λ es. AllAnswerRightly heap es behind) (sym (append_assoc before (entry ∷ []) front)) more))
 
 -- after a call
-pub follows_call : (heap : Heap) (old new : PlayState) (before after : List Entry) (number : ℕ) (command : Command) → (command ≢ asked.Collect → IsServed command) → NotesCall old new before after number command
+pub follows_call : (heap : Heap) (old new : PlayState) (before after : List Entry) (number : ℕ) (command : Command) → NotesCall old new before after number command
     → Follows heap old before → Follows heap new after
-follows_call heap old new before after number command served notes follows =
-    let tells = tells_call old new number command notes.reply served notes.answers in
+follows_call heap old new before after number command notes follows =
+    let tells = tells_call old new number command notes.reply notes.answers in
     let more : List Entry = tells.before ++ entries.Said number command notes.reply ∷ [] in
     let noted : after ≡ before ++ more = notes.noted ∙ ap (λ (l : List Entry). before ++ l) (noted_is old new before after number command notes tells) in
     let plain : AreOfHeap more = of_heap_more tells.before (entries.Said number command notes.reply ∷ []) tells.of_heap (refl, tt) in
@@ -63,7 +63,6 @@ follows_call heap old new before after number command served notes follows =
       of_heap = tells.heap ∙ follows.of_heap;
       same = ap without_turned noted ∙ filter-append is_of_heap before more ∙ ap (λ es. without_turned before ++ es) (all_left more plain) ∙ ap (λ es. es ++ more) follows.same ∙ sym tells.told;
       right = subst (AllAnswerRightly heap []) (sym noted) (rightly_more heap [] before more follows.right (all_rightly heap before more plain));
-      none_granted = tells.grants ∙ follows.none_granted;
     }
 
 -- what the turns of a command added
@@ -78,13 +77,6 @@ serves_adds old new commands.Cycle (replies.Cycle cycle) serves = came_add IsSte
 own_of_heap : (added : List Entry) → AllByRecursion IsOwnStep added → AreOfHeap added
 own_of_heap [] own = tt
 own_of_heap (entry ∷ added) own = (own.0.1, own_of_heap added own.1)
-
-own_grants : (added : List Entry) → AllByRecursion IsOwnStep added → words_granted added ≡ 0
-own_grants [] own = refl
-own_grants (entries.Said number command reply ∷ added) own = cc own.0.0
-own_grants (entries.Takes number count ∷ added) own = own_grants added own.1
-own_grants (entries.GivesBack number count ∷ added) own = own_grants added own.1
-own_grants (_ ∷ added) own = own_grants added own.1
 
 -- what was noted of them is that
 pub own_noted : (old new : PlayState) (before after : List Entry) (command : TurnCommand) → (notes : NotesTurns old new before after command) → AllByRecursion IsOwnStep notes.added × (new.heap ≡ old.heap)
@@ -131,8 +123,6 @@ follows_turns holds heap old new before after command notes follows =
       same = ap without_turned noted ∙ filter-append is_of_heap (before ++ notes.added) turned ∙ append-nil (without_turned (before ++ notes.added)) ∙ left;
       right = subst (AllAnswerRightly heap []) (sym noted) (rightly_more heap [] (before ++ notes.added) turned
           (rightly_more heap [] before notes.added follows.right (all_rightly heap before notes.added plain)) (shows, tt));
-      none_granted = ap words_granted notes.told ∙ sum_by-append (λ e. (effect_of e).words) old.entries notes.added
-          ∙ omega (arith, follows.none_granted, own_grants notes.added own.0);
     }
 
 -- the entries of a last cycle are steps and ends of cycles
@@ -163,5 +153,4 @@ follows_cycle heap old new before after notes follows =
       of_heap = notes.same_heap ∙ follows.of_heap;
       same = ap without_turned notes.noted ∙ filter-append is_of_heap before notes.turned ∙ ap (λ es. without_turned before ++ es) (all_left notes.turned plain) ∙ ap (λ es. es ++ notes.turned) follows.same ∙ sym notes.told;
       right = subst (AllAnswerRightly heap []) (sym notes.noted) (rightly_more heap [] before notes.turned follows.right (all_rightly heap before notes.turned plain));
-      none_granted = ap words_granted notes.told ∙ sum_by-append (λ e. (effect_of e).words) old.entries notes.turned ∙ omega (arith, follows.none_granted, own_grants notes.turned own);
     }

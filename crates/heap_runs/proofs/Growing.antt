@@ -11,7 +11,7 @@ use Rattle.heap_model.specs.declared.reply.Reply.TheVariants.{Done}
 use Rattle.heap_model.specs.account.Account.{KeepsSpace}
 use Rattle.heap_model.specs.account.Effects.{effect_of, is_of}
 use Rattle.heap_model.specs.account.PhaseCounts.{phase, last_answer}
-use Rattle.heap_model.specs.account.Space.{fragments_lost, taken_of, spent_of}
+use Rattle.heap_model.specs.account.Space.{fragments_lost, taken_of, spent_of, words_granted}
 use Rattle.heap_model.specs.Needs.{made_by}
 use Rattle.heap_model.specs.calls.SeatCalls.{ComesBefore}
 use Rattle.heap_model.specs.graph.Graph.{Graph, opening}
@@ -19,7 +19,7 @@ use Rattle.heap_model.specs.graph.Growth.{after_entry}
 use Rattle.heap_model.specs.graph.Legal.{Accepts}
 use Rattle.heap_model.proofs.Histories.{graph_after-more, AcceptsAll-more, KeepsSpaceAfter-more}
 use Rattle.heap_model.proofs.account_lemmas.Judging.{whole_is_but_spine}
-use Rattle.core_machine.specs.seat.Commands.{IsRecord}
+use Rattle.core_machine.specs.seat.Commands.{IsRecord, IsArray}
 use Rattle.heap_runs.specs.Growing.{is_plain, IsPlainEntry, IsGrowing}
 use Rattle.heap_runs.specs.PlayHeap.{PlayState, IsPlayed, AnswersOnce}
 
@@ -44,6 +44,9 @@ module _ (told : List Entry) (plain : AllByRecursion IsPlainEntry told) where
   none_lost : fragments_lost told ≡ 0
   none_lost = omega (arith, none_summed (λ e. (effect_of e).given) (λ n c p. refl) told plain, none_summed (λ e. (effect_of e).freed) (λ n c p. refl) told plain)
 
+  none_granted : words_granted told ≡ 0
+  none_granted = none_summed (λ e. (effect_of e).words) (λ n c p. refl) told plain
+
   pub none_begun : phase told ≡ 0
   none_begun = none_summed (λ e. (effect_of e).phases) (λ n c p. refl) told plain
 
@@ -58,7 +61,7 @@ module _ (told : List Entry) (plain : AllByRecursion IsPlainEntry told) where
   )
 
 pub growing_played : (heap : Heap) (told : List Entry) (graph : Graph) → IsGrowing heap told graph → IsPlayed heap told
-growing_played heap told graph growing = record { legal = whole_is_but_spine heap true told growing.legal; whole = λ none. growing.legal; none_short = omega (arith, none_lost told growing.plain) }
+growing_played heap told graph growing = record { legal = whole_is_but_spine heap true told growing.legal; whole = λ none. growing.legal; none_short = omega (arith, none_lost told growing.plain); words_fit = omega (arith, none_granted told growing.plain) }
 
 keeps_plain : (heap : Heap) (told : List Entry) (number : ℕ) (command : Command) → AllByRecursion IsPlainEntry told → is_plain command ≡ true → KeepsSpace heap true told (Said number command Done)
 keeps_plain heap told number (commands.Num d n) all plain =
@@ -100,6 +103,10 @@ no_record : (command : Command) → is_plain command ≡ true → IsRecord comma
 no_record (commands.New d fields) plain is = cc plain
 no_record _ plain is = absurd is
 
+no_array : (command : Command) → is_plain command ≡ true → IsArray command → ⊥
+no_array (commands.Array d cells) plain is = cc plain
+no_array _ plain is = absurd is
+
 pub growing_answers : (old new : PlayState) (number : ℕ) (command : Command) → AllByRecursion IsPlainEntry old.entries → is_plain command ≡ true → new.heap ≡ old.heap
     → new.entries ≡ old.entries ++ Said number command Done ∷ [] → new.spare ≡ old.spare → new.turns ≡ old.turns → new.last_turn ≡ old.last_turn → AnswersOnce old new number command Done
 growing_answers old new number command all plain heap entries spare turns last = record {
@@ -117,4 +124,5 @@ growing_answers old new number command all plain heap entries spare turns last =
   last_stays = last;
   left = λ leaves. refl;
   made = λ is. absurd (no_record command plain is);
+  array = λ is. absurd (no_array command plain is);
 }

@@ -66,7 +66,7 @@ left_more counts others heap now new before told after n left notes =
     = ap (λ (l : List Entry). l ++ Said n Leave notes.reply ∷ []) adds.comes ∙ ap (λ (r : Reply). last_gives n adds.unborn ++ Said n Leave r ∷ []) (once.left refl) ∙ sym here in
     let added : notes.added ≡ adds.before ++ Said n Leave notes.reply ∷ [] = append_cancel_left now.entries notes.added _ (sym notes.told ∙ adds.entries) in
     record {
-      follows = follows_call heap now new told after n Leave (λ collects. tt) notes left.follows;
+      follows = follows_call heap now new told after n Leave notes left.follows;
       others = λ number past below. still_there counts others heap now new told after n Leave notes number (λ same. absurd (omega (arith, same, past))) (left.others number (omega (arith, past)) below);
       gone = λ number under. gone_more number under;
       left = more;

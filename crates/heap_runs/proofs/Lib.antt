@@ -1,4 +1,5 @@
 pub mod Answering
+pub mod ArrayCalls
 pub mod Beside
 pub mod Bounds
 pub mod Calling

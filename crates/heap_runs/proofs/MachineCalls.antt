@@ -8,10 +8,10 @@ use Rattle.heap_model.specs.declared.entry.Entry.TheVariants.{Said}
 use Rattle.heap_model.specs.declared.reply.Reply.{Reply}
 use Rattle.heap_model.specs.Needs.{need_of}
 use Rattle.heap_model.specs.calls.SeatLaws.{EachCallIsShort}
-use Rattle.core_machine.specs.machine.Calls.{PlaysCall, AnswersNew, TellsLeave, IsPlaceRefusal, LeavesAll}
+use Rattle.core_machine.specs.machine.Calls.{PlaysCall, AnswersNew, AnswersArray, TellsLeave, IsPlaceRefusal, LeavesAll}
 use Rattle.core_machine.specs.machine.Machine.{State, seat_at}
 use Rattle.core_machine.specs.machine.Value.{MachineValue, log_of, spare_of, SpendsRoom}
-use Rattle.core_machine.specs.seat.Commands.{IsRecord}
+use Rattle.core_machine.specs.seat.Commands.{IsRecord, IsArray}
 use Rattle.core_rule.specs.Laws.{EveryRunKeeps}
 use Rattle.heap_runs.specs.MachineHeap.{MachineHeapValue, play_state_of, IsBetweenCalls, CallsOnce}
 use Rattle.heap_runs.specs.PlayHeap.{MayCall}
@@ -36,8 +36,9 @@ pub call_facts : EveryRunKeeps → EachCallIsShort → (whole : MachineHeapValue
     → IsBetweenCalls whole.machine.heap whole.machine.state whole.entries → MayCall (play_state_of whole) seat command → one ≡ record whole.machine { spares = one.spares }
     → spare_of one (length whole.machine.state.seats) ≡ spare_of whole.machine (length whole.machine.state.seats)
     → PlaysCall one.heap one.state two.state seat command reply → (IsRecord command → AnswersNew one.heap one.state two.state seat command reply)
+    → (IsArray command → AnswersArray one.heap one.state two.state seat command reply)
     → (command ≡ Leave → TellsLeave one.state two.state seat) → (IsPlaceRefusal reply → LeavesAll one.state two.state seat) → SpendsRoom one two seat → CallFacts whole one two seat command reply
-call_facts runs each_short whole one two seat command reply between may same room call answer leave refused spent =
+call_facts runs each_short whole one two seat command reply between may same room call answer array leave refused spent =
     let heap = whole.machine.heap in
     let state = whole.machine.state in
     let s = stands runs heap state whole.entries between.calls in
@@ -45,7 +46,7 @@ call_facts runs each_short whole one two seat command reply between may same roo
     let here : seat < length state.seats = omega (arith, may.within, seats) in
     let same_state : one.state ≡ state = ap (λ (m : MachineValue). m.state) same in
     let within : seat < length one.state.seats = subst (λ (t : State). seat < length t.seats) (sym same_state) here in
-    let k = called whole.machine one two whole.entries (whole.entries ++ since one two seat) seat command reply same within call answer leave refused refl in
+    let k = called whole.machine one two whole.entries (whole.entries ++ since one two seat) seat command reply same within call answer array leave refused refl in
     let idle = between.all_idle seat here in
     let present = sym (gone_is heap state whole.entries s seat may.within idle) ∙ may.present in
     let told : since one two seat ≡ k.call.before ++ Said seat command reply ∷ [] = append_cancel_left whole.entries (since one two seat) (k.call.before ++ Said seat command reply ∷ []) k.noted in
@@ -66,11 +67,12 @@ pub noted_call : EveryRunKeeps → EachCallIsShort → (whole self : MachineHeap
     → whole ≡ self → MayCall (play_state_of self) seat command → one ≡ record whole.machine { spares = one.spares }
     → ((other : ℕ) → other ≢ seat → spare_of one other ≡ spare_of whole.machine other)
     → PlaysCall one.heap one.state two.state seat command reply → (IsRecord command → AnswersNew one.heap one.state two.state seat command reply)
+    → (IsArray command → AnswersArray one.heap one.state two.state seat command reply)
     → (command ≡ Leave → TellsLeave one.state two.state seat) → (IsPlaceRefusal reply → LeavesAll one.state two.state seat) → SpendsRoom one two seat → CallFacts whole one two seat command reply
-noted_call runs each_short whole self one two seat command reply between is may same others call answer leave refused spent =
+noted_call runs each_short whole self one two seat command reply between is may same others call answer array leave refused spent =
     let here = subst (λ (v : MachineHeapValue). MayCall (play_state_of v) seat command) (sym is) may in
     let s = stands runs whole.machine.heap whole.machine.state whole.entries between.calls in
-    call_facts runs each_short whole one two seat command reply between here same (others (length whole.machine.state.seats) (λ e. omega (arith, e, here.within, s.stands.rule.machine.seated))) call answer leave refused spent
+    call_facts runs each_short whole one two seat command reply between here same (others (length whole.machine.state.seats) (λ e. omega (arith, e, here.within, s.stands.rule.machine.seated))) call answer array leave refused spent
 
 -- what comes in the log behind what was there before is what the seat has more
 pub told_since : (one two : MachineValue) (seat : ℕ) (told before now : List Entry) → told ≡ drop (length before) now → before ≡ log_of one seat → now ≡ log_of two seat → told ≡ since one two seat
@@ -81,7 +83,7 @@ module _ (whole new : MachineHeapValue) (one : MachineValue) (seat : ℕ) (comma
     (same_heap : new.machine.heap ≡ whole.machine.heap) (listed : new.entries ≡ whole.entries ++ since one new.machine seat) where
   pub calls_machine : CallsOnce whole new seat command reply
   calls_machine =
-      record { same_heap = same_heap; call = facts.made.call; noted = listed ∙ facts.made.noted; answer = facts.made.answer; leave = facts.made.leave; refused = facts.made.refused }
+      record { same_heap = same_heap; call = facts.made.call; noted = listed ∙ facts.made.noted; answer = facts.made.answer; array = facts.made.array; leave = facts.made.leave; refused = facts.made.refused }
 
   pub between_again : IsBetweenCalls new.machine.heap new.machine.state new.entries
   between_again = rw (same_heap, listed) facts.between

@@ -1,4 +1,4 @@
--- The next line of a script that is served.
+-- The next line of a script.
 use Rattle.std.proofs.Common.{◌≡◌, ◌≢◌, ℕ, suc, ◌+◌, ◌<◌, ◌≤◌, true, List, [], ◌∷◌, ◌++◌, length, get_or, take, refl, sym, ap, subst, ◌∙◌, arith}
 use Rattle.std.proofs.Math.Seq.{take-suc}
 use Rattle.std.proofs.lemmas.List.{length-take-le}
@@ -12,19 +12,15 @@ use Rattle.script_text.specs.declared.script.Form.TheVariants.{Play}
 use Rattle.script_text.specs.declared.script.Line.{Line}
 use Rattle.script_text.specs.declared.script.Line.TheVariants as lines
 use Rattle.script_text.specs.declared.script.Script.{Script}
-use Rattle.script_text.specs.Built.{IsBuilt, is_built_command, is_built_line}
 use Rattle.script_text.specs.Grammar.{IsLine, IsScripted}
 use Rattle.script_text.specs.Writing.{IsOfForm}
-use Rattle.core_machine.specs.seat.Commands.{IsServed}
 use Rattle.heap_runs.specs.PlayHeap.{PlayState, MayCall, seat_state_of}
 use Rattle.heap_runs.specs.Playing.{DoesFew, IsThere, HasAnsweredLines}
 
--- a command that is built is a collect or is served, and no leave
-served_built : (command : Command) → is_built_command command ≡ true → (command ≢ commands.Collect → IsServed command) × (command ≢ commands.Leave)
-served_built (commands.Array d cells) built = absurd cc
-served_built commands.Collect built = (λ once. absurd (once refl), λ e. cc e)
-served_built commands.Leave built = absurd cc
-served_built _ built = (λ once. tt, λ e. cc e)
+-- no line of a script is a leave
+no_leave : (command : Command) → IsScripted command → command ≢ commands.Leave
+no_leave commands.Leave scripted = absurd scripted
+no_leave _ scripted = λ e. cc e
 
 -- a command of a script has its numbers in their ranges
 in_range : (command : Command) → IsScripted command → IsCommand command
@@ -48,7 +44,7 @@ numbers_left state number calls (commands.Array d cells) short few = omega (arit
 numbers_left state number calls (commands.Set r i v) short few = omega (arith, short, few.few_sets)
 numbers_left state number calls _ short few = tt
 
-module _ (script : Script) (items : List Line) (i : ℕ) (d line : Line) (all : items ≡ script.lines) (form : IsOfForm Play script) (built : IsBuilt script) (below : i < length items) (is : get_or items i d ≡ line) where
+module _ (script : Script) (items : List Line) (i : ℕ) (d line : Line) (all : items ≡ script.lines) (form : IsOfForm Play script) (below : i < length items) (is : get_or items i d ≡ line) where
   -- the lines with the next one
   pub read_more : take (i + 1) items ≡ take i items ++ line ∷ []
   read_more =
@@ -64,33 +60,26 @@ module _ (script : Script) (items : List Line) (i : ℕ) (d line : Line) (all : 
   line_of_form : IsLine Play script.heap.seats line
   line_of_form = subst (IsLine Play script.heap.seats) line_is (All-get_or (IsLine Play script.heap.seats) script.lines i d here (All-from_recursion (IsLine Play script.heap.seats) script.lines form.lines))
 
-  pub line_built : is_built_line line ≡ true
-  line_built = ap is_built_line (sym line_is) ∙ built.lines i d here
-
 -- what a line of a seat asks for
 pub record IsNext (script : Script) (state : PlayState) (number : ℕ) (command : Command) : Type 0 where
   pub may : MayCall state number command
-  pub served : command ≢ commands.Collect → IsServed command
   pub stays : command ≢ commands.Leave
 
-pub next_call : (script : Script) (items : List Line) (i : ℕ) (d : Line) (number : ℕ) (command : Command) (state : PlayState) (history : List Entry) → items ≡ script.lines → IsOfForm Play script → IsBuilt script
+pub next_call : (script : Script) (items : List Line) (i : ℕ) (d : Line) (number : ℕ) (command : Command) (state : PlayState) (history : List Entry) → items ≡ script.lines → IsOfForm Play script
     → i < length items → get_or items i d ≡ lines.Seat number command → HasAnsweredLines script.heap state history (take i items) → IsNext script state number command
-next_call script items i d number command state history all form built below is has =
-    let line = line_of_form script items i d (lines.Seat number command) all form built below is in
-    let served = served_built command (line_built script items i d (lines.Seat number command) all form built below is) in
+next_call script items i d number command state history all form below is has =
+    let line = line_of_form script items i d (lines.Seat number command) all form below is in
     let short : length (take i items) ≤ 65536 = omega (arith, length-take-le i items (omega (arith, below)), form.short, below, ap (length {A = Line}) all) in
     record {
       may = record {
         within = rw has.follows.of_heap line.0;
         present = has.present number line.0;
-        served = served.0;
         in_range = in_range command line.1;
         numbered = numbers_left state number (length (take i items)) command short (has.few number line.0);
       };
-      served = served.0;
-      stays = served.1;
+      stays = no_leave command line.1;
     }
 
 -- the next seat may leave
 pub may_leave : (state : PlayState) (number : ℕ) → number < state.heap.seats → IsThere state number → MayCall state number commands.Leave
-may_leave state number below there = record { within = below; present = there; served = λ once. tt; in_range = tt; numbered = tt }
+may_leave state number below there = record { within = below; present = there; in_range = tt; numbered = tt }

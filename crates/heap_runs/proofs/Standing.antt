@@ -7,21 +7,21 @@ use Rattle.heap_model.specs.declared.entry.Entry.{Entry}
 use Rattle.heap_model.specs.account.Account.{ButSpine, IsLegalBy}
 use Rattle.heap_model.specs.account.Cycles.{graph_of}
 use Rattle.heap_model.specs.account.PhaseCounts.{phase, last_answer, has_left}
-use Rattle.heap_model.specs.account.Space.{fragments_gained, fragments_lost, taken_of, spent_of}
+use Rattle.heap_model.specs.account.Space.{fragments_gained, fragments_lost, taken_of, spent_of, words_granted, words_returned}
 use Rattle.heap_model.specs.calls.SeatCalls.{HasNumber}
 use Rattle.heap_model.specs.graph.Objects.{graph_seat}
 use Rattle.heap_model.proofs.account_lemmas.Judging.{is_whole_without_arrays}
 use Rattle.core_machine.specs.declared.place.Place.TheVariants.{Idle}
-use Rattle.core_machine.specs.declared.table.address.Address.TheVariants.{Phase, Answer}
+use Rattle.core_machine.specs.declared.table.address.Address.TheVariants.{Phase, Answer, Budget}
 use Rattle.core_machine.specs.machine.Calls.{IsPhaseNear}
 use Rattle.core_machine.specs.machine.Machine.{State, seat_at}
 use Rattle.core_machine.specs.seat.Fits.{IsAtRest, FitsPlace}
 use Rattle.core_machine.specs.seat.Seat.{Seat, HasNumberLeft}
 use Rattle.core_machine.specs.table.Layout.{at}
-use Rattle.core_rule.specs.Laws.{StandsFor, EveryRunKeeps, WholeCallsPlay}
+use Rattle.core_rule.specs.Laws.{StandsFor, AllIdle, EveryRunKeeps, WholeCallsPlay, WordsAreUsed}
 use Rattle.core_rule.specs.Holding.{fragments_in_hand}
 use Rattle.core_rule.specs.Phases.{answer_word}
-use Rattle.heap_runs.specs.MachineHeap.{WholeCalls}
+use Rattle.heap_runs.specs.MachineHeap.{WholeCalls, IsBetweenCalls}
 use Rattle.heap_runs.specs.PlayHeap.{IsPlayed}
 
 -- some book stands for a machine after whole calls, with their entries
@@ -37,6 +37,11 @@ module _ (heap : Heap) (state : State) (told : List Entry) (s : StandsFor heap s
   -- no more fragments were lost than gained
   pub none_short : fragments_lost told ≤ fragments_gained told
   none_short = subst (λ es. fragments_lost es ≤ fragments_gained es) s.grown (omega (arith, s.stands.rule.heap_stands.used))
+
+  -- the budget word is the spine words in use
+  pub words_used : WordsAreUsed → AllIdle state → (at heap state.words Budget + words_returned told ≡ words_granted told) × (at heap state.words Budget ≤ heap.spine)
+  words_used words idle =
+      subst (λ es. (at heap state.words Budget + words_returned es ≡ words_granted es) × (at heap state.words Budget ≤ heap.spine)) s.grown (words heap state s.book s.stands.rule idle)
 
   pub seated : length state.seats ≡ heap.seats
   seated = s.stands.rule.machine.seated
@@ -77,14 +82,18 @@ module _ (heap : Heap) (state : State) (told : List Entry) (s : StandsFor heap s
 
     pub number_left : (command : Command) → HasNumber (record { heap = heap; number = number; mine = told; spare = 0 }) command → HasNumberLeft seat.made seat.sets command
     number_left (commands.New d fields) has = rw made_is has
+    number_left (commands.Array d cells) has = rw made_is has
     number_left (commands.Set r i v) has = rw sets_are has
     number_left _ has = tt
 
 -- the entries are a play
-pub played : EveryRunKeeps → WholeCallsPlay → (heap : Heap) (state : State) (told : List Entry) → WholeCalls heap state told → IsPlayed heap told
-played runs plays heap state told calls =
+pub played : EveryRunKeeps → WholeCallsPlay → WordsAreUsed → (heap : Heap) (state : State) (told : List Entry) → IsBetweenCalls heap state told → IsPlayed heap told
+played runs plays words heap state told between =
+    let calls = between.calls in
     let legal : IsLegalBy ButSpine heap true told = subst (IsLegalBy ButSpine heap true) (sym calls.shown) (plays heap calls.opening calls.events calls.limits calls.opens calls.run calls.whole) in
-    record { legal = legal; whole = is_whole_without_arrays heap true told legal; none_short = none_short heap state told (stands runs heap state told calls) }
+    let s = stands runs heap state told calls in
+    let used = words_used heap state told s words between.all_idle in
+    record { legal = legal; whole = is_whole_without_arrays heap true told legal; none_short = none_short heap state told s; words_fit = omega (arith, used.0, used.1) }
 
 -- the word of a seat that hasn't left is its last answer
 pub answer_word_is : (heap : Heap) (state : State) (told : List Entry) → StandsFor heap state [] told → (number answer : ℕ) → number < heap.seats → has_left number told ≡ false → last_answer number told ≡ answer

@@ -18,19 +18,18 @@ use Rattle.core_machine.specs.seat.Commands.{IsServed}
 use Rattle.heap_runs.specs.Play.{lines_answered}
 use Rattle.heap_runs.specs.PlayHeap.{PlayState, TellsInCollect, AnswersOnce, AnswersCollect, AnswersCall}
 use Rattle.heap_runs.specs.Playing.{NotesCall}
-use Rattle.heap_runs.proofs.Beside.{comes_beside, beside_of_heap, beside_replies, granted_more}
+use Rattle.heap_runs.proofs.Beside.{comes_beside, beside_of_heap, beside_replies}
 
--- before the reply it answers no line and no command of the collector, and it grants no spine words
+-- before the reply it answers no line and no command of the collector
 pub record TellsCall (old new : PlayState) (number : ℕ) (command : Command) (reply : Reply) : Type 0 where
   pub heap : new.heap ≡ old.heap
   pub before : List Entry
   pub told : new.entries ≡ old.entries ++ (before ++ entries.Said number command reply ∷ [])
   pub of_heap : AllByRecursion (λ entry. is_of_heap entry ≡ true) before
   pub replies : flat_map lines_answered before ≡ []
-  pub grants : words_granted new.entries ≡ words_granted old.entries
 
-tells_once : (old new : PlayState) (number : ℕ) (command : Command) (reply : Reply) → IsServed command → AnswersOnce old new number command reply → TellsCall old new number command reply
-tells_once old new number command reply served answers =
+tells_once : (old new : PlayState) (number : ℕ) (command : Command) (reply : Reply) → AnswersOnce old new number command reply → TellsCall old new number command reply
+tells_once old new number command reply answers =
     let adds = answers.adds in
     let beside = comes_beside number adds.unborn _ command reply adds.before adds.comes in
     record {
@@ -39,7 +38,6 @@ tells_once old new number command reply served answers =
       told = adds.entries;
       of_heap = beside_of_heap number adds.before beside;
       replies = beside_replies number adds.before beside;
-      grants = ap words_granted adds.entries ∙ granted_more old.entries adds.before number command reply served beside;
     }
 
 collect_of_heap : (number : ℕ) (told : List Entry) → AllByRecursion (TellsInCollect number) told → AllByRecursion (λ entry. is_of_heap entry ≡ true) told
@@ -53,19 +51,11 @@ collect_replies number (entries.Said other command reply ∷ told) tells = absur
 collect_replies number (entries.Turned command reply ∷ told) tells = absurd (cc tells.0)
 collect_replies number (entry ∷ told) tells = collect_replies number told tells.1
 
-collect_grants : (number : ℕ) (told : List Entry) → AllByRecursion (TellsInCollect number) told → words_granted told ≡ 0
-collect_grants number [] tells = refl
-collect_grants number (entries.Said other command reply ∷ told) tells = absurd (cc tells.0)
-collect_grants number (entry ∷ told) tells = collect_grants number told tells.1
-
 -- nor does it change the graph
 collect_graph : (number : ℕ) (g : Graph) (told : List Entry) → AllByRecursion (TellsInCollect number) told → graph_after g told ≡ g
 collect_graph number g [] tells = refl
 collect_graph number g (entries.Said other command reply ∷ told) tells = absurd (cc tells.0)
 collect_graph number g (entry ∷ told) tells = collect_graph number g told tells.1
-
-collect_words : (number : ℕ) (reply : Reply) → words_granted (entries.Said number commands.Collect reply ∷ []) ≡ 0
-collect_words number reply = search rules
 
 pub collect_stays : (old new : PlayState) (number : ℕ) (reply : Reply) → AnswersCollect old new number reply → graph_after (opening new.heap) new.entries ≡ graph_after (opening old.heap) old.entries
 collect_stays old new number reply answers =
@@ -79,28 +69,18 @@ collect_stays old new number reply answers =
 
 tells_collect : (old new : PlayState) (number : ℕ) (reply : Reply) → AnswersCollect old new number reply → TellsCall old new number commands.Collect reply
 tells_collect old new number reply answers =
-    let said : List Entry = entries.Said number commands.Collect reply ∷ [] in
-    let words = λ (e : Entry). (effect_of e).words in
     record {
       heap = answers.heap;
       before = answers.before;
       told = answers.entries;
       of_heap = collect_of_heap number answers.before answers.told;
       replies = collect_replies number answers.before answers.told;
-      grants = omega (
-        arith,
-        ap words_granted answers.entries,
-        sum_by-append words old.entries (answers.before ++ said),
-        sum_by-append words answers.before said,
-        collect_grants number answers.before answers.told,
-        collect_words number reply,
-      );
     }
 
 -- a call is a collect, or one call of the seat
-pub tells_call : (old new : PlayState) (number : ℕ) (command : Command) (reply : Reply) → (command ≢ commands.Collect → IsServed command) → AnswersCall old new number command reply → TellsCall old new number command reply
-tells_call old new number commands.Collect reply served answers = tells_collect old new number reply (answers.collects refl)
-tells_call old new number command reply served answers = tells_once old new number command reply (served (λ e. cc e)) (answers.once (λ e. cc e))
+pub tells_call : (old new : PlayState) (number : ℕ) (command : Command) (reply : Reply) → AnswersCall old new number command reply → TellsCall old new number command reply
+tells_call old new number commands.Collect reply answers = tells_collect old new number reply (answers.collects refl)
+tells_call old new number command reply answers = tells_once old new number command reply (answers.once (λ e. cc e))
 
 -- what was noted of it is that
 pub noted_is : (old new : PlayState) (before after : List Entry) (number : ℕ) (command : Command) → (notes : NotesCall old new before after number command) → (tells : TellsCall old new number command notes.reply)

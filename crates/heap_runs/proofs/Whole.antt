@@ -20,7 +20,6 @@ use Rattle.log_merge.specs.Legal.{ShowsUse, ShowsCounts}
 use Rattle.heap_runs.specs.Play.{lines_answered, IsLastCycle, IsPlay}
 use Rattle.heap_runs.specs.PlayHeap.{PlayState, IsPlayed}
 use Rattle.heap_runs.specs.Playing.{Follows, HasAnsweredLines, HaveLeft, NotesLastCycle}
-use Rattle.heap_runs.proofs.Bounds.{returned_within}
 use Rattle.heap_runs.proofs.Following.{follows_cycle}
 use Rattle.heap_runs.proofs.LastCycle.{left_still, up_to_last_later}
 
@@ -49,7 +48,7 @@ none_used empties heap told turned played gone cycle =
 -- the whole play: the script was answered, the seats have left, and a last cycle was made
 pub whole_play : TurnedMayStand → TurnedCountNothing → EachLastCycleEmpties → (script : Script) (middle gone last : PlayState) (front between entries : List Entry) (mark : SpaceMark) (used : ℕ) (told : History)
     → HasAnsweredLines script.heap middle front script.lines → HaveLeft script.heap gone front between script.heap.seats → NotesLastCycle gone last between entries → IsPlayed script.heap middle.entries → IsPlayed script.heap last.entries
-    → mark.before ≡ length front → ShowsUse middle.entries mark.used → mark.total ≡ 16 * script.heap.groups → mark.spine ≡ 0 → mark.budget ≡ script.heap.spine
+    → mark.before ≡ length front → ShowsUse middle.entries mark.used → mark.total ≡ 16 * script.heap.groups → mark.spine + words_returned middle.entries ≡ words_granted middle.entries → mark.budget ≡ script.heap.spine
     → ShowsUse last.entries used → told ≡ record { form = forms.Play; heap = script.heap; entries = entries; mark = Some mark; end_used = used } → IsPlay script told
 whole_play stand counts empties script middle gone last front between entries mark used told answered left notes played_middle played_last before in_use total spine budget at_end is =
     let leaving : List Entry = flat_map (λ number. leave_entries number (left.left number)) (range_with_len 0 script.heap.seats) in
@@ -59,14 +58,13 @@ whole_play stand counts empties script middle gone last front between entries ma
     let follows = follows_cycle script.heap gone last between entries notes left.follows in
     let empty = none_used empties script.heap gone.entries notes.turned (subst (IsPlayed script.heap) notes.told played_last) left.gone notes.cycle in
     let stay = counts front in
-    let granted = subst (λ es. words_granted es ≡ 0) (sym answered.follows.same) answered.follows.none_granted in
-    let returned = subst (λ es. words_returned es ≤ words_granted es) (sym answered.follows.same) (returned_within script.heap middle.entries played_middle.legal) in
+    let words = subst (λ es. mark.spine + words_returned es ≡ words_granted es) (sym answered.follows.same) spine in
     let last_counts = counts entries in
     let end_shown = shows_use counts script.heap last entries used follows at_end in
     let shown : ShowsCounts script.heap front mark = record {
       used = shows_use counts script.heap middle front mark.used answered.follows in_use;
       total = total;
-      spine = omega (arith, spine, granted, returned, stay.granted_stay, stay.returned_stay);
+      spine = omega (arith, words, stay.granted_stay, stay.returned_stay);
       budget = budget;
     } in
     rw is (record {

@@ -12,16 +12,18 @@ use Rattle.heap_model.specs.declared.calls.collector_calls.Turn.{Turn}
 use Rattle.heap_model.specs.declared.calls.collector_calls.Turn.TheVariants.{Stepped, Waits, Ended}
 use Rattle.heap_model.specs.Command.{IsCommand}
 use Rattle.heap_model.specs.Limits.{group_fragments}
+use Rattle.heap_model.specs.Needs.{spine_need_of}
 use Rattle.heap_model.specs.account.Account.{ButSpine, IsLegalBy, IsLegal}
 use Rattle.heap_model.specs.account.Noting.{is_collectors}
 use Rattle.heap_model.specs.account.Phases.{IsBehind}
 use Rattle.heap_model.specs.account.PhaseCounts.{phase}
-use Rattle.heap_model.specs.account.Space.{need_of, fragments_gained, fragments_lost, taken_of, spent_of, words_granted}
+use Rattle.heap_model.specs.account.Refusals.{FindsSpace}
+use Rattle.heap_model.specs.account.Space.{need_of, fragments_gained, fragments_lost, taken_of, spent_of, words_granted, words_returned}
 use Rattle.heap_model.specs.calls.CollectorCalls.{CollectorState, Turns}
 use Rattle.heap_model.specs.calls.SeatCalls.{HasNumber, Adds}
 use Rattle.heap_model.specs.calls.SeatReplies.{next_id}
 use Rattle.heap_model.specs.calls.SeatState.{SeatState, own_graph_seat}
-use Rattle.core_machine.specs.seat.Commands.{IsRecord, IsServed}
+use Rattle.core_machine.specs.seat.Commands.{IsRecord, IsArray}
 use Rattle.heap_runs.specs.Play.{tells_step}
 
 -- the heap, the entries of all its parties in their order, for how many more of the collector's there is room, the number of turns as far
@@ -34,12 +36,13 @@ pub record PlayState : Type 0 where
   pub last_turn : Option Turn
   pub turns_left : ℕ
 
--- the entries are legal as a play but for the spine words at the ends of cycles, and by the whole of the rules where no array was made; and no more fragments
--- were lost than gained
+-- the entries are legal as a play but for the spine words at the ends of cycles, and by the whole of the rules where no array was made; no more fragments
+-- were lost than gained, and no more spine words are in use than the heap has
 pub record IsPlayed (heap : Heap) (entries : List Entry) : Type 0 where
   pub legal : IsLegalBy ButSpine heap true entries
   pub whole : words_granted entries ≡ 0 → IsLegal heap true entries
   pub none_short : fragments_lost entries ≤ fragments_gained entries
+  pub words_fit : words_granted entries ≤ heap.spine + words_returned entries
 
 -- what contracts see of a seat of it, by the entries of all
 abbrev pub seat_state_of : PlayState → ℕ → SeatState
@@ -55,11 +58,10 @@ collector_state_of state = record {
   last_turn = state.last_turn;
 }
 
--- the seat may be given the command: it is there, it hasn't left, and the command is a collect or is served, and has its numbers
+-- the seat may be given the command: it is there, it hasn't left, and the command has its numbers
 pub record MayCall (state : PlayState) (number : ℕ) (command : Command) : Type 0 where
   pub within : number < state.heap.seats
   pub present : (own_graph_seat (seat_state_of state number)).left ≡ false
-  pub served : command ≢ Collect → IsServed command
   pub in_range : IsCommand command
   pub numbered : HasNumber (seat_state_of state number) command
 
@@ -68,14 +70,34 @@ abbrev pub IsEnough : PlayState → ℕ → Command → Type 0
 IsEnough state number command =
     need_of command + fragments_gained state.entries + spent_of number state.entries ≤ group_fragments * state.heap.groups + fragments_lost state.entries + taken_of number state.entries
 
+-- the array's spine words are more than the heap has beside those in use
+abbrev pub LacksWords : PlayState → Command → Type 0
+LacksWords state command = state.heap.spine + words_returned state.entries < words_granted state.entries + spine_need_of command
+
+-- its spine words are refused: the reply shows how many are needed, and how many are in use
+abbrev pub RefusesWords : PlayState → Command → Reply → Type 0
+RefusesWords state command reply = (used : ℕ) × (used + words_returned state.entries ≡ words_granted state.entries) × (reply ≡ replies.SpineFull (spine_need_of command) used)
+
+-- its fragments are refused: the reply shows how many are needed, and how many were found
+abbrev pub RefusesFragments : PlayState → ℕ → Command → Reply → Type 0
+RefusesFragments state number command reply = (found : ℕ) × FindsSpace state.heap true state.entries number found × (reply ≡ replies.Full (need_of command) found)
+
+-- an array was made exactly where both its spine words and its fragments were enough; spine words are looked at first, and are refused exactly where
+-- they are too many; and the fragments are exactly where they alone are
+pub record AnswersArrayOnce (state : PlayState) (number : ℕ) (command : Command) (reply : Reply) : Type 0 where
+  pub made : (reply ≡ replies.Made (next_id (seat_state_of state number))) ↔ (¬ LacksWords state command × IsEnough state number command)
+  pub no_words : RefusesWords state command reply ↔ LacksWords state command
+  pub no_fragments : RefusesFragments state number command reply ↔ (¬ LacksWords state command × ¬ IsEnough state number command)
+
 -- the call added the entries that a call of the seat adds, the reply last, and made no turn; a record was made exactly where there was
--- enough, and a leave is done. Of how many turns are left nothing is said: a call may put them up
+-- enough, an array where that is so of its spine words too, and a leave is done. Of how many turns are left nothing is said: a call may put them up
 pub record AnswersOnce (old new : PlayState) (number : ℕ) (command : Command) (reply : Reply) : Type 0 where
   pub adds : Adds (seat_state_of old number) (seat_state_of new number) command reply
   pub turns_stay : new.turns ≡ old.turns
   pub last_stays : new.last_turn ≡ old.last_turn
   pub left : command ≡ Leave → reply ≡ replies.Done
   pub made : IsRecord command → (reply ≡ replies.Made (next_id (seat_state_of old number))) ↔ IsEnough old number command
+  pub array : IsArray command → AnswersArrayOnce old number command reply
 
 -- what is told while a seat collects: its answers to the phases that begin, and the collector's steps and ends of cycles
 abbrev pub TellsInCollect : ℕ → Entry → Type 0

@@ -10,7 +10,6 @@ use Rattle.heap_model.specs.declared.reply.Reply.{Reply}
 use Rattle.heap_model.specs.declared.reply.TurnReply.{TurnReply}
 use Rattle.heap_model.specs.PhasePlan.{cycle_phases, rest}
 use Rattle.heap_model.specs.account.PhaseCounts.{phase, has_left}
-use Rattle.heap_model.specs.account.Space.{words_granted}
 use Rattle.heap_model.specs.account.Turned.{without_turned, AllAnswerRightly}
 use Rattle.heap_model.specs.calls.SeatCalls.{leave_entries}
 use Rattle.heap_model.specs.calls.SeatState.{own_graph_seat}
@@ -35,12 +34,11 @@ pub record NotesTurns (old new : PlayState) (before after : List Entry) (command
   pub told : new.entries ≡ old.entries ++ added
   pub noted : after ≡ before ++ (added ++ Turned command reply ∷ [])
 
--- the history has the heap's entries, and between them what the collector's commands were answered, each rightly; no spine words were granted
+-- the history has the heap's entries, and between them what the collector's commands were answered, each rightly
 pub record Follows (heap : Heap) (state : PlayState) (history : List Entry) : Type 0 where
   pub of_heap : state.heap ≡ heap
   pub same : without_turned history ≡ state.entries
   pub right : AllAnswerRightly heap [] history
-  pub none_granted : words_granted state.entries ≡ 0
 
 -- the seat hasn't left
 abbrev pub IsThere : PlayState → ℕ → Type 0

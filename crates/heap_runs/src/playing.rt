@@ -1,13 +1,12 @@
 ghost use Rattle.std.specs.Prelude.{◌≡◌, true, [], IfOk, OnOk};
 ghost use Rattle.script_text.specs.declared.script.Form.TheVariants.{Play};
-ghost use Rattle.script_text.specs.Built.{IsBuilt};
 ghost use Rattle.script_text.specs.Writing.{IsOfForm};
 ghost use Rattle.heap_runs.specs.Play.{IsPlay};
 ghost use Rattle.heap_runs.specs.Playing.{HasAnsweredLines, HaveLeft, AllGone, NotesLastCycle};
 
 use crate::play_heap::PlayHeap;
 use crate::playing::noting::{note_call, note_cycle, note_turns};
-use crate::playing::use_count::in_use;
+use crate::playing::use_count::{in_use, words_in_use};
 use core_rule::law_sweep_exact;
 use heap_model::limits::GROUP_FRAGMENTS;
 use heap_model::phase_plan::{CYCLE_PHASES, REST};
@@ -26,7 +25,6 @@ fn answer_lines<H: PlayHeap>(
     script: &Script,
 ) -> Result<(), Memory>
     requires form { IsOfForm Play script.now }
-    requires built { IsBuilt script.now }
     requires heap { (H.state whole.old).heap ≡ script.now.heap }
     requires fresh { (H.state whole.old).entries ≡ [] }
     requires nothing { history.old.items ≡ [] }
@@ -82,7 +80,6 @@ pub fn play<H: PlayHeap + Drop>(
     requires whole { (H.state whole).heap ≡ heap }
     requires heap { heap ≡ script.now.heap }
     requires form { IsOfForm Play script.now }
-    requires built { IsBuilt script.now }
     ensures { IfOk result (IsPlay script.now) }
 {
     account_laws();
@@ -93,7 +90,7 @@ pub fn play<H: PlayHeap + Drop>(
         before: history.len(),
         used: in_use(&heap, whole.entries()),
         total: u64::from(GROUP_FRAGMENTS) * u64::from(heap.groups),
-        spine: 0,
+        spine: words_in_use(&heap, whole.entries()),
         budget: u64::from(heap.spine),
     };
     leave_all(&mut whole, &mut history, script)?;

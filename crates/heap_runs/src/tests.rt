@@ -1,6 +1,5 @@
 ghost use Rattle.std.specs.Prelude.{◌≡◌, ◌<◌, [], IfOk};
 ghost use Rattle.script_text.specs.declared.script.Form.TheVariants.{Play};
-ghost use Rattle.script_text.specs.Built.{IsBuilt};
 ghost use Rattle.script_text.specs.Writing.{IsOfForm};
 ghost use Rattle.heap_runs.specs.PlayHeap.{MayCall};
 
@@ -8,21 +7,17 @@ use crate::{MachineHeap, PlayHeap, play, turn_line};
 use growing::Growing;
 use heap_model::{Command, Heap, Id, Memory, Reply, Turn, TurnCommand, TurnReply};
 use reply_text::render_history;
-use script_text::{Form, Script, first_unbuilt, read_script};
+use script_text::{Form, Script, read_script};
 use std::alloc::Global;
 use std::test::Fail;
 
 mod growing;
 
-/// The script that the text is, where it is served.
+/// The script that the text is.
 fn script_of(alloc: Global, text: &str) -> Result<Script, Fail>
     ensures form { IfOk result (IsOfForm Play) }
-    ensures built { IfOk result IsBuilt }
 {
     let script = read_script(alloc, text.as_bytes(), Form::Play)?;
-    if first_unbuilt(&script).is_some() {
-        return Err("a line isn't served".into());
-    }
     Ok(script)
 }
 

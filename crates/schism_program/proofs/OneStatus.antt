@@ -1,10 +1,9 @@
 -- Words and input call for one status alone.
-use Rattle.std.proofs.Common.{◌≡◌, ℕ, List, Option, None, Some, inl, inr, refl, sym, ap, subst, ◌∙◌, arith}
+use Rattle.std.proofs.Common.{◌≡◌, ℕ, List, Option, Some, refl, sym, ap, subst, ◌∙◌, arith}
 use Rattle.script_text.specs.declared.cause.Cause.{Cause}
 use Rattle.script_text.specs.declared.cause.LineFault.{LineFault}
 use Rattle.script_text.specs.declared.script.Form.TheVariants as forms
-use Rattle.script_text.specs.Built.{unbuilt_line}
-use Rattle.script_text.proofs.Whole.{first_fault-none, same_script}
+use Rattle.script_text.proofs.Whole.{first_fault-none}
 use Rattle.reply_text.specs.declared.history.History.{History}
 use Rattle.reply_text.proofs.Whole.{first_history_fault-none, same_history}
 use Rattle.io_edge.specs.Left.{GivesAll}
@@ -20,17 +19,12 @@ use Rattle.schism_program.proofs.FirstLines.{same_first}
 
 -- what a text was made of suits the work
 pub made_suits : (work : Work) (input text : List ℕ) → MakesText work input text → Suits work input
-made_suits Play input text plays = (plays.script, plays.serves)
+made_suits Play input text plays = (plays.script, plays.spelled)
 made_suits Check input text finds = (finds.history, finds.spelled, finds.legal)
 
 -- what suits the work has no fault
 suits_none : (work : Work) (input : List ℕ) (line : ℕ) (cause : Cause) → Suits work input → ¬ FailsAt work input line cause
-suits_none Play input line cause (script, serves) (inl fault) = let none = first_fault-none forms.Play input script serves.spelled in cc
-suits_none Play input line cause (script, serves) (inr unbuilt) =
-    let same : script ≡ unbuilt.2.0 = same_script forms.Play input script unbuilt.2.0 serves.spelled unbuilt.2.1 in
-    let none : unbuilt_line script ≡ None = serves.built in
-    let found : unbuilt_line unbuilt.2.0 ≡ Some line = unbuilt.2.2 in
-    cc
+suits_none Play input line cause (script, spelled) fault = let none = first_fault-none forms.Play input script spelled in cc
 suits_none Check input line cause (history, spelled, legal) fault = let none = first_history_fault-none input history spelled in cc
 
 -- and no line that isn't legal
@@ -50,16 +44,7 @@ same_fault line line' cause cause' same =
     ap (λ (f : LineFault). Refused f.line f.cause) fault
 
 fails_once : (work : Work) (input : List ℕ) (line line' : ℕ) (cause cause' : Cause) → FailsAt work input line cause → FailsAt work input line' cause' → Refused line cause ≡ Refused line' cause'
-fails_once Play input line line' cause cause' (inl fault) (inl fault') = same_fault line line' cause cause' (sym fault ∙ fault')
-fails_once Play input line line' cause cause' (inl fault) (inr unbuilt) = absurd cc
-fails_once Play input line line' cause cause' (inr unbuilt) (inl fault) = absurd cc
-fails_once Play input line line' cause cause' (inr unbuilt) (inr unbuilt') =
-    let same : unbuilt.2.0 ≡ unbuilt'.2.0 = same_script forms.Play input unbuilt.2.0 unbuilt'.2.0 unbuilt.2.1 unbuilt'.2.1 in
-    let one : unbuilt_line unbuilt.2.0 ≡ Some line = unbuilt.2.2 in
-    let other : unbuilt_line unbuilt'.2.0 ≡ Some line' = unbuilt'.2.2 in
-    let lines : line ≡ line' = cc in
-    let causes : cause ≡ cause' = unbuilt.0 ∙ sym unbuilt'.0 in
-    rw (lines, causes) refl
+fails_once Play input line line' cause cause' fault fault' = same_fault line line' cause cause' (sym fault ∙ fault')
 fails_once Check input line line' cause cause' fault fault' = same_fault line line' cause cause' (sym fault ∙ fault')
 
 -- one line is the first that isn't legal

@@ -1,36 +1,27 @@
 -- What an input is that is played, or refused.
-use Rattle.std.specs.Prelude.{◌≡◌, ℕ, ◌⊎◌, List, None, Some}
+use Rattle.std.specs.Prelude.{◌≡◌, ℕ, List, Some}
 use Rattle.script_text.specs.declared.cause.Cause.{Cause}
-use Rattle.script_text.specs.declared.cause.Cause.TheVariants.{Unbuilt}
 use Rattle.script_text.specs.declared.script.Form.TheVariants as forms
 use Rattle.script_text.specs.declared.script.Script.{Script}
 use Rattle.script_text.specs.Grammar.{IsScript}
-use Rattle.script_text.specs.Built.{unbuilt_line}
 use Rattle.script_text.specs.Faults.{first_fault}
 use Rattle.script_text.specs.Text.{text_of}
 use Rattle.reply_text.specs.declared.history.History.{History}
 use Rattle.reply_text.specs.History.{history_lines}
 use Rattle.heap_runs.specs.Play.{IsPlay}
 
--- the input is this script, and the program serves it
-pub record Serves (input : List ℕ) (script : Script) : Type 0 where
-  pub spelled : IsScript forms.Play input script
-  pub built : unbuilt_line script ≡ None
-
--- the input is a script that the program serves
+-- the input is a script
 abbrev pub IsPlayable : List ℕ → Type 0
-IsPlayable input = (script : Script) × Serves input script
+IsPlayable input = (script : Script) × IsScript forms.Play input script
 
 -- the text is that of a play of the input's script
 pub record Plays (input text : List ℕ) : Type 0 where
   pub script : Script
   pub history : History
-  pub serves : Serves input script
+  pub spelled : IsScript forms.Play input script
   pub played : IsPlay script history
   pub rendered : text ≡ text_of (history_lines history)
 
--- the first fault of the script is this line's cause; or it has none, and this line is the first that the program doesn't serve
+-- the first fault of the script is this line's cause
 abbrev pub FailsToPlay : List ℕ → ℕ → Cause → Type 0
-FailsToPlay input line cause =
-    (first_fault forms.Play input ≡ Some (record { line = line; cause = cause }))
-    ⊎ ((cause ≡ Unbuilt) × (first_fault forms.Play input ≡ None) × ((script : Script) × IsScript forms.Play input script × (unbuilt_line script ≡ Some line)))
+FailsToPlay input line cause = first_fault forms.Play input ≡ Some (record { line = line; cause = cause })

@@ -1,9 +1,9 @@
 ghost use Rattle.std.specs.Prelude.{◌≡◌, ◌≤◌, ℕ, length, Err, IfOk};
 ghost use Rattle.script_text.specs.declared.cause.LineFault.{LineFault as ALineFault};
 ghost use Rattle.script_text.specs.declared.script.Form.TheVariants.{Play};
-ghost use Rattle.script_text.specs.Built.{IsBuilt};
+ghost use Rattle.script_text.specs.Grammar.{IsScript};
 ghost use Rattle.script_text.specs.Writing.{IsOfForm};
-ghost use Rattle.schism_program.specs.Serving.{FailsToPlay, Plays, Serves};
+ghost use Rattle.schism_program.specs.Serving.{FailsToPlay, Plays};
 ghost use Rattle.schism_program.specs.Works.{FailsAt, IsIllegalAt, MakesText};
 
 use crate::fault::WorkFault;
@@ -11,21 +11,18 @@ use crate::verdict::verdict;
 use crate::work::Work;
 use heap_runs::{MachineHeap, play};
 use reply_text::render_history;
-use script_text::{Cause, Form, Script, first_unbuilt, read_script};
+use script_text::{Form, Script, read_script};
 use std::alloc::Global;
 
-fn served_script(alloc: Global, input: &[u8]) -> Result<Script, WorkFault>
-    ensures ok { IfOk result (λ script. Serves input.now script) }
+/// The script that the input is.
+fn script_of(alloc: Global, input: &[u8]) -> Result<Script, WorkFault>
+    ensures ok { IfOk result (IsScript Play input.now) }
     ensures form { IfOk result (IsOfForm Play) }
-    ensures built { IfOk result IsBuilt }
     ensures refused { (fault : ALineFault) → result ≡ Err (WorkFault.Refused fault) →
         FailsToPlay input.now fault.line fault.cause }
     ensures legal { (line : ℕ) → result ≡ Err (WorkFault.NotLegal line) → ⊥ }
 {
     let script = read_script(alloc, input, Form::Play)?;
-    if let Some(line) = first_unbuilt(&script) {
-        return Err(WorkFault::Refused(Cause::Unbuilt.at(line)));
-    }
     Ok(script)
 }
 
@@ -36,7 +33,7 @@ fn played_text(alloc: Global, input: &[u8]) -> Result<Vec<u8>, WorkFault>
         FailsToPlay input.now fault.line fault.cause }
     ensures legal { (line : ℕ) → result ≡ Err (WorkFault.NotLegal line) → ⊥ }
 {
-    let script = served_script(alloc, input)?;
+    let script = script_of(alloc, input)?;
     let whole = MachineHeap::make(alloc, script.heap)?;
     let history = play(alloc, whole, script.heap, &script)?;
     let text = render_history(alloc, &history)?;

@@ -64,7 +64,6 @@ fn name_of(cause: Cause) -> &'static str
         Cause::BadEntry => "BadEntry",
         Cause::NoEnd => "NoEnd",
         Cause::HistoryLines => "HistoryLines",
-        Cause::Unbuilt => "Unbuilt",
     }
 }
 

@@ -129,22 +129,6 @@ fn plays_scripts_and_checks_the_plays(rt: HostRuntime) -> Result<(), Fail> {
 fn refuses_scripts(rt: HostRuntime) -> Result<(), Fail> {
     for (text, line, cause) in [
         (
-            "schism 1\nheap 1 0 1\n0 nil 1\n0 array 1 3\n",
-            4,
-            Cause::Unbuilt,
-        ),
-        (
-            "schism 1\nheap 4 0 2\n1 new 1 3\n1 array 1 4\n",
-            4,
-            Cause::Unbuilt,
-        ),
-        (
-            "schism 1\nheap 4 0 2\n1 collect\n1 array 1 4\n",
-            4,
-            Cause::Unbuilt,
-        ),
-        ("schism 1\nheap 17 1 1\n0 nil 1\n", 2, Cause::Unbuilt),
-        (
             "schism 1\nheap 1 0 1\n0 poll\n0 num 1 01\n",
             4,
             Cause::BadNumber,
@@ -394,7 +378,7 @@ fn names_each_status(rt: HostRuntime) {
     for (status, number, text) in [
         (Status::Done, 0, ""),
         (bad_heap, 1, "refused at line 2: BadHeap"),
-        (refused(7, Cause::Unbuilt), 1, "refused at line 7: Unbuilt"),
+        (refused(7, Cause::NoEnd), 1, "refused at line 7: NoEnd"),
         (longest, 1, "refused at line 4294967295: TooManyWords"),
         (Status::Usage, 2, "usage"),
         (Status::ReadFault, 3, "read fault"),

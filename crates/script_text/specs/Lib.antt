@@ -9,5 +9,4 @@ pub mod Faults
 pub mod Reading
 pub mod Names
 pub mod Left
-pub mod Built
 pub mod Writing

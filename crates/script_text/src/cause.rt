@@ -18,8 +18,6 @@ pub enum Cause {
     BadEntry,
     NoEnd,
     HistoryLines,
-    /// The line is well formed, and this program does not serve it yet.
-    Unbuilt,
 }
 
 /// A line of a text, counted from 1, and what is wrong with it.

@@ -1,7 +1,6 @@
 //! Scripts as texts: read by a grammar of whole lines, and written.
 #![tactic(auto)]
 
-mod built;
 mod cause;
 mod command;
 mod cut;
@@ -18,7 +17,6 @@ mod text;
 mod turn;
 mod writing;
 
-pub use built::first_unbuilt;
 pub use cause::{Cause, LineFault, ScriptFault};
 pub use command::operands;
 pub use cut::cut as cut_at;

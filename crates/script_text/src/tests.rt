@@ -225,34 +225,3 @@ fn most_lines(rt: HostRuntime) -> Result<(), Fail> {
     );
     Ok(())
 }
-
-#[test]
-fn built(rt: HostRuntime) -> Result<(), Fail> {
-    let scripts: [(&[u8], Option<u32>); 11] = [
-        (b"schism 1\nheap 4096 0 16\n", None),
-        (
-            b"schism 1\nheap 16 0 1\n0 new 1 2\n0 num 2 9\n0 set 1 1 2\n0 get 3 1 0\n",
-            None,
-        ),
-        (
-            b"schism 1\nheap 16 0 1\n0 nil 1\n0 copy 2 1\n0 same 1 2\n0 len 0\n0 poll\n",
-            None,
-        ),
-        (b"schism 1\nheap 16 1 1\n0 collect\n", Some(2)),
-        (b"schism 1\nheap 4 0 2\n0 new 1 47\n1 len 0\n", None),
-        (b"schism 1\nheap 4 0 2\n1 collect\n0 array 1 1\n", Some(4)),
-        (b"schism 1\nheap 16 0 1\n0 new 1 3\n0 collect\n", None),
-        (b"schism 1\nheap 16 0 1\nc cycle\n0 array 2 9\n", Some(4)),
-        (b"schism 1\nheap 16 0 1\nc turns 1000000\nc turns 0\n", None),
-        (b"schism 1\nheap 16 0 1\nc turns 2\nc cycle\n", None),
-        (
-            b"schism 1\nheap 16 0 1\n0 num 2 9\n0 poll\n0 array 1 4\n",
-            Some(5),
-        ),
-    ];
-    for (text, wanted) in scripts {
-        let script = read_script(rt.alloc(), text, Form::Play)?;
-        assert_eq!(rt; first_unbuilt(&script), wanted, "{text:?}");
-    }
-    Ok(())
-}

@@ -9,6 +9,7 @@ use Rattle.core_rule.proofs.runs.OpeningStands.{opening_stands}
 use Rattle.core_rule.proofs.runs.PlayRuns.{whole_calls_play}
 use Rattle.core_rule.proofs.runs.ComingTurns.{each_turn_comes_to}
 use Rattle.core_rule.proofs.runs.Runs.{each_event_keeps, every_run_keeps}
+use Rattle.core_rule.proofs.spines.IdleBudgets.{words_are_used}
 use Rattle.core_rule.proofs.steps.Steps.{each_step_keeps, each_begin_keeps, each_inner_keeps, each_turn_keeps}
 use Rattle.core_rule.proofs.turns.{each_turn_leaves_fewer}
 use Rattle.core_rule.proofs.law.law_every_run.Goals as goal
@@ -24,6 +25,9 @@ returns-clause-play c = whole_calls_play machine_after each_step_keeps each_begi
 
 pub returns-clause-free : goal.returns-clause-free
 returns-clause-free c = free_is_unused
+
+pub returns-clause-words : goal.returns-clause-words
+returns-clause-words c = words_are_used
 
 pub returns-clause-births : goal.returns-clause-births
 returns-clause-births c = each_birth_has_its_colour

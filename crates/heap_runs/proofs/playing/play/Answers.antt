@@ -1,6 +1,7 @@
-use Rattle.std.proofs.Common.{◌*◌, ◌<◌, List, refl, ap, subst, ◌∙◌, rules}
+use Rattle.std.proofs.Common.{◌≡◌, ◌+◌, ◌*◌, ◌<◌, List, refl, ap, subst, ◌∙◌, rules}
 use Rattle.heap_model.specs.declared.heap.Heap.{Heap}
 use Rattle.heap_model.specs.declared.entry.Entry.{Entry}
+use Rattle.heap_model.specs.account.Space.{words_granted, words_returned}
 use Rattle.reply_text.specs.declared.history.SpaceMark.{SpaceMark}
 use Rattle.log_merge.specs.Legal.{ShowsUse}
 use Rattle.heap_runs.specs.PlayHeap.{PlayState, IsPlayed}
@@ -22,11 +23,12 @@ returns g c =
     let answered = c.in_ok-answer_lines.ensures in
     let left = c.in_ok-leave_all.ensures in
     let notes = c.in_ok-make_last_cycle.ensures.notes in
-    let mark : SpaceMark = record { before = c.len.result; used = c.in_use.result; total = c.from.result * c.from-2.result; spine = 0; budget = c.from-3.result } in
+    let mark : SpaceMark = record { before = c.len.result; used = c.in_use.result; total = c.from.result * c.from-2.result; spine = c.words_in_use.result; budget = c.from-3.result } in
     let played = subst (λ (h : Heap). IsPlayed h middle.entries) answered.follows.of_heap c.entries.ensures.played in
-    let played_last = subst (λ (h : Heap). IsPlayed h last.entries) (notes.same_heap ∙ left.follows.of_heap) c.entries-2.ensures.played in
+    let played_last = subst (λ (h : Heap). IsPlayed h last.entries) (notes.same_heap ∙ left.follows.of_heap) c.entries-3.ensures.played in
     whole_play laws.turned laws.counts c.law_sweep_exact.ensures.emptied script middle gone last c.answer_lines.new.history.items c.leave_all.new.history.items c.make_last_cycle.new.history.items mark c.in_use-2.result _ answered left notes played played_last
     (search rules) (subst (λ (es : List Entry). ShowsUse es c.in_use.result) c.entries.ensures.entries c.in_use.ensures)
-    (rw (c.from.ensures, c.from-2.ensures, c.requires.heap) refl) refl (c.from-3.ensures ∙ ap (λ (h : Heap). h.spine) c.requires.heap)
-    (subst (λ (es : List Entry). ShowsUse es c.in_use-2.result) c.entries-2.ensures.entries c.in_use-2.ensures)
+    (rw (c.from.ensures, c.from-2.ensures, c.requires.heap) refl)
+    (subst (λ (es : List Entry). c.words_in_use.result + words_returned es ≡ words_granted es) c.entries-2.ensures.entries c.words_in_use.ensures) (c.from-3.ensures ∙ ap (λ (h : Heap). h.spine) c.requires.heap)
+    (subst (λ (es : List Entry). ShowsUse es c.in_use-2.result) c.entries-3.ensures.entries c.in_use-2.ensures)
     (rw (c.requires.heap, c.from_vec.ensures) refl)

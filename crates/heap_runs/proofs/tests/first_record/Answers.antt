@@ -16,7 +16,6 @@ call-requires g c =
       may = record {
         within = c.requires.seats;
         present = ap (λ (s : GraphSeat). s.left) seat;
-        served = λ once. tt;
         in_range = ((omega arith, omega arith), (omega arith, omega arith));
         numbered = omega (arith, ap (λ (s : GraphSeat). length s.objects) seat);
       };

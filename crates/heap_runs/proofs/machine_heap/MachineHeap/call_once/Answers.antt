@@ -28,20 +28,20 @@ play_call-reply-requires-clause-can c =
 pub split_at-requires : goal.split_at-requires
 split_at-requires c =
     let facts = noted_call c.law_every_run.ensures.run c.seat_laws.ensures.short (the_view c.self.inside) _ c.room.new.self c.play_call-reply.new.self c.args.seat c.args.command.now c.play_call-reply.result c.self.invariant.0
-    c.self.view_is c.requires.may c.room.ensures.same c.room.ensures.others c.play_call-reply.ensures.steps c.play_call-reply.ensures.answer c.play_call-reply.ensures.leave c.play_call-reply.ensures.refused c.play_call-reply.ensures.spent in
+    c.self.view_is c.requires.may c.room.ensures.same c.room.ensures.others c.play_call-reply.ensures.steps c.play_call-reply.ensures.answer c.play_call-reply.ensures.array c.play_call-reply.ensures.leave c.play_call-reply.ensures.refused c.play_call-reply.ensures.spent in
     rw (c.log-before.ensures, c.log.ensures) facts.longer
 
 pub note_all-requires : goal.note_all-requires
 note_all-requires c =
     let facts = noted_call c.law_every_run.ensures.run c.seat_laws.ensures.short (the_view c.self.inside) _ c.room.new.self c.play_call-reply.new.self c.args.seat c.args.command.now c.play_call-reply.result c.self.invariant.0
-    c.self.view_is c.requires.may c.room.ensures.same c.room.ensures.others c.play_call-reply.ensures.steps c.play_call-reply.ensures.answer c.play_call-reply.ensures.leave c.play_call-reply.ensures.refused c.play_call-reply.ensures.spent in
+    c.self.view_is c.requires.may c.room.ensures.same c.room.ensures.others c.play_call-reply.ensures.steps c.play_call-reply.ensures.answer c.play_call-reply.ensures.array c.play_call-reply.ensures.leave c.play_call-reply.ensures.refused c.play_call-reply.ensures.spent in
     let told = told_since c.room.new.self c.play_call-reply.new.self c.args.seat c.split_at.result.1.now c.log-before.result.now c.log.result.now c.split_at.ensures.back c.log-before.ensures c.log.ensures in
     omega (arith, ap (length {A = Entry}) told, facts.short, c.need.ensures, c.in_ok-reserve.ensures.ok, c.in_ok-reserve.ensures.len)
 
 pub invariant_of-self-2 : goal.invariant_of-self-2
 invariant_of-self-2 c =
     let facts = noted_call c.law_every_run.ensures.run c.seat_laws.ensures.short (the_view c.self.inside) _ c.room.new.self c.play_call-reply.new.self c.args.seat c.args.command.now c.play_call-reply.result c.self.invariant.0
-    c.self.view_is c.requires.may c.room.ensures.same c.room.ensures.others c.play_call-reply.ensures.steps c.play_call-reply.ensures.answer c.play_call-reply.ensures.leave c.play_call-reply.ensures.refused c.play_call-reply.ensures.spent in
+    c.self.view_is c.requires.may c.room.ensures.same c.room.ensures.others c.play_call-reply.ensures.steps c.play_call-reply.ensures.answer c.play_call-reply.ensures.array c.play_call-reply.ensures.leave c.play_call-reply.ensures.refused c.play_call-reply.ensures.spent in
     let told = told_since c.room.new.self c.play_call-reply.new.self c.args.seat c.split_at.result.1.now c.log-before.result.now c.log.result.now c.split_at.ensures.back c.log-before.ensures c.log.ensures in
     let whole : MachineHeapValue = the_view c.self.inside in
     let same_heap : c.play_call-reply.new.self.heap ≡ whole.machine.heap = c.play_call-reply.ensures.heap ∙ ap (λ (m : MachineValue). m.heap) c.room.ensures.same in
@@ -58,7 +58,7 @@ invariant_of-self-2 c =
 pub returns-clause-answers : goal.returns-clause-answers
 returns-clause-answers c =
     let facts = noted_call c.law_every_run.ensures.run c.seat_laws.ensures.short (the_view c.self.inside) _ c.room.new.self c.play_call-reply.new.self c.args.seat c.args.command.now c.play_call-reply.result c.self.invariant.0
-    c.self.view_is c.requires.may c.room.ensures.same c.room.ensures.others c.play_call-reply.ensures.steps c.play_call-reply.ensures.answer c.play_call-reply.ensures.leave c.play_call-reply.ensures.refused c.play_call-reply.ensures.spent in
+    c.self.view_is c.requires.may c.room.ensures.same c.room.ensures.others c.play_call-reply.ensures.steps c.play_call-reply.ensures.answer c.play_call-reply.ensures.array c.play_call-reply.ensures.leave c.play_call-reply.ensures.refused c.play_call-reply.ensures.spent in
     let told = told_since c.room.new.self c.play_call-reply.new.self c.args.seat c.split_at.result.1.now c.log-before.result.now c.log.result.now c.split_at.ensures.back c.log-before.ensures c.log.ensures in
     let whole : MachineHeapValue = the_view c.self.inside in
     let same_heap : c.play_call-reply.new.self.heap ≡ whole.machine.heap = c.play_call-reply.ensures.heap ∙ ap (λ (m : MachineValue). m.heap) c.room.ensures.same in
@@ -69,14 +69,14 @@ returns-clause-answers c =
     let s = stands c.law_every_run.ensures.run whole.machine.heap whole.machine.state whole.entries c.self.invariant.0.calls in
     let left : c.saturating_sub-self-inside.result ≡ whole.spare - length (since c.room.new.self c.play_call-reply.new.self c.args.seat) = omega (arith, c.saturating_sub-self-inside.ensures, ap (length {A = Entry}) told) in
     subst (λ (v : MachineHeapValue). AnswersOnce (play_state_of v) (play_state_of new) c.args.seat c.args.command.now c.play_call-reply.result) c.self.view_is
-    (answers_call c.law_every_run.ensures.free whole new c.args.seat c.args.command.now c.play_call-reply.result s c.self.invariant.0 may
+    (answers_call c.law_every_run.ensures.free c.law_every_run.ensures.words whole new c.args.seat c.args.command.now c.play_call-reply.result s c.self.invariant.0 may
     (calls_machine whole new c.room.new.self c.args.seat c.args.command.now c.play_call-reply.result facts same_heap listed)
     (room_left whole new c.room.new.self c.args.seat c.args.command.now c.play_call-reply.result facts same_heap listed left) refl refl)
 
 pub returns-clause-machine : goal.returns-clause-machine
 returns-clause-machine c =
     let facts = noted_call c.law_every_run.ensures.run c.seat_laws.ensures.short (the_view c.self.inside) _ c.room.new.self c.play_call-reply.new.self c.args.seat c.args.command.now c.play_call-reply.result c.self.invariant.0
-    c.self.view_is c.requires.may c.room.ensures.same c.room.ensures.others c.play_call-reply.ensures.steps c.play_call-reply.ensures.answer c.play_call-reply.ensures.leave c.play_call-reply.ensures.refused c.play_call-reply.ensures.spent in
+    c.self.view_is c.requires.may c.room.ensures.same c.room.ensures.others c.play_call-reply.ensures.steps c.play_call-reply.ensures.answer c.play_call-reply.ensures.array c.play_call-reply.ensures.leave c.play_call-reply.ensures.refused c.play_call-reply.ensures.spent in
     let told = told_since c.room.new.self c.play_call-reply.new.self c.args.seat c.split_at.result.1.now c.log-before.result.now c.log.result.now c.split_at.ensures.back c.log-before.ensures c.log.ensures in
     let whole : MachineHeapValue = the_view c.self.inside in
     let same_heap : c.play_call-reply.new.self.heap ≡ whole.machine.heap = c.play_call-reply.ensures.heap ∙ ap (λ (m : MachineValue). m.heap) c.room.ensures.same in

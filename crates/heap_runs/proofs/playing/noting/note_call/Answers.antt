@@ -10,7 +10,7 @@ pub split_at-requires : goal.split_at-requires
 split_at-requires g c =
     let old : PlayState = g.H.PlayHeap.state c.args.whole.now in
     let new : PlayState = g.H.PlayHeap.state c.call.new.self in
-    let tells = tells_call old new c.args.seat c.args.command.now c.in_ok-call.field-0 c.requires.may.served c.in_ok-call.ensures.answers in
+    let tells = tells_call old new c.args.seat c.args.command.now c.in_ok-call.field-0 c.in_ok-call.ensures.answers in
     omega (
       arith,
       ap (length {A = Entry}) c.entries-before.ensures.entries,
@@ -22,7 +22,7 @@ pub returns : goal.returns
 returns g c =
     let old : PlayState = g.H.PlayHeap.state c.args.whole.now in
     let new : PlayState = g.H.PlayHeap.state c.call.new.self in
-    let tells = tells_call old new c.args.seat c.args.command.now c.in_ok-call.field-0 c.requires.may.served c.in_ok-call.ensures.answers in
+    let tells = tells_call old new c.args.seat c.args.command.now c.in_ok-call.field-0 c.in_ok-call.ensures.answers in
     let more : List Entry = tells.before ++ Said c.args.seat c.args.command.now c.in_ok-call.field-0 ∷ [] in
     let told : c.split_at.result.1.now ≡ more
     = c.split_at.ensures.back ∙ ap (λ (l : List Entry). drop (length l) c.entries.result.now) c.entries-before.ensures.entries ∙ ap (drop (length old.entries)) (c.entries.ensures.entries ∙ tells.told)
