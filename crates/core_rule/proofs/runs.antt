@@ -11,4 +11,5 @@ pub mod PlayRuns
 pub mod BornWords
 pub mod MarkedAnswers
 pub mod Waits
+pub mod ToldDead
 pub mod ComingTurns

@@ -1,5 +1,6 @@
 -- Spine words: whose they are, where spines stand, and the budget of those that are granted.
 pub mod OtherWords
+pub mod DeadWords
 pub mod NoneMade
 pub mod SpineFrames
 pub mod BudgetFrames

@@ -1,5 +1,5 @@
 -- The laws over every list of events.
-use Rattle.std.specs.Prelude.{◌≡◌, ◌≢◌, ℕ, ◌+◌, ◌*◌, ◌%◌, ◌<◌, ◌≤◌, true, List, [], ◌∷◌, ◌++◌, length, filter, All}
+use Rattle.std.specs.Prelude.{◌≡◌, ◌≢◌, ℕ, ◌+◌, ◌*◌, ◌%◌, ◌<◌, ◌≤◌, true, List, [], ◌∷◌, ◌++◌, length, filter, All, ◌==◌, if◌then◌else◌}
 use Rattle.heap_model.specs.declared.heap.Heap.{Heap}
 use Rattle.heap_model.specs.declared.entry.Entry.{Entry}
 use Rattle.heap_model.specs.declared.entry.Entry.TheVariants.{Answers}
@@ -16,6 +16,7 @@ use Rattle.heap_model.specs.calls.CollectorCalls.{CollectorState, ComesTo}
 use Rattle.core_machine.specs.declared.place.Place.TheVariants.{Idle}
 use Rattle.core_machine.specs.machine.Calls.{free_count}
 use Rattle.core_machine.specs.collector.Collector.{next_turn}
+use Rattle.core_machine.specs.declared.collector.stage.Stage.TheVariants as stages
 use Rattle.heap_model.specs.declared.calls.collect.Inner.{Inner}
 use Rattle.heap_model.specs.declared.calls.collect.Inner.TheVariants.{Note}
 use Rattle.heap_model.specs.declared.calls.collect.CollectReply.TheVariants as notes
@@ -29,6 +30,12 @@ use Rattle.core_rule.specs.ControlWords.{IsBorn}
 use Rattle.core_rule.specs.Flight.{IsRootMarked}
 use Rattle.core_rule.specs.Rule.{Rule}
 use Rattle.core_rule.specs.Stands.{Stands}
+use Rattle.heap_model.specs.account.Cycles.{graph_of}
+use Rattle.heap_model.specs.graph.Sizes.{spine_words_of}
+use Rattle.heap_model.specs.Limits.{group_fragments}
+use Rattle.core_machine.specs.table.Decode.{spine_words_in}
+use Rattle.core_rule.specs.Objects.{node_at}
+use Rattle.core_rule.specs.Owners.{Dead}
 
 -- some book stands for the state, with this history
 pub record StandsFor (heap : Heap) (state : State) (before added : List Entry) : Type 0 where
@@ -97,6 +104,21 @@ abbrev pub EachWaitIsBehind : Type 0
 EachWaitIsBehind = (heap : Heap) (state : State) (book : Book) (seat answer p : ℕ) → Rule heap state book
     → (next_turn heap state.collector).answer (found_by heap state (next_turn heap state.collector).step) ≡ Waits seat answer p
     → (seat < heap.seats) × IsBehind seat answer p book.history × (answer + 1 ≡ p)
+
+-- the fragment is part of an object that is to be freed, and the word tells spine words exactly where it is an array's first fragment, and as many as that array has
+pub record IsDeadTold (heap : Heap) (book : Book) (f word : ℕ) : Type 0 where
+  pub object : ℕ
+  pub part : ℕ
+  pub below : object < length book.made
+  pub dead : book.owner f ≡ Dead object part
+  pub told : spine_words_in word ≡ (if part == 0 then spine_words_of (node_at (graph_of heap book.history) book.made object) else 0)
+  pub some : part ≡ 0 → (node_at (graph_of heap book.history) book.made object).array ≡ true → 0 < spine_words_in word
+  pub only : 0 < spine_words_in word → (part ≡ 0) × ((node_at (graph_of heap book.history) book.made object).array ≡ true)
+
+-- so it is with each fragment that the sweep examines and the word that this turn finds
+abbrev pub EachDeadIsTold : Type 0
+EachDeadIsTold = (heap : Heap) (state : State) (book : Book) (group dead place : ℕ) → Rule heap state book → state.collector.stage ≡ stages.Examining group dead place
+    → IsDeadTold heap book (group_fragments * group + place) (found_by heap state (next_turn heap state.collector).step)
 
 -- the collector's entries and its phase are those that the history tells
 pub record IsToldBy (history : List Entry) (collector : CollectorState) : Type 0 where

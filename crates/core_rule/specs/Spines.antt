@@ -17,6 +17,7 @@ use Rattle.core_machine.specs.table.Newborn.{spine_word}
 use Rattle.core_rule.specs.Owners.{Owner, Kept, SpineOwner, Open, Placed, Spined}
 use Rattle.core_rule.specs.Book.{fragment_at}
 use Rattle.core_rule.specs.Objects.{IsKept}
+use Rattle.core_rule.specs.Sweep.{DeadTell}
 
 -- the place of the next spine, as the spot word tells
 abbrev pub next_spine : Heap → List ℕ → Spot
@@ -27,7 +28,8 @@ pub record IsWordOf (spine : Spot) (half offset k : ℕ) : Type 0 where
   pub half_is : half ≡ spine.half
   pub offset_is : offset ≡ spine.offset + k
 
--- each word that is somebody's stands in the half of the next spine, before it, and what a seat has is one of so many seats'; and each kept array has the words of its spine, and no others
+-- each word that is somebody's stands in the half of the next spine, before it, and what a seat has is one of so many seats'; each kept array has the words of its spine, and no others;
+-- and what is to be freed tells how many words its array has
 pub record SpinesStand (heap : Heap) (words : List ℕ) (seats made : ℕ) (nodes : ℕ → Node) (owner : ℕ → Owner) (fragments : ℕ → List ℕ) (spines : ℕ → Spot) (spine_owner : ℕ → ℕ → SpineOwner) : Type 0 where
   pub spot : at heap words addresses.Spot ≡ spot_word (next_spine heap words)
   pub before : (half offset : ℕ) → spine_owner half offset ≢ Open → (half ≡ (next_spine heap words).half) × (offset < (next_spine heap words).offset)
@@ -35,6 +37,7 @@ pub record SpinesStand (heap : Heap) (words : List ℕ) (seats made : ℕ) (node
   pub kept : (i j : ℕ) → i < made → IsKept owner fragments i → j < spine_words_of (nodes i) → spine_owner (spines i).half ((spines i).offset + j) ≡ Spined i j
   pub back : (half offset i j : ℕ) → spine_owner half offset ≡ Spined i j
       → (i < made) × IsKept owner fragments i × (j < spine_words_of (nodes i)) × IsWordOf (spines i) half offset j
+  pub tells : DeadTell heap words made nodes owner
 
 -- a spine has its place while its words and those of its array are stored, and until the array is whole
 abbrev pub HasPlace : Seat → Place → Type 0

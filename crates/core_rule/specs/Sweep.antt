@@ -1,12 +1,18 @@
 -- What is true while the collector sweeps, and while it clears marks.
-use Rattle.std.specs.Prelude.{◌≡◌, ◌≢◌, ℕ, ◌+◌, ◌/◌, ◌*◌, ◌%◌, ◌<◌, ◌⊎◌}
+use Rattle.std.specs.Prelude.{◌≡◌, ◌≢◌, ℕ, ◌+◌, ◌/◌, ◌*◌, ◌%◌, ◌<◌, ◌⊎◌, ◌==◌, if◌then◌else◌, List, length}
 use Rattle.std.specs.Int.{bit_at}
 use Rattle.heap_model.specs.declared.heap.Heap.{Heap}
 use Rattle.heap_model.specs.Limits.{group_fragments}
 use Rattle.heap_model.specs.PhasePlan.{cycle_phases, marking, copying, sweep}
+use Rattle.heap_model.specs.graph.Graph.{Node}
+use Rattle.heap_model.specs.graph.Sizes.{spine_words_of}
 use Rattle.core_machine.specs.declared.collector.stage.Stage.{Stage}
 use Rattle.core_machine.specs.declared.collector.stage.Stage.TheVariants as stages
+use Rattle.core_machine.specs.declared.table.address.Address.TheVariants.{Word}
+use Rattle.core_machine.specs.table.Decode.{spine_words_in}
+use Rattle.core_machine.specs.table.Layout.{at}
 use Rattle.core_rule.specs.Book.{Colour, White}
+use Rattle.core_rule.specs.Objects.{IsSized}
 use Rattle.core_rule.specs.Owners.{Owner, Dead, dead_bit}
 
 -- marking has ended, and the phase of the sweep hasn't
@@ -20,6 +26,15 @@ AreFreed owner group = (f i k : ℕ) → f / group_fragments < group → owner f
 -- these bits are set for those of the group's fragments that are to be freed
 abbrev pub AreDead : (ℕ → Owner) → ℕ → ℕ → Type 0
 AreDead owner group bits = (place : ℕ) → place < group_fragments → bit_at bits place ≡ dead_bit (owner (group_fragments * group + place))
+
+-- the word tells as many spine words as the object has where it is the first word of the object's first fragment, and none where it is that of a later one
+pub record TellsWords (object : Node) (part word : ℕ) : Type 0 where
+  pub sized : IsSized object.array (length object.cells)
+  pub told : spine_words_in word ≡ (if part == 0 then spine_words_of object else 0)
+
+-- the first word of each fragment that is to be freed tells the spine words of its object, which was made
+abbrev pub DeadTell : Heap → List ℕ → ℕ → (ℕ → Node) → (ℕ → Owner) → Type 0
+DeadTell heap words made nodes owner = (f i k : ℕ) → owner f ≡ Dead i k → (i < made) × TellsWords (nodes i) k (at heap words (Word f 0))
 
 -- in the groups before this one nothing is marked
 abbrev pub AreCleared : (ℕ → Colour) → ℕ → Type 0

@@ -1,4 +1,4 @@
-ghost use Rattle.core_rule.specs.Laws.{EachEventKeeps, EveryRunKeeps, WholeCallsPlay, FreeIsUnused, WordsAreUsed, EachBirthHasItsColour, EachAnswerIsMarked, EachWaitIsBehind, EachTurnComesTo};
+ghost use Rattle.core_rule.specs.Laws.{EachEventKeeps, EveryRunKeeps, WholeCallsPlay, FreeIsUnused, WordsAreUsed, EachBirthHasItsColour, EachAnswerIsMarked, EachWaitIsBehind, EachDeadIsTold, EachTurnComesTo};
 ghost use Rattle.core_rule.specs.HeldLaws.{EachHeldIsTaken, NoClaimTakesHeld, NoFreeTakesHeld, EachHeldIsMarked};
 ghost use Rattle.core_rule.specs.TurnsLeft.{EachTurnLeavesFewer};
 
@@ -12,6 +12,7 @@ pub fn law_every_run()
     ensures births { EachBirthHasItsColour }
     ensures answers { EachAnswerIsMarked }
     ensures waits { EachWaitIsBehind }
+    ensures dead { EachDeadIsTold }
     ensures turns { EachTurnComesTo }
     ensures held { EachHeldIsTaken }
     ensures claims { NoClaimTakesHeld }

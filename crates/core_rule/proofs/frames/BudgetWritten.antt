@@ -2,7 +2,7 @@
 use Rattle.std.proofs.Common.{ℕ, ◌<◌, List, length, arith}
 use Rattle.heap_model.specs.declared.heap.Heap.{Heap}
 use Rattle.heap_model.specs.account.Cycles.{graph_of}
-use Rattle.core_machine.specs.declared.table.address.Address.TheVariants.{Budget}
+use Rattle.core_machine.specs.declared.table.address.Address.TheVariants.{Budget, Word}
 use Rattle.core_machine.specs.machine.Machine.{State, seat_at}
 use Rattle.core_machine.specs.table.Layout.{put}
 use Rattle.core_rule.specs.Book.{Book}
@@ -12,6 +12,7 @@ use Rattle.core_rule.proofs.colours.LeadsFrames.{SameSources, leads_same, same_a
 use Rattle.core_rule.proofs.frames.BesideFrames.{LeavesBeside, ArraysStay, beside_aside, arrays_stay, heap_beside, seat_beside}
 use Rattle.core_rule.proofs.spines.OtherWords.{LeavesPlaces, places_left_budget}
 use Rattle.core_rule.proofs.spines.SpineFrames.{same_kept, same_shapes, spines_at_places, spine_words_stay, spines_left}
+use Rattle.core_rule.proofs.words.Addresses.{at-put_apart}
 
 module _ (heap : Heap) (state : State) (book : Book) (rule : Rule heap state book) (n : ℕ) where
   abbrev pub budget_words : List ℕ
@@ -35,7 +36,8 @@ module _ (heap : Heap) (state : State) (book : Book) (rule : Rule heap state boo
       heap_beside heap state book rule budget_words beside arrays book.spine_owner (λ f source x dark leads. leads_same heap state.words budget_words f (budget_sources f) source x leads)
       (spines_at_places heap state.words budget_words budget_places heap.seats (length book.made) book.spines book.fragments book.spine_owner
       (node_at (graph_of heap book.history) book.made) (node_at (graph_of heap book.history) book.made)
-      book.owner book.owner (same_kept book.owner) (same_shapes (node_at (graph_of heap book.history) book.made)) rule.heap_stands.spines)
+      book.owner book.owner (same_kept book.owner) (same_shapes (node_at (graph_of heap book.history) book.made))
+      (λ f i k is. (is, at-put_apart heap state.words Budget (Word f 0) n (λ e. omega (arith, e)))) rule.heap_stands.spines)
 
   pub seat_budget : (r : ℕ) → r < heap.seats → SeatStands heap budget_words book r (seat_at state r)
   seat_budget r below =

@@ -30,6 +30,7 @@ use Rattle.core_rule.proofs.owners.Seated.{borne_by_seat}
 use Rattle.core_rule.proofs.spines.OtherWords.{LeavesSpines, spines_left_control}
 use Rattle.core_rule.proofs.spines.SpineFrames.{spines_words, spine_after}
 use Rattle.core_rule.proofs.words.SweepWords.{cleared_in, cleared_white, cleared_marks, cleared_bits}
+use Rattle.core_rule.proofs.spines.DeadWords.{dead_after_control}
 
 -- in the last phase nobody is about to answer that marking begins
 nobody_marks : (now answer : ℕ) (colour : ℕ → Colour) (seat : Seat) → now % 7 ≡ 6 → seat.asked % 7 ≡ 3 → (place : Place) → AnswerStands now answer seat.asked place
@@ -76,7 +77,7 @@ module _ (heap : Heap) (state : State) (book : Book) (rule : Rule heap state boo
       ids = old.ids;
       objects = objects_control heap state.words (graph_of heap book.history) book.made book.owner book.fragments book.spines g word below old.objects;
       spines = spines_words heap state.words words_cleared leaves_spines heap.seats (length book.made) book.spines book.fragments book.spine_owner
-          (node_at (graph_of heap book.history) book.made) book.owner old.spines;
+          (node_at (graph_of heap book.history) book.made) book.owner (dead_after_control heap state.words book.owner book.owner g word below (λ f i k is. is)) old.spines;
       used = old.used;
       cycle = record {
         word = phase_after_control heap state.words word g ∙ old.cycle.word;

@@ -72,7 +72,7 @@ module _ (heap : Heap) (words now : List ℕ) (same : SameFragments heap words n
     objects = objects_stay before after book.made nodes book.owner book.fragments book.spines heap now
         (objects_words heap words now before book.made book.owner book.fragments book.spines (λ f i k part keeps within. same.parts f part) (λ i j below is within. same.spines.spines _ _) stands.objects);
     spines = spines_at_places heap words now same.spines heap.seats (length book.made) book.spines book.fragments book.spine_owner (node_at before book.made) (node_at after book.made)
-        book.owner book.owner (same_kept book.owner) (shapes_stay before after book.made nodes) stands.spines;
+        book.owner book.owner (same_kept book.owner) (shapes_stay before after book.made nodes) (λ f i k is. (is, same.parts f 0)) stands.spines;
     used = rw (total-more (λ e. e.given) book.history entry, total-more (λ e. e.freed) book.history entry, total-more (λ e. e.taken) book.history entry)
         (omega (arith, stands.used, uses.taken, uses.given, uses.freed));
     cycle = cycle;

@@ -38,7 +38,7 @@ use Rattle.core_rule.proofs.frames.SeatFrames.{same_party, told_other, kept_owne
 use Rattle.core_rule.proofs.gather.FreeGathers.{gathers_freed}
 use Rattle.core_rule.proofs.hand.StoredFrames.{stored_control}
 use Rattle.core_rule.proofs.objects.ObjectFrames.{SameKept, objects_owners, objects_control}
-use Rattle.core_rule.proofs.owners.DeadOwners.{of_dead, set_dead, kept_freed, hand_freed, owners_freed}
+use Rattle.core_rule.proofs.owners.DeadOwners.{of_dead, set_dead, kept_freed, hand_freed, owners_freed, dead_before}
 use Rattle.core_rule.proofs.owners.Handed.{fewer, handed_cases}
 use Rattle.core_rule.proofs.owners.OwnerLemmas.{is_dead}
 use Rattle.core_rule.proofs.spines.BudgetFrames.{SameGrants, none_granted_by, none_returned_by, kept_owned}
@@ -46,6 +46,7 @@ use Rattle.core_rule.proofs.spines.OtherWords.{LeavesSpines, spines_left_control
 use Rattle.core_rule.proofs.spines.SpineFrames.{same_shapes, spines_stay, spine_stored, spines_left}
 use Rattle.core_rule.proofs.words.SetBits.{set_in, set_once, set_group}
 use Rattle.core_rule.proofs.words.SweepWords.{freed_bits, freed_marks}
+use Rattle.core_rule.proofs.spines.DeadWords.{dead_after_control}
 
 module _ (heap : Heap) (state : State) (book : Book) (rule : Rule heap state book) (g dead : ℕ) (below : g < heap.groups) (small : dead < 2 ^ 16) (are : AreDead book.owner g dead) where
   abbrev fs : List ℕ
@@ -139,7 +140,8 @@ module _ (heap : Heap) (state : State) (book : Book) (rule : Rule heap state boo
           objects = rw graph_freed (objects_owners book.owner owner same book.made book.fragments book.spines heap words_freed before
               (objects_control heap state.words before book.made book.owner book.fragments book.spines g word below stands.objects));
           spines = rw graph_freed (spines_stay heap state.words words_freed leaves_spines heap.seats (length book.made) book.spines book.fragments book.spine_owner
-              (node_at before book.made) (node_at before book.made) book.owner owner same (same_shapes (node_at before book.made)) stands.spines);
+              (node_at before book.made) (node_at before book.made) book.owner owner same (same_shapes (node_at before book.made))
+              (dead_after_control heap state.words book.owner owner g word below (dead_before book.owner fs are_dead)) stands.spines);
           used = used;
           cycle = heap_cycle_more heap words_freed owner book.colour book.history entry refl book.fragments cycle;
           legal = legal;

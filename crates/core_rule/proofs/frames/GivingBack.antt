@@ -42,6 +42,9 @@ use Rattle.core_rule.proofs.frames.SeatFrames.{same_party, told_other, kept_owne
 use Rattle.core_rule.proofs.entries.SpaceEntries.{graph_gives, legal_gives}
 use Rattle.core_rule.proofs.hand.StoredFrames.{stored_control}
 use Rattle.core_rule.proofs.cycle.Unwatched.{IsApart}
+use Rattle.core_rule.proofs.spines.DeadWords.{dead_after_control}
+use Rattle.core_rule.proofs.owners.Handed.{dead_unhanded}
+use Rattle.core_rule.proofs.owners.DeadOwners.{free_no_dead}
 
 free_bears_none : {r : ℕ} → Free ≢ Borne r
 free_bears_none e = cc
@@ -101,7 +104,8 @@ module _ (heap : Heap) (state : State) (book : Book) (number : ℕ) (rule : Rule
         objects = rw graph_given (objects_owners book.owner owner kept_given book.made book.fragments book.spines heap words_given before
             (objects_control heap state.words before book.made book.owner book.fragments book.spines g word below stands.objects));
         spines = rw graph_given (spines_stay heap state.words words_given leaves_spines heap.seats (length book.made) book.spines book.fragments book.spine_owner
-            (node_at before book.made) (node_at before book.made) book.owner owner kept_given (same_shapes (node_at before book.made)) stands.spines);
+            (node_at before book.made) (node_at before book.made) book.owner owner kept_given (same_shapes (node_at before book.made))
+            (dead_after_control heap state.words book.owner owner g word below (dead_unhanded Free book.owner fs free_no_dead)) stands.spines);
         used = give_used heap book.owner book.history number fs once inside stands.used held;
         legal = legal_gives heap book.history number (length fs) stands.legal present some own;
         cycle = heap_cycle_more heap words_given owner book.colour book.history entry refl book.fragments

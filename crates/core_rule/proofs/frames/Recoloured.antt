@@ -20,6 +20,7 @@ use Rattle.core_rule.proofs.objects.ObjectFrames.{objects_control}
 use Rattle.core_rule.proofs.spines.OtherWords.{LeavesSpines, spines_left_control}
 use Rattle.core_rule.proofs.spines.SpineFrames.{spines_words, spine_after}
 use Rattle.core_rule.proofs.words.Addresses.{at-put_apart}
+use Rattle.core_rule.proofs.spines.DeadWords.{dead_after_control}
 
 -- the control words tell the same owners and the new colours, which are right; what was marked is, and what seats bear has its colour
 pub record Recolours (heap : Heap) (words : List ℕ) (book : Book) (coloured : ℕ → Colour) : Type 0 where
@@ -50,7 +51,7 @@ module _ (heap : Heap) (state : State) (book : Book) (rule : Rule heap state boo
     ids = old.ids;
     objects = objects_control heap state.words (graph_of heap book.history) book.made book.owner book.fragments book.spines g n below old.objects;
     spines = spines_words heap state.words words leaves_spines heap.seats (length book.made) book.spines book.fragments book.spine_owner
-        (node_at (graph_of heap book.history) book.made) book.owner old.spines;
+        (node_at (graph_of heap book.history) book.made) book.owner (dead_after_control heap state.words book.owner book.owner g n below (λ f i k is. is)) old.spines;
     used = old.used;
     cycle = record {
       word = at-put_apart heap state.words (Control g) Phase n (λ e. omega (arith, e)) ∙ old.cycle.word;

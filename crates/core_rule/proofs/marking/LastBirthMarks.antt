@@ -33,7 +33,7 @@ use Rattle.core_rule.proofs.objects.NamesGrowth.{old_apart}
 use Rattle.core_rule.proofs.objects.ObjectsGrowth.{with_spine}
 use Rattle.core_rule.proofs.spines.SpineBirths.{born_words}
 use Rattle.core_rule.proofs.owners.Keeping.{kept_by, with_object}
-use Rattle.core_rule.proofs.owners.OwnerLemmas.{IsOwn, own_keeps_none}
+use Rattle.core_rule.proofs.owners.OwnerLemmas.{IsOwn, own_keeps_none, own_undead}
 
 -- the book after it: the object keeps its fragments and its spine, and has a number
 abbrev pub book_born : Book → ℕ → Seat → Book
@@ -46,10 +46,6 @@ book_born book number seat = record book {
   spine_owner = born_words number (length book.made) book.spine_owner;
   colour = painted (birth_colour (bears_black_of seat)) book.colour (part_in (last_group_of seat.hand) seat.hand);
 }
-
--- what a seat has isn't to be freed
-own_undead : (number i k : ℕ) (o : Owner) → IsOwn number o → o ≢ Dead i k
-own_undead number i k o own is = let none : holds_bit number o + bears_bit number o ≡ 0 = ap (λ x. holds_bit number x + bears_bit number x) is in omega arith
 
 module _ (heap : Heap) (state : State) (book : Book) (number : ℕ) (rule : Rule heap state book) (here : number < heap.seats)
     (place : (seat_at state number).place ≡ places.Making Bearing) (last : is_last_birth (seat_at state number) ≡ true) (found : ℕ) where

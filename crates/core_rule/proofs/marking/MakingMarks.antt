@@ -21,9 +21,9 @@ use Rattle.core_rule.proofs.colours.SpineStays.{SpineStays, same_spine}
 use Rattle.core_rule.proofs.cycle.Barriers.{window_black, black_window}
 use Rattle.core_rule.proofs.marking.MarkingFrames.{LeavesMarking}
 use Rattle.core_rule.proofs.marking.Marks.{IsLastAnswered, all_answered}
-use Rattle.core_rule.proofs.owners.Handed.{handed_cases, handed_out, none_or_some}
+use Rattle.core_rule.proofs.owners.Handed.{handed_cases, handed_out, none_or_some, dead_unhanded}
 use Rattle.core_rule.proofs.owners.OwnerLemmas.{born_once}
-use Rattle.core_rule.proofs.owners.Keeping.{kept_by, with_object, object_old, kept_cases, kept_stays}
+use Rattle.core_rule.proofs.owners.Keeping.{kept_by, with_object, object_old, kept_cases, kept_stays, dead_unkept}
 
 -- what is kept, or is to be freed, is born
 kept_born : (o : Owner) (i k : ℕ) → o ≡ Kept i k → born_bit o ≡ 1
@@ -87,7 +87,7 @@ module _ (heap : Heap) (state : State) (book : Book) (rule : Rule heap state boo
     stays P f born holds = handed_cases P o book.owner fs f (λ there. absurd (omega (arith, born, unborn f there))) (λ away. holds)
 
     was_dead : (f i k : ℕ) → later f ≡ Dead i k → book.owner f ≡ Dead i k
-    was_dead f i k = handed_cases (λ x. x ≡ Dead i k → book.owner f ≡ Dead i k) o book.owner fs f (λ there is. absurd (undead i k is)) (λ away is. is)
+    was_dead = dead_unhanded o book.owner fs undead
 
     -- they go to nobody or to a seat that hasn't borne them
     pub leaves_handed : born_bit o ≡ 0 → LeavesMarking heap state.words (put heap state.words (Control g) n) book.owner later book.colour book.colour book.fragments book.fragments marks settles clears
@@ -162,7 +162,7 @@ module _ (heap : Heap) (state : State) (book : Book) (rule : Rule heap state boo
     );
     kept = λ f i k is. (kept_stays number body book.owner unkept f i k is, object_old book.fragments number body i (apart f i k is));
     dead = λ f i k is. kept_cases number body book.owner (λ x. x ≡ Dead i k) f (λ there. absurd (undead f i k there is)) (λ away. is);
-    was_dead = λ f i k. kept_cases number body book.owner (λ x. x ≡ Dead i k → book.owner f ≡ Dead i k) f (λ there is. absurd (no_dead f is)) (λ away is. is);
+    was_dead = dead_unkept number body book.owner;
     fresh = λ f fresh. painted_cases (λ c. c ≢ Grey) (birth_colour black) book.colour fs f (λ there. never_grey black) (λ away. unborn_grey f fresh);
     dark = λ known f fresh born. painted_in (birth_colour black) book.colour fs f (omega (arith, bears f, fresh, born)) ∙ ap birth_colour (dark known);
     light = λ clear f white. painted_cases (λ c. c ≡ White) (birth_colour black) book.colour fs f (λ there. ap birth_colour (pale clear)) (λ away. white);
@@ -170,6 +170,3 @@ module _ (heap : Heap) (state : State) (book : Book) (rule : Rule heap state boo
     on = λ marks f source x born leads. inl (control_leads heap state.words g n below f source x leads);
     spine = λ marks f born. spine_after_control g n below f;
   }
-    where
-      no_dead : {j m i k : ℕ} (f : ℕ) → Kept j m ≢ Dead i k
-      no_dead f is = cc

@@ -1,5 +1,5 @@
 -- Where the sources of a kept object lead: to a fragment of it, or to a kept object's first.
-use Rattle.std.proofs.Common.{◌⊎◌, ◌≡◌, ℕ, zero, suc, ◌+◌, ◌-◌, ◌*◌, ◌<◌, ◌≤◌, ◌^◌, true, false, List, length, get_or, slice_get, Option, Some, None, inl, inr, refl, sym, ap, ◌∙◌, subst, arith}
+use Rattle.std.proofs.Common.{◌⊎◌, ◌≡◌, ℕ, zero, suc, ◌+◌, ◌-◌, ◌*◌, ◌<◌, ◌≤◌, ◌^◌, true, false, List, length, get_or, slice_get, Option, Some, None, inl, inr, refl, sym, ap, ◌∙◌, subst, arith, Bool, ◌==◌, if◌then◌else◌}
 use Rattle.heap_words.specs.declared.spot.Spot.{Spot}
 use Rattle.heap_model.specs.Heap.{IsHeap}
 use Rattle.heap_model.specs.account.Cycles.{graph_of}
@@ -31,6 +31,8 @@ use Rattle.core_rule.proofs.ways.ArrayWords.{sentinel_nowhere, plain_lead, value
 use Rattle.core_rule.proofs.ways.Told.{head_in-value}
 use Rattle.core_rule.proofs.ways.KeptWords.{kept_within, has_room, sized_few, by_kind, words_found, spine_found, payload_found}
 use Rattle.core_rule.proofs.ways.LoadedObjects.{KeptHead, CellRefers, refers_kept, named_refers}
+use Rattle.core_rule.specs.Sweep.{TellsWords}
+use Rattle.core_rule.proofs.spines.DeadWords.{none_behind}
 
 -- a cell's word of a record is no first one
 cell_part : (k part : ℕ) → is_cell k part ≡ true → 0 < part
@@ -158,11 +160,26 @@ module _ (heap : Heap) (state : State) (book : Book) (rule : Rule heap state boo
   there : (i < length book.made) × IsKept book.owner book.fragments i × (k < length (book.fragments i)) × (f ≡ fragment_at (book.fragments i) k)
   there = rule.heap_stands.objects.back f i k owned
 
+  abbrev its_object : Node
+  its_object = node_at (graph_of heap book.history) book.made i
+
   -- by the rule, no fragment of a kept object has a spine but an array's first one
   pub kept_no_spine : ((node_at (graph_of heap book.history) book.made i).array ≡ true → 1 ≤ k) → HasNoSpine heap state.words f
   kept_no_spine behind = subst (HasNoSpine heap state.words) (sym there.3)
       (object_no_spine heap state.words (graph_of heap book.history) book.made book.owner book.fragments rule.machine.limits rule.heap_stands.control_words rule.heap_stands.ids
       rule.heap_stands.objects i there.0 there.1 k there.2 behind)
+
+  -- and an array's first one tells how many words it has
+  pub kept_tells : (i < length book.made) × TellsWords its_object k (at heap state.words (Word f 0))
+  kept_tells = (there.0, record { sized = (rule.heap_stands.objects.kept i there.0 there.1).sized; told = by k refl its_object.array refl })
+    where
+      by : (n : ℕ) → k ≡ n → (array : Bool) → its_object.array ≡ array → spine_words_in (at heap state.words (Word f 0)) ≡ (if n == 0 then spine_words_of its_object else 0)
+      by zero first true kind =
+          ap (λ x. spine_words_in (at heap state.words (Word x 0))) (there.3 ∙ ap (fragment_at (book.fragments i)) first)
+          ∙ words_found heap state.words (graph_of heap book.history) book.made book.owner book.fragments rule.machine.limits rule.heap_stands.control_words rule.heap_stands.ids
+          rule.heap_stands.objects i there.0 there.1 kind
+      by zero first false kind = kept_no_spine (λ array. absurd (cc (kind, array))) ∙ rw kind refl
+      by (suc n) later array kind = kept_no_spine (λ _. omega (arith, later)) ∙ sym (none_behind (suc n) (spine_words_of its_object) (omega arith))
 
   -- and each of its sources leads to a fragment of its object, or to what a cell of that refers to
   pub kept_refers : (source x : ℕ) → WordPointsTo heap state.words f source x

@@ -47,6 +47,12 @@ settled_dead (Kept j m) White i k is = inr refl
 settled_dead (Dead j m) c i k is = inl is
 settled_dead _ c i k is = absurd (cc)
 
+-- or was kept
+pub settled_dies : (o : Owner) (c : Colour) (i k : ℕ) → settled_owner o c ≡ Dead i k → (o ≡ Dead i k) ⊎ (o ≡ Kept i k)
+settled_dies (Kept j m) White i k is = inr (cc)
+settled_dies (Dead j m) c i k is = inl is
+settled_dies _ c i k is = absurd (cc)
+
 -- what a seat has borne then it has borne
 pub settled_borne : (o : Owner) (c : Colour) (number : ℕ) → settled_owner o c ≡ Borne number → o ≡ Borne number
 settled_borne (Borne r) c number is = is

@@ -29,6 +29,7 @@ use Rattle.core_rule.proofs.marking.SeatRoots.{answered_marking, all_roots_marke
 use Rattle.core_rule.proofs.marking.Settled.{settled_owner, settled_holds, settled_same, settled_was, settled_dead, settled_borne, settled_white}
 use Rattle.core_rule.proofs.marking.SettledObjects.{objects_later}
 use Rattle.core_rule.proofs.marking.SettledSeats.{holds_later, ways_later, awaits_later}
+use Rattle.core_rule.proofs.marking.ObjectEdges.{kept_tells}
 
 module _ (heap : Heap) (state : State) (book : Book) (rule : Rule heap state book) (marks : IsMarking heap.seats state.collector.phase state.collector.looked)
     (goes_on : state.collector.stage ≢ stages.Advancing) (none : (f : ℕ) → book.colour f ≢ Grey) where
@@ -58,7 +59,8 @@ module _ (heap : Heap) (state : State) (book : Book) (rule : Rule heap state boo
         };
         ids = stands.ids;
         objects = objects_later heap state book rule third none;
-        spines = spines_settle heap state.words book.owner book.colour book.fragments book.spine_owner heap.seats (length book.made) (node_at (graph_of heap book.history) book.made) book.spines stands.spines;
+        spines = spines_settle heap state.words book.owner book.colour book.fragments book.spine_owner heap.seats (length book.made) (node_at (graph_of heap book.history) book.made) book.spines
+            (kept_tells heap state book rule) stands.spines;
         used = used_same heap book.owner now.owner book.history (same taken_bit (λ i k. refl)) stands.used;
         cycle = record {
           word = stands.cycle.word;

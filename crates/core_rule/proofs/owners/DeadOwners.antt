@@ -10,7 +10,7 @@ use Rattle.core_rule.specs.Sweep.{AreFreed, AreDead}
 use Rattle.core_rule.specs.Owners.{Owner, Free, Kept, Dead, born_bit, dead_bit, IsSeated, IsBoards, OwnersStand, holds_bit, bears_bit, owner_after}
 use Rattle.core_rule.proofs.hand.HandMoves.{SameHand}
 use Rattle.core_rule.proofs.objects.ObjectFrames.{SameKept, handed_kept, free_keeps_none}
-use Rattle.core_rule.proofs.owners.Handed.{handed_cases, handed_in, stays}
+use Rattle.core_rule.proofs.owners.Handed.{handed_cases, handed_in, stays, dead_unhanded}
 use Rattle.core_rule.proofs.owners.OwnerLemmas.{dead_once, is_dead}
 use Rattle.core_rule.proofs.words.SetBits.{set_in, set_here, set_group}
 
@@ -19,10 +19,10 @@ pub of_dead : (bit : Owner → ℕ) (n : ℕ) → ((i k : ℕ) → bit (Dead i k
 of_dead bit n same o one = let is = is_dead o one in ap bit is.2 ∙ same is.0 is.1
 
 -- none of them is kept
-dead_keeps_none : (i k : ℕ) (o : Owner) → dead_bit o ≡ 1 → o ≢ Kept i k
+pub dead_keeps_none : (i k : ℕ) (o : Owner) → dead_bit o ≡ 1 → o ≢ Kept i k
 dead_keeps_none i k o one kept = let none : dead_bit o ≡ 0 = ap dead_bit kept in omega (arith, none, one)
 
-free_no_dead : (i k : ℕ) → Free ≢ Dead i k
+pub free_no_dead : (i k : ℕ) → Free ≢ Dead i k
 free_no_dead i k e = cc
 
 module _ (owner : ℕ → Owner) (fs : List ℕ) (dead : (f : ℕ) → 1 ≤ tally f fs → dead_bit (owner f) ≡ 1) where
@@ -46,7 +46,7 @@ module _ (owner : ℕ → Owner) (fs : List ℕ) (dead : (f : ℕ) → 1 ≤ tal
 
   -- what is to be freed then was so
   pub dead_before : (f i k : ℕ) → owner_after Free owner fs f ≡ Dead i k → owner f ≡ Dead i k
-  dead_before f i k = handed_cases (λ o. o ≡ Dead i k → owner f ≡ Dead i k) Free owner fs f (λ there is. absurd (free_no_dead i k is)) (λ away is. is)
+  dead_before = dead_unhanded Free owner fs free_no_dead
 
   -- and the white fragments are still those that are to be freed
   pub after_freed : (colour : ℕ → Colour) → AfterMarking owner colour → AfterMarking (owner_after Free owner fs) colour

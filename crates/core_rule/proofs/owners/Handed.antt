@@ -1,9 +1,9 @@
 -- Fragments that go to another owner.
-use Rattle.std.proofs.Common.{◌≡◌, ℕ, ◌+◌, ◌<◌, ◌≤◌, ◌⊎◌, inl, inr, List, length, refl, arith}
+use Rattle.std.proofs.Common.{◌≡◌, ℕ, ◌+◌, ◌<◌, ◌≤◌, ◌⊎◌, inl, inr, List, length, refl, arith, ◌≢◌}
 use Rattle.std.proofs.lemmas.Bool.Decides.{nat_tests}
 use Rattle.core_machine.specs.table.Fragments.{tally}
 use Rattle.core_machine.specs.machine.Sums.{sum_upto}
-use Rattle.core_rule.specs.Owners.{Owner, owner_after}
+use Rattle.core_rule.specs.Owners.{Owner, owner_after, Dead}
 use Rattle.core_rule.proofs.lists.SumLemmas.{sum_plus}
 use Rattle.core_rule.proofs.lists.Tallies.{sum_tally}
 
@@ -25,6 +25,10 @@ handed_cases P o owner fs f there away = elim (none_or_some (tally f fs)) as (λ
   | inl none ↦ rw (handed_out o owner fs f none) (away none)
   | inr some ↦ rw (handed_in o owner fs f some) (there some)
 ]
+
+-- what is to be freed then was so, where they go to nobody or to a seat
+pub dead_unhanded : (o : Owner) (owner : ℕ → Owner) (fs : List ℕ) → ((i k : ℕ) → o ≢ Dead i k) → (f i k : ℕ) → owner_after o owner fs f ≡ Dead i k → owner f ≡ Dead i k
+dead_unhanded o owner fs undead f i k = handed_cases (λ x. x ≡ Dead i k → owner f ≡ Dead i k) o owner fs f (λ there is. absurd (undead i k is)) (λ away is. is)
 
 module _ (bit : Owner → ℕ) (o : Owner) (owner : ℕ → Owner) (fs : List ℕ) (once : (f : ℕ) → tally f fs ≤ 1) where
   -- each fragment of the list gets the bit

@@ -3,7 +3,7 @@ use Rattle.std.proofs.Common.{◌≡◌, ◌≢◌, ℕ, ◌<◌, ◌≤◌, ◌
 use Rattle.std.proofs.lemmas.Bool.Decides.{nat_tests}
 use Rattle.core_machine.specs.table.Fragments.{tally}
 use Rattle.core_rule.specs.Book.{fragment_at}
-use Rattle.core_rule.specs.Owners.{Owner, Kept}
+use Rattle.core_rule.specs.Owners.{Owner, Kept, Dead}
 use Rattle.core_rule.proofs.owners.Handed.{none_or_some}
 use Rattle.core_rule.proofs.lists.Members.{place_of, tally_at, place_within, place_of-at}
 
@@ -42,6 +42,10 @@ module _ (n : ℕ) (body : List ℕ) (owner : ℕ → Owner) where
 
   pub kept_was : (f i k : ℕ) → i ≢ n → kept_by n body owner f ≡ Kept i k → owner f ≡ Kept i k
   kept_was f i k apart = kept_cases (λ o. o ≡ Kept i k → owner f ≡ Kept i k) f (λ there is. absurd (apart (cc))) (λ away is. is)
+
+  -- what is to be freed then was so
+  pub dead_unkept : (f i k : ℕ) → kept_by n body owner f ≡ Dead i k → owner f ≡ Dead i k
+  dead_unkept f i k = kept_cases (λ o. o ≡ Dead i k → owner f ≡ Dead i k) f (λ there is. absurd (cc)) (λ away is. is)
 
   -- each fragment of the body is its part of the object
   pub kept_part : ((f : ℕ) → tally f body ≤ 1) → (k : ℕ) → k < length body → kept_by n body owner (fragment_at body k) ≡ Kept n k

@@ -69,6 +69,10 @@ own_once number _ = omega arith
 pub own_keeps_none : (number i k : ℕ) (o : Owner) → IsOwn number o → o ≢ Kept i k
 own_keeps_none number i k o own e = let none : holds_bit number o + bears_bit number o ≡ 0 = ap (λ x. holds_bit number x + bears_bit number x) e in omega arith
 
+-- nor is to be freed
+pub own_undead : (number i k : ℕ) (o : Owner) → IsOwn number o → o ≢ Dead i k
+own_undead number i k o own is = let none : holds_bit number o + bears_bit number o ≡ 0 = ap (λ x. holds_bit number x + bears_bit number x) is in omega arith
+
 -- the board's first part is no seat's
 pub boards_not_held : (number : ℕ) (o : Owner) → IsBoards o → holds_bit number o ≡ 0
 boards_not_held number Free boards = refl

@@ -1,5 +1,5 @@
 -- When a heap opens nobody has a spine word, and none is granted.
-use Rattle.std.proofs.Common.{◌≡◌, ℕ, ◌<◌, List, [], refl, sym, ap, ◌∙◌, subst, arith}
+use Rattle.std.proofs.Common.{◌≡◌, ℕ, ◌<◌, List, [], refl, sym, ap, ◌∙◌, subst, arith, ◌≢◌}
 use Rattle.heap_words.specs.Spot.{spot_in, spot_word}
 use Rattle.heap_words.specs.declared.spot.Spot.{Spot as SpinePlace}
 use Rattle.heap_model.specs.declared.heap.Heap.{Heap}
@@ -16,10 +16,10 @@ use Rattle.core_machine.proofs.table_lemmas.Free.{sum_zero}
 use Rattle.core_rule.specs.Book.{Book, White, fragment_at}
 use Rattle.core_rule.specs.Budgets.{BudgetsStand, of_seats, granted_at, unplaced_at, refused_at, kept_weight, kept_words}
 use Rattle.core_rule.specs.Objects.{node_at}
-use Rattle.core_rule.specs.Owners.{SpineOwner, Open}
+use Rattle.core_rule.specs.Owners.{SpineOwner, Open, Dead}
 use Rattle.core_rule.specs.Spines.{SpinesStand, SpineInHand, next_spine}
 use Rattle.core_rule.proofs.runs.OpeningObjects.{opening_made, opening_fragments, opening_spines}
-use Rattle.core_rule.proofs.runs.OpeningOwners.{opening_owner}
+use Rattle.core_rule.proofs.runs.OpeningOwners.{opening_owner, opening_cases}
 use Rattle.core_rule.proofs.ways.ArrayWords.{spot_in-word}
 
 -- nobody has a spine word
@@ -42,6 +42,7 @@ module _ (heap : Heap) (words : List ℕ) (spot : at heap words Spot ≡ opening
     seated = λ half offset number k is. absurd (cc);
     kept = λ i j below is within. absurd (no_word i j below within);
     back = λ half offset i j is. absurd (cc);
+    tells = λ f i k is. absurd (opening_cases (λ o. o ≢ Dead i k) f (λ less e. cc) (λ past e. cc) is);
   }
     where
       no_word : (i j : ℕ) → i < 1 → j < spine_words_of (node_at (opening heap) opening_made i) → ⊥

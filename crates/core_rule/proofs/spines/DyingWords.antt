@@ -1,5 +1,5 @@
 -- The spine words of arrays that are to be freed are nobody's once marking has ended, and count as gone.
-use Rattle.std.proofs.Common.{◌≡◌, ◌≢◌, ℕ, ◌+◌, ◌-◌, ◌/◌, ◌≤◌, List, length, refl, sym, ap, ◌∙◌, arith}
+use Rattle.std.proofs.Common.{◌≡◌, ◌≢◌, ℕ, ◌+◌, ◌-◌, ◌/◌, ◌≤◌, List, length, refl, sym, ap, ◌∙◌, arith, ◌<◌, inl, inr}
 use Rattle.heap_words.specs.declared.spot.Spot.{Spot}
 use Rattle.heap_model.specs.declared.heap.Heap.{Heap}
 use Rattle.heap_model.specs.account.Cycles.{graph_of}
@@ -18,7 +18,10 @@ use Rattle.core_rule.specs.Objects.{node_at}
 use Rattle.core_rule.specs.Owners.{Owner, Kept, SpineOwner, Placed, Spined, Gone}
 use Rattle.core_rule.specs.Spines.{SpinesStand, SpineInHand, WordStandsAhead}
 use Rattle.core_rule.proofs.lists.SumLemmas.{sum_le}
-use Rattle.core_rule.proofs.marking.Settled.{settled_owner, settled_owners, settled_was, settled_stays}
+use Rattle.core_rule.proofs.marking.Settled.{settled_owner, settled_owners, settled_was, settled_stays, settled_dies}
+use Rattle.core_rule.specs.Sweep.{TellsWords}
+use Rattle.core_machine.specs.declared.table.address.Address.TheVariants.{Word}
+use Rattle.core_machine.specs.table.Layout.{at}
 
 -- what becomes of an array's spine word by the colour of the array's first fragment
 abbrev pub settled_array : Colour → ℕ → ℕ → SpineOwner
@@ -90,10 +93,11 @@ module _ (heap : Heap) (words : List ℕ) (owner : ℕ → Owner) (colour : ℕ 
   abbrev words_later : ℕ → ℕ → SpineOwner
   words_later half offset = settled_word heads (spine_owner half offset)
 
-  -- so the spine words stand
-  pub spines_settle : (seats made : ℕ) (nodes : ℕ → Node) (spines : ℕ → Spot) → SpinesStand heap words seats made nodes owner fragments spines spine_owner
+  -- so the spine words stand, where what is kept tells how many it has
+  pub spines_settle : (seats made : ℕ) (nodes : ℕ → Node) (spines : ℕ → Spot) → ((f i k : ℕ) → owner f ≡ Kept i k → (i < made) × TellsWords (nodes i) k (at heap words (Word f 0)))
+      → SpinesStand heap words seats made nodes owner fragments spines spine_owner
       → SpinesStand heap words seats made nodes later fragments spines words_later
-  spines_settle seats made nodes spines old = record {
+  spines_settle seats made nodes spines kept_tell old = record {
     spot = old.spot;
     before = λ half offset some. old.before half offset (λ is. some (ap (settled_word heads) is));
     seated = λ half offset number k is. old.seated half offset number k (placed_was heads (spine_owner half offset) number k is);
@@ -104,6 +108,10 @@ module _ (heap : Heap) (words : List ℕ) (owner : ℕ → Owner) (colour : ℕ 
         let was = spined_was heads (spine_owner half offset) i j is in
         let one = old.back half offset i j was.0 in
         (one.0, settled_stays _ _ i 0 one.1 was.1, one.2, one.3);
+    tells = λ f i k is. elim (settled_dies (owner f) (colour f) i k is) as (λ _. (i < made) × TellsWords (nodes i) k (at heap words (Word f 0))) [
+      | inl dead ↦ old.tells f i k dead
+      | inr kept ↦ kept_tell f i k kept
+    ];
   }
 
   -- and those that a seat has

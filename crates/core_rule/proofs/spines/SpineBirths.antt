@@ -23,6 +23,7 @@ use Rattle.core_rule.proofs.objects.ObjectsGrowth.{with_spine, spine_new, spine_
 use Rattle.core_rule.proofs.owners.Keeping.{kept_by, with_object, object_new, object_old, kept_cases, kept_was, kept_stays}
 use Rattle.core_rule.proofs.spines.OtherWords.{LeavesSpines}
 use Rattle.core_rule.proofs.spines.SpineFrames.{SpinesLeft}
+use Rattle.core_rule.proofs.spines.DeadWords.{DeadStay, dead_tell}
 
 -- whose a spine word is once the seat's are those of the object of this number
 abbrev pub born_word : ℕ → ℕ → SpineOwner → SpineOwner
@@ -124,7 +125,7 @@ module _ (n : ℕ) (nodes now_nodes : ℕ → Node) (owner : ℕ → Owner) (fra
 
   module _ (heap : Heap) (words now_words : List ℕ) (seats : ℕ) (spines : ℕ → Spot) (spine_owner : ℕ → ℕ → SpineOwner) (number : ℕ) (seat : Seat)
       (leaves : LeavesSpines heap words now_words) (hand : SpineInHand heap words spine_owner number seat) (as_many : spine_words_of (now_nodes n) ≡ spine_need seat)
-      (has : 0 < spine_need seat → HasPlace seat seat.place) (head : now (fragment_at body 0) ≡ Kept n 0) where
+      (has : 0 < spine_need seat → HasPlace seat seat.place) (head : now (fragment_at body 0) ≡ Kept n 0) (dead : DeadStay heap words now_words owner now) where
     head_new : IsKept now bodies n
     head_new = ap (λ fs. now (fragment_at fs 0)) (object_new fragments n body) ∙ head
 
@@ -149,6 +150,7 @@ module _ (n : ℕ) (nodes now_nodes : ℕ → Node) (owner : ℕ → Owner) (fra
           ((i < n + 1) × IsKept now bodies i × (j < spine_words_of (now_nodes i)) × IsWordOf (with_spine spines n seat.spine i) half offset j) (spine_owner half offset) i j is
           (λ was. let one = old.back half offset i j was in back_old half offset i j one.0 one.1 one.2 one.3)
           (λ new was. let one = hand.own half offset j was in back_new half offset i j new one.1 one.2);
+      tells = λ f i k is. let one = dead_tell heap words now_words n nodes now_nodes owner now shapes dead old.tells f i k is in (omega (arith, one.0), one.1);
     }
       where
         of_new : (i j : ℕ) → i ≡ n → j < spine_words_of (now_nodes i) → born_words number n spine_owner (with_spine spines n seat.spine i).half ((with_spine spines n seat.spine i).offset + j) ≡ Spined i j

@@ -22,6 +22,7 @@ use Rattle.core_rule.proofs.objects.ObjectFrames.{SameKept}
 use Rattle.core_rule.proofs.spines.OtherWords.{LeavesPlaces, LeavesSpines, places_of}
 use Rattle.core_rule.proofs.ways.WayFrames.{ObjectStays}
 use Rattle.core_rule.proofs.words.Addresses.{SameSpines}
+use Rattle.core_rule.proofs.spines.DeadWords.{DeadStay, dead_tell}
 
 -- the same fragments are kept where whose they are is as before
 pub same_kept : (owner : ℕ → Owner) → SameKept owner owner
@@ -33,10 +34,10 @@ same_shapes nodes i = shape_same (nodes i) (nodes i) refl
 
 module _ (heap : Heap) (words now : List ℕ) (same : at heap now addresses.Spot ≡ at heap words addresses.Spot) (seats made : ℕ) (spines : ℕ → Spot) (fragments : ℕ → List ℕ)
     (spine_owner : ℕ → ℕ → SpineOwner) where
-  -- the spot is as before, and the same are kept, and have as many spine words
-  pub spines_at_spot : (nodes now_nodes : ℕ → Node) (owner now_owner : ℕ → Owner) → SameKept owner now_owner → ((i : ℕ) → SameShape (now_nodes i) (nodes i))
+  -- the spot is as before, the same are kept, and have as many spine words, and what is to be freed tells what it told
+  pub spines_at_spot : (nodes now_nodes : ℕ → Node) (owner now_owner : ℕ → Owner) → SameKept owner now_owner → ((i : ℕ) → SameShape (now_nodes i) (nodes i)) → DeadStay heap words now owner now_owner
       → SpinesStand heap words seats made nodes owner fragments spines spine_owner → SpinesStand heap now seats made now_nodes now_owner fragments spines spine_owner
-  spines_at_spot nodes now_nodes owner now_owner kept shapes old =
+  spines_at_spot nodes now_nodes owner now_owner kept shapes dead old =
       let words_of : (i : ℕ) → spine_words_of (now_nodes i) ≡ spine_words_of (nodes i) = λ i. shape_words (now_nodes i) (nodes i) (shapes i) in
       record {
         spot = rw same old.spot;
@@ -44,22 +45,23 @@ module _ (heap : Heap) (words now : List ℕ) (same : at heap now addresses.Spot
         seated = old.seated;
         kept = λ i j below is within. old.kept i j below (kept.was _ _ _ is) (subst (λ n. j < n) (words_of i) within);
         back = λ half offset i j is. let one = old.back half offset i j is in (one.0, kept.stays _ _ _ one.1, subst (λ n. j < n) (sym (words_of i)) one.2, one.3);
+        tells = dead_tell heap words now made nodes now_nodes owner now_owner (λ i below. shapes i) dead old.tells;
       }
 
 -- so it is where each spine word is as before too
 pub spines_at_places : (heap : Heap) (words now : List ℕ) → LeavesPlaces heap words now → (seats made : ℕ) (spines : ℕ → Spot) (fragments : ℕ → List ℕ) (spine_owner : ℕ → ℕ → SpineOwner)
-    (nodes now_nodes : ℕ → Node) (owner now_owner : ℕ → Owner) → SameKept owner now_owner → ((i : ℕ) → SameShape (now_nodes i) (nodes i))
+    (nodes now_nodes : ℕ → Node) (owner now_owner : ℕ → Owner) → SameKept owner now_owner → ((i : ℕ) → SameShape (now_nodes i) (nodes i)) → DeadStay heap words now owner now_owner
     → SpinesStand heap words seats made nodes owner fragments spines spine_owner → SpinesStand heap now seats made now_nodes now_owner fragments spines spine_owner
 spines_at_places heap words now leaves = spines_at_spot heap words now leaves.spot
 
 module _ (heap : Heap) (words now : List ℕ) (leaves : LeavesSpines heap words now) (seats made : ℕ) (spines : ℕ → Spot) (fragments : ℕ → List ℕ) (spine_owner : ℕ → ℕ → SpineOwner) where
   -- and the budget
-  pub spines_stay : (nodes now_nodes : ℕ → Node) (owner now_owner : ℕ → Owner) → SameKept owner now_owner → ((i : ℕ) → SameShape (now_nodes i) (nodes i))
+  pub spines_stay : (nodes now_nodes : ℕ → Node) (owner now_owner : ℕ → Owner) → SameKept owner now_owner → ((i : ℕ) → SameShape (now_nodes i) (nodes i)) → DeadStay heap words now owner now_owner
       → SpinesStand heap words seats made nodes owner fragments spines spine_owner → SpinesStand heap now seats made now_nodes now_owner fragments spines spine_owner
   spines_stay = spines_at_places heap words now (places_of heap words now leaves) seats made spines fragments spine_owner
 
   -- no more than words change
-  pub spines_words : (nodes : ℕ → Node) (owner : ℕ → Owner)
+  pub spines_words : (nodes : ℕ → Node) (owner : ℕ → Owner) → DeadStay heap words now owner owner
       → SpinesStand heap words seats made nodes owner fragments spines spine_owner → SpinesStand heap now seats made nodes owner fragments spines spine_owner
   spines_words nodes owner = spines_stay nodes nodes owner owner (same_kept owner) (same_shapes nodes)
 

@@ -1,5 +1,5 @@
 -- A reply that makes no object keeps the rule, where the words that it changes are none but a seat's answer or a kept object's.
-use Rattle.std.proofs.Common.{subst, ◌≡◌, ◌≢◌, ℕ, ◌<◌, false, List, [], ◌∷◌, ◌++◌, length, filter, drop, slice_set, refl, sym, ◌∙◌, arith, append-nil}
+use Rattle.std.proofs.Common.{subst, ◌≡◌, ◌≢◌, ℕ, ◌<◌, false, List, [], ◌∷◌, ◌++◌, length, filter, drop, slice_set, refl, sym, ◌∙◌, arith, append-nil, ap}
 use Rattle.std.proofs.lemmas.List.{get_or-set_same, length-set}
 use Rattle.heap_model.specs.declared.command.Command.{Command}
 use Rattle.heap_model.specs.declared.entry.Entry.{Entry}
@@ -47,6 +47,8 @@ use Rattle.core_rule.proofs.hand.StoredFrames.{SameUnkept, stored_stays}
 use Rattle.core_rule.proofs.spines.BudgetFrames.{none_granted_by, none_returned_by, kept_alike}
 use Rattle.core_rule.proofs.spines.NoneMade.{MakesNone, SameWeights, none_has_place, none_weights, none_made_words}
 use Rattle.core_rule.proofs.spines.SpineFrames.{same_kept, spines_stay, spine_away}
+use Rattle.core_rule.proofs.owners.DeadOwners.{dead_keeps_none}
+use Rattle.core_rule.specs.Owners.{dead_bit}
 
 -- the graph has the same objects of the same shapes, with the cells that their words have, and the other seats' data
 pub record GraphReplies (heap : Heap) (words : List ℕ) (book : Book) (g now : Graph) (number : ℕ) : Type 0 where
@@ -119,7 +121,7 @@ module _ (heap : Heap) (state : State) (book : Book) (number : ℕ) (words : Lis
         ids = rw graph grows.ids;
         objects = rw graph grows.objects;
         spines = rw graph (spines_stay heap state.words words same.spines heap.seats (length book.made) book.spines book.fragments book.spine_owner (node_at before book.made) (node_at after book.made)
-            book.owner book.owner (same_kept book.owner) grows.shapes rule.heap_stands.spines);
+            book.owner book.owner (same_kept book.owner) grows.shapes (λ f i k is. (is, same.unkept f 0 (λ j m. dead_keeps_none j m (book.owner f) (ap dead_bit is)) (omega arith))) rule.heap_stands.spines);
         used = said_used book.history number command reply heap book.owner rule.heap_stands.used;
         cycle = heap_cycle_more heap words book.owner book.colour book.history entry refl book.fragments heap_cycle;
         legal = legal;

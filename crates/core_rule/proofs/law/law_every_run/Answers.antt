@@ -5,6 +5,7 @@ use Rattle.core_rule.proofs.held.HeldFragments.{each_held_is_taken, no_claim_tak
 use Rattle.core_rule.proofs.runs.BornWords.{each_birth_has_its_colour}
 use Rattle.core_rule.proofs.runs.MarkedAnswers.{each_answer_is_marked}
 use Rattle.core_rule.proofs.runs.Waits.{each_wait_is_behind}
+use Rattle.core_rule.proofs.runs.ToldDead.{each_dead_is_told}
 use Rattle.core_rule.proofs.runs.OpeningStands.{opening_stands}
 use Rattle.core_rule.proofs.runs.PlayRuns.{whole_calls_play}
 use Rattle.core_rule.proofs.runs.ComingTurns.{each_turn_comes_to}
@@ -37,6 +38,9 @@ returns-clause-answers c = each_answer_is_marked
 
 pub returns-clause-waits : goal.returns-clause-waits
 returns-clause-waits c = each_wait_is_behind
+
+pub returns-clause-dead : goal.returns-clause-dead
+returns-clause-dead c = each_dead_is_told
 
 pub returns-clause-turns : goal.returns-clause-turns
 returns-clause-turns c = each_turn_comes_to (each_event_keeps machine_after each_step_keeps each_begin_keeps each_inner_keeps each_turn_keeps)

@@ -41,7 +41,7 @@ use Rattle.core_rule.proofs.hand.ClaimOrder.{together_bears}
 use Rattle.core_rule.proofs.words.ControlSteps.{birth_bits_after}
 use Rattle.core_rule.proofs.counts.CountMoves.{birth_used, birth_frees}
 use Rattle.core_rule.proofs.gather.GatherMoves.{gathers_same}
-use Rattle.core_rule.proofs.owners.Handed.{gains}
+use Rattle.core_rule.proofs.owners.Handed.{gains, dead_unhanded}
 use Rattle.core_rule.proofs.hand.HandMoves.{hand_held, hand_once, part_held, part_once, holding_bears, hand_born, held_within}
 use Rattle.core_rule.proofs.cycle.MakingCycle.{answer_after_control, cycle_control, born_more, born_others}
 use Rattle.core_rule.proofs.objects.ObjectFrames.{bears_keeps_none, holds_keeps_none, objects_control, objects_owners, part_kept}
@@ -50,6 +50,7 @@ use Rattle.core_rule.proofs.owners.OwnerFrames.{owners_handed}
 use Rattle.core_rule.proofs.entries.SeatLists.{making_list, list_of_making}
 use Rattle.core_rule.proofs.hand.StoredFrames.{stored_control}
 use Rattle.core_rule.proofs.cycle.Unwatched.{cycle_apart}
+use Rattle.core_rule.proofs.spines.DeadWords.{dead_after_control}
 
 -- a step that bears this part of the hand, and leaves the rest
 abbrev birth_of : Seat → List ℕ → List ℕ → Move
@@ -100,7 +101,8 @@ part_keeps heap state book number rule here place machine =
           (objects_control heap state.words (graph_of heap book.history) book.made book.owner book.fragments book.spines g word below heap_stands.objects);
       used = birth_used heap book.owner book.history number part once inside heap_stands.used held;
       legal = heap_stands.legal;
-      spines = spines_stay heap state.words words leaves heap.seats (length book.made) book.spines book.fragments book.spine_owner nodes nodes book.owner owner kept (same_shapes nodes) heap_stands.spines;
+      spines = spines_stay heap state.words words leaves heap.seats (length book.made) book.spines book.fragments book.spine_owner nodes nodes book.owner owner kept (same_shapes nodes)
+          (dead_after_control heap state.words book.owner owner g word below (dead_unhanded (Borne number) book.owner part (λ i k e. cc))) heap_stands.spines;
       cycle = heap_born heap state book number rule here place owner book.fragments (gains born_bit (Borne number) book.owner part once refl (λ f there. ap born_bit (held f there)))
           (λ marking f i k keeps. painted_cases (λ c. c ≢ White → IsMarked colour (fragment_at (book.fragments i) 0)) (birth_colour black) book.colour part f
           (λ there marked. absurd (holds_keeps_none number i k (sym (held f there) ∙ kept.was f i k keeps)))

@@ -58,6 +58,8 @@ use Rattle.core_rule.proofs.owners.OwnerFrames.{owners_handed}
 use Rattle.core_rule.proofs.owners.OwnerLemmas.{free_by_bit}
 use Rattle.core_rule.proofs.entries.SeatLists.{making_list, list_of_making}
 use Rattle.core_rule.proofs.hand.StoredFrames.{stored_control}
+use Rattle.core_rule.proofs.spines.DeadWords.{dead_after_control}
+use Rattle.core_rule.proofs.owners.Handed.{dead_unhanded}
 
 module _ (heap : Heap) (words : List ℕ) (owner : ℕ → Owner) (g : ℕ) (whole : length words ≡ table_length heap) (below : g < heap.groups) (bits : Bits heap words owner) where
   abbrev clear : List ℕ
@@ -130,7 +132,8 @@ claim_keeps heap state book number rule here place machine =
       objects = rw tells.graph (objects_owners book.owner owner kept book.made book.fragments book.spines heap words g_of
           (objects_control heap state.words g_of book.made book.owner book.fragments book.spines g word below heap_stands.objects));
       spines = rw tells.graph (spines_stay heap state.words words leaves heap.seats (length book.made) book.spines book.fragments book.spine_owner nodes nodes
-          book.owner owner kept (same_shapes nodes) heap_stands.spines);
+          book.owner owner kept (same_shapes nodes)
+          (dead_after_control heap state.words book.owner owner g word below (dead_unhanded (Taken number) book.owner fs (λ i k e. cc))) heap_stands.spines);
       used = tells.used;
       legal = tells.legal;
       cycle = tells.phases words owner book.colour book.fragments (heap_hands heap state.words book.owner book.colour book.fragments (phase book.history) g word (Taken number) fs below

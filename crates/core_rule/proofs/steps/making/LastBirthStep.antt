@@ -51,7 +51,7 @@ use Rattle.core_rule.proofs.graph.Numbering.{id_at-append}
 use Rattle.core_rule.proofs.graph.SameNodes.{SameShape, shape_same}
 use Rattle.core_rule.proofs.hand.HandMoves.{part_held}
 use Rattle.core_rule.proofs.hand.MakingSeats.{made_sized, made_whole, newborn_fresh, listed_within}
-use Rattle.core_rule.proofs.owners.Keeping.{kept_was, kept_part}
+use Rattle.core_rule.proofs.owners.Keeping.{kept_was, kept_part, dead_unkept}
 use Rattle.core_rule.proofs.owners.KeptOwners.{kept_free, kept_taken, kept_holding, kept_others, kept_bits}
 use Rattle.core_rule.proofs.objects.LastBirth.{one_more, all_stored, registers_own}
 use Rattle.core_rule.proofs.colours.LastColours.{kept_bears, kept_own, kept_borne, kept_first}
@@ -76,6 +76,7 @@ use Rattle.core_rule.proofs.spines.SpineBirths as spine_births
 use Rattle.core_rule.proofs.spines.SpineFrames.{spine_stored}
 use Rattle.core_rule.proofs.hand.StoredFrames.{stored_control}
 use Rattle.core_rule.proofs.cycle.Unwatched.{cycle_apart}
+use Rattle.core_rule.proofs.spines.DeadWords.{dead_after_control}
 
 -- an object of so many cells has as many spine words
 fresh_has_words : (array : Bool) (cells : ℕ) → spine_words_of (fresh array cells) ≡ fresh_words array cells
@@ -158,7 +159,8 @@ part_keeps heap state book number rule here place last machine =
       objects = rw graph (objects_control heap state.words grown now.made now.owner now.fragments now.spines group word below
           (objects_grown heap state.words g grown book.made id book.owner book.fragments book.spines array cells body seat.spine ids more new rule.heap_stands.objects));
       spines = rw (graph, longer) (spines_born count nodes now_nodes book.owner book.fragments body some unkept shapes heap state.words words heap.seats book.spines book.spine_owner number seat
-          leaves stands.own.spine as_many has_place (kept_part count body book.owner once 0 some) rule.heap_stands.spines);
+          leaves stands.own.spine as_many has_place (kept_part count body book.owner once 0 some)
+          (dead_after_control heap state.words book.owner now.owner group word below (dead_unkept count body book.owner)) rule.heap_stands.spines);
       used = used_made heap now.owner book.history number seat (used_same heap book.owner now.owner book.history
           (kept_taken book.owner number seat.reserve seat.hand body stands.own.holding some (length book.made)) rule.heap_stands.used);
       legal = made_legal g book.history number seat stands.told.counts has.whole some present heap refl has.makes.an_object has.makes.in_range (seat_fits rule number here).own.small_reserve rule.heap_stands.legal;

@@ -40,6 +40,7 @@ use Rattle.core_rule.proofs.spines.ListedSources.{has, beside_listed, arrays_lis
 use Rattle.core_rule.proofs.spines.SpineFrames.{same_kept, same_shapes, spines_at_spot, spines_left}
 use Rattle.core_rule.proofs.spines.SpineStores.{other_stored, spine_listed, spot_unlisted, budget_unlisted}
 use Rattle.core_rule.proofs.steps.Assemble.{seat_steps, StepKeeps, seat_fits}
+use Rattle.core_rule.proofs.spines.DeadWords.{dead_within}
 
 -- the next word's turn comes, or the object's words are stored
 list_cases : (P : Making → Type 0) (listed words : ℕ) → P Listing → P Storing → P (list_place listed words)
@@ -90,7 +91,8 @@ listing_keeps heap state book number rule here place machine =
     seat_steps heap state book number words new book [] rule here machine (sym (append-nil book.history)) refl
     (heap_beside heap state book rule words beside arrays book.spine_owner (black_listed heap state book rule number here place n)
     (spines_at_spot heap state.words words spot heap.seats (length book.made) book.spines book.fragments book.spine_owner (node_at g book.made) (node_at g book.made)
-    book.owner book.owner (same_kept book.owner) (same_shapes (node_at g book.made)) old))
+    book.owner book.owner (same_kept book.owner) (same_shapes (node_at g book.made))
+    (λ f i k is. (is, beside.parts f 0 (dead_within heap state.words book.owner f i k rule.heap_stands.control_words is) (omega arith))) old))
     record {
       own = record {
         holding = stands.own.holding;

@@ -39,10 +39,11 @@ use Rattle.core_rule.proofs.cycle.MakingCycle.{cycle_goes_on}
 use Rattle.core_rule.proofs.lists.Members.{tally_at}
 use Rattle.core_rule.proofs.objects.ObjectFrames.{objects_store}
 use Rattle.core_rule.proofs.entries.OwnEntries.{counts_same}
-use Rattle.core_rule.proofs.owners.OwnerLemmas.{IsOwn, own_keeps_none, own_not_others}
+use Rattle.core_rule.proofs.owners.OwnerLemmas.{IsOwn, own_keeps_none, own_not_others, own_undead}
 use Rattle.core_rule.proofs.entries.SeatLists.{making_list, whole_list}
 use Rattle.core_rule.proofs.hand.StoredFrames.{stored_store}
 use Rattle.core_rule.proofs.hand.StoreLemmas.{bits_store, store_next}
+use Rattle.core_rule.proofs.spines.DeadWords.{dead_after_word}
 
 -- what comes next is the next store, or the object's birth
 store_cases : (P : Making → Type 0) (stored : ℕ) (body : List ℕ) → P Storing → P Bearing → P (store_place stored body)
@@ -96,7 +97,8 @@ store_keeps heap state book number rule here place machine =
       objects = objects_store heap state.words (graph_of heap book.history) book.made book.owner book.fragments book.spines f part word within fits_part
           (λ i k. own_keeps_none number i k (book.owner f) own) rule.heap_stands.objects;
       spines = spines_words heap state.words words leaves heap.seats (length book.made) book.spines book.fragments book.spine_owner
-          (node_at (graph_of heap book.history) book.made) book.owner rule.heap_stands.spines;
+          (node_at (graph_of heap book.history) book.made) book.owner
+          (dead_after_word heap state.words book.owner f part word fits_part (λ i k. own_undead number i k (book.owner f) own)) rule.heap_stands.spines;
       used = rule.heap_stands.used;
       legal = rule.heap_stands.legal;
       cycle = heap_store heap state.words book.owner book.colour (phase book.history) f part word within fits_part unborn book.fragments rule.heap_stands.cycle;

@@ -1,0 +1,69 @@
+-- The word that the sweep finds of a fragment that is to be freed tells how many spine words its array has.
+use Rattle.std.proofs.Common.{◌≡◌, ℕ, zero, suc, ◌+◌, ◌*◌, ◌==◌, ◌<◌, Bool, true, false, if◌then◌else◌, refl, sym, ◌∙◌, subst, arith, length}
+use Rattle.heap_model.specs.declared.heap.Heap.{Heap}
+use Rattle.heap_model.specs.account.Cycles.{graph_of}
+use Rattle.heap_model.specs.graph.Graph.{Node}
+use Rattle.heap_model.specs.graph.Sizes.{spine_words_of}
+use Rattle.core_machine.specs.collector.Collector.{turn_at}
+use Rattle.core_machine.specs.collector.FitsTurns.{IsExamining}
+use Rattle.core_machine.specs.declared.collector.stage.Stage.TheVariants as stages
+use Rattle.core_machine.specs.declared.table.address.Address.TheVariants.{Word}
+use Rattle.core_machine.specs.machine.Machine.{State, found_by}
+use Rattle.core_machine.specs.table.Layout.{at}
+use Rattle.core_rule.specs.Book.{Book}
+use Rattle.core_rule.specs.Laws.{IsDeadTold, EachDeadIsTold}
+use Rattle.core_rule.specs.Objects.{node_at, IsSized}
+use Rattle.core_rule.specs.Owners.{Dead, dead_bit}
+use Rattle.core_rule.specs.Rule.{Rule}
+use Rattle.core_rule.specs.Sweep.{SweepStands, AreFreed, AreDead, TellsWords}
+use Rattle.core_rule.proofs.owners.OwnerLemmas.{is_dead}
+use Rattle.core_rule.proofs.ways.KeptWords.{array_has_words}
+use Rattle.core_rule.proofs.spines.DeadWords.{none_behind}
+
+-- an array's first fragment has spine words, and no other has
+words_some : (object : Node) (part n : ℕ) → IsSized object.array (length object.cells) → n ≡ (if part == 0 then spine_words_of object else 0) → part ≡ 0 → object.array ≡ true → 0 < n
+words_some object zero n sized is first kind = omega (arith, is, array_has_words object sized kind)
+words_some object (suc part) n sized is first kind = absurd (omega (arith, first))
+
+words_only : (object : Node) (part n : ℕ) → n ≡ (if part == 0 then spine_words_of object else 0) → 0 < n → (part ≡ 0) × (object.array ≡ true)
+words_only object (suc part) n is more = let none : n ≡ 0 = is ∙ none_behind (suc part) (spine_words_of object) (omega arith) in absurd (omega (arith, none, more))
+words_only object zero n is more = (refl, by object.array refl)
+  where
+    by : (array : Bool) → object.array ≡ array → object.array ≡ true
+    by true kind = kind
+    by false kind = let none : spine_words_of object ≡ 0 = rw kind refl in absurd (omega (arith, is, more, none))
+
+module _ (heap : Heap) (state : State) (book : Book) (rule : Rule heap state book) where
+  -- so the first word of one that is to be freed tells
+  dead_told : (f object part : ℕ) → book.owner f ≡ Dead object part → IsDeadTold heap book f (at heap state.words (Word f 0))
+  dead_told f object part dead =
+      let told = rule.heap_stands.spines.tells f object part dead in
+      let node : Node = node_at (graph_of heap book.history) book.made object in
+      record {
+        object = object;
+        part = part;
+        below = told.0;
+        dead = dead;
+        told = told.1.told;
+        some = words_some node part _ told.1.sized told.1.told;
+        only = words_only node part _ told.1.told;
+      }
+
+  -- and the one that is examined is to be freed
+  module _ (group dead place : ℕ) (examining : state.collector.stage ≡ stages.Examining group dead place) where
+    fits : IsExamining heap state.collector.phase state.collector.looked group dead place
+    fits = rw examining at rule.machine.collector_fit.at_stage
+
+    are : AreDead book.owner group dead
+    are = (subst (SweepStands heap book.owner book.colour state.collector.phase) examining rule.marks_stand.heap_marks.sweep_stands).1
+
+    pub examined_told : IsDeadTold heap book (16 * group + place) (found_by heap state (turn_at heap state.collector (stages.Examining group dead place)).step)
+    examined_told =
+        let one : dead_bit (book.owner (16 * group + place)) ≡ 1 = sym (are place fits.place_within) ∙ fits.is_dead in
+        let is = is_dead (book.owner (16 * group + place)) one in
+        dead_told (16 * group + place) is.0 is.1 is.2
+
+pub each_dead_is_told : EachDeadIsTold
+each_dead_is_told heap state book group dead place rule examining =
+    subst (λ stage. IsDeadTold heap book (16 * group + place) (found_by heap state (turn_at heap state.collector stage).step)) (sym examining)
+    (examined_told heap state book rule group dead place examining)
