@@ -27,7 +27,7 @@ AreFreed owner group = (f i k : ℕ) → f / group_fragments < group → owner f
 abbrev pub AreDead : (ℕ → Owner) → ℕ → ℕ → Type 0
 AreDead owner group bits = (place : ℕ) → place < group_fragments → bit_at bits place ≡ dead_bit (owner (group_fragments * group + place))
 
--- the word tells as many spine words as the object has where it is the first word of the object's first fragment, and none where it is that of a later one
+-- the object is of a right size, and the word tells as many spine words as it has where it is the first word of its first fragment, and none where it is that of a later one
 pub record TellsWords (object : Node) (part word : ℕ) : Type 0 where
   pub sized : IsSized object.array (length object.cells)
   pub told : spine_words_in word ≡ (if part == 0 then spine_words_of object else 0)

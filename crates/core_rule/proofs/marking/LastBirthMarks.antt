@@ -1,5 +1,5 @@
 -- An object is born and kept: what that leaves of marking, which comes to its first fragment.
-use Rattle.std.proofs.Common.{◌≡◌, ◌≢◌, ℕ, ◌+◌, ◌<◌, ◌≤◌, ◌%◌, true, false, List, [], ◌∷◌, ◌++◌, length, inl, ap, ◌∙◌, arith, ◌*◌}
+use Rattle.std.proofs.Common.{◌≡◌, ℕ, ◌<◌, ◌≤◌, ◌%◌, true, false, List, [], ◌∷◌, ◌++◌, length, inl, ap, ◌∙◌, arith, ◌*◌}
 use Rattle.heap_model.specs.declared.heap.Heap.{Heap}
 use Rattle.core_machine.specs.declared.place.Making.TheVariants.{Bearing}
 use Rattle.core_machine.specs.declared.place.Place.TheVariants as places
@@ -13,7 +13,7 @@ use Rattle.core_machine.specs.seat.Fits.{HasBody, IsListed}
 use Rattle.core_machine.specs.table.Fragments.{tally, part_in}
 use Rattle.core_rule.specs.Book.{Book, Black, fragment_at}
 use Rattle.core_rule.specs.Colours.{IsMarked}
-use Rattle.core_rule.specs.Owners.{Owner, Dead, holds_bit, bears_bit, born_bit}
+use Rattle.core_rule.specs.Owners.{born_bit}
 use Rattle.core_rule.specs.Paths.{IsReached}
 use Rattle.core_rule.specs.Rule.{Rule}
 use Rattle.core_rule.proofs.colours.BirthColours.{painted}

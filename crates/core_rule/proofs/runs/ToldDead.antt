@@ -15,13 +15,14 @@ use Rattle.core_rule.specs.Laws.{IsDeadTold, EachDeadIsTold}
 use Rattle.core_rule.specs.Objects.{node_at, IsSized}
 use Rattle.core_rule.specs.Owners.{Dead, dead_bit}
 use Rattle.core_rule.specs.Rule.{Rule}
-use Rattle.core_rule.specs.Sweep.{SweepStands, AreFreed, AreDead, TellsWords}
+use Rattle.core_rule.specs.Sweep.{SweepStands, AreDead}
 use Rattle.core_rule.proofs.owners.OwnerLemmas.{is_dead}
 use Rattle.core_rule.proofs.ways.KeptWords.{array_has_words}
 use Rattle.core_rule.proofs.spines.DeadWords.{none_behind}
 
 -- an array's first fragment has spine words, and no other has
-words_some : (object : Node) (part n : ℕ) → IsSized object.array (length object.cells) → n ≡ (if part == 0 then spine_words_of object else 0) → part ≡ 0 → object.array ≡ true → 0 < n
+words_some : (object : Node) (part n : ℕ) → IsSized object.array (length object.cells) → n ≡ (if part == 0 then spine_words_of object else 0)
+    → part ≡ 0 → object.array ≡ true → 0 < n
 words_some object zero n sized is first kind = omega (arith, is, array_has_words object sized kind)
 words_some object (suc part) n sized is first kind = absurd (omega (arith, first))
 

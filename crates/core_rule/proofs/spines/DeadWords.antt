@@ -1,5 +1,5 @@
 -- What the first words of fragments that are to be freed tell stands as before where a step leaves them.
-use Rattle.std.proofs.Common.{◌≡◌, ◌≢◌, ℕ, ◌+◌, ◌*◌, ◌==◌, ◌<◌, if◌then◌else◌, List, sym, ap, ◌∙◌, arith, inl, inr}
+use Rattle.std.proofs.Common.{◌≡◌, ◌≢◌, ℕ, ◌*◌, ◌==◌, ◌<◌, if◌then◌else◌, List, sym, ap, ◌∙◌, arith, inl, inr}
 use Rattle.heap_model.specs.declared.heap.Heap.{Heap}
 use Rattle.heap_model.specs.graph.Graph.{Node}
 use Rattle.core_machine.specs.declared.table.address.Address.TheVariants.{Control, Word}
@@ -25,12 +25,13 @@ dead_within heap words owner f i k bits is = elim (cases_lt f (16 * heap.groups)
 ]
 
 -- so it is where a control word is written
-pub dead_after_control : (heap : Heap) (words : List ℕ) (owner now_owner : ℕ → Owner) (g n : ℕ) → g < heap.groups → ((f i k : ℕ) → now_owner f ≡ Dead i k → owner f ≡ Dead i k)
-    → DeadStay heap words (put heap words (Control g) n) owner now_owner
+pub dead_after_control : (heap : Heap) (words : List ℕ) (owner now_owner : ℕ → Owner) (g n : ℕ) → g < heap.groups
+    → ((f i k : ℕ) → now_owner f ≡ Dead i k → owner f ≡ Dead i k) → DeadStay heap words (put heap words (Control g) n) owner now_owner
 dead_after_control heap words owner now_owner g n below was f i k is = (was f i k is, word_after_control heap words n g f 0 below)
 
 -- and where a word of a fragment is that isn't to be freed
-pub dead_after_word : (heap : Heap) (words : List ℕ) (owner : ℕ → Owner) (x part n : ℕ) → part < 4 → ((i k : ℕ) → owner x ≢ Dead i k) → DeadStay heap words (put heap words (Word x part) n) owner owner
+pub dead_after_word : (heap : Heap) (words : List ℕ) (owner : ℕ → Owner) (x part n : ℕ) → part < 4 → ((i k : ℕ) → owner x ≢ Dead i k)
+    → DeadStay heap words (put heap words (Word x part) n) owner owner
 dead_after_word heap words owner x part n fits undead f i k is =
     (is, fragment_other heap words n x part f 0 fits (omega arith) (λ same. undead i k (ap owner (sym same) ∙ is)))
 
@@ -46,8 +47,8 @@ tells_as object now part word later same is tells = record {
 }
 
 -- so what is to be freed tells its words
-pub dead_tell : (heap : Heap) (words now : List ℕ) (made : ℕ) (nodes now_nodes : ℕ → Node) (owner now_owner : ℕ → Owner) → ((i : ℕ) → i < made → SameShape (now_nodes i) (nodes i))
-    → DeadStay heap words now owner now_owner → DeadTell heap words made nodes owner → DeadTell heap now made now_nodes now_owner
+pub dead_tell : (heap : Heap) (words now : List ℕ) (made : ℕ) (nodes now_nodes : ℕ → Node) (owner now_owner : ℕ → Owner)
+    → ((i : ℕ) → i < made → SameShape (now_nodes i) (nodes i)) → DeadStay heap words now owner now_owner → DeadTell heap words made nodes owner → DeadTell heap now made now_nodes now_owner
 dead_tell heap words now made nodes now_nodes owner now_owner shapes stay old f i k is =
     let was = stay f i k is in
     let one = old f i k was.0 in

@@ -122,7 +122,8 @@ module _ (heap : Heap) (words : List ℕ) (number : ℕ) (need : ℕ) (table : l
           (λ is e. let same : number ≡ r = cc in subst (λ n. n < seats) same here) (λ away e. old.seated half offset r k e);
       kept = λ i j below is within. let was = old.kept i j below is within in claim_stays number spot need spine_owner unclaimed _ _ (λ none. absurd (cc (was, none))) ∙ was;
       back = λ half offset i j is. old.back half offset i j (claim_arrays number spot need spine_owner unclaimed half offset i j is);
-      tells = dead_tell heap words words_claimed made nodes nodes owner owner (λ i below. same_shapes nodes i) (λ f i k is. (is, at-put_apart heap words addresses.Spot (addresses.Word f 0) _ (λ e. omega (arith, e)))) old.tells;
+      tells = dead_tell heap words words_claimed made nodes nodes owner owner (λ i below. same_shapes nodes i)
+          (λ f i k is. (is, at-put_apart heap words addresses.Spot (addresses.Word f 0) _ (λ e. omega (arith, e)))) old.tells;
     }
 
   -- the seat has exactly these words then

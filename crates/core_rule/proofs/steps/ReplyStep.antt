@@ -121,7 +121,8 @@ module _ (heap : Heap) (state : State) (book : Book) (number : ℕ) (words : Lis
         ids = rw graph grows.ids;
         objects = rw graph grows.objects;
         spines = rw graph (spines_stay heap state.words words same.spines heap.seats (length book.made) book.spines book.fragments book.spine_owner (node_at before book.made) (node_at after book.made)
-            book.owner book.owner (same_kept book.owner) grows.shapes (λ f i k is. (is, same.unkept f 0 (λ j m. dead_keeps_none j m (book.owner f) (ap dead_bit is)) (omega arith))) rule.heap_stands.spines);
+            book.owner book.owner (same_kept book.owner) grows.shapes
+            (λ f i k is. (is, same.unkept f 0 (λ j m. dead_keeps_none j m (book.owner f) (ap dead_bit is)) (omega arith))) rule.heap_stands.spines);
         used = said_used book.history number command reply heap book.owner rule.heap_stands.used;
         cycle = heap_cycle_more heap words book.owner book.colour book.history entry refl book.fragments heap_cycle;
         legal = legal;
