@@ -13,7 +13,7 @@ use Rattle.core_rule.specs.Laws.{AllIdle, WordsAreUsed}
 none_idle : (heap : Heap) (state : State) (number : Seat → Place → ℕ) → length state.seats ≡ heap.seats → AllIdle state → ((seat : Seat) → number seat Idle ≡ 0) → of_seats heap state number ≡ 0
 none_idle heap state number seated idle none =
     sum_zero heap.seats (λ r. number (seat_at state r) (seat_at state r).place)
-        (λ r below. subst (λ place. number (seat_at state r) place ≡ 0) (sym (idle r (subst (λ n. r < n) (sym seated) below))) (none (seat_at state r)))
+    (λ r below. subst (λ place. number (seat_at state r) place ≡ 0) (sym (idle r (subst (λ n. r < n) (sym seated) below))) (none (seat_at state r)))
 
 pub words_are_used : WordsAreUsed
 words_are_used heap state book rule idle =

@@ -78,11 +78,7 @@ fn repeated(alloc: Global, text: &str, times: u8) -> Result<String, AllocError> 
 }
 
 /// Plays each row's script, and compares what is written with its history. A check of that refuses the row's line.
-fn plays_refused(
-    rt: &impl Abort,
-    alloc: Global,
-    rows: &[(&str, &str, u32)],
-) -> Result<(), Fail> {
+fn plays_refused(rt: &impl Abort, alloc: Global, rows: &[(&str, &str, u32)]) -> Result<(), Fail> {
     for &(script, history, line) in rows {
         let script = text_of(alloc, script)?;
         let history = text_of(alloc, history)?;
@@ -116,6 +112,7 @@ fn plays_the_largest_array(rt: HostRuntime) -> Result<(), Fail> {
     let history = format!(in alloc;
         "history 1 play; heap 66 1024 1; 0 takes 5; {takes}0 array 1 4096 = 0.0; 0 num 2 1 = ok; 0 set 1 4095 2 = was -; 0 get 3 1 4095 = number 1 at 0:1; 0 get 3 1 4096 = no field; 0 len 1 = 4096; space used 1040 of 1056 spine 1024 of 1024; 0 gives back 4; 0 leave = ok; c phase 1; c phase 2; c phase 3; c phase 4; c phase 5; {frees}c frees 12; c phase 6; c ends 0 kept 0; end used 0"
     )?;
-    let script = "schism 1; heap 66 1024 1; 0 array 1 4096; 0 num 2 1; 0 set 1 4095 2; 0 get 3 1 4095; 0 get 3 1 4096; 0 len 1";
+    let script =
+        "schism 1; heap 66 1024 1; 0 array 1 4096; 0 num 2 1; 0 set 1 4095 2; 0 get 3 1 4095; 0 get 3 1 4096; 0 len 1";
     plays_refused(&rt, alloc, &[(script, history.as_str(), 148)])
 }
