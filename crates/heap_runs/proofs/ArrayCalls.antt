@@ -10,6 +10,7 @@ use Rattle.heap_model.specs.account.Space.{need_of, fragments_gained, fragments_
 use Rattle.heap_model.specs.calls.SeatReplies.{next_id}
 use Rattle.core_machine.specs.declared.table.address.Address.TheVariants.{Budget}
 use Rattle.core_machine.specs.machine.Calls.{AnswersArray, IsRefused, IsSpineRefused, free_count, within_reach}
+use Rattle.core_machine.specs.machine.Calls as machine
 use Rattle.core_machine.specs.machine.Machine.{State, seat_at}
 use Rattle.core_machine.specs.seat.Making.{next_object_id}
 use Rattle.core_machine.specs.table.Layout.{at}
@@ -62,7 +63,7 @@ module _ (old : MachineHeapValue) (new : State) (number : ℕ) (command : Comman
   -- where enough spine words are left
   ends_beside : ¬ LacksWords here command → EndsOneWay here number command reply
   ends_beside enough =
-      let granted = λ lacks. enough (omega (arith, lacks, used.0)) in
+      let granted : ¬ machine.LacksWords old.machine.heap old.machine.state command = λ lacks. enough (omega (arith, lacks, used.0)) in
       elim (leb_tells (need_of command) (within_reach old.machine.heap old.machine.state number)) [
         | inl reach ↦ (let e = reach.1 in inr (inl (enough, omega (arith, e, had, free), answer.made granted e ∙ ap Made next)))
         | inr less ↦ (let l = less.1 in inr (inr (enough, λ most. omega (arith, l, most, had, free), fragments_refused (answer.refused granted l))))

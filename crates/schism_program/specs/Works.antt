@@ -33,7 +33,7 @@ abbrev pub most_bytes : Work → ℕ
 most_bytes Play = most_script
 most_bytes Check = most_history
 
--- the work can be done with the input: it is a script that is served, or a legal history
+-- the work can be done with the input: it is a script, or a legal history
 abbrev pub Suits : Work → List ℕ → Type 0
 Suits Play input = IsPlayable input
 Suits Check input = IsLegalText input

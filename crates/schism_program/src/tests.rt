@@ -1,3 +1,4 @@
+mod arrays;
 mod collects;
 mod cycles;
 mod judged;
@@ -128,6 +129,11 @@ fn plays_scripts_and_checks_the_plays(rt: HostRuntime) -> Result<(), Fail> {
 #[test]
 fn refuses_scripts(rt: HostRuntime) -> Result<(), Fail> {
     for (text, line, cause) in [
+        (
+            "schism 1\nheap 66 1024 1\n0 array 1 4097\n",
+            3,
+            Cause::OutOfRange,
+        ),
         (
             "schism 1\nheap 1 0 1\n0 poll\n0 num 1 01\n",
             4,

@@ -1,3 +1,4 @@
+mod arrays;
 mod barrier;
 mod calls;
 mod fields;

@@ -1,4 +1,4 @@
-use core_machine::{AccessStep, HandshakeStep, MakingStep, Step, TurningStep};
+use core_machine::{AccessStep, HandshakeStep, MakingStep, SpineStep, Step, TurningStep};
 use heap_model::Turn;
 use std::alloc::{AllocError, Global};
 
@@ -14,6 +14,7 @@ pub(super) fn due_text(alloc: Global, step: &Step) -> Result<String, AllocError>
         Step::PollLoad => format!(in alloc; "load the phase"),
         Step::Making(step) => making_text(alloc, step),
         Step::Access(step) => access_text(alloc, step),
+        Step::Spine(step) => spine_text(alloc, step),
         Step::Handshake(step) => handshake_text(alloc, step),
         Step::Turning(step) => turning_text(alloc, step),
     }
@@ -53,6 +54,21 @@ fn access_text(alloc: Global, step: AccessStep) -> Result<String, AllocError> {
             part,
             word,
         } => format!(in alloc; "swap {fragment}.{part} {word:x}"),
+    }
+}
+
+fn spine_text(alloc: Global, step: SpineStep) -> Result<String, AllocError> {
+    match step {
+        SpineStep::BudgetAdd { words } => format!(in alloc; "grant {words}"),
+        SpineStep::BudgetTakeBack { words } => format!(in alloc; "take back {words}"),
+        SpineStep::SpotClaim { words } => format!(in alloc; "place {words}"),
+        SpineStep::SpineStore {
+            half,
+            offset,
+            fragment,
+        } => format!(in alloc; "list {half}.{offset} {fragment}"),
+        SpineStep::AddressLoad { sentinel } => format!(in alloc; "locate {sentinel}"),
+        SpineStep::WordLoad { half, offset } => format!(in alloc; "index {half}.{offset}"),
     }
 }
 
