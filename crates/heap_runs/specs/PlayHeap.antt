@@ -82,8 +82,8 @@ RefusesWords state command reply = (used : ℕ) × (used + words_returned state.
 abbrev pub RefusesFragments : PlayState → ℕ → Command → Reply → Type 0
 RefusesFragments state number command reply = (found : ℕ) × FindsSpace state.heap true state.entries number found × (reply ≡ replies.Full (need_of command) found)
 
--- an array was made exactly where both its spine words and its fragments were enough; spine words are looked at first, and are refused exactly where
--- they are too many; and the fragments are exactly where they alone are
+-- an array was made exactly where neither its spine words nor its fragments were too many; its spine words are looked at first, and refused exactly where they are
+-- too many; its fragments are refused exactly where they alone are
 pub record AnswersArrayOnce (state : PlayState) (number : ℕ) (command : Command) (reply : Reply) : Type 0 where
   pub made : (reply ≡ replies.Made (next_id (seat_state_of state number))) ↔ (¬ LacksWords state command × IsEnough state number command)
   pub no_words : RefusesWords state command reply ↔ LacksWords state command
