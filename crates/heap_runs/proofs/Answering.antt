@@ -13,13 +13,11 @@ use Rattle.heap_model.specs.declared.entry.Entry.{Entry}
 use Rattle.heap_model.specs.declared.entry.Entry.TheVariants as entries
 use Rattle.heap_model.specs.account.Turned.{TurnedHoldNobody}
 use Rattle.heap_model.specs.calls.SeatLaws.{EachCallCounts, EachCallSparesOthers}
-use Rattle.heap_model.specs.account.Space.{words_granted}
 use Rattle.heap_model.specs.graph.Objects.{graph_seat, absent_graph_seat}
 use Rattle.heap_model.specs.graph.Graph.{Graph, GraphSeat, opening, opening_graph_seat}
 use Rattle.heap_model.specs.graph.Growth.{after_entry, graph_after}
 use Rattle.script_text.specs.declared.script.Line.{Line}
 use Rattle.script_text.specs.declared.script.Line.TheVariants as lines
-use Rattle.core_machine.specs.seat.Commands.{IsServed}
 use Rattle.heap_runs.specs.Play.{lines_answered}
 use Rattle.heap_runs.specs.PlayHeap.{PlayState, seat_state_of}
 use Rattle.heap_runs.specs.Playing.{NotesCall, NotesTurns, IsThere, DoesFew, HasAnsweredLines}

@@ -20,7 +20,7 @@ use Rattle.heap_model.specs.account.PhaseCounts.{phase}
 use Rattle.heap_model.specs.calls.CollectorCalls.{ComesTo, StepsTo}
 use Rattle.core_machine.specs.declared.table.address.Address.TheVariants.{Phase}
 use Rattle.core_machine.specs.machine.InnerCalls.{inner_entries}
-use Rattle.core_machine.specs.machine.Machine.{State, seat_at, Turns, state_after}
+use Rattle.core_machine.specs.machine.Machine.{State, seat_at, Turns}
 use Rattle.core_machine.specs.machine.Machine as machines
 use Rattle.core_machine.specs.seat.Seat.{Seat}
 use Rattle.core_machine.specs.table.Layout.{at}

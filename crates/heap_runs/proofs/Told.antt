@@ -1,20 +1,16 @@
 -- What a call tells, whichever it is.
-use Rattle.std.proofs.Common.{◌≡◌, ◌≢◌, ℕ, true, List, [], ◌∷◌, ◌++◌, refl, sym, ap, ◌∙◌, rules, arith}
+use Rattle.std.proofs.Common.{◌≡◌, ℕ, true, List, [], ◌∷◌, ◌++◌, refl, sym, ap, ◌∙◌}
 use Rattle.std.specs.List.{AllByRecursion, flat_map}
 use Rattle.std.proofs.lemmas.List.{append_cancel_left}
-use Rattle.std.proofs.lemmas.List.Sums.{fold-append, sum_by-append, sum_by-cons}
+use Rattle.std.proofs.lemmas.List.Sums.{fold-append}
 use Rattle.heap_model.specs.declared.command.Command.{Command}
 use Rattle.heap_model.specs.declared.command.Command.TheVariants as commands
 use Rattle.heap_model.specs.declared.entry.Entry.{Entry}
 use Rattle.heap_model.specs.declared.entry.Entry.TheVariants as entries
-use Rattle.heap_model.specs.declared.heap.Heap.{Heap}
 use Rattle.heap_model.specs.declared.reply.Reply.{Reply}
-use Rattle.heap_model.specs.account.Effects.{effect_of}
-use Rattle.heap_model.specs.account.Space.{words_granted}
 use Rattle.heap_model.specs.account.Turned.{is_of_heap}
 use Rattle.heap_model.specs.graph.Graph.{Graph, opening}
 use Rattle.heap_model.specs.graph.Growth.{after_entry, graph_after}
-use Rattle.core_machine.specs.seat.Commands.{IsServed}
 use Rattle.heap_runs.specs.Play.{lines_answered}
 use Rattle.heap_runs.specs.PlayHeap.{PlayState, TellsInCollect, AnswersOnce, AnswersCollect, AnswersCall}
 use Rattle.heap_runs.specs.Playing.{NotesCall}

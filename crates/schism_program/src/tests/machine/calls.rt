@@ -1,4 +1,5 @@
-ghost use Rattle.std.specs.Prelude.{◌↔◌, IsTrue};
+ghost use Rattle.std.specs.Prelude.{◌↔◌, ◌+◌, ◌*◌, ◌≤◌, IsTrue};
+ghost use Rattle.heap_model.specs.Needs.{need_of};
 ghost use Rattle.core_machine.specs.table.Layout.{InTable};
 
 use core_machine::{Address, Machine, Step};
@@ -17,12 +18,19 @@ pub(super) fn machine_of(
     Ok(Machine::make(alloc, heap)?)
 }
 
+/// Room for the most entries that a call of the command adds.
+fn room_for(command: &Command) -> usize
+    ensures { 2 * need_of command.now + 4 ≤ result }
+{
+    2 * command.need() as usize + 4
+}
+
 /// The whole call of a seat, with room for its entries.
 pub(super) fn call(machine: &mut Machine, seat: u8, command: &Command) -> Result<Reply, Fail> {
     if !machine.may_begin(seat, command) {
         return Err("the seat can't begin".into());
     }
-    machine.room(seat, 36)?;
+    machine.room(seat, room_for(command))?;
     Ok(machine.play_call(seat, command))
 }
 
@@ -31,7 +39,7 @@ pub(super) fn begin(machine: &mut Machine, seat: u8, command: &Command) -> Resul
     if !machine.may_begin(seat, command) {
         return Ok(false);
     }
-    machine.room(seat, 36)?;
+    machine.room(seat, room_for(command))?;
     machine.begin(seat, *command);
     Ok(true)
 }
