@@ -1,5 +1,8 @@
 -- The collector's turns.
 pub mod Collector
+pub mod Copying
+pub mod CopyingTurns
+pub mod FitsCopying
 pub mod FitsTurns
 pub mod Marking
 pub mod MarkingTurns

@@ -1,22 +1,26 @@
 ghost use Rattle.std.specs.Prelude.{◌≡◌, ◌+◌, ◌-◌, ◌<◌, ◌≤◌, ◌^◌, ◌++◌, [], ◌∷◌, length, OnOk, OnErr};
-ghost use Rattle.core_machine.specs.collector.Collector.{opening_collector, next_turn, collector_after, has_answered_of, first_work as first_work_of, after_advance, advance_turn, end_turn, free_turn, look_answer, after_look, after_counted_look};
+ghost use Rattle.core_machine.specs.collector.Collector.{opening_collector, next_turn, collector_after, has_answered_of, first_work as first_work_of, after_advance, advance_turn, end_turn, flip_turn, free_turn, return_turn, copying_turn, look_answer, after_look, after_counted_look};
+ghost use Rattle.core_machine.specs.collector.FitsCopying.{FitsCopying};
 ghost use Rattle.core_machine.specs.seat.Fits.{CollectorFits};
 ghost use Rattle.core_machine.specs.table.Decode.{FoundPointsWithin};
 ghost use Rattle.core_machine.specs.table.Operation.{address_of};
 ghost use Rattle.heap_model.specs.Heap.{IsHeap};
 
+use crate::collector::copying::next_half;
 use crate::collector::marking::pass_on;
-use crate::collector::stage::{Scan, Stage};
-use crate::collector::sweeping::{cleared, examine_from, sweep_on, swept};
+use crate::collector::stage::{Copying, Scan, Stage};
+use crate::collector::sweeping::{cleared, examine_from, freed, sweep_on, swept};
 use crate::log::Log;
-use crate::step::{SpineStep, Step, TurningStep};
+use crate::step::{CopyingStep, SpineStep, Step, TurningStep};
+use crate::table::decode::spine_words;
 use heap_model::limits::GROUP_FRAGMENTS;
-use heap_model::phase_plan::{CLEARING, CYCLE_PHASES, MARKING, SWEEP};
+use heap_model::phase_plan::{CLEARING, COPYING, CYCLE_PHASES, MARKING, SWEEP};
 use heap_model::{Entry, Heap, Memory, Turn};
 use heap_words::LEFT;
 use std::alloc::Global;
 use std::marker::Model;
 
+pub(crate) mod copying;
 pub(crate) mod marking;
 pub(crate) mod stage;
 pub(crate) mod sweeping;
@@ -91,11 +95,19 @@ impl CollectorParty {
             Stage::Indexing(scan) => return Step::Spine(scan.load()),
             Stage::Spreading { target, .. } => TurningStep::MarkShade { fragment: target },
             Stage::Blackening(Scan { fragment, .. }) => TurningStep::Blacken { fragment },
+            Stage::Flipping => {
+                let half = next_half(self.phase);
+                return Step::Copying(CopyingStep::FlipStore { half });
+            }
+            Stage::Copying(stage) => return stage.due(heap),
             Stage::Sweeping { group } => TurningStep::GroupLoad { group },
             Stage::Examining { group, place, .. } => TurningStep::MetaLoad {
                 fragment: GROUP_FRAGMENTS * group + u16::from(place),
             },
-            Stage::Freeing { group, dead } => TurningStep::Free { group, bits: dead },
+            Stage::Freeing { group, dead, .. } => TurningStep::Free { group, bits: dead },
+            Stage::Returning { words, .. } => {
+                return Step::Copying(CopyingStep::BudgetReturn { words });
+            }
             Stage::Clearing { group, .. } => TurningStep::Clear { group },
             Stage::Ending { .. } => TurningStep::EndAdvance {
                 phase: self.phase + 1,
@@ -155,6 +167,7 @@ impl CollectorParty {
                 group: 0,
                 found: false,
             },
+            COPYING => Stage::Copying(Copying::Visiting { group: 0 }),
             SWEEP => Stage::Sweeping { group: 0 },
             CLEARING => Stage::Clearing { group: 0, kept: 0 },
             _ => Stage::Advancing,
@@ -174,15 +187,40 @@ impl CollectorParty {
         self.log.push(entry);
     }
 
-    /// The group's dead fragments are freed.
-    fn free(&mut self, heap: &Heap, group: u16, dead: u16)
+    /// The group's dead fragments are freed, among them arrays with so many spine words.
+    fn free(&mut self, heap: &Heap, group: u16, dead: u16, words: u32)
         requires group { group < heap.now.groups }
         requires spare { 0 < self.old.spare }
-        ensures collector { self.new.collector ≡ collector_after (free_turn heap.now self.old.collector group dead) 0 }
+        ensures collector { self.new.collector ≡ collector_after (free_turn heap.now self.old.collector group dead words) 0 }
+        ensures spare { self.old.spare ≤ self.new.spare + 1 }
+    {
+        self.stage = freed(heap, group, words);
+        self.log.push(Entry::Frees(dead.count_ones()));
+    }
+
+    /// The spine words of the group's dead arrays are returned.
+    fn return_words(&mut self, heap: &Heap, group: u16, words: u32)
+        requires group { group < heap.now.groups }
+        requires spare { 0 < self.old.spare }
+        ensures collector { self.new.collector ≡ collector_after (return_turn heap.now self.old.collector group words) 0 }
         ensures spare { self.old.spare ≤ self.new.spare + 1 }
     {
         self.stage = sweep_on(heap, group);
-        self.log.push(Entry::Frees(dead.count_ones()));
+        self.log.push(Entry::Returns(words));
+    }
+
+    /// Copying goes on by the word that its turn found; where an array swings to its copy an entry tells of it.
+    fn copy(&mut self, heap: &Heap, stage: Copying, found: u64)
+        requires limits { IsHeap heap.now }
+        requires fits { FitsCopying heap.now stage }
+        requires spare { 0 < self.old.spare }
+        ensures collector { self.new.collector ≡ collector_after (copying_turn heap.now self.old.collector stage) found }
+        ensures spare { self.old.spare + length self.old.collector.log ≤ self.new.spare + length self.new.collector.log }
+    {
+        self.stage = stage.after(heap, self.phase, found);
+        if let Copying::Swinging(copy) = stage {
+            self.log.push(Entry::Swings(copy.array.id));
+        }
     }
 
     /// The next phase of the cycle begins.
@@ -233,11 +271,20 @@ impl CollectorParty {
             Stage::Indexing(scan) => self.stage = scan.seen(found),
             Stage::Spreading { scan, .. } => self.stage = scan.spread(),
             Stage::Blackening(scan) => self.stage = scan.done(),
+            Stage::Flipping => self.stage = Stage::Advancing,
+            Stage::Copying(stage) => self.copy(heap, stage, found),
             Stage::Sweeping { group } => self.stage = swept(heap, group, found),
-            Stage::Examining { group, dead, place } => {
-                self.stage = examine_from(heap, group, dead, place + 1);
+            Stage::Examining {
+                group,
+                dead,
+                place,
+                words,
+            } => {
+                let words = words + u32::from(spine_words(found));
+                self.stage = examine_from(heap, group, dead, words, place + 1);
             }
-            Stage::Freeing { group, dead } => self.free(heap, group, dead),
+            Stage::Freeing { group, dead, words } => self.free(heap, group, dead, words),
+            Stage::Returning { group, words } => self.return_words(heap, group, words),
             Stage::Clearing { group, kept } => self.stage = cleared(heap, group, kept, found),
             Stage::Ending { kept } => return self.end_cycle(kept),
             Stage::Advancing => return self.advance(),

@@ -1,9 +1,9 @@
 ghost use Rattle.std.specs.Prelude.{◌≡◌};
-ghost use Rattle.core_machine.specs.table.Operation.{address_of, operation_of, making_address, making_operation, access_address, access_operation, spine_address, spine_operation, handshake_address, handshake_operation, turning_address, turning_operation};
+ghost use Rattle.core_machine.specs.table.Operation.{address_of, operation_of, making_address, making_operation, access_address, access_operation, spine_address, spine_operation, handshake_address, handshake_operation, copying_address, copying_operation, turning_address, turning_operation};
 
 use crate::step::operation::Operation;
 use crate::table::address::Address;
-use crate::table::newborn::spine_word;
+use crate::table::newborn::{fixed_word, spine_word};
 use heap_model::limits::GROUP_FRAGMENTS;
 use heap_words::{
     ALL_TAKEN, LEFT, MARKS_CLEARED, all_but, birth_bits, blacken_bit, free_mask, shade_bit,
@@ -24,6 +24,8 @@ pub enum Step {
     Spine(SpineStep),
     /// A step by which a seat tells what it has answered.
     Handshake(HandshakeStep),
+    /// A step by which the collector copies spines and returns the words of freed ones.
+    Copying(CopyingStep),
     /// A step of the collector; a seat too looks at another one's word.
     Turning(TurningStep),
 }
@@ -101,6 +103,23 @@ pub enum HandshakeStep {
     LeaveStore { seat: u8 },
 }
 
+/// A step by which the collector copies spines into the other half, and returns the words of freed ones.
+#[derive(Clone, Copy)]
+pub enum CopyingStep {
+    /// The next spine's place is the first word of this half.
+    FlipStore { half: u8 },
+    /// The next free spine words are taken for a copy, so many.
+    CopyClaim { words: u16 },
+    /// A word of a spine is loaded.
+    CopyLoad { half: u8, offset: u32 },
+    /// Its copy gets the word.
+    CopyStore { half: u8, offset: u32, word: u64 },
+    /// The array with this first fragment has its spine where this word tells.
+    SwingStore { sentinel: u16, spot: u64 },
+    /// So many words are granted no longer.
+    BudgetReturn { words: u32 },
+}
+
 /// A step of the collector.
 #[derive(Clone, Copy)]
 pub enum TurningStep {
@@ -137,6 +156,7 @@ impl Step {
             Step::Access(step) => step.address(),
             Step::Spine(step) => step.address(),
             Step::Handshake(step) => step.address(),
+            Step::Copying(step) => step.address(),
             Step::Turning(step) => step.address(),
         }
     }
@@ -151,6 +171,7 @@ impl Step {
             Step::Access(step) => step.operation(),
             Step::Spine(step) => step.operation(),
             Step::Handshake(step) => step.operation(),
+            Step::Copying(step) => step.operation(),
             Step::Turning(step) => step.operation(),
         }
     }
@@ -262,6 +283,37 @@ impl HandshakeStep {
         match *self {
             HandshakeStep::AnswerStore { phase, .. } => Operation::Store(phase),
             HandshakeStep::LeaveStore { .. } => Operation::Store(LEFT),
+        }
+    }
+}
+
+impl CopyingStep {
+    fn address(&self) -> Address
+        ensures { result ≡ copying_address self.now }
+    {
+        match *self {
+            CopyingStep::FlipStore { .. } | CopyingStep::CopyClaim { .. } => Address::Spot,
+            CopyingStep::CopyLoad { half, offset } | CopyingStep::CopyStore { half, offset, .. } => {
+                Address::Spine { half, offset }
+            }
+            CopyingStep::SwingStore { sentinel, .. } => Address::Word {
+                fragment: sentinel,
+                part: 2,
+            },
+            CopyingStep::BudgetReturn { .. } => Address::Budget,
+        }
+    }
+
+    fn operation(&self) -> Operation
+        ensures { result ≡ copying_operation self.now }
+    {
+        match *self {
+            CopyingStep::FlipStore { half } => Operation::Store(fixed_word(u32::from(half))),
+            CopyingStep::CopyClaim { words } => Operation::Add(u64::from(words)),
+            CopyingStep::CopyLoad { .. } => Operation::Load,
+            CopyingStep::CopyStore { word, .. } => Operation::Store(word),
+            CopyingStep::SwingStore { spot, .. } => Operation::Store(spot),
+            CopyingStep::BudgetReturn { words } => Operation::Subtract(u64::from(words)),
         }
     }
 }

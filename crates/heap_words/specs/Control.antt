@@ -59,6 +59,10 @@ taken_count_of word = count_ones (word % 2 ^ 16)
 abbrev pub dead_bits_of : ℕ → ℕ
 dead_bits_of word = bit_and (word / 2 ^ 16 % 2 ^ 16) (2 ^ 16 - 1 - word / 2 ^ 32 % 2 ^ 16)
 
+-- the marked fragments of a group, each by its place
+abbrev pub marked_bits_of : ℕ → ℕ
+marked_bits_of word = word / 2 ^ 32 % 2 ^ 16
+
 -- the first of the sixteen places from this one on whose bit is set, if one is
 abbrev pub next_place_of : ℕ → ℕ → Option ℕ
 next_place_of bits from = find (λ place. bit_at bits place == 1) (range_with_len from (16 - from))

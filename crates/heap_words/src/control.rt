@@ -1,5 +1,5 @@
 ghost use Rattle.std.specs.Prelude.{◌≡◌};
-ghost use Rattle.heap_words.specs.Control.{place_bit_of, is_clear as is_clear_in, all_but_of, birth_bits_of, shade_bit_of, blacken_bit_of, lowest_grey_of, free_mask_of, dead_bits_of, next_place_of, taken_count_of};
+ghost use Rattle.heap_words.specs.Control.{place_bit_of, is_clear as is_clear_in, all_but_of, birth_bits_of, shade_bit_of, blacken_bit_of, lowest_grey_of, free_mask_of, dead_bits_of, marked_bits_of, next_place_of, taken_count_of};
 
 use crate::group::Group;
 
@@ -91,6 +91,13 @@ pub fn dead_bits(word: u64) -> u16
 {
     let group = Group::read(word);
     group.born & !group.marked
+}
+
+/// The marked fragments of a group, each by its place.
+pub fn marked_bits(word: u64) -> u16
+    ensures { result ≡ marked_bits_of word }
+{
+    Group::read(word).marked
 }
 
 /// The first place from this one on whose bit is set.

@@ -5,7 +5,8 @@ use Rattle.heap_model.specs.declared.heap.Heap.{Heap}
 use Rattle.heap_model.specs.declared.calls.collector_calls.Turn.{Turn as TurnAnswer}
 use Rattle.heap_model.specs.declared.calls.collector_calls.Turn.TheVariants.{Stepped, Waits, Ended}
 use Rattle.heap_model.specs.declared.entry.Entry.TheVariants.{Advance, Ends}
-use Rattle.heap_model.specs.PhasePlan.{cycle_phases, marking, sweep, clearing}
+use Rattle.heap_model.specs.PhasePlan.{cycle_phases, marking, copying as copying_phase, sweep, clearing}
+use Rattle.core_machine.specs.declared.collector.stage.Copying.TheVariants.{Visiting}
 use Rattle.core_machine.specs.declared.collector.stage.Stage.{Stage}
 use Rattle.core_machine.specs.declared.collector.stage.Stage.TheVariants as stages
 use Rattle.core_machine.specs.declared.step.Step.TheVariants.{Turning}
@@ -13,8 +14,10 @@ use Rattle.core_machine.specs.declared.step.TurningStep.TheVariants as turning
 pub use Rattle.core_machine.specs.collector.Turn.{Collector, Turn, after_advance, quiet_turn, work_turn, collector_after}
 pub use Rattle.core_machine.specs.collector.Marking.{lowest_grey_of, after_last_group, after_group, after_pass, part_after, scan_step, scan_at, after_scan_load, array_at, after_first_load, spine_step, spine_scan_at, after_address, after_spread}
 pub use Rattle.core_machine.specs.collector.MarkingTurns.{pass_turn, scan_turn, shade_turn, locate_turn, index_turn, spread_turn, blacken_turn}
-pub use Rattle.core_machine.specs.collector.Sweeping.{dead_bits_of, next_place_of, taken_count_of, after_swept, after_examined, after_cleared}
-pub use Rattle.core_machine.specs.collector.SweepingTurns.{sweep_turn, examine_turn, free_turn, clear_turn}
+pub use Rattle.core_machine.specs.collector.Copying.{marked_bits_of, left_half, next_half, after_visited, after_seen, after_visit, visit_on, after_inspected, after_located, copy_at, after_claimed, after_copied}
+pub use Rattle.core_machine.specs.collector.CopyingTurns.{flip_turn, visited, sentinel_at, copying_step, after_copying, copying_adds, copying_turn}
+pub use Rattle.core_machine.specs.collector.Sweeping.{dead_bits_of, next_place_of, taken_count_of, after_swept, after_examined, after_freed, after_cleared}
+pub use Rattle.core_machine.specs.collector.SweepingTurns.{sweep_turn, examine_turn, free_turn, return_turn, clear_turn}
 
 -- the collector at the opening
 abbrev pub opening_collector : Collector
@@ -28,6 +31,7 @@ has_answered_of phase word = if word == phase then true else word == LEFT
 abbrev pub first_work : ℕ → Stage
 first_work phase =
     if phase % cycle_phases == marking then stages.Passing 0 false
+    else if phase % cycle_phases == copying_phase then stages.Copying (Visiting 0)
     else if phase % cycle_phases == sweep then stages.Sweeping 0
     else if phase % cycle_phases == clearing then stages.Clearing 0 0
     else stages.Advancing
@@ -85,9 +89,12 @@ turn_at heap collector (stages.Locating scan words) = locate_turn collector scan
 turn_at heap collector (stages.Indexing scan) = index_turn collector scan
 turn_at heap collector (stages.Spreading scan target) = spread_turn collector scan target
 turn_at heap collector (stages.Blackening scan) = blacken_turn collector scan
+turn_at heap collector stages.Flipping = flip_turn collector
+turn_at heap collector (stages.Copying stage) = copying_turn heap collector stage
 turn_at heap collector (stages.Sweeping group) = sweep_turn heap collector group
-turn_at heap collector (stages.Examining group dead place) = examine_turn heap collector group dead place
-turn_at heap collector (stages.Freeing group dead) = free_turn heap collector group dead
+turn_at heap collector (stages.Examining group dead place words) = examine_turn heap collector group dead place words
+turn_at heap collector (stages.Freeing group dead words) = free_turn heap collector group dead words
+turn_at heap collector (stages.Returning group words) = return_turn heap collector group words
 turn_at heap collector (stages.Clearing group kept) = clear_turn heap collector group kept
 turn_at heap collector (stages.Ending kept) = end_turn collector kept
 turn_at heap collector stages.Advancing = advance_turn collector

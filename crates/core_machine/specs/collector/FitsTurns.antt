@@ -5,6 +5,7 @@ use Rattle.heap_model.specs.declared.heap.Heap.{Heap}
 use Rattle.heap_model.specs.Limits.{group_fragments}
 use Rattle.heap_model.specs.PhasePlan.{cycle_phases, marking, sweep, clearing}
 use Rattle.core_machine.specs.collector.Collector.{Collector}
+pub use Rattle.core_machine.specs.collector.FitsCopying.{spine_most, IsCopying, FitsVisit, FitsArrayAt, FitsCopy, FitsStoring, FitsCopying}
 use Rattle.core_machine.specs.declared.collector.stage.Scan.{Scan}
 use Rattle.core_machine.specs.declared.collector.stage.SpineScan.{SpineScan}
 use Rattle.core_machine.specs.declared.collector.stage.Stage.{Stage}
@@ -42,10 +43,6 @@ pub record IsShading (heap : Heap) (phase looked : ℕ) (scan : Scan) (target ne
   pub part_before : scan.part < next
   pub next_within : next ≤ 4
   pub few_steps : scan.steps ≤ 2 * scan.part + 1
-
--- the most words of a spine that a meta tells
-abbrev pub spine_most : ℕ
-spine_most = 2048
 
 -- a scan has loaded the meta of an array with so many spine words, by its first step
 pub record IsLocating (heap : Heap) (phase looked : ℕ) (scan : Scan) (words : ℕ) : Type 0 where
@@ -86,17 +83,25 @@ pub record IsSweeping (heap : Heap) (phase looked group : ℕ) : Type 0 where
   pub group_within : group < heap.groups
 
 -- the sweep stands before a dead fragment of a group
-pub record IsExamining (heap : Heap) (phase looked group dead place : ℕ) : Type 0 where
+pub record IsExamining (heap : Heap) (phase looked group dead place words : ℕ) : Type 0 where
   pub sweeps : IsSweeping heap phase looked group
   pub dead_within : dead < 2 ^ 16
   pub place_within : place < 16
   pub is_dead : bit_at dead place ≡ 1
+  pub words_few : words ≤ spine_most * place
 
 -- the sweep has looked at a group's dead fragments, of which there are some
-pub record IsFreeing (heap : Heap) (phase looked group dead : ℕ) : Type 0 where
+pub record IsFreeing (heap : Heap) (phase looked group dead words : ℕ) : Type 0 where
   pub sweeps : IsSweeping heap phase looked group
   pub dead_within : dead < 2 ^ 16
   pub some_dead : dead ≢ 0
+  pub words_few : words ≤ spine_most * group_fragments
+
+-- the sweep has freed a group's dead fragments, whose arrays had some spine words
+pub record IsReturning (heap : Heap) (phase looked group words : ℕ) : Type 0 where
+  pub sweeps : IsSweeping heap phase looked group
+  pub some_words : words ≢ 0
+  pub words_few : words ≤ spine_most * group_fragments
 
 -- the clearing stands before a group of the heap, and has counted no more fragments than those before it have
 pub record IsClearing (heap : Heap) (phase looked group kept : ℕ) : Type 0 where
@@ -121,9 +126,12 @@ FitsStage heap phase looked (stages.Locating scan words) = IsLocating heap phase
 FitsStage heap phase looked (stages.Indexing s) = IsIndexing heap phase looked s
 FitsStage heap phase looked (stages.Spreading s target) = IsSpreading heap phase looked s target
 FitsStage heap phase looked (stages.Blackening scan) = IsBlackening heap phase looked scan
+FitsStage heap phase looked stages.Flipping = IsMarking heap.seats phase looked
+FitsStage heap phase looked (stages.Copying stage) = IsCopying heap.seats phase looked × FitsCopying heap stage
 FitsStage heap phase looked (stages.Sweeping group) = IsSweeping heap phase looked group
-FitsStage heap phase looked (stages.Examining group dead place) = IsExamining heap phase looked group dead place
-FitsStage heap phase looked (stages.Freeing group dead) = IsFreeing heap phase looked group dead
+FitsStage heap phase looked (stages.Examining group dead place words) = IsExamining heap phase looked group dead place words
+FitsStage heap phase looked (stages.Freeing group dead words) = IsFreeing heap phase looked group dead words
+FitsStage heap phase looked (stages.Returning group words) = IsReturning heap phase looked group words
 FitsStage heap phase looked (stages.Clearing group kept) = IsClearing heap phase looked group kept
 FitsStage heap phase looked (stages.Ending kept) = HasCleared heap phase looked kept
 FitsStage heap phase looked stages.Advancing = HasLooked heap.seats phase looked

@@ -11,10 +11,10 @@ use Rattle.core_machine.specs.declared.collector.stage.Stage.TheVariants as stag
 use Rattle.core_machine.specs.table.Decode.{is_meta, array_length_of}
 pub use Rattle.heap_words.specs.Control.{lowest_grey_of}
 
--- how a pass that has seen the last group goes on: where it found something another one begins, else marking has ended and so the phase is done
+-- how a pass that has seen the last group goes on: where it found something another one begins, else marking has ended and the flip comes
 abbrev pub after_last_group : Bool → Stage
 after_last_group true = stages.Passing 0 false
-after_last_group false = stages.Advancing
+after_last_group false = stages.Flipping
 
 -- the next group's turn comes
 abbrev pub after_group : Heap → ℕ → Bool → Stage

@@ -9,10 +9,14 @@ pub use Rattle.heap_words.specs.Control.{dead_bits_of, next_place_of, taken_coun
 abbrev pub after_swept : Heap → ℕ → Stage
 after_swept heap group = if nat_lt (group + 1) heap.groups then stages.Sweeping (group + 1) else stages.Advancing
 
--- the next dead fragment is looked at; behind the last one they are freed, where there are any
-abbrev pub after_examined : Heap → ℕ → ℕ → Option ℕ → Stage
-after_examined heap group dead (Some place) = stages.Examining group dead place
-after_examined heap group dead None = if dead == 0 then after_swept heap group else stages.Freeing group dead
+-- the next dead fragment is looked at; behind the last one they are freed, where there are any; arrays among those looked at had so many spine words
+abbrev pub after_examined : Heap → ℕ → ℕ → ℕ → Option ℕ → Stage
+after_examined heap group dead words (Some place) = stages.Examining group dead place words
+after_examined heap group dead words None = if dead == 0 then after_swept heap group else stages.Freeing group dead words
+
+-- the group's dead fragments are freed: where arrays are among them their spine words are returned
+abbrev pub after_freed : Heap → ℕ → ℕ → Stage
+after_freed heap group words = if words == 0 then after_swept heap group else stages.Returning group words
 
 -- the next group is cleared; behind the last one the cycle ends
 abbrev pub after_cleared : Heap → ℕ → ℕ → Stage

@@ -1,32 +1,44 @@
 -- The turns of the sweep and of the clearing, in the last two phases of a cycle.
 use Rattle.std.specs.Prelude.{ℕ, ◌+◌, ◌*◌, [], ◌∷◌, count_ones}
 use Rattle.heap_model.specs.declared.calls.collector_calls.Turn.TheVariants.{Stepped}
-use Rattle.heap_model.specs.declared.entry.Entry.TheVariants.{Frees}
+use Rattle.heap_model.specs.declared.entry.Entry.TheVariants.{Frees, Returns}
 use Rattle.heap_model.specs.declared.heap.Heap.{Heap}
 use Rattle.heap_model.specs.Limits.{group_fragments}
-use Rattle.core_machine.specs.declared.step.Step.TheVariants.{Turning}
+use Rattle.core_machine.specs.declared.step.CopyingStep.TheVariants.{BudgetReturn}
+use Rattle.core_machine.specs.declared.step.Step.TheVariants.{Copying, Turning}
 use Rattle.core_machine.specs.declared.step.TurningStep.TheVariants as turning
-use Rattle.core_machine.specs.collector.Sweeping.{dead_bits_of, next_place_of, taken_count_of, after_swept, after_examined, after_cleared}
+use Rattle.core_machine.specs.collector.Sweeping.{dead_bits_of, next_place_of, taken_count_of, after_swept, after_examined, after_freed, after_cleared}
 use Rattle.core_machine.specs.collector.Turn.{Collector, Turn, work_turn}
+use Rattle.core_machine.specs.table.Decode.{spine_words_in}
 
 -- a group's control word is loaded for what is dead in it
 abbrev pub sweep_turn : Heap → Collector → ℕ → Turn
 sweep_turn heap collector group =
     work_turn (Turning (turning.GroupLoad group))
-    (λ word. record collector { stage = after_examined heap group (dead_bits_of word) (next_place_of (dead_bits_of word) 0) })
+    (λ word. record collector { stage = after_examined heap group (dead_bits_of word) 0 (next_place_of (dead_bits_of word) 0) })
 
--- the first word of a dead fragment is loaded: whatever it is, the next one's turn comes
-abbrev pub examine_turn : Heap → Collector → ℕ → ℕ → ℕ → Turn
-examine_turn heap collector group dead place =
+-- the first word of a dead fragment is loaded: where it is an array's meta its spine words are counted, and the next one's turn comes
+abbrev pub examine_turn : Heap → Collector → ℕ → ℕ → ℕ → ℕ → Turn
+examine_turn heap collector group dead place words =
     work_turn (Turning (turning.MetaLoad (group_fragments * group + place)))
-    (λ word. record collector { stage = after_examined heap group dead (next_place_of dead (place + 1)) })
+    (λ word. record collector { stage = after_examined heap group dead (words + spine_words_in word) (next_place_of dead (place + 1)) })
 
 -- the group's dead fragments are freed
-abbrev pub free_turn : Heap → Collector → ℕ → ℕ → Turn
-free_turn heap collector group dead = record {
+abbrev pub free_turn : Heap → Collector → ℕ → ℕ → ℕ → Turn
+free_turn heap collector group dead words = record {
   step = Turning (turning.Free group dead);
-  told = λ word. record collector { stage = after_swept heap group };
+  told = λ word. record collector { stage = after_freed heap group words };
   adds = Frees (count_ones dead) ∷ [];
+  answer = λ word. Stepped;
+  may = Unit {0};
+}
+
+-- the spine words of the group's dead arrays are granted no longer
+abbrev pub return_turn : Heap → Collector → ℕ → ℕ → Turn
+return_turn heap collector group words = record {
+  step = Copying (BudgetReturn words);
+  told = λ word. record collector { stage = after_swept heap group };
+  adds = Returns words ∷ [];
   answer = λ word. Stepped;
   may = Unit {0};
 }

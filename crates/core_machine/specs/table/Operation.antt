@@ -1,6 +1,7 @@
 -- Which word each step touches, and what it does with it.
 use Rattle.std.specs.Prelude.{ℕ, ◌+◌, ◌-◌, ◌/◌, ◌%◌, ◌^◌, bit_and, bit_or}
 use Rattle.heap_words.specs.declared.phase.TheConstants.{LEFT}
+use Rattle.heap_words.specs.Spot.{spot_word}
 pub use Rattle.heap_words.specs.Control.{all_taken, all_but_of, word_without_taken, birth_bits_of, shade_bit_of, blacken_bit_of, free_mask_of, marks_cleared}
 use Rattle.heap_model.specs.Limits.{group_fragments}
 use Rattle.core_machine.specs.declared.table.address.Address.{Address}
@@ -8,7 +9,7 @@ use Rattle.core_machine.specs.declared.table.address.Address.TheVariants as addr
 use Rattle.core_machine.specs.declared.step.operation.Operation.{Operation}
 use Rattle.core_machine.specs.declared.step.operation.Operation.TheVariants.{Load, Store, Exchange, Or, And, Add, Subtract}
 use Rattle.core_machine.specs.declared.step.Step.{Step}
-use Rattle.core_machine.specs.declared.step.Step.TheVariants.{Making, PollLoad, Access, Spine, Handshake, Turning}
+use Rattle.core_machine.specs.declared.step.Step.TheVariants.{Making, PollLoad, Access, Spine, Handshake, Copying, Turning}
 use Rattle.core_machine.specs.declared.step.MakingStep.{MakingStep}
 use Rattle.core_machine.specs.declared.step.MakingStep.TheVariants.{Claim, GiveBack, NewbornStore, Birth, LastBirth}
 use Rattle.core_machine.specs.declared.step.AccessStep.{AccessStep}
@@ -17,6 +18,8 @@ use Rattle.core_machine.specs.declared.step.SpineStep.{SpineStep}
 use Rattle.core_machine.specs.declared.step.SpineStep.TheVariants.{BudgetAdd, BudgetTakeBack, SpotClaim, SpineStore, AddressLoad, WordLoad}
 use Rattle.core_machine.specs.declared.step.HandshakeStep.{HandshakeStep}
 use Rattle.core_machine.specs.declared.step.HandshakeStep.TheVariants.{AnswerStore, LeaveStore}
+use Rattle.core_machine.specs.declared.step.CopyingStep.{CopyingStep}
+use Rattle.core_machine.specs.declared.step.CopyingStep.TheVariants.{FlipStore, CopyClaim, CopyLoad, CopyStore, SwingStore, BudgetReturn}
 use Rattle.core_machine.specs.declared.step.TurningStep.{TurningStep}
 use Rattle.core_machine.specs.declared.step.TurningStep.TheVariants as turning
 use Rattle.core_machine.specs.table.Newborn.{spine_word}
@@ -52,6 +55,15 @@ abbrev pub handshake_address : HandshakeStep → Address
 handshake_address (AnswerStore seat phase) = addresses.Answer seat
 handshake_address (LeaveStore seat) = addresses.Answer seat
 
+-- the word that a step of copying touches
+abbrev pub copying_address : CopyingStep → Address
+copying_address (FlipStore half) = addresses.Spot
+copying_address (CopyClaim words) = addresses.Spot
+copying_address (CopyLoad half offset) = addresses.Spine half offset
+copying_address (CopyStore half offset word) = addresses.Spine half offset
+copying_address (SwingStore sentinel spot) = addresses.Word sentinel 2
+copying_address (BudgetReturn words) = addresses.Budget
+
 -- the word that a step of the collector touches
 abbrev pub turning_address : TurningStep → Address
 turning_address (turning.LookLoad seat) = addresses.Answer seat
@@ -72,6 +84,7 @@ address_of PollLoad = addresses.Phase
 address_of (Access step) = access_address step
 address_of (Spine step) = spine_address step
 address_of (Handshake step) = handshake_address step
+address_of (Copying step) = copying_address step
 address_of (Turning step) = turning_address step
 
 -- what a step of making does with its word
@@ -105,6 +118,15 @@ abbrev pub handshake_operation : HandshakeStep → Operation
 handshake_operation (AnswerStore seat phase) = Store phase
 handshake_operation (LeaveStore seat) = Store LEFT
 
+-- what a step of copying does with its word
+abbrev pub copying_operation : CopyingStep → Operation
+copying_operation (FlipStore half) = Store (spot_word (record { half = half; offset = 0 }))
+copying_operation (CopyClaim words) = Add words
+copying_operation (CopyLoad half offset) = Load
+copying_operation (CopyStore half offset word) = Store word
+copying_operation (SwingStore sentinel spot) = Store spot
+copying_operation (BudgetReturn words) = Subtract words
+
 -- what a step of the collector does with its word
 abbrev pub turning_operation : TurningStep → Operation
 turning_operation (turning.LookLoad seat) = Load
@@ -125,6 +147,7 @@ operation_of PollLoad = Load
 operation_of (Access step) = access_operation step
 operation_of (Spine step) = spine_operation step
 operation_of (Handshake step) = handshake_operation step
+operation_of (Copying step) = copying_operation step
 operation_of (Turning step) = turning_operation step
 
 -- the word that an operation leaves where it found this one; a load leaves it as it is

@@ -10,12 +10,12 @@ ghost use Rattle.heap_model.specs.Limits.{group_fragments};
 
 use crate::collector::stage::{Scan, SpineScan, Stage};
 use crate::step::SpineStep;
-use crate::table::decode::{array_length, is_meta, lead_in, payload};
+use crate::table::decode::{array_length, array_words, is_meta, lead_in, payload};
 use heap_model::Heap;
 use heap_model::limits::GROUP_FRAGMENTS;
 use heap_words::{Spot, lowest_grey};
 
-/// A pass has seen the last group: another one begins where it found something, else the phase is done.
+/// A pass has seen the last group: another one begins where it found something, else the flip comes.
 fn next_pass(found: bool) -> Stage
     ensures { result ≡ after_last_group found }
 {
@@ -25,7 +25,7 @@ fn next_pass(found: bool) -> Stage
             found: false,
         }
     } else {
-        Stage::Advancing
+        Stage::Flipping
     }
 }
 
@@ -107,7 +107,7 @@ impl Scan {
         let next = self.next_part(word);
         let scan = self.stepped();
         if let Some(cells) = self.array_at(word) {
-            let words = (cells + 3) / 4;
+            let words = array_words(cells);
             return Stage::Locating { scan, words };
         }
         let Some(target) = lead_in(self.part, word) else {

@@ -1,3 +1,4 @@
+use heap_model::Id;
 use heap_words::Spot;
 
 /// The scan of a grey fragment: its words are looked at one after another.
@@ -24,6 +25,62 @@ pub struct SpineScan {
     pub index: u16,
 }
 
+/// A visit to the marked fragments of a group, one after another.
+#[derive(Clone, Copy)]
+pub struct Visit {
+    /// The group.
+    pub group: u16,
+    /// Its marked fragments, each by its place.
+    pub marked: u16,
+    /// The place whose turn it is; the marked ones before it are seen to.
+    pub place: u8,
+}
+
+/// An array that a visit has found.
+#[derive(Clone, Copy)]
+pub struct ArrayAt {
+    /// The visit, which stands at the array's first fragment.
+    pub visit: Visit,
+    /// How many words its spine has.
+    pub words: u16,
+    /// The array.
+    pub id: Id,
+}
+
+/// The copy of a spine into the other half.
+#[derive(Clone, Copy)]
+pub struct SpineCopy {
+    /// The array whose spine it is.
+    pub array: ArrayAt,
+    /// Where the spine stands.
+    pub from: Spot,
+    /// Where the copy stands.
+    pub to: Spot,
+    /// The word whose turn it is; those before it are copied.
+    pub index: u16,
+}
+
+/// Where the collector stands while it copies spines.
+#[derive(Clone, Copy)]
+pub enum Copying {
+    /// A group's control word is loaded for what is marked in it.
+    Visiting { group: u16 },
+    /// The first word of a marked fragment is loaded.
+    Inspecting(Visit),
+    /// The name of an array is loaded, whose spine has so many words.
+    Naming { visit: Visit, words: u16 },
+    /// The place of its spine is loaded.
+    Locating(ArrayAt),
+    /// The next free spine words are taken for a copy of its spine, which stands there.
+    Claiming { array: ArrayAt, from: Spot },
+    /// A word of the spine is loaded.
+    Loading(SpineCopy),
+    /// The copy gets that word.
+    Storing { copy: SpineCopy, word: u64 },
+    /// The copy is whole: it becomes the array's spine.
+    Swinging(SpineCopy),
+}
+
 /// Where the collector stands in a phase.
 #[derive(Clone, Copy)]
 pub enum Stage {
@@ -43,12 +100,23 @@ pub enum Stage {
     Spreading { scan: SpineScan, target: u16 },
     /// All words of the fragment are seen to: it is told to be scanned.
     Blackening(Scan),
+    /// Marking has ended: the next spine gets its place in the other half.
+    Flipping,
+    /// Spines are copied into the other half.
+    Copying(Copying),
     /// A group's control word is loaded for what is dead in it.
     Sweeping { group: u16 },
-    /// The first word of a dead fragment of the group is loaded.
-    Examining { group: u16, dead: u16, place: u8 },
-    /// The group's dead fragments are freed.
-    Freeing { group: u16, dead: u16 },
+    /// The first word of a dead fragment of the group is loaded; arrays that begin before it had so many spine words.
+    Examining {
+        group: u16,
+        dead: u16,
+        place: u8,
+        words: u32,
+    },
+    /// The group's dead fragments are freed, among them arrays with so many spine words.
+    Freeing { group: u16, dead: u16, words: u32 },
+    /// The spine words of the group's dead arrays are granted no longer.
+    Returning { group: u16, words: u32 },
     /// A group's marks are cleared; so many fragments were taken in the groups before it.
     Clearing { group: u16, kept: u64 },
     /// All groups are cleared, and so many fragments were taken in them: the cycle ends.

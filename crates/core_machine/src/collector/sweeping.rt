@@ -1,7 +1,7 @@
 ghost use Rattle.std.specs.Prelude.{◌≡◌, ◌+◌, ◌*◌, ◌<◌, ◌≤◌, ◌^◌};
 ghost use Rattle.heap_model.specs.Heap.{IsHeap};
 ghost use Rattle.heap_model.specs.Limits.{group_fragments};
-ghost use Rattle.core_machine.specs.collector.Sweeping.{dead_bits_of, next_place_of, taken_count_of, after_swept, after_examined, after_cleared};
+ghost use Rattle.core_machine.specs.collector.Sweeping.{dead_bits_of, next_place_of, taken_count_of, after_swept, after_examined, after_freed, after_cleared};
 
 use crate::collector::stage::Stage;
 use heap_model::Heap;
@@ -20,26 +20,43 @@ pub fn sweep_on(heap: &Heap, group: u16) -> Stage
     }
 }
 
-/// The first dead fragment from this place on is looked at; where there is none the dead ones are freed.
-pub fn examine_from(heap: &Heap, group: u16, dead: u16, from: u8) -> Stage
+/// The first dead fragment from this place on is looked at; where there is none the dead ones are freed. Arrays among
+/// those before it had so many spine words.
+pub fn examine_from(heap: &Heap, group: u16, dead: u16, words: u32, from: u8) -> Stage
     requires { group < heap.now.groups }
-    ensures { result ≡ after_examined heap.now group dead (next_place_of dead from) }
+    ensures { result ≡ after_examined heap.now group dead words (next_place_of dead from) }
 {
     if let Some(place) = next_place(dead, from) {
-        return Stage::Examining { group, dead, place };
+        return Stage::Examining {
+            group,
+            dead,
+            place,
+            words,
+        };
     }
     if dead == 0 {
         return sweep_on(heap, group);
     }
-    Stage::Freeing { group, dead }
+    Stage::Freeing { group, dead, words }
+}
+
+/// The group's dead fragments are freed: where arrays are among them their spine words are returned.
+pub fn freed(heap: &Heap, group: u16, words: u32) -> Stage
+    requires { group < heap.now.groups }
+    ensures { result ≡ after_freed heap.now group words }
+{
+    if words == 0 {
+        return sweep_on(heap, group);
+    }
+    Stage::Returning { group, words }
 }
 
 /// The group has this control word: its dead fragments are looked at first.
 pub fn swept(heap: &Heap, group: u16, word: u64) -> Stage
     requires { group < heap.now.groups }
-    ensures { result ≡ after_examined heap.now group (dead_bits_of word) (next_place_of (dead_bits_of word) 0) }
+    ensures { result ≡ after_examined heap.now group (dead_bits_of word) 0 (next_place_of (dead_bits_of word) 0) }
 {
-    examine_from(heap, group, dead_bits(word), 0)
+    examine_from(heap, group, dead_bits(word), 0, 0)
 }
 
 /// The marks of the group that had this control word are cleared: the next group's turn comes, and behind the last one

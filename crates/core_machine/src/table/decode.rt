@@ -1,5 +1,5 @@
 ghost use Rattle.std.specs.Prelude.{◌≡◌, ◌<◌, ◌^◌, IfSome};
-ghost use Rattle.core_machine.specs.table.Decode.{head_of, pointer_in, is_meta as is_meta_of, array_length_of, payload_in, link_of, id_of, stamp_of, plain_of};
+ghost use Rattle.core_machine.specs.table.Decode.{head_of, pointer_in, is_meta as is_meta_of, array_length_of, spine_words_in, payload_in, link_of, id_of, stamp_of, plain_of};
 
 use crate::seat::register::Register;
 use heap_model::Id;
@@ -58,6 +58,21 @@ pub fn array_length(word: u64) -> Option<u16>
         Kind::Fixed => Meta::array_length(&cell),
         Kind::Nil | Kind::Number | Kind::Reference => None,
     }
+}
+
+/// How many words the spine of an array with so many cells has.
+pub fn array_words(cells: u16) -> u16
+    requires { cells < 2 ^ 13 }
+    ensures { result ≡ array_words_of cells }
+{
+    (cells + 3) / 4
+}
+
+/// How many words the spine of that array has; 0 where the word is no array's meta.
+pub fn spine_words(word: u64) -> u16
+    ensures { result ≡ spine_words_in word }
+{
+    array_length(word).map_or(0, array_words)
 }
 
 /// The fragment that a spine word names.

@@ -11,7 +11,7 @@ pub fn spine_word(fragment: u16) -> u64
 }
 
 /// A fixed word of this value, with the stamp 0.
-fn fixed_word(value: u32) -> u64
+pub fn fixed_word(value: u32) -> u64
     requires { value < 2 ^ 30 }
     ensures { result ≡ spine_word_of value }
 {
