@@ -27,8 +27,6 @@ pub record Book : Type 0 where
   pub spines : ℕ → Spot
   -- whose each spine word is, by its half and its offset in that
   pub spine_owner : ℕ → ℕ → SpineOwner
-  -- the spine words of arrays that are to be freed or were freed
-  pub gone : ℕ
   -- the colour of each fragment
   pub colour : ℕ → Colour
   -- how long the history was when each seat last began a call

@@ -1,12 +1,19 @@
--- The spine words that are granted: they are those of arrays and of calls, and every one of them has its place or is due one.
-use Rattle.std.specs.Prelude.{◌≡◌, ℕ, ◌+◌, ◌≤◌, ◌==◌, false, if◌then◌else◌, List, length}
+-- The spine words that are granted: they are those of arrays and of calls; and those that have their places in the half of the next spine stand before it.
+use Rattle.std.specs.Prelude.{◌≡◌, ℕ, ◌+◌, ◌*◌, ◌≤◌, ◌==◌, false, if◌then◌else◌, List, length}
 use Rattle.heap_model.specs.declared.entry.Entry.{Entry}
 use Rattle.heap_model.specs.declared.heap.Heap.{Heap}
+use Rattle.heap_model.specs.Limits.{group_fragments}
+use Rattle.heap_model.specs.PhasePlan.{barriers, copying as copying_phase}
 use Rattle.heap_model.specs.graph.Graph.{Node}
 use Rattle.heap_model.specs.graph.Sizes.{spine_words_of}
 use Rattle.heap_model.specs.account.Cycles.{graph_of}
 use Rattle.heap_model.specs.account.Refusals.{FindsSpine}
 use Rattle.heap_model.specs.account.Space.{words_granted, words_returned}
+use Rattle.heap_model.specs.account.Windows.{since_cycle}
+use Rattle.heap_words.specs.declared.spot.Spot.{Spot}
+use Rattle.core_machine.specs.declared.collector.stage.Copying.TheVariants as copying
+use Rattle.core_machine.specs.declared.collector.stage.Stage.{Stage}
+use Rattle.core_machine.specs.declared.collector.stage.Stage.TheVariants as stages
 use Rattle.core_machine.specs.declared.place.Making.TheVariants.{Withdrawing, Gathering, Returning, Refusing, Placing, Listing, Storing, Bearing}
 use Rattle.core_machine.specs.declared.place.Place.{Place}
 use Rattle.core_machine.specs.declared.place.Place.TheVariants as places
@@ -15,9 +22,11 @@ use Rattle.core_machine.specs.machine.Machine.{State, seat_at}
 use Rattle.core_machine.specs.machine.Sums.{sum_upto}
 use Rattle.core_machine.specs.seat.Seat.{Seat, spine_need}
 use Rattle.core_machine.specs.table.Layout.{at}
-use Rattle.core_rule.specs.Book.{Book, fragment_at}
+use Rattle.core_rule.specs.Book.{Book}
+use Rattle.core_rule.specs.Colours.{IsBetween}
+use Rattle.core_rule.specs.Halves.{IsLeaving}
 use Rattle.core_rule.specs.Objects.{node_at}
-use Rattle.core_rule.specs.Owners.{Owner, Kept}
+use Rattle.core_rule.specs.Owners.{Owner, Kept, Dead}
 use Rattle.core_rule.specs.Spines.{next_spine}
 
 -- the spine words that are granted to a seat's call
@@ -31,13 +40,12 @@ granted_at seat (places.Making Storing) = spine_need seat
 granted_at seat (places.Making Bearing) = spine_need seat
 granted_at seat _ = 0
 
--- those of them that have no place yet
-abbrev pub unplaced_at : Seat → Place → ℕ
-unplaced_at seat (places.Making Gathering) = spine_need seat
-unplaced_at seat (places.Making Returning) = spine_need seat
-unplaced_at seat (places.Making Refusing) = spine_need seat
-unplaced_at seat (places.Making Placing) = spine_need seat
-unplaced_at seat _ = 0
+-- those of them that have their place in this half
+abbrev pub placed_at : ℕ → Seat → Place → ℕ
+placed_at half seat (places.Making Listing) = if seat.spine.half == half then spine_need seat else 0
+placed_at half seat (places.Making Storing) = if seat.spine.half == half then spine_need seat else 0
+placed_at half seat (places.Making Bearing) = if seat.spine.half == half then spine_need seat else 0
+placed_at half seat _ = 0
 
 -- those that it has asked for and was refused, and hasn't taken back yet
 abbrev pub refused_at : Seat → Place → ℕ
@@ -48,27 +56,85 @@ refused_at seat _ = 0
 abbrev pub of_seats : Heap → State → (Seat → Place → ℕ) → ℕ
 of_seats heap state number = sum_upto heap.seats (λ r. number (seat_at state r) (seat_at state r).place)
 
--- the words of an object of this number, where its first fragment is kept
-abbrev pub kept_weight : ℕ → ℕ → Owner → ℕ
-kept_weight i words (Kept j k) = if j == i then words else 0
-kept_weight i words _ = 0
+-- the weight of an object where the fragment is its first one, and kept
+abbrev pub kept_weight : (ℕ → ℕ) → Owner → ℕ
+kept_weight weight (Kept i k) = if k == 0 then weight i else 0
+kept_weight weight _ = 0
 
--- the spine words of all kept arrays
-abbrev pub kept_words : ℕ → (ℕ → Node) → (ℕ → Owner) → (ℕ → List ℕ) → ℕ
-kept_words made nodes owner fragments = sum_upto made (λ i. kept_weight i (spine_words_of (nodes i)) (owner (fragment_at (fragments i) 0)))
+-- the same where it is to be freed
+abbrev pub dead_weight : (ℕ → ℕ) → Owner → ℕ
+dead_weight weight (Dead i k) = if k == 0 then weight i else 0
+dead_weight weight _ = 0
 
--- the granted words: those of calls, of kept arrays, and of arrays that are to be freed or were freed
+-- the weights of all kept objects
+abbrev pub kept_sum : Heap → (ℕ → ℕ) → (ℕ → Owner) → ℕ
+kept_sum heap weight owner = sum_upto (group_fragments * heap.groups) (λ f. kept_weight weight (owner f))
+
+-- those of all that are to be freed
+abbrev pub dead_sum : Heap → (ℕ → ℕ) → (ℕ → Owner) → ℕ
+dead_sum heap weight owner = sum_upto (group_fragments * heap.groups) (λ f. dead_weight weight (owner f))
+
+-- how many spine words an object has
+abbrev pub words_of : (ℕ → Node) → ℕ → ℕ
+words_of nodes i = spine_words_of (nodes i)
+
+-- how many it has in this half
+abbrev pub words_in_half : ℕ → (ℕ → Node) → (ℕ → Spot) → ℕ → ℕ
+words_in_half half nodes spines i = if (spines i).half == half then spine_words_of (nodes i) else 0
+
+-- the objects of the book
+abbrev pub nodes_in : Heap → Book → ℕ → Node
+nodes_in heap book = node_at (graph_of heap book.history) book.made
+
+-- the spine words of arrays that the sweep has freed and is about to return
+abbrev pub returning : Stage → ℕ
+returning (stages.Returning group words) = words
+returning _ = 0
+
+-- those of arrays that are to be freed or were freed, and that aren't returned yet
+abbrev pub unreturned : Heap → State → Book → ℕ
+unreturned heap state book = dead_sum heap (words_of (nodes_in heap book)) book.owner + returning state.collector.stage
+
+-- the granted words: those of calls, of kept arrays, and of arrays that aren't returned yet
 abbrev pub granted : Heap → State → Book → ℕ
-granted heap state book =
-    of_seats heap state granted_at + kept_words (length book.made) (node_at (graph_of heap book.history) book.made) book.owner book.fragments + book.gone
+granted heap state book = of_seats heap state granted_at + kept_sum heap (words_of (nodes_in heap book)) book.owner + unreturned heap state book
 
--- how the spine words that are granted stand to the budget word, the place of the next spine and the history; none was returned yet
+-- the words that a copy in progress has claimed
+abbrev pub copying_words : Stage → ℕ
+copying_words (stages.Copying (copying.Loading copy)) = copy.array.words
+copying_words (stages.Copying (copying.Storing copy word)) = copy.array.words
+copying_words (stages.Copying (copying.Swinging copy)) = copy.array.words
+copying_words _ = 0
+
+-- the words that have their places in this half: those of calls and of kept arrays, and those of a copy in progress
+abbrev pub placed_words : Heap → State → Book → ℕ → ℕ
+placed_words heap state book half =
+    of_seats heap state (placed_at half) + kept_sum heap (words_in_half half (nodes_in heap book) book.spines) book.owner + copying_words state.collector.stage
+
+-- what the history's returns since its last cycle began have given back
+abbrev pub returned_in_cycle : List Entry → ℕ
+returned_in_cycle history = words_returned (since_cycle history)
+
+-- the sweep has counted the spine words of the arrays that are to be freed and begin in its group, before its place
+abbrev pub SweepCounts : (ℕ → ℕ) → (ℕ → Owner) → Stage → Type 0
+SweepCounts words owner (stages.Examining group dead place counted) = counted ≡ sum_upto place (λ j. dead_weight words (owner (group_fragments * group + j)))
+SweepCounts words owner (stages.Freeing group dead counted) = counted ≡ sum_upto group_fragments (λ j. dead_weight words (owner (group_fragments * group + j)))
+SweepCounts words owner _ = Unit {0}
+
+-- how the spine words that are granted stand to the budget word, the place of the next spine and the history
 pub record BudgetsStand (heap : Heap) (state : State) (book : Book) : Type 0 where
-  pub exact : (next_spine heap state.words).offset + of_seats heap state unplaced_at ≡ granted heap state book
+  -- before the next spine stands what has its place in its half; and what isn't returned yet, until the flip leaves that behind
+  pub level : ¬ IsLeaving state.collector.phase state.collector.stage
+      → (next_spine heap state.words).offset ≡ placed_words heap state book (next_spine heap state.words).half + unreturned heap state book
+  pub leaving : IsLeaving state.collector.phase state.collector.stage
+      → (next_spine heap state.words).offset ≡ placed_words heap state book (next_spine heap state.words).half
   pub word : at heap state.words Budget ≡ granted heap state book + of_seats heap state refused_at
-  pub told : words_granted book.history + of_seats heap state granted_at ≡ granted heap state book
+  pub told : words_granted book.history + of_seats heap state granted_at ≡ granted heap state book + words_returned book.history
   pub low : granted heap state book ≤ heap.spine
-  pub none_returned : words_returned book.history ≡ 0
+  -- a cycle returns no more than the budget, and nothing before its sweep
+  pub returned : returned_in_cycle book.history + unreturned heap state book ≤ heap.spine
+  pub early : IsBetween barriers copying_phase state.collector.phase → returned_in_cycle book.history ≡ 0
+  pub counts : SweepCounts (words_of (nodes_in heap book)) book.owner state.collector.stage
 
 -- what a call has found that takes its spine words back is what a run may show
 abbrev pub UsedStands : Heap → List Entry → ℕ → Seat → Place → Type 0

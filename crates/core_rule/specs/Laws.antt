@@ -5,7 +5,7 @@ use Rattle.heap_model.specs.declared.entry.Entry.{Entry}
 use Rattle.heap_model.specs.declared.entry.Entry.TheVariants.{Answers}
 use Rattle.heap_model.specs.Heap.{IsHeap}
 use Rattle.std.specs.List.{AllByRecursion}
-use Rattle.heap_model.specs.account.Account.{IsLegalBy, ButSpine}
+use Rattle.heap_model.specs.account.Account.{IsLegal}
 use Rattle.heap_model.specs.account.Noting.{is_collectors}
 use Rattle.heap_model.specs.account.PhaseCounts.{phase, last_answer}
 use Rattle.heap_model.specs.PhasePlan.{cycle_phases, marking}
@@ -87,7 +87,7 @@ OneCallAtATime heap state (event ∷ events) = HappensAlone heap state event × 
 -- a run of whole calls, one after another, has a history that is legal as a play
 abbrev pub WholeCallsPlay : Type 0
 WholeCallsPlay = (heap : Heap) (state : State) (events : List Event) → IsHeap heap → IsOpening heap state → Run heap state events
-    → OneCallAtATime heap state events → IsLegalBy ButSpine heap true (history heap state events)
+    → OneCallAtATime heap state events → IsLegal heap true (history heap state events)
 
 -- the fragments whose taken bit isn't set are those that are in no use
 abbrev pub FreeIsUnused : Type 0
@@ -117,7 +117,7 @@ pub record IsDeadTold (heap : Heap) (book : Book) (f word : ℕ) : Type 0 where
 
 -- so it is with each fragment that the sweep examines and the word that this turn finds
 abbrev pub EachDeadIsTold : Type 0
-EachDeadIsTold = (heap : Heap) (state : State) (book : Book) (group dead place : ℕ) → Rule heap state book → state.collector.stage ≡ stages.Examining group dead place
+EachDeadIsTold = (heap : Heap) (state : State) (book : Book) (group dead place words : ℕ) → Rule heap state book → state.collector.stage ≡ stages.Examining group dead place words
     → IsDeadTold heap book (group_fragments * group + place) (found_by heap state (next_turn heap state.collector).step)
 
 -- the collector's entries and its phase are those that the history tells

@@ -19,6 +19,8 @@ pub mod Footprint
 pub mod Roots
 pub mod Together
 pub mod Cycle
+pub mod Replicas
+pub mod Halves
 pub mod Budgets
 pub mod Rule
 pub mod Looks
@@ -26,6 +28,8 @@ pub mod Stands
 pub mod Laws
 pub mod SweepLaws
 pub mod Held
+pub mod HeldWords
 pub mod HeldLaws
+pub mod SpineLaws
 pub mod TurnsLeft
 pub mod GraphLaws

@@ -4,6 +4,8 @@ use Rattle.heap_words.specs.Spot.{spot_in}
 use Rattle.heap_model.specs.declared.heap.Heap.{Heap}
 use Rattle.heap_model.specs.Limits.{group_fragments, most_cells}
 use Rattle.heap_model.specs.Needs.{array_words}
+use Rattle.core_machine.specs.declared.collector.stage.Copying.{Copying}
+use Rattle.core_machine.specs.declared.collector.stage.Copying.TheVariants as copying
 use Rattle.core_machine.specs.declared.collector.stage.SpineScan.{SpineScan}
 use Rattle.core_machine.specs.declared.collector.stage.Stage.{Stage}
 use Rattle.core_machine.specs.declared.collector.stage.Stage.TheVariants as stages
@@ -64,6 +66,17 @@ ScanStands heap words owner colour fragments (stages.Spreading s target) =
 ScanStands heap words owner colour fragments (stages.Blackening scan) = IsSeenWhole heap words colour scan.fragment
 ScanStands heap words owner colour fragments _ = Unit {0}
 
+-- the array that is copied has no more spine words than one of the most cells has
+abbrev pub IsFewCopied : Copying → Type 0
+IsFewCopied (copying.Visiting group) = Unit {0}
+IsFewCopied (copying.Inspecting visit) = Unit {0}
+IsFewCopied (copying.Naming visit words) = words ≤ array_words most_cells
+IsFewCopied (copying.Locating array) = array.words ≤ array_words most_cells
+IsFewCopied (copying.Claiming array from) = array.words ≤ array_words most_cells
+IsFewCopied (copying.Loading copy) = copy.array.words ≤ array_words most_cells
+IsFewCopied (copying.Storing copy word) = copy.array.words ≤ array_words most_cells
+IsFewCopied (copying.Swinging copy) = copy.array.words ≤ array_words most_cells
+
 -- the array that is scanned has no more spine words than one of the most cells has, and a scan that has seen to all its words has made no more steps than
 -- such an array's
 abbrev pub IsFewWords : Stage → Type 0
@@ -71,6 +84,7 @@ IsFewWords (stages.Locating scan spine_words) = spine_words ≤ array_words most
 IsFewWords (stages.Indexing s) = s.words ≤ array_words most_cells
 IsFewWords (stages.Spreading s target) = s.words ≤ array_words most_cells
 IsFewWords (stages.Blackening scan) = scan.steps ≤ 2 + 2 * array_words most_cells
+IsFewWords (stages.Copying stage) = IsFewCopied stage
 IsFewWords _ = Unit {0}
 
 -- while a pass has found nothing, some grey fragment stands in its group or behind it, if there is one at all

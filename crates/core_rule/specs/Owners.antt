@@ -85,10 +85,10 @@ pub record OwnersStand (seats : ℕ) (owner : ℕ → Owner) : Type 0 where
   pub seated : (f : ℕ) → IsSeated seats (owner f)
   pub board : IsBoards (owner 0)
 
--- a spine word is nobody's; or a seat's that makes an array, as the k-th of its spine; or a kept array's, by the object's number; or it was that of an
--- array that is to be freed or was freed
+-- a spine word is nobody's; or a party's, as the k-th of a spine: a seat's that makes an array, or the collector's, whose number comes after the seats', in a
+-- copy; or a kept array's, by the object's number; or it was that of an array that is to be freed or was freed, or of one that has swung
 pub data SpineOwner : Type 0 where
   Open : SpineOwner
-  Placed : (seat k : ℕ) → SpineOwner
+  Placed : (party k : ℕ) → SpineOwner
   Spined : (object k : ℕ) → SpineOwner
   Gone : SpineOwner

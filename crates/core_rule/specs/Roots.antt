@@ -1,9 +1,8 @@
 -- The roots of a seat, to which marking comes.
-use Rattle.std.specs.Prelude.{◌≡◌, ◌≢◌, ℕ, ◌%◌, List, IfSome}
+use Rattle.std.specs.Prelude.{◌≡◌, ℕ, ◌%◌, List, IfSome}
 use Rattle.heap_model.specs.declared.heap.Heap.{Heap}
 use Rattle.heap_model.specs.PhasePlan.{cycle_phases, marking}
 use Rattle.core_machine.specs.collector.Collector.{Collector}
-use Rattle.core_machine.specs.declared.collector.stage.Stage.TheVariants as stages
 use Rattle.core_machine.specs.declared.place.Access.{Access}
 use Rattle.core_machine.specs.declared.place.Access.TheVariants.{Naming, ShadingOld}
 use Rattle.core_machine.specs.seat.Registers.{register_in, register_head}
@@ -13,11 +12,12 @@ use Rattle.core_rule.specs.Book.{Colour}
 use Rattle.core_rule.specs.Flight.{WhileAccess}
 use Rattle.core_rule.specs.Owners.{Owner}
 use Rattle.core_rule.specs.Paths.{IsReached}
+use Rattle.core_rule.specs.Sweep.{HasMarked}
 
 -- the phase is one of marking, which hasn't ended
 pub record IsInMarking (collector : Collector) : Type 0 where
   pub phase : collector.phase % cycle_phases ≡ marking
-  pub goes_on : collector.stage ≢ stages.Advancing
+  pub goes_on : ¬ HasMarked collector.stage
 
 -- what a call on its way has reached, and the old value or the object that it has loaded
 abbrev pub AtCall : (ℕ → Type 0) → Seat → Access → Type 0

@@ -1,9 +1,10 @@
 -- The rule: a book stands for a state.
 use Rattle.std.specs.Prelude.{ℕ, ◌<◌, false, List, length, drop}
 use Rattle.heap_model.specs.declared.entry.Entry.{Entry}
+use Rattle.heap_words.specs.declared.spot.Spot.{Spot}
 use Rattle.heap_model.specs.declared.heap.Heap.{Heap}
 use Rattle.heap_model.specs.declared.id.Id.{Id}
-use Rattle.heap_model.specs.account.Account.{IsLegalBy, ButSpine}
+use Rattle.heap_model.specs.account.Account.{IsLegal}
 use Rattle.heap_model.specs.account.Cycles.{graph_of}
 use Rattle.heap_model.specs.graph.Graph.{Graph}
 use Rattle.core_machine.specs.seat.Commands.{target_of}
@@ -14,7 +15,9 @@ use Rattle.core_rule.specs.Book.{Book, Colour}
 use Rattle.core_rule.specs.ControlWords.{Bits}
 use Rattle.core_rule.specs.Objects.{AreMade, Objects, node_at}
 use Rattle.core_rule.specs.Owners.{Owner, OwnersStand, SpineOwner}
-use Rattle.core_rule.specs.Spines.{SpinesStand, SpineInHand, WordStandsAhead}
+use Rattle.core_rule.specs.Spines.{SpinesStand, SpineInHand}
+use Rattle.core_rule.specs.Replicas.{AddressStands}
+use Rattle.core_rule.specs.Halves.{HalvesStand}
 use Rattle.core_rule.specs.Budgets.{BudgetsStand, UsedStands}
 use Rattle.core_rule.specs.Registers.{Registers}
 use Rattle.core_rule.specs.Holding.{Holding, IsStored}
@@ -37,7 +40,7 @@ pub record HeapStands (heap : Heap) (words : List ℕ) (book : Book) : Type 0 wh
   pub spines : SpinesStand heap words heap.seats (length book.made) (node_at (graph_of heap book.history) book.made) book.owner book.fragments book.spines book.spine_owner
   pub used : AreUsed heap book.owner book.history
   pub cycle : HeapInCycle heap words (phase book.history) book.owner book.colour book.fragments
-  pub legal : IsLegalBy ButSpine heap false book.history
+  pub legal : IsLegal heap false book.history
 
 -- what a seat has: its fragments, what it has stored into them, and their order
 pub record OwnStands (heap : Heap) (words : List ℕ) (owner : ℕ → Owner) (spine_owner : ℕ → ℕ → SpineOwner) (number : ℕ) (seat : Seat) : Type 0 where
@@ -47,10 +50,10 @@ pub record OwnStands (heap : Heap) (words : List ℕ) (owner : ℕ → Owner) (s
   pub spine : SpineInHand heap words spine_owner number seat
 
 -- what it names: its registers, and the way that it is on
-pub record NamesStand (g : Graph) (made : List Id) (owner : ℕ → Owner) (fragments : ℕ → List ℕ) (spine_owner : ℕ → ℕ → SpineOwner) (number : ℕ) (seat : Seat) : Type 0 where
+pub record NamesStand (heap : Heap) (words : List ℕ) (g : Graph) (made : List Id) (owner : ℕ → Owner) (fragments : ℕ → List ℕ) (spines : ℕ → Spot) (spine_owner : ℕ → ℕ → SpineOwner) (number : ℕ) (seat : Seat) : Type 0 where
   pub registers : Registers g made owner fragments number seat.registers seat.place (target_of seat.command)
   pub way : WayStands (node_at g made) made owner fragments seat seat.place
-  pub ahead : WordStandsAhead owner spine_owner seat seat.place
+  pub address : AddressStands heap words (node_at g made) owner fragments spines spine_owner seat seat.place
 
 -- what the history tells of it: its entries, its counts, its call in flight and what that has gathered
 pub record ToldStands (heap : Heap) (g : Graph) (history : List Entry) (made : List Id) (owner : ℕ → Owner) (fragments : ℕ → List ℕ) (begun number : ℕ) (seat : Seat) : Type 0 where
@@ -63,7 +66,7 @@ pub record ToldStands (heap : Heap) (g : Graph) (history : List Entry) (made : L
 -- what is true of a seat
 pub record SeatStands (heap : Heap) (words : List ℕ) (book : Book) (number : ℕ) (seat : Seat) : Type 0 where
   pub own : OwnStands heap words book.owner book.spine_owner number seat
-  pub names : NamesStand (graph_of heap book.history) book.made book.owner book.fragments book.spine_owner number seat
+  pub names : NamesStand heap words (graph_of heap book.history) book.made book.owner book.fragments book.spines book.spine_owner number seat
   pub told : ToldStands heap (graph_of heap book.history) book.history book.made book.owner book.fragments (book.begun number) number seat
   pub cycle : SeatInCycle heap words (phase book.history) (last_answer number book.history) (has_left number book.history) book.owner book.colour number seat
 
@@ -72,6 +75,11 @@ pub record MarksStand (heap : Heap) (state : State) (owner : ℕ → Owner) (col
   pub heap_marks : MarkingStands heap state.words owner colour fragments state.collector.phase state.collector.stage
   pub roots : (number : ℕ) → number < heap.seats → RootsAreReached heap state.words owner colour state.collector (seat_at state number)
 
+-- what is true of the spine space: how much of it is granted, and where in it spines stand
+pub record SpaceStands (heap : Heap) (state : State) (book : Book) : Type 0 where
+  pub budgets : BudgetsStand heap state book
+  pub halves : HalvesStand heap state book
+
 -- the book stands for the state
 pub record Rule (heap : Heap) (state : State) (book : Book) : Type 0 where
   pub machine : IsMachine heap state
@@ -79,4 +87,4 @@ pub record Rule (heap : Heap) (state : State) (book : Book) : Type 0 where
   pub seats_stand : (number : ℕ) → number < heap.seats → SeatStands heap state.words book number (seat_at state number)
   pub collector_stands : CollectorAgrees heap state.collector book.history
   pub marks_stand : MarksStand heap state book.owner book.colour book.fragments
-  pub budgets : BudgetsStand heap state book
+  pub space : SpaceStands heap state book

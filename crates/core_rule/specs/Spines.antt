@@ -1,20 +1,19 @@
 -- Whose each spine word is, and where the spines of arrays stand.
-use Rattle.std.specs.Prelude.{◌≡◌, ◌≢◌, ℕ, ◌+◌, ◌/◌, ◌<◌, List}
+use Rattle.std.specs.Prelude.{◌≡◌, ℕ, ◌+◌, ◌<◌, ◌≤◌, List}
 use Rattle.heap_words.specs.declared.spot.Spot.{Spot}
 use Rattle.heap_words.specs.Spot.{spot_in, spot_word}
 use Rattle.heap_model.specs.declared.heap.Heap.{Heap}
 use Rattle.heap_model.specs.graph.Graph.{Node}
 use Rattle.heap_model.specs.graph.Sizes.{spine_words_of}
-use Rattle.core_machine.specs.declared.place.Access.TheVariants.{Indexing}
 use Rattle.core_machine.specs.declared.place.Making.TheVariants.{Listing, Storing, Bearing}
 use Rattle.core_machine.specs.declared.place.Place.{Place}
 use Rattle.core_machine.specs.declared.place.Place.TheVariants as places
 use Rattle.core_machine.specs.declared.table.address.Address.TheVariants as addresses
-use Rattle.core_machine.specs.seat.Commands.{IsArray, field_of}
+use Rattle.core_machine.specs.seat.Commands.{IsArray}
 use Rattle.core_machine.specs.seat.Seat.{Seat, spine_need}
 use Rattle.core_machine.specs.table.Layout.{at, spine_place}
 use Rattle.core_machine.specs.table.Newborn.{spine_word}
-use Rattle.core_rule.specs.Owners.{Owner, Kept, SpineOwner, Open, Placed, Spined}
+use Rattle.core_rule.specs.Owners.{Owner, Kept, SpineOwner, Placed, Spined}
 use Rattle.core_rule.specs.Book.{fragment_at}
 use Rattle.core_rule.specs.Objects.{IsKept}
 use Rattle.core_rule.specs.Sweep.{DeadTell}
@@ -28,12 +27,11 @@ pub record IsWordOf (spine : Spot) (half offset k : ℕ) : Type 0 where
   pub half_is : half ≡ spine.half
   pub offset_is : offset ≡ spine.offset + k
 
--- each word that is somebody's stands in the half of the next spine, before it, and what a seat has is one of so many seats'; each kept array has the words of its spine, and no others;
--- and what is to be freed tells how many words its array has
+-- what a party has is a seat's or the collector's; each kept array has the words of its spine, and no others; and what is to be freed tells how many words its
+-- array has
 pub record SpinesStand (heap : Heap) (words : List ℕ) (seats made : ℕ) (nodes : ℕ → Node) (owner : ℕ → Owner) (fragments : ℕ → List ℕ) (spines : ℕ → Spot) (spine_owner : ℕ → ℕ → SpineOwner) : Type 0 where
   pub spot : at heap words addresses.Spot ≡ spot_word (next_spine heap words)
-  pub before : (half offset : ℕ) → spine_owner half offset ≢ Open → (half ≡ (next_spine heap words).half) × (offset < (next_spine heap words).offset)
-  pub seated : (half offset number k : ℕ) → spine_owner half offset ≡ Placed number k → number < seats
+  pub parties : (half offset party k : ℕ) → spine_owner half offset ≡ Placed party k → party ≤ seats
   pub kept : (i j : ℕ) → i < made → IsKept owner fragments i → j < spine_words_of (nodes i) → spine_owner (spines i).half ((spines i).offset + j) ≡ Spined i j
   pub back : (half offset i j : ℕ) → spine_owner half offset ≡ Spined i j
       → (i < made) × IsKept owner fragments i × (j < spine_words_of (nodes i)) × IsWordOf (spines i) half offset j
@@ -51,12 +49,3 @@ pub record SpineInHand (heap : Heap) (words : List ℕ) (spine_owner : ℕ → �
   pub placed : HasPlace seat seat.place → (j : ℕ) → j < spine_need seat → spine_owner seat.spine.half (seat.spine.offset + j) ≡ Placed number j
   pub own : (half offset j : ℕ) → spine_owner half offset ≡ Placed number j → HasPlace seat seat.place × (j < spine_need seat) × IsWordOf seat.spine half offset j
   pub stored : HasPlace seat seat.place → (j : ℕ) → j < seat.listed → at heap words (spine_place seat.spine j) ≡ spine_word (fragment_at seat.body (j + 1))
-
--- the spine word that a call is about to load is the array's whose first fragment it has reached
-abbrev pub WordAhead : (ℕ → Owner) → (ℕ → ℕ → SpineOwner) → ℕ → Spot → ℕ → Type 0
-WordAhead owner spine_owner sentinel address k = (i : ℕ) → owner sentinel ≡ Kept i 0 → spine_owner address.half (address.offset + k) ≡ Spined i k
-
--- so it is where a call is about to load the spine word that names the fragment of its cell
-abbrev pub WordStandsAhead : (ℕ → Owner) → (ℕ → ℕ → SpineOwner) → Seat → Place → Type 0
-WordStandsAhead owner spine_owner seat (places.Access Indexing) = WordAhead owner spine_owner seat.reached seat.address (field_of seat.command / 4)
-WordStandsAhead owner spine_owner seat _ = Unit {0}

@@ -15,9 +15,15 @@ use Rattle.core_rule.specs.Book.{Colour, White}
 use Rattle.core_rule.specs.Objects.{IsSized}
 use Rattle.core_rule.specs.Owners.{Owner, Dead, dead_bit}
 
+-- marking has ended at these stages of its phase
+abbrev pub HasMarked : Stage → Type 0
+HasMarked stages.Flipping = Unit {0}
+HasMarked stages.Advancing = Unit {0}
+HasMarked _ = ⊥
+
 -- marking has ended, and the phase of the sweep hasn't
 abbrev pub IsSettled : ℕ → Stage → Type 0
-IsSettled phase stage = ((phase % cycle_phases ≡ marking) × (stage ≡ stages.Advancing)) ⊎ (phase % cycle_phases ≡ copying) ⊎ (phase % cycle_phases ≡ sweep)
+IsSettled phase stage = ((phase % cycle_phases ≡ marking) × HasMarked stage) ⊎ (phase % cycle_phases ≡ copying) ⊎ (phase % cycle_phases ≡ sweep)
 
 -- in the groups before this one nothing is to be freed
 abbrev pub AreFreed : (ℕ → Owner) → ℕ → Type 0
@@ -43,8 +49,9 @@ AreCleared colour group = (f : ℕ) → f / group_fragments < group → colour f
 -- how far the sweep and the clearing are at each of their stages
 abbrev pub SweepStands : Heap → (ℕ → Owner) → (ℕ → Colour) → ℕ → Stage → Type 0
 SweepStands heap owner colour phase (stages.Sweeping group) = AreFreed owner group
-SweepStands heap owner colour phase (stages.Examining group dead place) = AreFreed owner group × AreDead owner group dead
-SweepStands heap owner colour phase (stages.Freeing group dead) = AreFreed owner group × AreDead owner group dead
+SweepStands heap owner colour phase (stages.Examining group dead place words) = AreFreed owner group × AreDead owner group dead
+SweepStands heap owner colour phase (stages.Freeing group dead words) = AreFreed owner group × AreDead owner group dead
+SweepStands heap owner colour phase (stages.Returning group words) = AreFreed owner (group + 1)
 SweepStands heap owner colour phase (stages.Clearing group kept) = AreCleared colour group
 SweepStands heap owner colour phase (stages.Ending kept) = AreCleared colour heap.groups
 SweepStands heap owner colour phase stages.Advancing = phase % cycle_phases ≡ sweep → AreFreed owner heap.groups

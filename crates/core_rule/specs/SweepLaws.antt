@@ -4,24 +4,23 @@ use Rattle.heap_model.specs.declared.entry.Entry.{Entry}
 use Rattle.heap_model.specs.declared.entry.Entry.TheVariants.{Ends}
 use Rattle.heap_model.specs.declared.heap.Heap.{Heap}
 use Rattle.heap_model.specs.Heap.{IsHeap}
-use Rattle.heap_model.specs.account.Account.{Judged, Whole, ButSpine, IsLegalBy}
-use Rattle.heap_model.specs.account.Cycles.{EndsCycle, EndsCycleBy}
+use Rattle.heap_model.specs.account.Account.{IsLegal}
+use Rattle.heap_model.specs.account.Cycles.{EndsCycle}
 use Rattle.heap_model.specs.account.PhaseCounts.{has_left}
-use Rattle.heap_model.specs.account.Space.{fragments_used, words_used, words_granted}
+use Rattle.heap_model.specs.account.Space.{fragments_used, words_used}
 use Rattle.heap_model.specs.account.Windows.{up_to_cycle}
 use Rattle.core_machine.specs.machine.Machine.{State, Event, Run, history}
 use Rattle.core_machine.specs.machine.Opening.{IsOpening}
 
--- wherever a cycle ends in a run, all have answered its last phase, it leaves no more fragments than what was reached when it began, what was taken since and
--- what the seats brought, and it has kept no more than that and no less than what is reached both then and now; where no array was made it ends by the whole
--- of the rules
+-- wherever a cycle ends in a run it ends by the rules: all have answered its last phase, it leaves no more fragments than what was reached when it began, what was taken since and
+-- what the seats brought, and no more spine words than what was reached then and the arrays that were made since have, and it has kept no more fragments than that and no less than what
+-- is reached both then and now
 abbrev pub EachEndLeavesLittle : Type 0
 EachEndLeavesLittle = (heap : Heap) (state : State) (events : List Event) (before rest : List Entry) (cycle kept : ℕ) → IsHeap heap → IsOpening heap state → Run heap state events
-    → history heap state events ≡ before ++ Ends cycle kept ∷ rest
-    → EndsCycleBy ButSpine heap before (Ends cycle kept) × (words_granted before ≡ 0 → EndsCycle heap before (Ends cycle kept))
+    → history heap state events ≡ before ++ Ends cycle kept ∷ rest → EndsCycle heap before (Ends cycle kept)
 
--- a cycle that began after every seat had left leaves no fragment in use, and no spine word where the history is judged by the whole of the rules
+-- a cycle that began after every seat had left leaves no fragment and no spine word in use
 abbrev pub EachLastCycleEmpties : Type 0
-EachLastCycleEmpties = (judged : Judged) (heap : Heap) (play : Bool) (before : List Entry) (cycle kept : ℕ) → IsLegalBy judged heap play (before ++ Ends cycle kept ∷ [])
+EachLastCycleEmpties = (heap : Heap) (play : Bool) (before : List Entry) (cycle kept : ℕ) → IsLegal heap play (before ++ Ends cycle kept ∷ [])
     → ((number : ℕ) → number < heap.seats → has_left number (up_to_cycle before) ≡ true)
-    → (fragments_used (before ++ Ends cycle kept ∷ []) ≡ 0) × (judged ≡ Whole → words_used (before ++ Ends cycle kept ∷ []) ≡ 0)
+    → (fragments_used (before ++ Ends cycle kept ∷ []) ≡ 0) × (words_used (before ++ Ends cycle kept ∷ []) ≡ 0)

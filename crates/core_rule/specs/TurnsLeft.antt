@@ -4,9 +4,12 @@ use Rattle.std.specs.Int.{bit_at}
 use Rattle.heap_model.specs.declared.calls.collector_calls.Turn.TheVariants.{Stepped}
 use Rattle.heap_model.specs.declared.heap.Heap.{Heap}
 use Rattle.heap_model.specs.Limits.{group_fragments}
-use Rattle.heap_model.specs.PhasePlan.{cycle_phases, marking, sweep, clearing}
+use Rattle.heap_model.specs.PhasePlan.{cycle_phases, marking, copying as copying_phase, sweep, clearing}
 use Rattle.core_machine.specs.collector.Collector.{next_turn}
+use Rattle.core_machine.specs.declared.collector.stage.Copying.{Copying}
+use Rattle.core_machine.specs.declared.collector.stage.Copying.TheVariants as copying
 use Rattle.core_machine.specs.declared.collector.stage.Scan.{Scan}
+use Rattle.core_machine.specs.declared.collector.stage.Visit.{Visit}
 use Rattle.core_machine.specs.declared.collector.stage.Stage.{Stage}
 use Rattle.core_machine.specs.declared.collector.stage.Stage.TheVariants as stages
 use Rattle.core_machine.specs.machine.Machine.{State, found_by, Turns, state_after}
@@ -37,19 +40,44 @@ next_pass groups found = if found then groups + 1 else 0
 abbrev pub marking_left : ℕ → ℕ → ℕ → ℕ → ℕ → ℕ
 marking_left groups seen scan group again = (group_fragments * groups - seen) * fragment_most groups + scan + (groups - group) + again
 
--- the same while a fragment is scanned: it counts as seen, and the pass has found something
+-- the same while a fragment is scanned, which counts as seen, and whose pass has found something; and the flip
 abbrev pub scanning_left : Heap → List ℕ → Scan → ℕ
 scanning_left heap words scan =
-    marking_left heap.groups (scanned_count heap words + 1) (scan_most - scan.steps) (scan.fragment / group_fragments) (heap.groups + 1)
+    marking_left heap.groups (scanned_count heap words + 1) (scan_most - scan.steps) (scan.fragment / group_fragments) (heap.groups + 1) + 1
 
--- the most turns for one group of the sweep: its word is loaded, each of its sixteen fragments is looked at, and they are freed
+-- the most turns for one marked fragment while spines are copied: its first word is loaded, and of an array its name and the place of its spine; a copy gets its place, two turns are
+-- made for each of 1,024 words, and the array swings
+abbrev pub copy_most : ℕ
+copy_most = 2053
+
+-- the most for one group: its word is loaded, and each of its sixteen fragments may be marked
+abbrev pub visit_most : ℕ
+visit_most = 1 + group_fragments * copy_most
+
+-- what is left of copying where a visit comes to its fragment
+abbrev pub visit_left : ℕ → Visit → ℕ
+visit_left groups visit = visit_most * (groups - (visit.group + 1)) + copy_most * (group_fragments - visit.place)
+
+-- what is left at each stage of copying
+abbrev pub copying_left : ℕ → Copying → ℕ
+copying_left groups (copying.Visiting group) = visit_most * (groups - group)
+copying_left groups (copying.Inspecting visit) = visit_left groups visit
+copying_left groups (copying.Naming visit words) = visit_left groups visit - 1
+copying_left groups (copying.Locating array) = visit_left groups array.visit - 2
+copying_left groups (copying.Claiming array from) = visit_left groups array.visit - 3
+copying_left groups (copying.Loading copy) = visit_left groups copy.array.visit - (4 + 2 * copy.index)
+copying_left groups (copying.Storing copy word) = visit_left groups copy.array.visit - (5 + 2 * copy.index)
+copying_left groups (copying.Swinging copy) = visit_left groups copy.array.visit - (4 + 2 * copy.index)
+
+-- the most turns for one group of the sweep: its word is loaded, each of its sixteen fragments is looked at, they are freed, and spine words are returned
 abbrev pub sweep_most : ℕ
-sweep_most = 18
+sweep_most = 19
 
--- the most turns of what a phase is for, which is nothing but in those of marking, of the sweep and of the clearing
+-- the most turns of what a phase is for, which is nothing but in those of marking with the flip, of copying, of the sweep and of the clearing
 abbrev pub work_most : ℕ → ℕ → ℕ
 work_most groups phase =
-    if phase % cycle_phases == marking then group_fragments * groups * fragment_most groups + groups
+    if phase % cycle_phases == marking then group_fragments * groups * fragment_most groups + groups + 1
+    else if phase % cycle_phases == copying_phase then visit_most * groups
     else if phase % cycle_phases == sweep then sweep_most * groups
     else if phase % cycle_phases == clearing then groups
     else 0
@@ -57,16 +85,19 @@ work_most groups phase =
 -- how many turns are left before the one with which the next phase begins or the cycle ends
 abbrev pub stage_left : Heap → List ℕ → ℕ → ℕ → Stage → ℕ
 stage_left heap words phase looked stages.Looking = heap.seats - looked + work_most heap.groups phase
-stage_left heap words phase looked (stages.Passing group found) = marking_left heap.groups (scanned_count heap words) 0 group (next_pass heap.groups found)
+stage_left heap words phase looked (stages.Passing group found) = marking_left heap.groups (scanned_count heap words) 0 group (next_pass heap.groups found) + 1
 stage_left heap words phase looked (stages.Scanning scan) = scanning_left heap words scan
 stage_left heap words phase looked (stages.Shading scan target next) = scanning_left heap words scan
 stage_left heap words phase looked (stages.Locating scan spine_words) = scanning_left heap words scan
 stage_left heap words phase looked (stages.Indexing s) = scanning_left heap words s.scan
 stage_left heap words phase looked (stages.Spreading s target) = scanning_left heap words s.scan
 stage_left heap words phase looked (stages.Blackening scan) = scanning_left heap words scan
+stage_left heap words phase looked stages.Flipping = 1
+stage_left heap words phase looked (stages.Copying stage) = copying_left heap.groups stage
 stage_left heap words phase looked (stages.Sweeping group) = sweep_most * (heap.groups - group)
-stage_left heap words phase looked (stages.Examining group dead place) = sweep_most * (heap.groups - group) - (place + 1)
-stage_left heap words phase looked (stages.Freeing group dead) = sweep_most * (heap.groups - group) - group_fragments - 1
+stage_left heap words phase looked (stages.Examining group dead place counted) = sweep_most * (heap.groups - group) - (place + 1)
+stage_left heap words phase looked (stages.Freeing group dead counted) = sweep_most * (heap.groups - group) - group_fragments - 1
+stage_left heap words phase looked (stages.Returning group counted) = sweep_most * (heap.groups - group) - group_fragments - 2
 stage_left heap words phase looked (stages.Clearing group kept) = heap.groups - group
 stage_left heap words phase looked (stages.Ending kept) = 0
 stage_left heap words phase looked stages.Advancing = 0

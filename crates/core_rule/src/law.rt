@@ -1,5 +1,5 @@
 ghost use Rattle.core_rule.specs.Laws.{EachEventKeeps, EveryRunKeeps, WholeCallsPlay, FreeIsUnused, WordsAreUsed, EachBirthHasItsColour, EachAnswerIsMarked, EachWaitIsBehind, EachDeadIsTold, EachTurnComesTo};
-ghost use Rattle.core_rule.specs.HeldLaws.{EachHeldIsTaken, NoClaimTakesHeld, NoFreeTakesHeld, EachHeldIsMarked};
+ghost use Rattle.core_rule.specs.HeldLaws.{EachHeldIsTaken, NoClaimTakesHeld, NoFreeTakesHeld, EachHeldIsMarked, NoPlaceTakesHeld, NoCopyTakesHeld, EachStoreIsOwn, EachSpineStoreIsOwn, EachCopyStoreIsOwn};
 ghost use Rattle.core_rule.specs.TurnsLeft.{EachTurnLeavesFewer};
 
 /// The rule holds after every list of begins, steps and turns of the collector, over every heap.
@@ -18,5 +18,10 @@ pub fn law_every_run()
     ensures claims { NoClaimTakesHeld }
     ensures frees { NoFreeTakesHeld }
     ensures marked { EachHeldIsMarked }
+    ensures places { NoPlaceTakesHeld }
+    ensures copies { NoCopyTakesHeld }
+    ensures stores { EachStoreIsOwn }
+    ensures spine_stores { EachSpineStoreIsOwn }
+    ensures copy_stores { EachCopyStoreIsOwn }
     ensures fewer { EachTurnLeavesFewer }
 {}

@@ -3,8 +3,10 @@
 
 mod graphs;
 mod law;
+mod spine;
 mod sweep;
 
 pub use graphs::graph_laws;
 pub use law::law_every_run;
+pub use spine::law_spine_offset;
 pub use sweep::law_sweep_exact;

@@ -1,0 +1,95 @@
+-- The replicas of spines: those that readers have loaded, and the collector's copy in progress.
+use Rattle.std.specs.Prelude.{◌≡◌, ◌≢◌, ℕ, ◌+◌, ◌*◌, ◌<◌, ◌⊎◌, true, List, Option, Some, None, IfSome}
+use Rattle.std.specs.Int.{bit_at}
+use Rattle.heap_words.specs.declared.spot.Spot.{Spot}
+use Rattle.heap_model.specs.declared.id.Id.{Id}
+use Rattle.heap_model.specs.declared.heap.Heap.{Heap}
+use Rattle.heap_model.specs.Limits.{group_fragments}
+use Rattle.heap_model.specs.PhasePlan.{marking, copying as copying_phase}
+use Rattle.heap_model.specs.graph.Graph.{Node}
+use Rattle.heap_model.specs.graph.Sizes.{spine_words_of}
+use Rattle.core_machine.specs.collector.CopyingTurns.{visited, sentinel_at}
+use Rattle.core_machine.specs.declared.collector.stage.ArrayAt.{ArrayAt}
+use Rattle.core_machine.specs.declared.collector.stage.Copying.{Copying}
+use Rattle.core_machine.specs.declared.collector.stage.Copying.TheVariants as copying
+use Rattle.core_machine.specs.declared.collector.stage.SpineCopy.{SpineCopy}
+use Rattle.core_machine.specs.declared.collector.stage.Stage.{Stage}
+use Rattle.core_machine.specs.declared.collector.stage.Stage.TheVariants as stages
+use Rattle.core_machine.specs.declared.collector.stage.Visit.{Visit}
+use Rattle.core_machine.specs.declared.place.Access.TheVariants.{Indexing}
+use Rattle.core_machine.specs.declared.place.Place.{Place}
+use Rattle.core_machine.specs.declared.place.Place.TheVariants as places
+use Rattle.core_machine.specs.seat.Seat.{Seat}
+use Rattle.core_machine.specs.table.Layout.{at, spine_place}
+use Rattle.core_machine.specs.table.Newborn.{spine_word}
+use Rattle.core_rule.specs.Book.{Colour, fragment_at, id_at}
+use Rattle.core_rule.specs.Colours.{IsMarked, IsBetween}
+use Rattle.core_rule.specs.Owners.{Owner, Kept, SpineOwner, Placed, Gone}
+use Rattle.core_rule.specs.Spines.{IsWordOf}
+
+-- the place is that of a replica which an array has left: its words still name the payload fragments, and the seat hasn't answered the sweep yet
+pub record IsLeftReplica (heap : Heap) (words : List ℕ) (object : Node) (fragments : List ℕ) (spine_owner : ℕ → ℕ → SpineOwner) (answered : ℕ) (address : Spot) : Type 0 where
+  pub late : IsBetween marking copying_phase answered
+  pub left : (k : ℕ) → k < spine_words_of object → spine_owner address.half (address.offset + k) ≡ Gone
+  pub listed : (k : ℕ) → k < spine_words_of object → at heap words (spine_place address k) ≡ spine_word (fragment_at fragments (k + 1))
+
+-- where a call has loaded the place of a spine, that is the array's whose first fragment it has reached, or one that this has left
+abbrev pub AddressStands : Heap → List ℕ → (ℕ → Node) → (ℕ → Owner) → (ℕ → List ℕ) → (ℕ → Spot) → (ℕ → ℕ → SpineOwner) → Seat → Place → Type 0
+AddressStands heap words nodes owner fragments spines spine_owner seat (places.Access Indexing) =
+    (i : ℕ) → owner seat.reached ≡ Kept i 0 → (seat.address ≡ spines i) ⊎ IsLeftReplica heap words (nodes i) (fragments i) spine_owner seat.answered seat.address
+AddressStands heap words nodes owner fragments spines spine_owner seat _ = Unit {0}
+
+-- the marked fragments of a visit are marked
+abbrev pub AreMarked : (ℕ → Colour) → Visit → Type 0
+AreMarked colour visit = (place : ℕ) → bit_at visit.marked place ≡ 1 → IsMarked colour (group_fragments * visit.group + place)
+
+-- a kept array of so many spine words begins with the fragment
+pub record BeginsArray (nodes : ℕ → Node) (owner : ℕ → Owner) (f words : ℕ) : Type 0 where
+  pub index : ℕ
+  pub kept : owner f ≡ Kept index 0
+  pub is_array : (nodes index).array ≡ true
+  pub as_many : words ≡ spine_words_of (nodes index)
+
+-- the array that a visit has found, by its number and name
+pub record IsFound (nodes : ℕ → Node) (made : List Id) (owner : ℕ → Owner) (colour : ℕ → Colour) (array : ArrayAt) : Type 0 where
+  pub marked : AreMarked colour array.visit
+  pub begins : BeginsArray nodes owner (sentinel_at array) array.words
+  pub named : array.id ≡ id_at made begins.index
+
+-- its spine stands there, in the half that was left
+pub record IsToCopy (nodes : ℕ → Node) (made : List Id) (owner : ℕ → Owner) (colour : ℕ → Colour) (spines : ℕ → Spot) (half : ℕ) (array : ArrayAt) (from : Spot) : Type 0 where
+  pub found : IsFound nodes made owner colour array
+  pub own : from ≡ spines found.begins.index
+  pub left : from.half ≢ half
+
+-- what copying has found at each of its stages
+abbrev pub CopyingStands : (ℕ → Node) → List Id → (ℕ → Owner) → (ℕ → Colour) → (ℕ → List ℕ) → (ℕ → Spot) → ℕ → Copying → Type 0
+CopyingStands nodes made owner colour fragments spines half (copying.Visiting group) = Unit {0}
+CopyingStands nodes made owner colour fragments spines half (copying.Inspecting visit) = AreMarked colour visit
+CopyingStands nodes made owner colour fragments spines half (copying.Naming visit words) = AreMarked colour visit × BeginsArray nodes owner (visited visit) words
+CopyingStands nodes made owner colour fragments spines half (copying.Locating array) = IsFound nodes made owner colour array
+CopyingStands nodes made owner colour fragments spines half (copying.Claiming array from) = IsToCopy nodes made owner colour spines half array from
+CopyingStands nodes made owner colour fragments spines half (copying.Loading copy) = IsToCopy nodes made owner colour spines half copy.array copy.from
+CopyingStands nodes made owner colour fragments spines half (copying.Storing copy word) =
+    (to_copy : IsToCopy nodes made owner colour spines half copy.array copy.from) × (word ≡ spine_word (fragment_at (fragments to_copy.found.begins.index) (copy.index + 1)))
+CopyingStands nodes made owner colour fragments spines half (copying.Swinging copy) = IsToCopy nodes made owner colour spines half copy.array copy.from
+
+-- the copy in progress, from the claim of its place until the array swings to it
+abbrev pub copy_in : Stage → Option SpineCopy
+copy_in (stages.Copying (copying.Loading copy)) = Some copy
+copy_in (stages.Copying (copying.Storing copy word)) = Some copy
+copy_in (stages.Copying (copying.Swinging copy)) = Some copy
+copy_in _ = None
+
+-- the word is the k-th of the copy in progress
+pub record IsOfCopy (stage : Stage) (half offset k : ℕ) : Type 0 where
+  pub copy : SpineCopy
+  pub progress : copy_in stage ≡ Some copy
+  pub within : k < copy.array.words
+  pub is : IsWordOf copy.to half offset k
+
+-- the collector has exactly the words of its copy, and the first ones equal those of the spine
+pub record CopyInHand (heap : Heap) (words : List ℕ) (spine_owner : ℕ → ℕ → SpineOwner) (stage : Stage) : Type 0 where
+  pub placed : IfSome (copy_in stage) (λ copy. (j : ℕ) → j < copy.array.words → spine_owner copy.to.half (copy.to.offset + j) ≡ Placed heap.seats j)
+  pub own : (half offset j : ℕ) → spine_owner half offset ≡ Placed heap.seats j → IsOfCopy stage half offset j
+  pub copied : IfSome (copy_in stage) (λ copy. (j : ℕ) → j < copy.index → at heap words (spine_place copy.to j) ≡ at heap words (spine_place copy.from j))

@@ -1,0 +1,47 @@
+-- The laws of the spine space, of any state and book that meet the rule, and over every run.
+use Rattle.std.specs.Prelude.{◌≡◌, ◌≢◌, ℕ, ◌+◌, ◌*◌, ◌<◌, ◌≤◌, List}
+use Rattle.heap_model.specs.declared.entry.Entry.{Entry}
+use Rattle.heap_model.specs.declared.heap.Heap.{Heap}
+use Rattle.heap_model.specs.Heap.{IsHeap}
+use Rattle.core_machine.specs.collector.Collector.{next_turn}
+use Rattle.core_machine.specs.declared.place.Making.TheVariants.{Placing}
+use Rattle.core_machine.specs.declared.place.Place.TheVariants as places
+use Rattle.core_machine.specs.declared.step.CopyingStep.TheVariants.{CopyClaim}
+use Rattle.core_machine.specs.declared.step.Step.TheVariants as steps
+use Rattle.core_machine.specs.machine.Machine.{State, seat_at, Event, Run, state_after_all, history}
+use Rattle.core_machine.specs.machine.Opening.{IsOpening}
+use Rattle.core_machine.specs.seat.Seat.{spine_need}
+use Rattle.core_rule.specs.Book.{Book}
+use Rattle.core_rule.specs.Budgets.{granted, unreturned, returned_in_cycle, placed_words}
+use Rattle.core_rule.specs.Halves.{IsLeaving}
+use Rattle.core_rule.specs.Rule.{Rule}
+use Rattle.core_rule.specs.Spines.{next_spine}
+use Rattle.core_rule.specs.Stands.{Stands}
+
+-- the next spine's place isn't behind the words that are granted, of which there are no more than the budget has; so with what a cycle has returned it is within twice the budget
+pub record IsOffsetWithin (heap : Heap) (state : State) (book : Book) : Type 0 where
+  pub within : (next_spine heap state.words).offset ≤ granted heap state book
+  pub low : granted heap state book ≤ heap.spine
+  pub returned : (next_spine heap state.words).offset ≤ granted heap state book + returned_in_cycle book.history
+  pub most : granted heap state book + returned_in_cycle book.history ≤ 2 * heap.spine
+
+-- so it is after every run, by the book that stands for its state
+pub record StandsWithin (heap : Heap) (state : State) (told : List Entry) : Type 0 where
+  pub book : Book
+  pub tells : book.history ≡ told
+  pub stands : Stands heap state book
+  pub within : IsOffsetWithin heap state book
+
+abbrev pub EachOffsetIsWithin : Type 0
+EachOffsetIsWithin = (heap : Heap) (state : State) (events : List Event) → IsHeap heap → IsOpening heap state → Run heap state events
+    → StandsWithin heap (state_after_all heap state events) (history heap state events)
+
+-- a spine whose words are granted is always placed: they are no more than what is left of the half up to the budget's end
+abbrev pub EachGrantIsPlaced : Type 0
+EachGrantIsPlaced = (heap : Heap) (state : State) (book : Book) (number : ℕ) → Rule heap state book → number < heap.seats → (seat_at state number).place ≡ places.Making Placing
+    → (next_spine heap state.words).offset + spine_need (seat_at state number) ≤ heap.spine
+
+-- and a copy always fits
+abbrev pub EachCopyFits : Type 0
+EachCopyFits = (heap : Heap) (state : State) (book : Book) (words : ℕ) → Rule heap state book → (next_turn heap state.collector).step ≡ steps.Copying (CopyClaim words)
+    → (next_spine heap state.words).offset + words ≤ heap.spine
