@@ -1,11 +1,11 @@
 -- The next spine's place moves into the other half, and spines are copied there.
 use Rattle.std.specs.Int.{bit_at}
 use Rattle.std.specs.Prelude.{IfSome}
-use Rattle.std.proofs.Common.{suc, ◌≡◌, ℕ, ◌+◌, ◌*◌, ◌/◌, ◌%◌, ◌^◌, ◌<◌, ◌≤◌, Option, Some, None, length-append, refl, inl, inr, arith}
+use Rattle.std.proofs.Common.{suc, ◌≡◌, ℕ, ◌+◌, ◌*◌, ◌/◌, ◌%◌, ◌^◌, ◌<◌, Option, Some, None, length-append, refl, inl, inr, arith}
 use Rattle.std.proofs.lemmas.Bool.Decides.{eqb_tells, leb_tells}
 use Rattle.heap_words.specs.declared.spot.Spot.{Spot}
 use Rattle.heap_words.specs.Control.{marked_bits_of, next_place_of}
-use Rattle.heap_words.specs.Spot.{spot_in, spot_word}
+use Rattle.heap_words.specs.Spot.{spot_in}
 use Rattle.heap_model.specs.declared.heap.Heap.{Heap}
 use Rattle.heap_model.specs.Heap.{IsHeap}
 use Rattle.core_machine.specs.declared.collector.stage.ArrayAt.{ArrayAt}
@@ -16,15 +16,14 @@ use Rattle.core_machine.specs.declared.collector.stage.Stage.TheVariants as stag
 use Rattle.core_machine.specs.declared.collector.stage.Visit.{Visit}
 use Rattle.core_machine.specs.declared.step.CopyingStep.TheVariants.{FlipStore}
 use Rattle.core_machine.specs.declared.step.Step.TheVariants as steps
-use Rattle.core_machine.specs.collector.Collector.{Collector}
 use Rattle.core_machine.specs.collector.Copying.{next_half, after_visited, after_seen, after_visit, visit_on, after_inspected, after_located, copy_at}
-use Rattle.core_machine.specs.collector.CopyingTurns.{visited, copying_step, after_copying, copying_adds, copying_turn}
-use Rattle.core_machine.specs.collector.FitsTurns.{IsCopying, FitsVisit, FitsArrayAt, FitsCopy, FitsCopying, FitsStage, CollectorFits}
+use Rattle.core_machine.specs.collector.CopyingTurns.{visited, copying_step, after_copying, copying_adds}
+use Rattle.core_machine.specs.collector.FitsTurns.{IsCopying, FitsVisit, FitsArrayAt, FitsCopy, FitsCopying, FitsStage}
 use Rattle.core_machine.specs.table.Decode.{array_length_of, FoundPointsWithin}
 use Rattle.core_machine.specs.table.Layout.{FitsSpot}
 use Rattle.core_machine.specs.table.Operation.{address_of}
 use Rattle.core_machine.proofs.collector_lemmas.SpineTurns.{told_spot}
-use Rattle.core_machine.proofs.collector_lemmas.Standing.{StageStands, TurnStands, work_stands, stage_fits}
+use Rattle.core_machine.proofs.collector_lemmas.Standing.{StageStands, work_stands, stage_fits}
 use Rattle.core_machine.proofs.table_lemmas.DeadBits.{place_stands}
 use Rattle.core_machine.proofs.table_lemmas.Leading.{spot_leads}
 use Rattle.core_machine.proofs.table_lemmas.Lengths.{length_few}
