@@ -17,7 +17,5 @@ pub use seat::SeatParty;
 pub use seat::looks::{FoundBehind, Looks};
 pub use seat::register::Register;
 pub use step::operation::Operation;
-pub use step::{
-    AccessStep, CopyingStep, HandshakeStep, MakingStep, SpineStep, Step, TurningStep,
-};
+pub use step::{AccessStep, CopyingStep, HandshakeStep, MakingStep, SpineStep, Step, TurningStep};
 pub use table::address::Address;
