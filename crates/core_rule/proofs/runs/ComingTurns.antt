@@ -8,7 +8,7 @@ use Rattle.heap_model.specs.declared.calls.collector_calls.Turn.{Turn as TurnAns
 use Rattle.heap_model.specs.declared.calls.collector_calls.Turn.TheVariants as answers
 use Rattle.heap_model.specs.declared.entry.Entry.TheVariants.{Advance, Frees, Ends}
 use Rattle.heap_model.specs.declared.heap.Heap.{Heap}
-use Rattle.heap_model.specs.account.Account.{IsLegalBy, ButSpine}
+use Rattle.heap_model.specs.account.Account.{IsLegal}
 use Rattle.heap_model.specs.account.Noting.{is_collectors}
 use Rattle.heap_model.specs.account.PhaseCounts.{phase}
 use Rattle.heap_model.specs.calls.CollectorCalls.{CollectorState, AddsNone, ComesTo}
@@ -64,10 +64,10 @@ module _ (heap : Heap) (state : State) (book : Book) (old new : CollectorState) 
         (adds_none none, omega (arith, waits.0, rule.machine.limits.seats_fit), here ∙ sym told.phase_told, waits.2, λ left. omega (arith, left, waits.2, here, within, same))
     quiet_comes none goes_on (answers.Ended cycle kept) is = absurd (goes_on cycle kept is)
 
-    begins_comes : (p : ℕ) → turn.adds ≡ Advance p ∷ [] → IsLegalBy ButSpine heap false (book.history ++ turn.adds) → ComesTo old new answers.Stepped
+    begins_comes : (p : ℕ) → turn.adds ≡ Advance p ∷ [] → IsLegal heap false (book.history ++ turn.adds) → ComesTo old new answers.Stepped
     begins_comes p adds legal =
         let with_it : book.history ++ turn.adds ≡ book.history ++ Advance p ∷ [] = ap (λ es. book.history ++ es) adds in
-        let begins = (keeps_there ButSpine heap false [] book.history [] (Advance p) (subst (IsLegalBy ButSpine heap false) with_it legal).space).begins in
+        let begins = (keeps_there heap false [] book.history [] (Advance p) (subst (IsLegal heap false) with_it legal).space).begins in
         let next : p ≡ old.phase + 1 = begins.0 ∙ ap (λ n. n + 1) (sym told.phase_told) in
         let phases : phase (book.history ++ Advance p ∷ []) ≡ phase book.history + 1 = total-more (λ e. e.phases) book.history (Advance p) in
         let later : new.phase ≡ p = then_.phase_told ∙ ap phase with_it ∙ phases ∙ sym begins.0 in
@@ -75,10 +75,10 @@ module _ (heap : Heap) (state : State) (book : Book) (old new : CollectorState) 
         = then_.log_told ∙ ap (filter is_collectors) with_it ∙ filter-append is_collectors book.history (Advance p ∷ []) ∙ ap (λ es. es ++ Advance p ∷ []) (sym told.log_told) in
         inr (Advance p, (next, begins.1, later), log)
 
-    frees_comes : (count : ℕ) → turn.adds ≡ Frees count ∷ [] → IsLegalBy ButSpine heap false (book.history ++ turn.adds) → ComesTo old new answers.Stepped
+    frees_comes : (count : ℕ) → turn.adds ≡ Frees count ∷ [] → IsLegal heap false (book.history ++ turn.adds) → ComesTo old new answers.Stepped
     frees_comes count adds legal =
         let with_it : book.history ++ turn.adds ≡ book.history ++ Frees count ∷ [] = ap (λ es. book.history ++ es) adds in
-        let sweeps = (keeps_there ButSpine heap false [] book.history [] (Frees count) (subst (IsLegalBy ButSpine heap false) with_it legal).space).sweeps in
+        let sweeps = (keeps_there heap false [] book.history [] (Frees count) (subst (IsLegal heap false) with_it legal).space).sweeps in
         let phases : phase (book.history ++ Frees count ∷ []) ≡ phase book.history + 0 = total-more (λ e. e.phases) book.history (Frees count) in
         let here : old.phase % 7 ≡ 5 = ap (λ p. p % 7) told.phase_told ∙ sweeps.0 in
         let later : new.phase ≡ old.phase = omega (arith, then_.phase_told ∙ ap phase with_it ∙ phases, told.phase_told) in
@@ -86,10 +86,10 @@ module _ (heap : Heap) (state : State) (book : Book) (old new : CollectorState) 
         = then_.log_told ∙ ap (filter is_collectors) with_it ∙ filter-append is_collectors book.history (Frees count ∷ []) ∙ ap (λ es. es ++ Frees count ∷ []) (sym told.log_told) in
         inr (Frees count, (here, sweeps.1, later), log)
 
-    ends_comes : (cycle kept : ℕ) → turn.adds ≡ Ends cycle kept ∷ [] → IsLegalBy ButSpine heap false (book.history ++ turn.adds) → ComesTo old new (answers.Ended cycle kept)
+    ends_comes : (cycle kept : ℕ) → turn.adds ≡ Ends cycle kept ∷ [] → IsLegal heap false (book.history ++ turn.adds) → ComesTo old new (answers.Ended cycle kept)
     ends_comes cycle kept adds legal =
         let with_it : book.history ++ turn.adds ≡ book.history ++ Ends cycle kept ∷ [] = ap (λ es. book.history ++ es) adds in
-        let ends = (keeps_there ButSpine heap false [] book.history [] (Ends cycle kept) (subst (IsLegalBy ButSpine heap false) with_it legal).space).ends in
+        let ends = (keeps_there heap false [] book.history [] (Ends cycle kept) (subst (IsLegal heap false) with_it legal).space).ends in
         let phases : phase (book.history ++ Ends cycle kept ∷ []) ≡ phase book.history + 1 = total-more (λ e. e.phases) book.history (Ends cycle kept) in
         let last : old.phase ≡ 7 * cycle + 6 = told.phase_told ∙ ends.0.0 in
         let later : new.phase ≡ 7 * cycle + 7 = omega (arith, then_.phase_told ∙ ap phase with_it ∙ phases, ends.0.0) in
@@ -97,7 +97,7 @@ module _ (heap : Heap) (state : State) (book : Book) (old new : CollectorState) 
         = then_.log_told ∙ ap (filter is_collectors) with_it ∙ filter-append is_collectors book.history (Ends cycle kept ∷ []) ∙ ap (λ es. es ++ Ends cycle kept ∷ []) (sym told.log_told) in
         (log, last, later)
 
-    comes : IsLegalBy ButSpine heap false (book.history ++ turn.adds) → HasShape turn found
+    comes : IsLegal heap false (book.history ++ turn.adds) → HasShape turn found
         → AllByRecursion (λ entry. is_collectors entry ≡ true) turn.adds × ComesTo old new (turn.answer found)
     comes legal (adds_nothing none goes_on) = (rw none tt, quiet_comes none goes_on (turn.answer found) refl)
     comes legal (begins p adds stepped) = (rw adds (refl, tt), subst (ComesTo old new) (sym stepped) (begins_comes p adds legal))
@@ -107,5 +107,5 @@ module _ (heap : Heap) (state : State) (book : Book) (old new : CollectorState) 
 pub each_turn_comes_to : EachEventKeeps → EachTurnComesTo
 each_turn_comes_to each heap state book old new stands can told then_ =
     let after = each heap state book Turns stands can in
-    comes heap state book old new stands.rule told then_ (subst (IsLegalBy ButSpine heap false) after.grown after.stands.rule.heap_stands.legal)
+    comes heap state book old new stands.rule told then_ (subst (IsLegal heap false) after.grown after.stands.rule.heap_stands.legal)
     (turn_shape heap state.collector state.collector.stage (found_by heap state (next_turn heap state.collector).step))

@@ -11,7 +11,7 @@ use Rattle.heap_model.specs.declared.entry.Entry.TheVariants as entries
 use Rattle.heap_model.specs.declared.heap.Heap.{Heap}
 use Rattle.heap_model.specs.declared.reply.Reply.{Reply}
 use Rattle.heap_model.specs.declared.reply.Reply.TheVariants as replies
-use Rattle.heap_model.specs.account.Account.{KeepsSpaceBy, ButSpine}
+use Rattle.heap_model.specs.account.Account.{KeepsSpace}
 use Rattle.heap_model.specs.account.Effects.{is_of}
 use Rattle.heap_model.specs.account.Refusals.{FindsSpace}
 use Rattle.heap_model.specs.account.Space.{taken_of, spent_of, words_granted}
@@ -67,7 +67,7 @@ module _ (heap : Heap) (before : List Entry) (number : ℕ) where
   nothing : AddsPlay heap before number []
   nothing = record { own = refl; may = tt }
 
-  one : (entry : Entry) → is_of number entry ≡ true → (KeepsSpaceBy ButSpine heap false before entry → KeepsSpaceBy ButSpine heap true before entry) → AddsPlay heap before number (entry ∷ [])
+  one : (entry : Entry) → is_of number entry ≡ true → (KeepsSpace heap false before entry → KeepsSpace heap true before entry) → AddsPlay heap before number (entry ∷ [])
   one entry own keeps = record { own = rw own refl; may = (keeps, tt) }
 
   took : (count : ℕ) → AddsPlay heap before number (takes_some number count)

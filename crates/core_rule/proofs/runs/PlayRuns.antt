@@ -11,7 +11,7 @@ use Rattle.heap_model.specs.declared.command.Command.{Command}
 use Rattle.heap_model.specs.declared.entry.Entry.{Entry}
 use Rattle.heap_model.specs.declared.entry.Entry.TheVariants.{Advance, Frees, Ends}
 use Rattle.heap_model.specs.declared.heap.Heap.{Heap}
-use Rattle.heap_model.specs.account.Account.{IsLegalBy, ButSpine}
+use Rattle.heap_model.specs.account.Account.{IsLegal}
 use Rattle.heap_model.specs.account.Effects.{is_of}
 use Rattle.heap_model.specs.graph.Graph.{opening}
 use Rattle.core_machine.specs.declared.place.Place.TheVariants as places
@@ -38,7 +38,7 @@ use Rattle.core_rule.proofs.runs.Runs.{MachineStays, OpeningStands, EachStepKeep
 -- the history is a play's, what a seat has found is so, and since the call of a seat began all entries are its own
 pub record PlaysOn (heap : Heap) (state : State) (book : Book) : Type 0 where
   pub stands : Stands heap state book
-  pub legal : IsLegalBy ButSpine heap true book.history
+  pub legal : IsLegal heap true book.history
   pub noted : (number : ℕ) → number < heap.seats → FoundNow heap state.words book.history (seat_at state number) (seat_at state number).place
   pub own : (number : ℕ) → number < heap.seats → (seat_at state number).place ≢ places.Idle → list_all (is_of number) (drop (book.begun number) book.history) ≡ true
 
@@ -70,15 +70,15 @@ own_alone heap state new now number alone all stay own r below active =
     ]
 
 -- so it is after the rule is kept, where what is added may stand in a play
-plays_next : {heap : Heap} {before new : State} {book : Book} {begun : ℕ → ℕ} {added : List Entry} (keeps : Keeps heap before new book begun added) → Stands heap new keeps.now → MayPlay heap book.history added → IsLegalBy ButSpine heap true book.history
+plays_next : {heap : Heap} {before new : State} {book : Book} {begun : ℕ → ℕ} {added : List Entry} (keeps : Keeps heap before new book begun added) → Stands heap new keeps.now → MayPlay heap book.history added → IsLegal heap true book.history
     → ((r : ℕ) → r < heap.seats → FoundNow heap new.words (book.history ++ added) (seat_at new r) (seat_at new r).place)
     → ((r : ℕ) → r < heap.seats → (seat_at new r).place ≢ places.Idle → list_all (is_of r) (drop (keeps.now.begun r) keeps.now.history) ≡ true) → PlaysNext heap new book.history added
 plays_next {heap} {before} {new} {book} {begun} {added} keeps stands may legal noted own =
-    let run : IsLegalBy ButSpine heap false (book.history ++ added) = subst (IsLegalBy ButSpine heap false) keeps.grown keeps.rule.heap_stands.legal in
+    let run : IsLegal heap false (book.history ++ added) = subst (IsLegal heap false) keeps.grown keeps.rule.heap_stands.legal in
     record {
       now = keeps.now;
       grown = keeps.grown;
-      plays = record { stands = stands; legal = subst (IsLegalBy ButSpine heap true) (sym keeps.grown) (play_more heap book.history added may legal run); noted = λ r below. subst (λ es. FoundNow heap new.words es (seat_at new r) (seat_at new r).place) (sym keeps.grown) (noted r below); own = own };
+      plays = record { stands = stands; legal = subst (IsLegal heap true) (sym keeps.grown) (play_more heap book.history added may legal run); noted = λ r below. subst (λ es. FoundNow heap new.words es (seat_at new r) (seat_at new r).place) (sym keeps.grown) (noted r below); own = own };
     }
 
 step_plays : MachineStays → EachStepKeeps → (heap : Heap) (state : State) (book : Book) (number : ℕ) → PlaysOn heap state book → IsAlone state number → Can heap state (Steps number)
@@ -149,23 +149,23 @@ module _ (stays : MachineStays) (steps : EachStepKeeps) (begin : EachBeginKeeps)
   event_plays heap state book Turns plays alone can = turn_plays stays turn heap state book plays alone can
 
   run_plays : (heap : Heap) (state : State) (book : Book) (events : List Event) → PlaysOn heap state book → Run heap state events → OneCallAtATime heap state events
-      → IsLegalBy ButSpine heap true (book.history ++ history heap state events)
-  run_plays heap state book [] plays run alone = subst (IsLegalBy ButSpine heap true) (sym (append-nil book.history)) plays.legal
+      → IsLegal heap true (book.history ++ history heap state events)
+  run_plays heap state book [] plays run alone = subst (IsLegal heap true) (sym (append-nil book.history)) plays.legal
   run_plays heap state book (event ∷ events) plays run alone =
       let next = event_plays heap state book event plays alone.0 run.0 in
       let rest = run_plays heap (state_after heap state event) next.now events next.plays run.1 alone.1 in
-      subst (IsLegalBy ButSpine heap true) (ap (λ es. es ++ history heap (state_after heap state event) events) next.grown
+      subst (IsLegal heap true) (ap (λ es. es ++ history heap (state_after heap state event) events) next.grown
       ∙ append_assoc book.history (entries heap state event) (history heap (state_after heap state event) events)) rest
 
   -- so does the whole run, from the opening on
   pub whole_calls_play : OpeningStands → WholeCallsPlay
   whole_calls_play opens heap state events limits opening run alone =
       let first = opens heap state limits opening in
-      subst (λ before. IsLegalBy ButSpine heap true (before ++ history heap state events)) first.grown
+      subst (λ before. IsLegal heap true (before ++ history heap state events)) first.grown
       (run_plays heap state first.book events
       record {
         stands = first.stands;
-        legal = subst (IsLegalBy ButSpine heap true) (sym first.grown) record { objects = tt; space = tt };
+        legal = subst (IsLegal heap true) (sym first.grown) record { objects = tt; space = tt };
         noted = λ number below. opening_noted heap state first.book.history opening number below;
         own = λ number below active. rw first.grown (own_of_none number (first.book.begun number));
       } run alone)
