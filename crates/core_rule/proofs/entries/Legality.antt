@@ -4,6 +4,7 @@ use Rattle.heap_model.specs.declared.command.Command.{Command}
 use Rattle.heap_model.specs.declared.entry.Entry.{Entry}
 use Rattle.heap_model.specs.declared.entry.Entry.TheVariants as entries
 use Rattle.heap_model.specs.declared.heap.Heap.{Heap}
+use Rattle.heap_model.specs.declared.id.Id.{Id}
 use Rattle.heap_model.specs.declared.reply.Reply.{Reply}
 use Rattle.heap_model.specs.account.Account.{KeepsSpace, IsLegal, most_kept, TakesAndGives, MakesOfOwn}
 use Rattle.heap_model.specs.account.Cycles.{graph_of, EndsCycle}
@@ -49,9 +50,15 @@ pub keeps_ends : (heap : Heap) (play : Bool) (before : List Entry) (cycle kept :
     → KeepsSpace heap play before (entries.Ends cycle kept)
 keeps_ends heap play before cycle kept ends = keeps_rules heap play before (entries.Ends cycle kept) tt tt (tt, tt, tt) tt tt (tt, ends)
 
--- dead fragments are freed
+-- what the collector gives up, and what it swings
 pub keeps_frees : (heap : Heap) (play : Bool) (before : List Entry) (count : ℕ) → Sweeps heap before (entries.Frees count) → KeepsSpace heap play before (entries.Frees count)
 keeps_frees heap play before count frees = keeps_rules heap play before (entries.Frees count) tt tt (tt, tt, tt) tt tt (frees, tt)
+
+pub keeps_returns : (heap : Heap) (play : Bool) (before : List Entry) (count : ℕ) → Sweeps heap before (entries.Returns count) → KeepsSpace heap play before (entries.Returns count)
+keeps_returns heap play before count returns = keeps_rules heap play before (entries.Returns count) tt tt (tt, tt, tt) tt tt (returns, tt)
+
+pub keeps_swings : (heap : Heap) (play : Bool) (before : List Entry) (id : Id) → Sweeps heap before (entries.Swings id) → KeepsSpace heap play before (entries.Swings id)
+keeps_swings heap play before id swings = keeps_rules heap play before (entries.Swings id) tt tt (tt, tt, tt) tt tt (swings, tt)
 
 module _ (heap : Heap) (play : Bool) (before : List Entry) (number : ℕ) where
   -- a seat takes what is in no use

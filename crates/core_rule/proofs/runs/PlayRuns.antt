@@ -9,13 +9,14 @@ use Rattle.std.proofs.lemmas.List.Folds.{list_all-append}
 use Rattle.std.specs.Prelude.{count_ones}
 use Rattle.heap_model.specs.declared.command.Command.{Command}
 use Rattle.heap_model.specs.declared.entry.Entry.{Entry}
-use Rattle.heap_model.specs.declared.entry.Entry.TheVariants.{Advance, Frees, Ends}
+use Rattle.heap_model.specs.declared.entry.Entry.TheVariants.{Advance, Frees, Returns, Swings, Ends}
 use Rattle.heap_model.specs.declared.heap.Heap.{Heap}
 use Rattle.heap_model.specs.account.Account.{IsLegal}
 use Rattle.heap_model.specs.account.Effects.{is_of}
 use Rattle.heap_model.specs.graph.Graph.{opening}
 use Rattle.core_machine.specs.declared.place.Place.TheVariants as places
 use Rattle.heap_model.specs.declared.calls.collect.Inner.{Inner}
+use Rattle.core_machine.specs.declared.collector.stage.Copying.TheVariants.{Swinging}
 use Rattle.core_machine.specs.declared.collector.stage.Stage.{Stage}
 use Rattle.core_machine.specs.declared.collector.stage.Stage.TheVariants as stages
 use Rattle.core_machine.specs.collector.Collector.{Collector, turn_at}
@@ -32,7 +33,7 @@ use Rattle.core_rule.proofs.footprint.TurnCycle.{turn_cycle}
 use Rattle.core_rule.proofs.steps.Assemble.{Keeps}
 use Rattle.core_rule.proofs.runs.PlayEntries.{AddsPlay, FoundNow, adds_play}
 use Rattle.core_rule.proofs.runs.PlayNotes.{idle_noted, noted_alone, step_noted, begin_noted, inner_noted, opening_noted}
-use Rattle.core_rule.proofs.runs.Plays.{MayPlay, play_more, advancing, freeing, ending, plain_keeps}
+use Rattle.core_rule.proofs.runs.Plays.{MayPlay, play_more, advancing, freeing, returning, swinging, ending, plain_keeps}
 use Rattle.core_rule.proofs.runs.Runs.{MachineStays, OpeningStands, EachStepKeeps, EachBeginKeeps, EachInnerKeeps, EachTurnKeeps, seat_of_step}
 
 -- the history is a play's, what a seat has found is so, and since the call of a seat began all entries are its own
@@ -130,7 +131,9 @@ inner_plays stays inners heap state book number inner plays alone now can =
 -- what a turn of the collector adds may stand in a play
 turn_may : (heap : Heap) (before : List Entry) (collector : Collector) (stage : Stage) → MayPlay heap before (turn_at heap collector stage).adds
 turn_may heap before collector stages.Advancing = (plain_keeps heap before (Advance (collector.phase + 1)) (advancing (collector.phase + 1)), tt)
-turn_may heap before collector (stages.Freeing group dead) = (plain_keeps heap before (Frees (count_ones dead)) (freeing (count_ones dead)), tt)
+turn_may heap before collector (stages.Freeing group dead words) = (plain_keeps heap before (Frees (count_ones dead)) (freeing (count_ones dead)), tt)
+turn_may heap before collector (stages.Returning group words) = (plain_keeps heap before (Returns words) (returning words), tt)
+turn_may heap before collector (stages.Copying (Swinging copy)) = (plain_keeps heap before (Swings copy.array.id) (swinging copy.array.id), tt)
 turn_may heap before collector (stages.Ending kept) = (plain_keeps heap before (Ends (collector.phase / 7) kept) (ending (collector.phase / 7) kept), tt)
 turn_may heap before collector _ = tt
 

@@ -9,6 +9,7 @@ use Rattle.heap_model.specs.declared.account.effect.Effect.{Effect}
 use Rattle.heap_model.specs.declared.entry.Entry.{Entry}
 use Rattle.heap_model.specs.declared.entry.Entry.TheVariants as entries
 use Rattle.heap_model.specs.declared.heap.Heap.{Heap}
+use Rattle.heap_model.specs.declared.id.Id.{Id}
 use Rattle.heap_model.specs.declared.reply.Reply.{Reply}
 use Rattle.heap_model.specs.declared.reply.Reply.TheVariants as replies
 use Rattle.heap_model.specs.account.Account.{KeepsSpace, KeepsSpaceAfter, IsLegal}
@@ -21,7 +22,7 @@ use Rattle.core_rule.specs.Counts.{AreUsed}
 use Rattle.core_rule.specs.Gathers.{GathersRight}
 use Rattle.core_rule.specs.Owners.{Owner}
 use Rattle.core_rule.proofs.counts.FreeSums.{taken_and_free, passed_all}
-use Rattle.core_rule.proofs.entries.Legality.{keeps_takes, keeps_gives, keeps_answers, keeps_begins, keeps_ends, keeps_frees}
+use Rattle.core_rule.proofs.entries.Legality.{keeps_takes, keeps_gives, keeps_answers, keeps_begins, keeps_ends, keeps_frees, keeps_returns, keeps_swings}
 
 -- a reply that refuses nothing for want of space, and waits for nobody
 abbrev pub IsPlainReply : Reply → Type 0
@@ -37,6 +38,8 @@ pub data IsPlain : Entry → Type 0 where
   answering : (number p : ℕ) → IsPlain (entries.Answers number p)
   advancing : (p : ℕ) → IsPlain (entries.Advance p)
   freeing : (count : ℕ) → IsPlain (entries.Frees count)
+  returning : (count : ℕ) → IsPlain (entries.Returns count)
+  swinging : (id : Id) → IsPlain (entries.Swings id)
   ending : (cycle kept : ℕ) → IsPlain (entries.Ends cycle kept)
   saying : (number : ℕ) (command : Command) (reply : Reply) → IsPlainReply reply → IsPlain (entries.Said number command reply)
 
@@ -60,6 +63,8 @@ plain_keeps heap before _ (giving number count) keeps = keeps_gives heap true be
 plain_keeps heap before _ (answering number p) keeps = keeps_answers heap true before number p keeps.answers
 plain_keeps heap before _ (advancing p) keeps = keeps_begins heap true before p keeps.begins
 plain_keeps heap before _ (freeing count) keeps = keeps_frees heap true before count keeps.sweeps
+plain_keeps heap before _ (returning count) keeps = keeps_returns heap true before count keeps.sweeps
+plain_keeps heap before _ (swinging id) keeps = keeps_swings heap true before id keeps.sweeps
 plain_keeps heap before _ (ending cycle kept) keeps = keeps_ends heap true before cycle kept keeps.ends
 plain_keeps heap before _ (saying number command reply plain) keeps = record {
   takes = tt;
