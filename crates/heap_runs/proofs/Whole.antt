@@ -5,7 +5,7 @@ use Rattle.std.proofs.lemmas.List.{take_at, drop_at}
 use Rattle.heap_model.specs.declared.heap.Heap.{Heap}
 use Rattle.heap_model.specs.declared.entry.Entry.{Entry}
 use Rattle.heap_model.specs.declared.entry.Entry.TheVariants.{Ends}
-use Rattle.heap_model.specs.account.Account.{Whole, ButSpine, IsLegalBy, IsLegal}
+use Rattle.heap_model.specs.account.Account.{IsLegal}
 use Rattle.heap_model.specs.account.PhaseCounts.{has_left}
 use Rattle.heap_model.specs.account.Windows.{begins_cycle, up_to_cycle}
 use Rattle.heap_model.specs.calls.SeatCalls.{leave_entries}
@@ -42,7 +42,7 @@ none_used empties heap told turned played gone cycle =
     let left : (number : ℕ) → number < heap.seats → has_left number (up_to_cycle (before ++ last.steps)) ≡ true
     = λ number under. ap (has_left number) (up_to_last_later begins_cycle before last.steps last.begins)
     ∙ left_still number before (up_to_cycle last.steps) (left_still number told cycle.under_way (gone number under)) in
-    let empty = empties ButSpine heap true (before ++ last.steps) last.cycle last.kept (subst (IsLegalBy ButSpine heap true) all played.legal) left in
+    let empty = empties heap true (before ++ last.steps) last.cycle last.kept (subst (IsLegal heap true) all played.legal) left in
     omega (arith, ap fragments_used all, empty, played.none_short)
 
 -- the whole play: the script was answered, the seats have left, and a last cycle was made
@@ -59,7 +59,6 @@ whole_play stand counts empties script middle gone last front between entries ma
     let empty = none_used empties script.heap gone.entries notes.turned (subst (IsPlayed script.heap) notes.told played_last) left.gone notes.cycle in
     let stay = counts front in
     let words = subst (λ es. mark.spine + words_returned es ≡ words_granted es) (sym answered.follows.same) spine in
-    let last_counts = counts entries in
     let end_shown = shows_use counts script.heap last entries used follows at_end in
     let shown : ShowsCounts script.heap front mark = record {
       used = shows_use counts script.heap middle front mark.used answered.follows in_use;
@@ -71,12 +70,7 @@ whole_play stand counts empties script middle gone last front between entries ma
       form = refl;
       heap = refl;
       legal = record {
-        entries = stand ButSpine script.heap entries (subst (IsLegalBy ButSpine script.heap true) (sym follows.same) played_last.legal) follows.right;
-        mark = rw front_is shown;
-        end_used = end_shown;
-      };
-      whole = λ none. record {
-        entries = stand Whole script.heap entries (subst (IsLegal script.heap true) (sym follows.same) (played_last.whole (ap words_granted (sym follows.same) ∙ last_counts.granted_stay ∙ none))) follows.right;
+        entries = stand script.heap entries (subst (IsLegal script.heap true) (sym follows.same) played_last.legal) follows.right;
         mark = rw front_is shown;
         end_used = end_shown;
       };
