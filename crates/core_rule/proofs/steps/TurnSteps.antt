@@ -5,7 +5,7 @@ use Rattle.heap_model.specs.declared.entry.Entry.{Entry}
 use Rattle.heap_model.specs.declared.entry.Entry.TheVariants.{Ends}
 use Rattle.heap_model.specs.declared.heap.Heap.{Heap}
 use Rattle.heap_model.specs.PhasePlan.{cycle_phases}
-use Rattle.heap_model.specs.account.Cycles.{EndsCycleBy, ButSpine}
+use Rattle.heap_model.specs.account.Cycles.{EndsCycle}
 use Rattle.core_machine.specs.declared.table.address.Address.{Address}
 use Rattle.core_machine.specs.declared.collector.stage.Stage.{Stage}
 use Rattle.core_machine.specs.declared.collector.stage.Stage.TheVariants as stages
@@ -33,7 +33,7 @@ StageKeeps stage = (heap : Heap) (state : State) (book : Book) → Rule heap sta
 
 -- where the collector is about to end a cycle, that may end
 abbrev pub MayEnd : Heap → State → Book → Type 0
-MayEnd heap state book = (kept : ℕ) → state.collector.stage ≡ stages.Ending kept → EndsCycleBy ButSpine heap book.history (Ends (state.collector.phase / cycle_phases) kept)
+MayEnd heap state book = (kept : ℕ) → state.collector.stage ≡ stages.Ending kept → EndsCycle heap book.history (Ends (state.collector.phase / cycle_phases) kept)
 
 -- the state after a turn
 abbrev pub after_turn : State → List ℕ → Collector → State
