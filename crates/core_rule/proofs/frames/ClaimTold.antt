@@ -6,7 +6,7 @@ use Rattle.std.proofs.lemmas.List.{append-nil}
 use Rattle.heap_model.specs.declared.entry.Entry.{Entry}
 use Rattle.heap_model.specs.declared.entry.Entry.TheVariants as entries
 use Rattle.heap_model.specs.declared.heap.Heap.{Heap}
-use Rattle.heap_model.specs.account.Account.{IsLegalBy, ButSpine}
+use Rattle.heap_model.specs.account.Account.{IsLegal}
 use Rattle.heap_model.specs.account.Cycles.{graph_of}
 use Rattle.heap_model.specs.account.Effects.{is_of}
 use Rattle.heap_model.specs.graph.Objects.{graph_seat}
@@ -41,7 +41,7 @@ pub record ClaimTold (heap : Heap) (state : State) (book : Book) (number : ℕ) 
   pub used : AreUsed heap owner history
   pub granted : words_granted history ≡ words_granted book.history
   pub returned : words_returned history ≡ words_returned book.history
-  pub legal : IsLegalBy ButSpine heap false history
+  pub legal : IsLegal heap false history
   pub phases : (words : List ℕ) (owner : ℕ → Owner) (colour : ℕ → Colour) (fragments : ℕ → List ℕ)
       → HeapInCycle heap words (phase book.history) owner colour fragments → HeapInCycle heap words (phase history) owner colour fragments
   pub cycles : (words : List ℕ) (owner : ℕ → Owner) (colour : ℕ → Colour) (r : ℕ) (seat : Seat)

@@ -2,7 +2,7 @@
 use Rattle.std.proofs.Common.{◌≡◌, ℕ, ◌<◌, false, List, [], ◌∷◌, ◌++◌, length, refl, ◌∙◌, arith}
 use Rattle.heap_model.specs.declared.entry.Entry.{Entry}
 use Rattle.heap_model.specs.declared.heap.Heap.{Heap}
-use Rattle.heap_model.specs.account.Account.{IsLegalBy, ButSpine}
+use Rattle.heap_model.specs.account.Account.{IsLegal}
 use Rattle.heap_model.specs.account.Cycles.{graph_of}
 use Rattle.heap_model.specs.account.Effects.{effect_of, is_of}
 use Rattle.heap_model.specs.graph.Objects.{graph_seat}
@@ -63,7 +63,7 @@ module _ (heap : Heap) (words now : List ℕ) (same : SameFragments heap words n
   after = graph_of heap later.history
 
   -- the heap stands
-  pub heap_past : UsesNothing entry → IsLegalBy ButSpine heap false later.history → HeapInCycle heap now (phase later.history) book.owner book.colour book.fragments
+  pub heap_past : UsesNothing entry → IsLegal heap false later.history → HeapInCycle heap now (phase later.history) book.owner book.colour book.fragments
       → HeapStands heap words book → HeapStands heap now later
   heap_past uses legal cycle stands = record {
     control_words = bits_same heap words now book.owner same.controls stands.control_words;

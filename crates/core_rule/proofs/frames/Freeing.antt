@@ -3,7 +3,7 @@ use Rattle.std.proofs.Common.{◌≡◌, ℕ, ◌+◌, ◌*◌, ◌%◌, ◌^◌
 use Rattle.heap_model.specs.declared.entry.Entry.{Entry}
 use Rattle.heap_model.specs.declared.entry.Entry.TheVariants.{Frees}
 use Rattle.heap_model.specs.declared.heap.Heap.{Heap}
-use Rattle.heap_model.specs.account.Account.{IsLegalBy, ButSpine}
+use Rattle.heap_model.specs.account.Account.{IsLegal}
 use Rattle.heap_model.specs.account.Cycles.{graph_of}
 use Rattle.heap_model.specs.account.PhaseCounts.{phase, last_answer, has_left}
 use Rattle.heap_model.specs.account.Space.{fragments_gained, fragments_lost}
@@ -113,7 +113,7 @@ module _ (heap : Heap) (state : State) (book : Book) (rule : Rule heap state boo
   room = omega (arith, rule.heap_stands.used, fewer_taken)
 
   module _ (sweeps : phase book.history % 7 ≡ 5) (some : 1 ≤ length fs) (after : AfterMarking book.owner book.colour) where
-    legal : IsLegalBy ButSpine heap false book_freed.history
+    legal : IsLegal heap false book_freed.history
     legal = legal_more heap false book.history entry rule.heap_stands.legal tt (keeps_frees heap false book.history (length fs) (sweeps, some, room))
 
     -- what is marked stays born

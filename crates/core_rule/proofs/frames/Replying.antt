@@ -4,7 +4,7 @@ use Rattle.std.proofs.lemmas.List.{length-append}
 use Rattle.heap_model.specs.declared.account.effect.Effect.{Effect}
 use Rattle.heap_model.specs.declared.entry.Entry.{Entry}
 use Rattle.heap_model.specs.declared.heap.Heap.{Heap}
-use Rattle.heap_model.specs.account.Account.{KeepsSpaceBy, ButSpine}
+use Rattle.heap_model.specs.account.Account.{KeepsSpace}
 use Rattle.heap_model.specs.account.Cycles.{graph_of}
 use Rattle.heap_model.specs.account.Effects.{effect_of, no_effect, is_of}
 use Rattle.heap_model.specs.graph.Legal.{Accepts}
@@ -44,7 +44,7 @@ module _ (heap : Heap) (words : List ℕ) (book : Book) (entry : Entry) (nothing
   }
 
   -- the heap stands
-  pub heap_told : Accepts (graph_of heap book.history) entry → KeepsSpaceBy ButSpine heap false book.history entry → HeapStands heap words book → HeapStands heap words (with_entry book entry)
+  pub heap_told : Accepts (graph_of heap book.history) entry → KeepsSpace heap false book.history entry → HeapStands heap words book → HeapStands heap words (with_entry book entry)
   heap_told accepts keeps stands =
       heap_past heap words words (fragments_same heap words) book entry nodes
       uses_nothing

@@ -8,7 +8,7 @@ use Rattle.heap_model.specs.declared.entry.Entry.{Entry}
 use Rattle.heap_model.specs.declared.entry.Entry.TheVariants.{Said}
 use Rattle.heap_model.specs.declared.heap.Heap.{Heap}
 use Rattle.heap_model.specs.declared.reply.Reply.{Reply}
-use Rattle.heap_model.specs.account.Account.{KeepsSpaceBy, ButSpine}
+use Rattle.heap_model.specs.account.Account.{KeepsSpace}
 use Rattle.heap_model.specs.account.Cycles.{graph_of}
 use Rattle.heap_model.specs.account.Effects.{effect_of, no_effect}
 use Rattle.heap_model.specs.graph.Growth.{after_reply}
@@ -161,7 +161,7 @@ module _ (heap : Heap) (state : State) (book : Book) (number : ℕ) (rule : Rule
   module _ (command : Command) (reply : Reply) (nothing : effect_of (Said number command reply) ≡ no_effect)
       (after : Graph) (grows : after_reply (graph_of heap book.history) number command reply ≡ after) (only : OnlyRegisters (graph_of heap book.history) after number) where
     -- a reply is shown
-    pub load_tells : MakesNone (seat_at state number).place → MakesNone place → Accepts (graph_of heap book.history) (Said number command reply) → KeepsSpaceBy ButSpine heap false book.history (Said number command reply)
+    pub load_tells : MakesNone (seat_at state number).place → MakesNone place → Accepts (graph_of heap book.history) (Said number command reply) → KeepsSpace heap false book.history (Said number command reply)
         → Registers after book.made book.owner book.fragments number registers place (target_of (seat_at state number).command)
         → OwnList after (book.history ++ Said number command reply ∷ []) book.made book.owner book.fragments number new
         → WayStands (node_at after book.made) book.made book.owner book.fragments new place

@@ -6,7 +6,7 @@ use Rattle.heap_model.specs.declared.entry.Entry.{Entry}
 use Rattle.heap_model.specs.declared.entry.Entry.TheVariants as entries
 use Rattle.heap_model.specs.declared.heap.Heap.{Heap}
 use Rattle.heap_model.specs.declared.reply.Reply.{Reply}
-use Rattle.heap_model.specs.account.Account.{IsLegalBy, ButSpine}
+use Rattle.heap_model.specs.account.Account.{IsLegal}
 use Rattle.heap_model.specs.account.Cycles.{graph_of}
 use Rattle.heap_model.specs.account.Effects.{is_of}
 use Rattle.heap_model.specs.graph.Growth.{after_reply}
@@ -104,7 +104,7 @@ module _ (heap : Heap) (state : State) (book : Book) (number : ℕ) (words : Lis
       subst (Fits heap) (get_or-set_same state.seats number now absent_seat below) (machine.fit number (rw (length-set state.seats number now) below))
 
   -- a reply is told, and what the seat has, names and is told of stands
-  pub told_keeps : IsLegalBy ButSpine heap false later.history → SameUnkept heap book.owner state.words words → GraphReplies heap words book before after number
+  pub told_keeps : IsLegal heap false later.history → SameUnkept heap book.owner state.words words → GraphReplies heap words book before after number
       → SameWeights seat now → words_by command reply ≡ 0
       → OwnStands heap words book.owner book.spine_owner number now → NamesStand after book.made book.owner book.fragments book.spine_owner number now
       → ToldStands heap after later.history book.made book.owner book.fragments (book.begun number) number now
@@ -147,7 +147,7 @@ module _ (heap : Heap) (state : State) (book : Book) (number : ℕ) (words : Lis
       (book_stays heap state book later.history book.begun)
 
   -- the seat stands idle then
-  pub reply_keeps : made_by command reply ≡ 0 → MakesNone seat.place → IsAtRest seat → seat.mine ≡ filter (is_of number) book.history → IsLegalBy ButSpine heap false later.history
+  pub reply_keeps : made_by command reply ≡ 0 → MakesNone seat.place → IsAtRest seat → seat.mine ≡ filter (is_of number) book.history → IsLegal heap false later.history
       → SameUnkept heap book.owner state.words words → GraphReplies heap words book before after number → SeatReplies book after number seat now entry
       → HeapInCycle heap words (phase book.history) book.owner book.colour book.fragments
       → SeatInCycle heap words (phase later.history) (last_answer number later.history) (has_left number later.history) book.owner book.colour number now

@@ -4,7 +4,7 @@ use Rattle.std.proofs.lemmas.Bool.{cases_lt}
 use Rattle.heap_model.specs.declared.entry.Entry.{Entry}
 use Rattle.heap_model.specs.declared.entry.Entry.TheVariants.{Ends}
 use Rattle.heap_model.specs.declared.heap.Heap.{Heap}
-use Rattle.heap_model.specs.account.Cycles.{EndsCycleBy, ButSpine}
+use Rattle.heap_model.specs.account.Cycles.{EndsCycle}
 use Rattle.heap_model.specs.account.PhaseCounts.{phase}
 use Rattle.core_machine.specs.declared.collector.stage.Stage.TheVariants as stages
 use Rattle.core_machine.specs.collector.Collector.{turn_at}
@@ -85,7 +85,7 @@ module _ (kept : ℕ) (heap : Heap) (state : State) (book : Book) (rule : Rule h
 
 -- the end of a cycle keeps the rule
 pub end_keeps : (kept : ℕ) (heap : Heap) (state : State) (book : Book) → Rule heap state book → state.collector.stage ≡ stages.Ending kept
-    → EndsCycleBy ButSpine heap book.history (Ends (state.collector.phase / 7) kept) → TurnKeeps heap state book (turn_at heap state.collector (stages.Ending kept))
+    → EndsCycle heap book.history (Ends (state.collector.phase / 7) kept) → TurnKeeps heap state book (turn_at heap state.collector (stages.Ending kept))
 end_keeps kept heap state book rule ending ends machine =
     let all = (has_cleared kept heap state book rule ending).all in
     let cycle : ℕ = state.collector.phase / 7 in

@@ -3,7 +3,7 @@ use Rattle.std.proofs.Common.{◌≡◌, ℕ, ◌+◌, ◌<◌, Bool, true, fals
 use Rattle.std.proofs.lemmas.List.Elements.{filter-append}
 use Rattle.heap_model.specs.declared.entry.Entry.{Entry}
 use Rattle.heap_model.specs.declared.heap.Heap.{Heap}
-use Rattle.heap_model.specs.account.Account.{IsLegalBy, ButSpine}
+use Rattle.heap_model.specs.account.Account.{IsLegal}
 use Rattle.heap_model.specs.account.Cycles.{graph_of}
 use Rattle.heap_model.specs.account.Effects.{effect_of, is_of}
 use Rattle.heap_model.specs.graph.Growth.{after_entry}
@@ -81,7 +81,7 @@ module _ (heap : Heap) (state : State) (book : Book) (rule : Rule heap state boo
   pub leads_next : (f source g : ℕ) → WordPointsTo heap words_next f source g → WordPointsTo heap state.words f source g
   leads_next f source g leads = leads_ahead heap state.words Phase next (omega arith) f source g leads
 
-  heap_on : IsLegalBy ButSpine heap false later.history → Coloured heap words_next book.owner book.colour book.fragments (phase book.history + 1) → HeapStands heap words_next later
+  heap_on : IsLegal heap false later.history → Coloured heap words_next book.owner book.colour book.fragments (phase book.history + 1) → HeapStands heap words_next later
   heap_on legal coloured =
       let cycle = rule.heap_stands.cycle in
       heap_past heap state.words words_next (fragments_phase heap state.words next) book entry nodes begins.uses legal
@@ -117,7 +117,7 @@ module _ (heap : Heap) (state : State) (book : Book) (rule : Rule heap state boo
   begun_collector = record (after_advance state.collector) { log = state.collector.log ++ entry ∷ [] }
 
   -- so the rule is kept, where the entry is legal, the colours are right then, and of marking stands what stands while the collector looks
-  pub phase_turns : IsLegalBy ButSpine heap false later.history → Coloured heap words_next book.owner book.colour book.fragments (phase book.history + 1)
+  pub phase_turns : IsLegal heap false later.history → Coloured heap words_next book.owner book.colour book.fragments (phase book.history + 1)
       → MarkingStands heap words_next book.owner book.colour book.fragments next stages.Looking
       → IsMachine heap (after_turn state words_next begun_collector) → Keeps heap state (after_turn state words_next begun_collector) book book.begun (entry ∷ [])
   phase_turns legal coloured marks machine =

@@ -8,7 +8,7 @@ use Rattle.heap_model.specs.declared.heap.Heap.{Heap}
 use Rattle.heap_model.specs.declared.reply.Reply.{Reply}
 use Rattle.heap_model.specs.declared.reply.Reply.TheVariants.{Full}
 use Rattle.heap_model.specs.Needs.{spine_need_of}
-use Rattle.heap_model.specs.account.Account.{KeepsSpaceBy, ButSpine}
+use Rattle.heap_model.specs.account.Account.{KeepsSpace}
 use Rattle.heap_model.specs.graph.Legal.{Accepts}
 use Rattle.heap_model.specs.account.Cycles.{graph_of}
 use Rattle.heap_model.specs.account.Refusals.{FindsSpace}
@@ -99,7 +99,7 @@ module _ (heap : Heap) (state : State) (book : Book) (number : ℕ) (rule : Rule
   accepts : Accepts (graph_of heap book.history) entry
   accepts = accepts_full seat.command makes (graph_of heap book.history) number (need seat) found at_place.0.makes.in_range (present_at heap state book number Refusing rule here place)
 
-  keeps : KeepsSpaceBy ButSpine heap false book.history entry
+  keeps : KeepsSpace heap false book.history entry
   keeps = full_keeps seat.command makes heap false book.history number found (omega (arith, own)) (omega (arith, own, (seat_fits rule number here).own.small_reserve))
       (omega (arith, at_place.0.too_few)) finds
 

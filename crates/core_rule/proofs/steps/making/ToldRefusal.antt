@@ -5,7 +5,7 @@ use Rattle.heap_model.specs.declared.entry.Entry.{Entry}
 use Rattle.heap_model.specs.declared.entry.Entry.TheVariants.{Said}
 use Rattle.heap_model.specs.declared.heap.Heap.{Heap}
 use Rattle.heap_model.specs.declared.reply.Reply.{Reply}
-use Rattle.heap_model.specs.account.Account.{KeepsSpaceBy, ButSpine}
+use Rattle.heap_model.specs.account.Account.{KeepsSpace}
 use Rattle.heap_model.specs.account.Cycles.{graph_of}
 use Rattle.heap_model.specs.account.Effects.{effect_of, no_effect}
 use Rattle.heap_model.specs.graph.Legal.{Accepts}
@@ -80,7 +80,7 @@ module _ (heap : Heap) (state : State) (book : Book) (number : ℕ) (rule : Rule
       other_told heap words book entry nothing nodes r (seat_at state r) (of_other number r apart) (ap (λ (x : Graph). graph_seat x r) graph) (seats_stand r below)
 
   -- so the refusal keeps the rule, where its entry may stand, nothing is in the hand and no spine has its place, and the budget stands
-  pub told_refusal : seat.hand ≡ [] → seat.body ≡ [] → ¬ HasPlace seat seat.place → Accepts before entry → KeepsSpaceBy ButSpine heap false book.history entry
+  pub told_refusal : seat.hand ≡ [] → seat.body ≡ [] → ¬ HasPlace seat seat.place → Accepts before entry → KeepsSpace heap false book.history entry
       → BudgetsStand heap (stepped state number words refused) book_refused → IsMachine heap (stepped state number words refused)
       → Keeps heap state (stepped state number words refused) book book.begun (entry ∷ [])
   told_refusal empty bare no_place accepts keeps budgets machine =

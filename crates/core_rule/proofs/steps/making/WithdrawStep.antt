@@ -4,7 +4,7 @@ use Rattle.heap_words.specs.Spot.{spot_in}
 use Rattle.heap_model.specs.declared.entry.Entry.{Entry}
 use Rattle.heap_model.specs.declared.heap.Heap.{Heap}
 use Rattle.heap_model.specs.declared.reply.Reply.TheVariants.{SpineFull}
-use Rattle.heap_model.specs.account.Account.{KeepsSpaceBy, ButSpine}
+use Rattle.heap_model.specs.account.Account.{KeepsSpace}
 use Rattle.heap_model.specs.graph.Legal.{Accepts}
 use Rattle.heap_model.specs.account.Cycles.{graph_of}
 use Rattle.heap_model.specs.account.Refusals.{FindsSpine}
@@ -102,7 +102,7 @@ module _ (heap : Heap) (state : State) (book : Book) (number : ℕ) (rule : Rule
   accepts : Accepts g entry
   accepts = accepts_spine_full seat.command fits.an_array g number needs (seat.used % 2 ^ 32) fits.makes.in_range (present_at heap state book number Withdrawing rule here place)
 
-  keeps : KeepsSpaceBy ButSpine heap false book.history entry
+  keeps : KeepsSpace heap false book.history entry
   keeps = spine_full_keeps seat.command fits.an_array heap false book.history number (seat.used % 2 ^ 32)
       (omega (arith, own)) (omega (arith, own, (seat_fits rule number here).own.small_reserve)) (omega (arith, shown, fits.too_many)) (subst (FindsSpine heap false book.history number) (sym shown) finds)
 
