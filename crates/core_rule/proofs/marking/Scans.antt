@@ -27,7 +27,7 @@ use Rattle.core_machine.specs.table.Newborn.{link_after}
 use Rattle.core_rule.specs.Book.{Book, Colour, Grey, fragment_at, id_at, object_head}
 use Rattle.core_rule.specs.Colours.{IsMarked, WordPointsTo, IsBetween}
 use Rattle.core_rule.specs.Marking.{IsPart, MayMark, IsSeen, IsSeenWhole, IsSpineOf, ComesAfter, ScanStands, PassStands}
-use Rattle.core_rule.specs.Sweep.{SweepStands}
+use Rattle.core_rule.specs.Sweep.{SweepStands, HasMarked}
 use Rattle.core_rule.specs.Objects.{IsKept, KeptObject, name_of, is_cell, node_at}
 use Rattle.core_rule.specs.Owners.{Owner, Kept}
 use Rattle.core_rule.specs.Rule.{Rule}
@@ -68,8 +68,8 @@ scan_passes colour scan part = scan_cases (PassStands colour) scan part tt (λ b
 pub scan_sweeps : (heap : Heap) (owner : ℕ → Owner) (colour : ℕ → Colour) (phase : ℕ) (scan : Scan) (part : ℕ) → SweepStands heap owner colour phase (scan_at scan part)
 scan_sweeps heap owner colour phase scan part = scan_cases (SweepStands heap owner colour phase) scan part tt (λ behind. tt)
 
-pub scan_on_marks : (scan : Scan) (part : ℕ) → scan_at scan part ≢ stages.Advancing
-scan_on_marks scan part = scan_cases (λ stage. stage ≢ stages.Advancing) scan part (λ e. cc) (λ behind e. cc)
+pub scan_on_marks : (scan : Scan) (part : ℕ) → ¬ HasMarked (scan_at scan part)
+scan_on_marks scan part = scan_cases (λ stage. ¬ HasMarked stage) scan part (λ e. e) (λ behind e. e)
 
 -- behind the last word of its spine an array's first fragment is seen whole
 seen_to_end : (heap : Heap) (words : List ℕ) (colour : ℕ → Colour) (s : SpineScan) → IsSpineOf heap words s → s.words ≤ s.index → IsSeen heap words colour s.scan.fragment (4 + s.index)
@@ -95,8 +95,8 @@ spine_passes colour s = spine_places (PassStands colour) s (λ more. tt) (λ don
 pub spine_sweeps : (heap : Heap) (owner : ℕ → Owner) (colour : ℕ → Colour) (phase : ℕ) (s : SpineScan) → SweepStands heap owner colour phase (spine_scan_at s)
 spine_sweeps heap owner colour phase s = spine_places (SweepStands heap owner colour phase) s (λ more. tt) (λ done. tt)
 
-pub spine_on_marks : (s : SpineScan) → spine_scan_at s ≢ stages.Advancing
-spine_on_marks s = spine_places (λ stage. stage ≢ stages.Advancing) s (λ more e. cc) (λ done e. cc)
+pub spine_on_marks : (s : SpineScan) → ¬ HasMarked (spine_scan_at s)
+spine_on_marks s = spine_places (λ stage. ¬ HasMarked stage) s (λ more e. e) (λ done e. e)
 
 -- the word of the spine that the scan is at leads to the fragment that it names
 pub spine_points : (heap : Heap) (words : List ℕ) (s : SpineScan) → IsSpineOf heap words s → s.scan.fragment < 16 * heap.groups → s.index < s.words

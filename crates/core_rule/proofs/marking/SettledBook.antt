@@ -15,6 +15,7 @@ use Rattle.core_rule.specs.Owners.{Owner, Borne, Kept, Dead, IsSeated, IsBoards,
 use Rattle.core_rule.specs.Paths.{IsWhite}
 use Rattle.core_rule.specs.Objects.{node_at}
 use Rattle.core_rule.specs.Rule.{Rule, HeapStands, SeatStands}
+use Rattle.core_rule.specs.Sweep.{HasMarked}
 use Rattle.core_rule.proofs.colours.Births.{births_stay}
 use Rattle.core_rule.proofs.counts.CountMoves.{used_same}
 use Rattle.core_rule.proofs.cycle.CycleFrames.{coloured_stays}
@@ -32,7 +33,7 @@ use Rattle.core_rule.proofs.marking.SettledSeats.{holds_later, ways_later, await
 use Rattle.core_rule.proofs.marking.ObjectEdges.{kept_tells}
 
 module _ (heap : Heap) (state : State) (book : Book) (rule : Rule heap state book) (marks : IsMarking heap.seats state.collector.phase state.collector.looked)
-    (goes_on : state.collector.stage ≢ stages.Advancing) (none : (f : ℕ) → book.colour f ≢ Grey) where
+    (goes_on : ¬ HasMarked state.collector.stage) (none : (f : ℕ) → book.colour f ≢ Grey) where
   abbrev now : Book
   now = settled_book heap book
 
@@ -143,13 +144,13 @@ module _ (heap : Heap) (state : State) (book : Book) (rule : Rule heap state boo
     ];
   }
 
-  pub marking_settles : MarkingStands heap state.words now.owner book.colour book.fragments state.collector.phase stages.Advancing
+  pub marking_settles : MarkingStands heap state.words now.owner book.colour book.fragments state.collector.phase stages.Flipping
   marking_settles = record {
     grey = λ f grey. absurd (none f grey);
     scan = tt;
     few = tt;
     pass = tt;
-    sweep_stands = λ swept. absurd (omega (arith, swept, marks.for_marking));
-    alive = λ going. absurd (going (inl (marks.for_marking, refl)));
+    sweep_stands = tt;
+    alive = λ going. absurd (going (inl (marks.for_marking, tt)));
     after = λ ended. after_settles;
   }
