@@ -5,6 +5,7 @@ pub mod NoneMade
 pub mod SpineFrames
 pub mod BudgetFrames
 pub mod HalvesFrames
+pub mod StagesOn
 pub mod UsedWords
 pub mod DyingWords
 pub mod WeightSums

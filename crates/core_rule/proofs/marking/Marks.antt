@@ -28,6 +28,7 @@ use Rattle.core_rule.proofs.colours.SpineStays.{same_spine}
 use Rattle.core_rule.proofs.cycle.CycleFrames.{while_access}
 use Rattle.core_rule.proofs.lists.Options.{if_some}
 use Rattle.core_rule.proofs.marking.Paths.{reached_on}
+use Rattle.core_rule.proofs.marking.MarkingStages.{OfMarking, marking_goes}
 use Rattle.core_rule.proofs.marking.MarkingFrames.{LeavesMarking, OnlyMarks, OnlyClears, marking_stays, reached_stays}
 
 -- what is true of each root goes on to be
@@ -94,7 +95,7 @@ unsettled phase stage third goes (inr (inl copies)) = omega (arith, third, copie
 unsettled phase stage third goes (inr (inr sweeps)) = omega (arith, third, sweeps)
 
 -- what stands at a stage of marking: nothing is to be freed yet
-pub marks_at : (heap : Heap) (words : List ℕ) (owner : ℕ → Owner) (colour : ℕ → Colour) (fragments : ℕ → List ℕ) (phase : ℕ) (stage : Stage) → phase % 7 ≡ 3 → ¬ HasMarked stage
+pub marks_at : (heap : Heap) (words : List ℕ) (owner : ℕ → Owner) (colour : ℕ → Colour) (fragments : ℕ → List ℕ) (phase : ℕ) (stage : Stage) → phase % 7 ≡ 3 → OfMarking stage
     → ((f : ℕ) → colour f ≡ Grey → IsPart owner f) → ScanStands heap words owner colour fragments stage → IsFewWords stage → PassStands colour stage → SweepStands heap owner colour phase stage
     → ((f i k : ℕ) → owner f ≢ Dead i k) → MarkingStands heap words owner colour fragments phase stage
 marks_at heap words owner colour fragments phase stage third goes grey scan few pass sweep alive = record {
@@ -104,7 +105,7 @@ marks_at heap words owner colour fragments phase stage third goes grey scan few 
   pass = pass;
   sweep_stands = sweep;
   alive = λ going. alive;
-  after = λ settled. absurd (unsettled phase stage third goes settled);
+  after = λ settled. absurd (unsettled phase stage third (marking_goes stage goes) settled);
 }
 
 module _ (heap : Heap) (state : State) (book : Book) (rule : Rule heap state book) where
