@@ -6,6 +6,9 @@ pub mod SpineFrames
 pub mod BudgetFrames
 pub mod HalvesFrames
 pub mod StagesOn
+pub mod HalfSums
+pub mod Leaving
+pub mod Settling
 pub mod UsedWords
 pub mod DyingWords
 pub mod WeightSums

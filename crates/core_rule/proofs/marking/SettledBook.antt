@@ -24,8 +24,7 @@ use Rattle.core_rule.proofs.gather.GatherMoves.{gathers_same}
 use Rattle.core_rule.proofs.hand.HandMoves.{holding_stays}
 use Rattle.core_rule.proofs.owners.Seated.{borne_by_seat}
 use Rattle.core_rule.proofs.marking.Marks.{none_dead}
-use Rattle.core_rule.proofs.marking.Ended.{first_marked}
-use Rattle.core_rule.proofs.spines.DyingWords.{settled_book, spines_settle, spine_settles, ahead_settles}
+use Rattle.core_rule.proofs.spines.DyingWords.{settled_book, spines_settle, spine_settles, address_settles}
 use Rattle.core_rule.proofs.marking.SeatRoots.{answered_marking, all_roots_marked, loaded_marked}
 use Rattle.core_rule.proofs.marking.Settled.{settled_owner, settled_holds, settled_same, settled_was, settled_dead, settled_borne, settled_white}
 use Rattle.core_rule.proofs.marking.SettledObjects.{objects_later}
@@ -35,7 +34,7 @@ use Rattle.core_rule.proofs.marking.ObjectEdges.{kept_tells}
 module _ (heap : Heap) (state : State) (book : Book) (rule : Rule heap state book) (marks : IsMarking heap.seats state.collector.phase state.collector.looked)
     (goes_on : ¬ HasMarked state.collector.stage) (none : (f : ℕ) → book.colour f ≢ Grey) where
   abbrev now : Book
-  now = settled_book heap book
+  now = settled_book book
 
   third : phase book.history % 7 ≡ 3
   third = let told = marks.for_marking in let same = rule.collector_stands.phase_told in omega (arith, told, same)
@@ -89,7 +88,7 @@ module _ (heap : Heap) (state : State) (book : Book) (rule : Rule heap state boo
         names = record {
           registers = λ r awake. holds_later book.made book.owner book.colour book.fragments _ _ (roots.registers r) (stands.names.registers r awake);
           way = ways_later book.made book.owner book.colour book.fragments seat roots.registers loaded (node_at (graph_of heap book.history) book.made) seat.place stands.names.way;
-          ahead = ahead_settles heap state.words book.owner book.colour book.fragments book.spine_owner (first_marked heap state book rule third none) seat seat.place stands.names.ahead;
+          address = address_settles heap state.words book.owner book.colour book.fragments book.spine_owner (node_at (graph_of heap book.history) book.made) book.spines seat seat.place stands.names.address;
         };
         told = record {
           list = record {
