@@ -9,6 +9,8 @@ pub mod StagesOn
 pub mod HalfSums
 pub mod Leaving
 pub mod Settling
+pub mod SpotWritten
+pub mod Flips
 pub mod UsedWords
 pub mod DyingWords
 pub mod WeightSums
