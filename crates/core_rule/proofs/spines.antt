@@ -11,6 +11,8 @@ pub mod Leaving
 pub mod Settling
 pub mod SpotWritten
 pub mod Flips
+pub mod LeftHalf
+pub mod PhaseSpaces
 pub mod UsedWords
 pub mod DyingWords
 pub mod WeightSums

@@ -16,7 +16,6 @@ use Rattle.core_machine.specs.declared.place.Place.{Place}
 use Rattle.core_machine.specs.declared.place.Place.TheVariants as places
 use Rattle.core_machine.specs.machine.Machine.{State, seat_at}
 use Rattle.core_machine.specs.seat.Commands.{IsArray}
-use Rattle.core_machine.specs.seat.Fits.{Fits}
 use Rattle.core_machine.specs.seat.Seat.{Seat}
 use Rattle.core_machine.proofs.table_lemmas.Free.{sum_zero}
 use Rattle.core_rule.specs.Book.{Book, fragment_at}
@@ -27,8 +26,9 @@ use Rattle.core_rule.specs.Owners.{Owner, Kept}
 use Rattle.core_rule.specs.Rule.{Rule, SpaceStands}
 use Rattle.core_rule.specs.Spines.{HasPlace, next_spine}
 use Rattle.core_rule.proofs.entries.AtRest.{seat_fits}
+use Rattle.core_rule.proofs.marking.Marks.{all_answered}
 use Rattle.core_rule.proofs.spines.HalfSums.{words_away}
-use Rattle.core_rule.proofs.spines.Leaving.{not_leaving}
+use Rattle.core_rule.proofs.spines.Leaving.{not_leaving, has_place_present}
 use Rattle.core_rule.proofs.spines.OffsetWithin.{offset_low}
 use Rattle.core_rule.proofs.spines.SpotWritten.{spot_words, spot_spines, spot_budget, next_written}
 use Rattle.core_rule.proofs.spines.StagesOn.{copy_moves}
@@ -50,14 +50,6 @@ placed_away half seat _ away = refl
 weight_away : (weight : ℕ → ℕ) (o : Owner) → ((i k : ℕ) → o ≡ Kept i k → weight i ≡ 0) → kept_weight weight o ≡ 0
 weight_away weight (Kept i k) none = let nothing : weight i ≡ 0 = none i k refl in grind (arith, nat_tests, nothing)
 weight_away weight _ none = refl
-
--- a seat that has the place of a spine hasn't left
-has_place_present : (heap : Heap) (seat : Seat) → Fits heap seat → HasPlace seat seat.place → seat.left ≡ false
-has_place_present heap seat fits has = by seat.left refl
-  where
-    by : (left : Bool) → seat.left ≡ left → seat.left ≡ false
-    by true gone = absurd (subst (HasPlace seat) (fits.gone gone).idle has)
-    by false present = present
 
 module _ (heap : Heap) (state : State) (book : Book) (rule : Rule heap state book) (flipping : state.collector.stage ≡ stages.Flipping) where
   abbrev p : ℕ
@@ -141,11 +133,7 @@ module _ (heap : Heap) (state : State) (book : Book) (rule : Rule heap state boo
 
   -- a seat that has the place of a spine has answered the phase of marking
   has_answered : (r : ℕ) → r < heap.seats → HasPlace (seat_at state r) (seat_at state r).place → (seat_at state r).answered % 7 ≡ 3
-  has_answered r below has =
-      let told = (rule.seats_stand r below).cycle.answers_told in
-      let present = has_place_present heap (seat_at state r) (seat_fits rule r below) has in
-      let answered = rule.collector_stands.looked r (omega (arith, below, fits.all)) below (told.leaves ∙ present) in
-      omega (arith, told.told, answered, rule.collector_stands.phase_told, third)
+  has_answered r below has = ap (λ n. n % 7) (all_answered heap state book rule fits.all r below (has_place_present heap (seat_at state r) (seat_fits rule r below) has)) ∙ third
 
   -- what stood before the next spine is left behind
   left_behind : (half offset : ℕ) → IsBeforeNext next half offset → IsLeftBehind heap other p stages.Advancing half offset

@@ -81,16 +81,16 @@ IsIdle (stages.Freeing group dead counted) = ⊥
 IsIdle (stages.Returning group counted) = ⊥
 IsIdle _ = Unit {0}
 
-idle_returns : (stage : Stage) → IsIdle stage → returning stage ≡ 0
+pub idle_returns : (stage : Stage) → IsIdle stage → returning stage ≡ 0
 idle_returns (stages.Returning group counted) idle = absurd idle
 idle_returns _ idle = refl
 
-idle_copied : (stage : Stage) → IsIdle stage → copying_words stage ≡ 0
+pub idle_copied : (stage : Stage) → IsIdle stage → copying_words stage ≡ 0
 idle_copied (stages.Copying (copying.Visiting group)) idle = refl
 idle_copied (stages.Copying stage) idle = absurd idle
 idle_copied _ idle = refl
 
-idle_copy : (stage : Stage) → IsIdle stage → copy_in stage ≡ None
+pub idle_copy : (stage : Stage) → IsIdle stage → copy_in stage ≡ None
 idle_copy (stages.Copying (copying.Visiting group)) idle = refl
 idle_copy (stages.Copying stage) idle = absurd idle
 idle_copy _ idle = refl
