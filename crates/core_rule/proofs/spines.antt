@@ -5,6 +5,14 @@ pub mod NoneMade
 pub mod SpineFrames
 pub mod BudgetFrames
 pub mod HalvesFrames
+pub mod StagesOn
+pub mod HalfSums
+pub mod Leaving
+pub mod Settling
+pub mod SpotWritten
+pub mod Flips
+pub mod LeftHalf
+pub mod PhaseSpaces
 pub mod UsedWords
 pub mod DyingWords
 pub mod WeightSums
