@@ -1,0 +1,2 @@
+-- The copies of spines: the collector's visits to marked fragments, the words of its copy, and what an array leaves as it swings to that.
+pub mod Visits
