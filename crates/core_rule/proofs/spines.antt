@@ -4,6 +4,7 @@ pub mod DeadWords
 pub mod NoneMade
 pub mod SpineFrames
 pub mod BudgetFrames
+pub mod HalvesFrames
 pub mod UsedWords
 pub mod DyingWords
 pub mod WeightSums

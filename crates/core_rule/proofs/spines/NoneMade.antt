@@ -10,7 +10,7 @@ use Rattle.heap_model.specs.declared.heap.Heap.{Heap}
 use Rattle.core_machine.specs.declared.place.Place.{Place}
 use Rattle.core_machine.specs.declared.place.Place.TheVariants as places
 use Rattle.core_machine.specs.seat.Seat.{Seat}
-use Rattle.core_rule.specs.Budgets.{granted_at, unplaced_at, refused_at, UsedStands}
+use Rattle.core_rule.specs.Budgets.{granted_at, placed_at, refused_at, UsedStands}
 use Rattle.core_rule.specs.Spines.{HasPlace}
 
 -- no object is made at the place
@@ -37,19 +37,34 @@ none_made_words command (replies.Made id) none = no_need command none
     no_need _ needs = refl
 none_made_words command _ none = refl
 
+-- where a seat has the place of a spine it had it, and its last answer is the one that it was
+pub record SameRange (old now : Seat) : Type 0 where
+  pub had : HasPlace now now.place → HasPlace old old.place
+  pub spine : HasPlace now now.place → now.spine ≡ old.spine
+  pub answered : HasPlace now now.place → now.answered ≡ old.answered
+
 -- a seat has as many words granted, placed and refused as it had
 pub record SameWeights (old now : Seat) : Type 0 where
   pub granted : granted_at now now.place ≡ granted_at old old.place
-  pub unplaced : unplaced_at now now.place ≡ unplaced_at old old.place
+  pub placed : (half : ℕ) → placed_at half now now.place ≡ placed_at half old old.place
   pub refused : refused_at now now.place ≡ refused_at old old.place
+  pub range : SameRange old now
 
 pub none_granted : (seat : Seat) (place : Place) → MakesNone place → granted_at seat place ≡ 0
 none_granted seat (places.Making place) none = absurd none
 none_granted seat _ none = refl
 
-pub none_unplaced : (seat : Seat) (place : Place) → MakesNone place → unplaced_at seat place ≡ 0
-none_unplaced seat (places.Making place) none = absurd none
-none_unplaced seat _ none = refl
+pub none_placed : (half : ℕ) (seat : Seat) (place : Place) → MakesNone place → placed_at half seat place ≡ 0
+none_placed half seat (places.Making place) none = absurd none
+none_placed half seat _ none = refl
+
+-- a seat that makes no object has no range
+pub none_range : (old now : Seat) → MakesNone now.place → SameRange old now
+none_range old now after = record {
+  had = λ has. absurd (none_has_place now now.place after has);
+  spine = λ has. absurd (none_has_place now now.place after has);
+  answered = λ has. absurd (none_has_place now now.place after has);
+}
 
 pub none_refused : (seat : Seat) (place : Place) → MakesNone place → refused_at seat place ≡ 0
 none_refused seat (places.Making place) none = absurd none
@@ -59,6 +74,7 @@ none_refused seat _ none = refl
 pub none_weights : (old now : Seat) → MakesNone old.place → MakesNone now.place → SameWeights old now
 none_weights old now before after = record {
   granted = none_granted now now.place after ∙ sym (none_granted old old.place before);
-  unplaced = none_unplaced now now.place after ∙ sym (none_unplaced old old.place before);
+  placed = λ half. none_placed half now now.place after ∙ sym (none_placed half old old.place before);
   refused = none_refused now now.place after ∙ sym (none_refused old old.place before);
+  range = none_range old now after;
 }

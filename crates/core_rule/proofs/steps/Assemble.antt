@@ -17,29 +17,22 @@ use Rattle.core_machine.specs.machine.Machine.{State, seat_at, state_after_move,
 use Rattle.core_machine.specs.seat.Seat.{Seat, absent_seat}
 use Rattle.core_machine.specs.machine.Value.{IsMachine}
 use Rattle.core_rule.specs.Book.{Book}
-use Rattle.core_rule.specs.Budgets.{BudgetsStand}
+use Rattle.core_rule.specs.Colours.{IsMarked}
 use Rattle.core_rule.specs.Counts.{is_collectors}
 use Rattle.core_rule.specs.Phases.{CollectorAgrees}
 use Rattle.core_rule.specs.Roots.{RootsAreReached}
 use Rattle.core_rule.specs.Paths.{IsReached}
-use Rattle.core_rule.specs.Rule.{Rule, HeapStands, SeatStands, MarksStand}
+use Rattle.core_rule.specs.Rule.{Rule, HeapStands, SeatStands, MarksStand, SpaceStands}
 pub use Rattle.core_rule.proofs.entries.AtRest.{seat_fits, in_flight}
 use Rattle.core_rule.proofs.entries.Begins.{begins, book_begun, heap_begins, other_begins}
 use Rattle.core_rule.proofs.entries.PhaseEntries.{seats_phase, answers_grow, was_present}
 use Rattle.core_rule.proofs.footprint.BookGoing.{BookGoesOn, book_stays}
 use Rattle.core_rule.proofs.colours.SpineStays.{same_sources}
 use Rattle.core_rule.proofs.marking.Marks.{MarksGoOn, RootsGoOn, roots_more, leaves_words, marks_go_on}
-use Rattle.core_rule.proofs.spines.BudgetFrames.{stepped, SameGrants, budgets_stay}
+use Rattle.core_rule.proofs.spines.BudgetFrames.{stepped, SameGrants, grants_same, budgets_stay}
+use Rattle.core_rule.proofs.spines.HalvesFrames.{each_seat, halves_stay}
 use Rattle.core_rule.proofs.spines.NoneMade.{SameWeights}
-use Rattle.core_rule.proofs.spines.OtherWords.{LeavesSpines, spines_left_none}
-
--- a seat's new data leave the other seats'
-each_seat : (P : ℕ → Seat → Type 0) (seats : List Seat) (number : ℕ) (seat : Seat) → number < length seats → P number seat
-    → (r : ℕ) → (r ≢ number → P r (slice_index_or seats r absent_seat)) → P r (slice_index_or (slice_set seats number seat) r absent_seat)
-each_seat P seats number seat here self r other = elim (eqb_tells r number) as (λ _. P r (slice_index_or (slice_set seats number seat) r absent_seat)) [
-  | inl same ↦ subst (λ n. P n (slice_index_or (slice_set seats number seat) n absent_seat)) (sym same.1) (subst (P number) (sym (get_or-set_same seats number seat absent_seat here)) self)
-  | inr apart ↦ subst (P r) (sym (get_or-set_other seats number r seat absent_seat apart.1)) (other apart.1)
-]
+use Rattle.core_rule.proofs.spines.OtherWords.{LeavesSpines, places_of, spines_left_none}
 
 -- where the history grows by entries of which none is the collector's, and the seats have answered as it says, the collector stands as before
 collector_stays : (heap : Heap) (collector : Collector) (before added now : List Entry) → now ≡ before ++ added → filter is_collectors added ≡ []
@@ -77,12 +70,12 @@ pub record Keeps (heap : Heap) (before state : State) (book : Book) (begun : ℕ
 -- a book that has grown by them keeps it where each part stands for it
 pub parts_keep : {heap : Heap} {before state : State} {book : Book} {added : List Entry} (now : Book) → now.history ≡ book.history ++ added → IsMachine heap state → HeapStands heap state.words now
     → ((r : ℕ) → r < heap.seats → SeatStands heap state.words now r (seat_at state r)) → CollectorAgrees heap state.collector now.history
-    → MarksStand heap state now.owner now.colour now.fragments → BudgetsStand heap state now → BookGoesOn heap before book now → Keeps heap before state book now.begun added
-parts_keep now grown machine heap_stands seats collector marks budgets goes = record {
+    → MarksStand heap state now.owner now.colour now.fragments → SpaceStands heap state now → BookGoesOn heap before book now → Keeps heap before state book now.begun added
+parts_keep now grown machine heap_stands seats collector marks space goes = record {
   now = now;
   grown = grown;
   calls = refl;
-  rule = record { machine = machine; heap_stands = heap_stands; seats_stand = seats; collector_stands = collector; marks_stand = marks; budgets = budgets };
+  rule = record { machine = machine; heap_stands = heap_stands; seats_stand = seats; collector_stands = collector; marks_stand = marks; space = space };
   goes = goes;
 }
 
@@ -103,11 +96,14 @@ present_at heap state book number making rule here placed =
     let stands = rule.seats_stand number here in
     stands.told.counts.leaves ∙ in_flight rule number here (λ idle. absurd (cc (placed, idle)))
 
--- as many spine words are granted after a seat's step that asks for none and gives none
-pub step_budgets : (heap : Heap) (state : State) (book : Book) (number : ℕ) → Rule heap state book → number < heap.seats → (words : List ℕ) (seat : Seat) (now : Book)
-    → LeavesSpines heap state.words words → SameWeights (seat_at state number) seat → SameGrants heap book now → BudgetsStand heap (stepped state number words seat) now
-step_budgets heap state book number rule here words seat now leaves weights grants =
-    budgets_stay heap state book number words seat now here rule.machine.seated leaves weights grants rule.budgets
+-- the spine space stands as before after a seat's step that asks for no spine words and gives none, and marks no less
+pub step_space : (heap : Heap) (state : State) (book : Book) (number : ℕ) → Rule heap state book → number < heap.seats → (words : List ℕ) (seat : Seat) (now : Book)
+    → LeavesSpines heap state.words words → SameWeights (seat_at state number) seat → SameGrants heap book now → ((f : ℕ) → IsMarked book.colour f → IsMarked now.colour f)
+    → SpaceStands heap (stepped state number words seat) now
+step_space heap state book number rule here words seat now leaves weights grants marked = record {
+  budgets = budgets_stay heap state book number words seat now here rule.machine.seated leaves weights grants rule.space.budgets;
+  halves = halves_stay heap state book number words seat now here rule.machine.seated (places_of heap state.words words leaves) weights.range grants marked rule.space.halves;
+}
 
 -- the rule after a seat's step
 pub seat_steps : (heap : Heap) (state : State) (book : Book) (number : ℕ) (words : List ℕ) (seat : Seat) (now : Book) (added : List Entry)
@@ -115,9 +111,9 @@ pub seat_steps : (heap : Heap) (state : State) (book : Book) (number : ℕ) (wor
     → now.history ≡ book.history ++ added → filter is_collectors added ≡ []
     → HeapStands heap words now → SeatStands heap words now number seat
     → ((r : ℕ) → r < heap.seats → r ≢ number → SeatStands heap state.words book r (seat_at state r) → SeatStands heap words now r (seat_at state r))
-    → MarksGoOn heap state book now words seat → BudgetsStand heap (stepped state number words seat) now → BookGoesOn heap state book now
+    → MarksGoOn heap state book now words seat → SpaceStands heap (stepped state number words seat) now → BookGoesOn heap state book now
     → Keeps heap state (record state { words = words; seats = slice_set state.seats number seat }) book now.begun added
-seat_steps heap state book number words seat now added rule here machine grown none heap_after self others marks budgets goes =
+seat_steps heap state book number words seat now added rule here machine grown none heap_after self others marks space goes =
     let stand : (r : ℕ) → r < heap.seats → SeatStands heap words now r (slice_index_or (slice_set state.seats number seat) r absent_seat)
     = λ r below. each_seat (λ n s. SeatStands heap words now n s) state.seats number seat (subst (λ n. number < n) (sym rule.machine.seated) here) self r
     (λ apart. others r below apart (rule.seats_stand r below)) in
@@ -128,7 +124,7 @@ seat_steps heap state book number words seat now added rule here machine grown n
       roots = λ r below. each_seat (λ n s. RootsAreReached heap words now.owner now.colour state.collector s) state.seats number seat (subst (λ n. number < n) (sym rule.machine.seated) here) marks.own_on r
           (λ apart is_marking answered. roots_more (IsReached heap state.words book.owner book.colour) (IsReached heap words now.owner now.colour) (marks.reached_on is_marking) (seat_at state r)
           (rule.marks_stand.roots r below is_marking answered));
-    } budgets goes
+    } space goes
 
 -- the rule after a begin, which leaves the words and the others
 pub seat_begins : (heap : Heap) (state : State) (book : Book) (number : ℕ) (seat : Seat) (rule : Rule heap state book) (here : number < heap.seats) → IsMachine heap (record state { seats = slice_set state.seats number seat })
@@ -140,5 +136,5 @@ seat_begins heap state book number seat rule here machine self same weights root
     seat_steps heap state book number state.words seat begun [] rule here machine (sym (append-nil book.history)) refl
     (heap_begins heap state.words book number rule.heap_stands) self (λ r below apart other. other_begins heap state.words book number r (seat_at state r) apart other)
     (marks_go_on heap state book rule number here state.words begun seat (leaves_words heap state book rule state.words (same_sources heap state.words)) same roots)
-    (step_budgets heap state book number rule here state.words seat begun (spines_left_none heap state.words) weights record { told = refl; returned = refl; kept = refl; gone = refl })
+    (step_space heap state book number rule here state.words seat begun (spines_left_none heap state.words) weights (grants_same heap book book.colour (begins number (length book.history) book.begun)) (λ f dark. dark))
     (book_stays heap state book book.history (begins number (length book.history) book.begun))

@@ -5,7 +5,7 @@ use Rattle.heap_model.specs.declared.entry.Entry.{Entry}
 use Rattle.heap_model.specs.declared.entry.Entry.TheVariants.{Ends}
 use Rattle.heap_model.specs.declared.heap.Heap.{Heap}
 use Rattle.heap_model.specs.PhasePlan.{cycle_phases}
-use Rattle.heap_model.specs.account.Cycles.{EndsCycleBy, ButSpine}
+use Rattle.heap_model.specs.account.Cycles.{EndsCycle}
 use Rattle.core_machine.specs.declared.table.address.Address.{Address}
 use Rattle.core_machine.specs.declared.collector.stage.Stage.{Stage}
 use Rattle.core_machine.specs.declared.collector.stage.Stage.TheVariants as stages
@@ -16,10 +16,12 @@ use Rattle.core_machine.specs.machine.Value.{IsMachine}
 use Rattle.core_machine.proofs.table_lemmas.Addresses.{put-at}
 use Rattle.core_rule.specs.Book.{Book}
 use Rattle.core_rule.specs.Budgets.{BudgetsStand}
+use Rattle.core_rule.specs.Halves.{HalvesStand}
 use Rattle.core_rule.specs.Phases.{CollectorAgrees}
-use Rattle.core_rule.specs.Rule.{Rule, HeapStands, SeatStands, MarksStand}
+use Rattle.core_rule.specs.Rule.{Rule, HeapStands, SeatStands, MarksStand, SpaceStands}
 use Rattle.core_rule.proofs.footprint.BookGoing.{BookGoesOn, book_stays}
-use Rattle.core_rule.proofs.spines.BudgetFrames.{SameGrants, budgets_turn}
+use Rattle.core_rule.proofs.spines.BudgetFrames.{SameGrants, grants_same}
+use Rattle.core_rule.proofs.spines.HalvesFrames.{StageGoesOn, budgets_turn, halves_turn}
 use Rattle.core_rule.proofs.spines.OtherWords.{LeavesSpines, spines_left_none}
 use Rattle.core_rule.proofs.steps.Assemble.{Keeps, parts_keep}
 
@@ -33,16 +35,19 @@ StageKeeps stage = (heap : Heap) (state : State) (book : Book) → Rule heap sta
 
 -- where the collector is about to end a cycle, that may end
 abbrev pub MayEnd : Heap → State → Book → Type 0
-MayEnd heap state book = (kept : ℕ) → state.collector.stage ≡ stages.Ending kept → EndsCycleBy ButSpine heap book.history (Ends (state.collector.phase / cycle_phases) kept)
+MayEnd heap state book = (kept : ℕ) → state.collector.stage ≡ stages.Ending kept → EndsCycle heap book.history (Ends (state.collector.phase / cycle_phases) kept)
 
 -- the state after a turn
 abbrev pub after_turn : State → List ℕ → Collector → State
 after_turn state words collector = record state { words = words; collector = collector }
 
--- as many spine words are granted after a turn
-pub turn_budgets : (heap : Heap) (state : State) (book : Book) → Rule heap state book → (words : List ℕ) (collector : Collector) (now : Book)
-    → LeavesSpines heap state.words words → SameGrants heap book now → BudgetsStand heap (after_turn state words collector) now
-turn_budgets heap state book rule words collector now leaves grants = budgets_turn heap state book words collector now leaves grants rule.budgets
+-- the spine space stands as before after a turn that leaves the spine words, where it leads to a stage at which that may be
+pub turn_space : (heap : Heap) (state : State) (book : Book) → Rule heap state book → (words : List ℕ) (collector : Collector) (now : Book)
+    → LeavesSpines heap state.words words → SameGrants heap book now → StageGoesOn heap words now state.collector collector → SpaceStands heap (after_turn state words collector) now
+turn_space heap state book rule words collector now leaves grants on = record {
+  budgets = budgets_turn heap state book words collector now leaves grants on rule.space.budgets;
+  halves = halves_turn heap state book words collector now leaves grants on rule.space.halves;
+}
 
 -- the rule after a turn
 pub turn_steps : (heap : Heap) (state : State) (book : Book) (words : List ℕ) (collector : Collector) (now : Book) (added : List Entry)
@@ -50,13 +55,26 @@ pub turn_steps : (heap : Heap) (state : State) (book : Book) (words : List ℕ) 
     → HeapStands heap words now
     → ((r : ℕ) → r < heap.seats → SeatStands heap state.words book r (seat_at state r) → SeatStands heap words now r (seat_at state r))
     → CollectorAgrees heap collector now.history → MarksStand heap (after_turn state words collector) now.owner now.colour now.fragments
-    → BudgetsStand heap (after_turn state words collector) now → BookGoesOn heap state book now → Keeps heap state (after_turn state words collector) book now.begun added
-turn_steps heap state book words collector now added rule machine grown heap_after seats collector_after marks budgets goes =
-    parts_keep now grown machine heap_after (λ r below. seats r below (rule.seats_stand r below)) collector_after marks budgets goes
+    → SpaceStands heap (after_turn state words collector) now → BookGoesOn heap state book now → Keeps heap state (after_turn state words collector) book now.begun added
+turn_steps heap state book words collector now added rule machine grown heap_after seats collector_after marks space goes =
+    parts_keep now grown machine heap_after (λ r below. seats r below (rule.seats_stand r below)) collector_after marks space goes
 
 -- the collector with no entry added
 abbrev pub quiet : Collector → Collector
 quiet collector = record collector { log = collector.log ++ [] }
+
+-- the spine space takes no note of the collector's entries
+quiet_budgets : (heap : Heap) (state : State) (words : List ℕ) (collector : Collector) (book : Book) → BudgetsStand heap (after_turn state words collector) book
+    → BudgetsStand heap (after_turn state words (quiet collector)) book
+quiet_budgets heap state words collector book old = record {
+  level = old.level; leaving = old.leaving; word = old.word; told = old.told; low = old.low; returned = old.returned; early = old.early; counts = old.counts;
+}
+
+quiet_halves : (heap : Heap) (state : State) (words : List ℕ) (collector : Collector) (book : Book) → HalvesStand heap (after_turn state words collector) book
+    → HalvesStand heap (after_turn state words (quiet collector)) book
+quiet_halves heap state words collector book old = record {
+  half = old.half; before = old.before; arrays = old.arrays; hands = old.hands; swung = old.swung; copies = old.copies; copy = old.copy;
+}
 
 -- the rule after a load of the collector, with the book that stands then
 pub load_turns_with : (heap : Heap) (state : State) (book : Book) (a : Address) (collector : Collector) (now : Book) → Rule heap state book
@@ -64,20 +82,21 @@ pub load_turns_with : (heap : Heap) (state : State) (book : Book) (a : Address) 
     → HeapStands heap state.words now
     → ((r : ℕ) → r < heap.seats → SeatStands heap state.words book r (seat_at state r) → SeatStands heap state.words now r (seat_at state r))
     → CollectorAgrees heap collector now.history → MarksStand heap (after_turn state state.words collector) now.owner now.colour now.fragments
-    → BudgetsStand heap (after_turn state state.words collector) now → BookGoesOn heap state book now → Keeps heap state (after_turn state (put heap state.words a (at heap state.words a)) (quiet collector)) book now.begun []
-load_turns_with heap state book a collector now rule machine told heap_after seats stands marks budgets goes =
+    → SpaceStands heap (after_turn state state.words collector) now → BookGoesOn heap state book now → Keeps heap state (after_turn state (put heap state.words a (at heap state.words a)) (quiet collector)) book now.begun []
+load_turns_with heap state book a collector now rule machine told heap_after seats stands marks space goes =
     subst (λ words. IsMachine heap (after_turn state words (quiet collector)) → Keeps heap state (after_turn state words (quiet collector)) book now.begun []) (sym (put-at heap state.words a))
     (λ same. turn_steps heap state book state.words (quiet collector) now [] rule same (told ∙ sym (append-nil book.history)) heap_after seats
     (subst (λ log. CollectorAgrees heap (record collector { log = log }) now.history) (sym (append-nil collector.log)) stands)
     record { heap_marks = marks.heap_marks; roots = λ r below is answered. marks.roots r below (record { phase = is.phase; goes_on = is.goes_on }) answered }
-    record { exact = budgets.exact; word = budgets.word; told = budgets.told; low = budgets.low; none_returned = budgets.none_returned } goes) machine
+    record { budgets = quiet_budgets heap state state.words collector now space.budgets; halves = quiet_halves heap state state.words collector now space.halves } goes) machine
 
 -- and after one that leaves the book
 pub load_turns : (heap : Heap) (state : State) (book : Book) (a : Address) (collector : Collector) → Rule heap state book
     → IsMachine heap (after_turn state (put heap state.words a (at heap state.words a)) (quiet collector))
     → CollectorAgrees heap collector book.history → MarksStand heap (after_turn state state.words collector) book.owner book.colour book.fragments
+    → StageGoesOn heap state.words book state.collector collector
     → Keeps heap state (after_turn state (put heap state.words a (at heap state.words a)) (quiet collector)) book book.begun []
-load_turns heap state book a collector rule machine agrees marks =
+load_turns heap state book a collector rule machine agrees marks on =
     load_turns_with heap state book a collector book rule machine refl rule.heap_stands (λ r below seat_stands. seat_stands) agrees marks
-    (turn_budgets heap state book rule state.words collector book (spines_left_none heap state.words) record { told = refl; returned = refl; kept = refl; gone = refl })
+    (turn_space heap state book rule state.words collector book (spines_left_none heap state.words) (grants_same heap book book.colour book.begun) on)
     (book_stays heap state book book.history book.begun)
