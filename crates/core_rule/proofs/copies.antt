@@ -1,3 +1,4 @@
 -- The copies of spines: the collector's visits to marked fragments, the words of its copy, and what an array leaves as it swings to that.
 pub mod Visits
 pub mod CopyingStages
+pub mod VisitsOn

@@ -11,6 +11,7 @@ pub mod ScanStep
 pub mod LocateStep
 pub mod IndexStep
 pub mod SpreadStep
+pub mod VisitStep
 pub mod SweepStep
 pub mod FreeStep
 pub mod ClearStep
