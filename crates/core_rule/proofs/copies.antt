@@ -2,3 +2,4 @@
 pub mod Visits
 pub mod CopyingStages
 pub mod VisitsOn
+pub mod InspectedWords

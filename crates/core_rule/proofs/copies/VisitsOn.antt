@@ -54,20 +54,25 @@ module _ (heap : Heap) (state : State) (book : Book) (rule : Rule heap state boo
     | inr to ↦ inr (awaits_on heap state.collector.phase visit.group visit.marked visit.place (head i) (kept_within heap state.words book.owner (head i) i 0 rule.heap_stands.control_words kept) to)
   ]
 
-  -- and of those but for the one at which the visit stands, where the array that begins there stands in this half already
+  -- of those that were to be visited at a place on from the next one, where the array that begins there stands in this half already
   pub arrays_behind : (visit : Visit)
       → ((i : ℕ) → i < length book.made → head i ≡ visited visit → IsKept book.owner book.fragments i → (node_at (graph_of heap book.history) book.made i).array ≡ true → (book.spines i).half ≡ (next_spine heap state.words).half)
-      → ArraysOr (IsToVisit visit) → ArraysOr (AwaitsCopy state.collector.phase (visit_on heap visit))
-  arrays_behind visit here arrays = arrays_seen (record visit { place = visit.place + 1 }) (λ i below kept an_array. elim (arrays i below kept an_array) [
+      → ArraysOr (IsToVisit visit) → ArraysOr (IsToVisit (record visit { place = visit.place + 1 }))
+  arrays_behind visit here arrays i below kept an_array = elim (arrays i below kept an_array) [
     | inl there ↦ inl there
     | inr to ↦ elim (cases_eq (head i) (visited visit)) [
       | inl same ↦ inl (here i below same kept an_array)
       | inr other ↦ inr (to_visit_on visit (head i) other to)
     ]
-  ])
+  ]
 
   module _ (from : Copying) (was : state.collector.stage ≡ stages.Copying from) where
-    -- what the arrays were in that had yet to be visited
+    -- what copying has found where it stands
+    pub found_from : CopyingStands (node_at (graph_of heap book.history) book.made) book.made book.owner book.colour book.fragments book.spines (next_spine heap state.words).half from
+    found_from = subst (WhileCopying (CopyingStands (node_at (graph_of heap book.history) book.made) book.made book.owner book.colour book.fragments book.spines (next_spine heap state.words).half)) was
+        rule.space.halves.copies
+
+    -- and which arrays it is to visit yet
     pub arrays_from : ArraysOr (AwaitsVisit from)
     arrays_from = λ i below kept an_array. subst (λ stage. ((book.spines i).half ≡ (next_spine heap state.words).half) ⊎ AwaitsCopy state.collector.phase stage (head i)) was (rule.space.halves.arrays i below kept an_array)
 

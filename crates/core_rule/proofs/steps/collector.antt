@@ -12,6 +12,7 @@ pub mod LocateStep
 pub mod IndexStep
 pub mod SpreadStep
 pub mod VisitStep
+pub mod InspectStep
 pub mod SweepStep
 pub mod FreeStep
 pub mod ClearStep
