@@ -3,3 +3,4 @@ pub mod Visits
 pub mod CopyingStages
 pub mod VisitsOn
 pub mod InspectedWords
+pub mod BegunArrays

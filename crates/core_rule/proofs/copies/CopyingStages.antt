@@ -121,6 +121,10 @@ module _ (heap : Heap) (state : State) (book : Book) (rule : Rule heap state boo
   pub fits_from : FitsCopying heap from
   fits_from = fits_copying.2
 
+  -- the array that is copied has few words
+  pub few_from : IsFewWords (stages.Copying from)
+  few_from = subst IsFewWords was rule.marks_stand.heap_marks.few
+
   pub leaving : (stage : Stage) → IsLeaving state.collector.phase stage
   leaving stage = inr (inl in_copying)
 

@@ -13,6 +13,7 @@ pub mod IndexStep
 pub mod SpreadStep
 pub mod VisitStep
 pub mod InspectStep
+pub mod FindStep
 pub mod SweepStep
 pub mod FreeStep
 pub mod ClearStep
