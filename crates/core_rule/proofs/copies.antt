@@ -4,3 +4,5 @@ pub mod CopyingStages
 pub mod VisitsOn
 pub mod InspectedWords
 pub mod BegunArrays
+pub mod SwungWords
+pub mod SwungSources
