@@ -6,3 +6,4 @@ pub mod InspectedWords
 pub mod BegunArrays
 pub mod SwungWords
 pub mod SwungSources
+pub mod SwungObjects
