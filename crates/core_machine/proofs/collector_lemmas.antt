@@ -2,6 +2,7 @@
 pub mod AdvanceTurn
 pub mod BlackenTurn
 pub mod ClearTurn
+pub mod CopyingTurns
 pub mod EndTurn
 pub mod LookTurn
 pub mod PassTurn
@@ -30,9 +31,12 @@ stands_at (stages.Locating scan words) = SpineTurns.locate_stands scan words
 stands_at (stages.Indexing s) = SpineTurns.index_stands s
 stands_at (stages.Spreading s target) = SpineTurns.spread_stands s target
 stands_at (stages.Blackening scan) = BlackenTurn.blacken_stands scan
+stands_at stages.Flipping = CopyingTurns.flip_stands
+stands_at (stages.Copying stage) = CopyingTurns.copying_stands stage
 stands_at (stages.Sweeping group) = SweepTurn.sweep_stands group
-stands_at (stages.Examining group dead place) = SweepTurn.examine_stands group dead place
-stands_at (stages.Freeing group dead) = SweepTurn.free_stands group dead
+stands_at (stages.Examining group dead place words) = SweepTurn.examine_stands group dead place words
+stands_at (stages.Freeing group dead words) = SweepTurn.free_stands group dead words
+stands_at (stages.Returning group words) = SweepTurn.return_stands group words
 stands_at (stages.Clearing group kept) = ClearTurn.clear_stands group kept
 stands_at (stages.Ending kept) = EndTurn.end_stands kept
 stands_at stages.Advancing = AdvanceTurn.advance_stands

@@ -10,6 +10,7 @@ pub mod FindLemmas
 pub mod Free
 pub mod Grey
 pub mod Leading
+pub mod Lengths
 pub mod Masks
 pub mod Owned
 pub mod StepStands

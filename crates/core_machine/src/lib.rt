@@ -10,12 +10,12 @@ mod step;
 mod table;
 
 pub use collector::CollectorParty;
-pub use collector::stage::{Scan, SpineScan, Stage};
+pub use collector::stage::{ArrayAt, Copying, Scan, SpineCopy, SpineScan, Stage, Visit};
 pub use machine::Machine;
 pub use place::{Access, Collecting, Leaving, Making, Place, Polling};
 pub use seat::SeatParty;
 pub use seat::looks::{FoundBehind, Looks};
 pub use seat::register::Register;
 pub use step::operation::Operation;
-pub use step::{AccessStep, HandshakeStep, MakingStep, SpineStep, Step, TurningStep};
+pub use step::{AccessStep, CopyingStep, HandshakeStep, MakingStep, SpineStep, Step, TurningStep};
 pub use table::address::Address;

@@ -293,9 +293,8 @@ impl CopyingStep {
     {
         match *self {
             CopyingStep::FlipStore { .. } | CopyingStep::CopyClaim { .. } => Address::Spot,
-            CopyingStep::CopyLoad { half, offset } | CopyingStep::CopyStore { half, offset, .. } => {
-                Address::Spine { half, offset }
-            }
+            CopyingStep::CopyLoad { half, offset } | CopyingStep::CopyStore { half, offset, .. } =>
+                { Address::Spine { half, offset } }
             CopyingStep::SwingStore { sentinel, .. } => Address::Word {
                 fragment: sentinel,
                 part: 2,

@@ -10,8 +10,7 @@ use Rattle.heap_model.specs.graph.Legal.{Accepts, AcceptsAll}
 use Rattle.heap_model.specs.declared.account.effect.Effect.{Effect}
 use Rattle.heap_model.specs.account.Space.{total, total_of}
 use Rattle.heap_model.specs.account.Effects.{effect_of, is_of}
-use Rattle.heap_model.specs.account.Account.{KeepsSpaceBy, KeepsSpaceAfterBy}
-use Rattle.heap_model.specs.account.Cycles.{Judged}
+use Rattle.heap_model.specs.account.Account.{KeepsSpace, KeepsSpaceAfter}
 
 -- the graph grows by the entry
 pub graph_after-more : (g : Graph) (history : List Entry) (entry : Entry) → graph_after g (history ++ entry ∷ []) ≡ after_entry (graph_after g history) entry
@@ -23,10 +22,10 @@ AcceptsAll-more g [] entry legal accepts = (accepts, tt)
 AcceptsAll-more g (first ∷ history) entry legal accepts = (legal.0, AcceptsAll-more (after_entry g first) history entry legal.1 accepts)
 
 -- an entry that keeps the rules of space may stand there
-pub KeepsSpaceAfter-more : {judged : Judged} (heap : Heap) {play : Bool} (before history : List Entry) (entry : Entry) → KeepsSpaceAfterBy judged heap play before history → KeepsSpaceBy judged heap play (before ++ history) entry → KeepsSpaceAfterBy judged heap play before (history ++ entry ∷ [])
-KeepsSpaceAfter-more {judged} heap {play} before [] entry kept keeps = (subst (λ b. KeepsSpaceBy judged heap play b entry) (append-nil before) keeps, tt)
-KeepsSpaceAfter-more {judged} heap {play} before (first ∷ history) entry kept keeps =
-    (kept.0, KeepsSpaceAfter-more heap (before ++ first ∷ []) history entry kept.1 (subst (λ b. KeepsSpaceBy judged heap play b entry) (sym (append_assoc before (first ∷ []) history)) keeps))
+pub KeepsSpaceAfter-more : (heap : Heap) {play : Bool} (before history : List Entry) (entry : Entry) → KeepsSpaceAfter heap play before history → KeepsSpace heap play (before ++ history) entry → KeepsSpaceAfter heap play before (history ++ entry ∷ [])
+KeepsSpaceAfter-more heap {play} before [] entry kept keeps = (subst (λ b. KeepsSpace heap play b entry) (append-nil before) keeps, tt)
+KeepsSpaceAfter-more heap {play} before (first ∷ history) entry kept keeps =
+    (kept.0, KeepsSpaceAfter-more heap (before ++ first ∷ []) history entry kept.1 (subst (λ b. KeepsSpace heap play b entry) (sym (append_assoc before (first ∷ []) history)) keeps))
 
 -- the sums grow by what the entry does
 pub total-more : (part : Effect → ℕ) (history : List Entry) (entry : Entry) → total part (history ++ entry ∷ []) ≡ total part history + part (effect_of entry)

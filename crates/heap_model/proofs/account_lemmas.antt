@@ -3,7 +3,6 @@ pub mod Applying
 pub mod BehindLemmas
 pub mod Counting
 pub mod CycleLemmas
-pub mod Judging
 pub mod Noting
 pub mod Opening
 pub mod SeatsMore

@@ -3,7 +3,7 @@ use Rattle.std.proofs.Common.{◌+◌, ◌*◌, ◌≤◌, true, List, [], ◌�
 use Rattle.heap_model.specs.declared.heap.Heap.{Heap}
 use Rattle.heap_model.specs.declared.entry.Entry.{Entry}
 use Rattle.heap_model.specs.declared.entry.Entry.TheVariants as entries
-use Rattle.heap_model.specs.account.Account.{ButSpine, KeepsSpaceAfterBy, IsLegalBy, TakesAndGives}
+use Rattle.heap_model.specs.account.Account.{KeepsSpaceAfter, IsLegal, TakesAndGives}
 use Rattle.heap_model.specs.account.Effects.{effect_of}
 use Rattle.heap_model.specs.account.Space.{fragments_gained, fragments_lost, words_granted, words_returned}
 use Rattle.heap_model.specs.account.Sweep.{Sweeps}
@@ -16,7 +16,7 @@ module _ (heap : Heap) where
   taken_within before (entries.Takes number count) takes within = takes.1
   taken_within before _ takes within = omega (arith, within)
 
-  gained_after : (before history : List Entry) → KeepsSpaceAfterBy ButSpine heap true before history → fragments_gained before ≤ 16 * heap.groups + fragments_lost before
+  gained_after : (before history : List Entry) → KeepsSpaceAfter heap true before history → fragments_gained before ≤ 16 * heap.groups + fragments_lost before
       → fragments_gained (before ++ history) ≤ 16 * heap.groups + fragments_lost (before ++ history)
   gained_after before [] keeps within = subst (λ es. fragments_gained es ≤ 16 * heap.groups + fragments_lost es) (sym (append-nil before)) within
   gained_after before (entry ∷ history) keeps within =
@@ -29,7 +29,7 @@ module _ (heap : Heap) where
         total-more (λ e. e.freed) before entry,
       )))
 
-  pub gained_within : (history : List Entry) → 1 ≤ heap.groups → IsLegalBy ButSpine heap true history → fragments_gained history ≤ 16 * heap.groups + fragments_lost history
+  pub gained_within : (history : List Entry) → 1 ≤ heap.groups → IsLegal heap true history → fragments_gained history ≤ 16 * heap.groups + fragments_lost history
   gained_within history some legal = gained_after [] history legal.space (omega (arith, some))
 
   -- no more spine words are returned than were granted
@@ -38,7 +38,7 @@ module _ (heap : Heap) where
   swept_within before (entries.Returns count) sweeps within = sweeps.2
   swept_within before _ sweeps within = omega (arith, within)
 
-  returned_after : (before history : List Entry) → KeepsSpaceAfterBy ButSpine heap true before history → words_returned before ≤ words_granted before
+  returned_after : (before history : List Entry) → KeepsSpaceAfter heap true before history → words_returned before ≤ words_granted before
       → words_returned (before ++ history) ≤ words_granted (before ++ history)
   returned_after before [] keeps within = subst (λ es. words_returned es ≤ words_granted es) (sym (append-nil before)) within
   returned_after before (entry ∷ history) keeps within =
@@ -50,5 +50,5 @@ module _ (heap : Heap) where
         total-more (λ e. e.returned) before entry,
       )))
 
-  pub returned_within : (history : List Entry) → IsLegalBy ButSpine heap true history → words_returned history ≤ words_granted history
+  pub returned_within : (history : List Entry) → IsLegal heap true history → words_returned history ≤ words_granted history
   returned_within history legal = returned_after [] history legal.space (omega arith)

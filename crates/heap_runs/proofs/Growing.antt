@@ -18,7 +18,6 @@ use Rattle.heap_model.specs.graph.Graph.{Graph, opening}
 use Rattle.heap_model.specs.graph.Growth.{after_entry}
 use Rattle.heap_model.specs.graph.Legal.{Accepts}
 use Rattle.heap_model.proofs.Histories.{graph_after-more, AcceptsAll-more, KeepsSpaceAfter-more}
-use Rattle.heap_model.proofs.account_lemmas.Judging.{whole_is_but_spine}
 use Rattle.core_machine.specs.seat.Commands.{IsRecord, IsArray}
 use Rattle.heap_runs.specs.Growing.{is_plain, IsPlainEntry, IsGrowing}
 use Rattle.heap_runs.specs.PlayHeap.{PlayState, IsPlayed, AnswersOnce}
@@ -61,7 +60,7 @@ module _ (told : List Entry) (plain : AllByRecursion IsPlainEntry told) where
   )
 
 pub growing_played : (heap : Heap) (told : List Entry) (graph : Graph) → IsGrowing heap told graph → IsPlayed heap told
-growing_played heap told graph growing = record { legal = whole_is_but_spine heap true told growing.legal; whole = λ none. growing.legal; none_short = omega (arith, none_lost told growing.plain); words_fit = omega (arith, none_granted told growing.plain) }
+growing_played heap told graph growing = record { legal = growing.legal; none_short = omega (arith, none_lost told growing.plain); words_fit = omega (arith, none_granted told growing.plain) }
 
 keeps_plain : (heap : Heap) (told : List Entry) (number : ℕ) (command : Command) → AllByRecursion IsPlainEntry told → is_plain command ≡ true → KeepsSpace heap true told (Said number command Done)
 keeps_plain heap told number (commands.Num d n) all plain =

@@ -4,13 +4,12 @@ use Rattle.heap_model.specs.declared.heap.Heap.{Heap}
 use Rattle.heap_model.specs.declared.command.Command.{Command}
 use Rattle.heap_model.specs.declared.command.Command.TheVariants as commands
 use Rattle.heap_model.specs.declared.entry.Entry.{Entry}
-use Rattle.heap_model.specs.account.Account.{ButSpine, IsLegalBy}
+use Rattle.heap_model.specs.account.Account.{IsLegal}
 use Rattle.heap_model.specs.account.Cycles.{graph_of}
 use Rattle.heap_model.specs.account.PhaseCounts.{phase, last_answer, has_left}
 use Rattle.heap_model.specs.account.Space.{fragments_gained, fragments_lost, taken_of, spent_of, words_granted, words_returned}
 use Rattle.heap_model.specs.calls.SeatCalls.{HasNumber}
 use Rattle.heap_model.specs.graph.Objects.{graph_seat}
-use Rattle.heap_model.proofs.account_lemmas.Judging.{is_whole_without_arrays}
 use Rattle.core_machine.specs.declared.place.Place.TheVariants.{Idle}
 use Rattle.core_machine.specs.declared.table.address.Address.TheVariants.{Phase, Answer, Budget}
 use Rattle.core_machine.specs.machine.Calls.{IsPhaseNear}
@@ -90,10 +89,10 @@ module _ (heap : Heap) (state : State) (told : List Entry) (s : StandsFor heap s
 pub played : EveryRunKeeps → WholeCallsPlay → WordsAreUsed → (heap : Heap) (state : State) (told : List Entry) → IsBetweenCalls heap state told → IsPlayed heap told
 played runs plays words heap state told between =
     let calls = between.calls in
-    let legal : IsLegalBy ButSpine heap true told = subst (IsLegalBy ButSpine heap true) (sym calls.shown) (plays heap calls.opening calls.events calls.limits calls.opens calls.run calls.whole) in
+    let legal : IsLegal heap true told = subst (IsLegal heap true) (sym calls.shown) (plays heap calls.opening calls.events calls.limits calls.opens calls.run calls.whole) in
     let s = stands runs heap state told calls in
     let used = words_used heap state told s words between.all_idle in
-    record { legal = legal; whole = is_whole_without_arrays heap true told legal; none_short = none_short heap state told s; words_fit = omega (arith, used.0, used.1) }
+    record { legal = legal; none_short = none_short heap state told s; words_fit = omega (arith, used.0, used.1) }
 
 -- the word of a seat that hasn't left is its last answer
 pub answer_word_is : (heap : Heap) (state : State) (told : List Entry) → StandsFor heap state [] told → (number answer : ℕ) → number < heap.seats → has_left number told ≡ false → last_answer number told ≡ answer

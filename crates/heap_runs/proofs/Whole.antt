@@ -5,12 +5,12 @@ use Rattle.std.proofs.lemmas.List.{take_at, drop_at}
 use Rattle.heap_model.specs.declared.heap.Heap.{Heap}
 use Rattle.heap_model.specs.declared.entry.Entry.{Entry}
 use Rattle.heap_model.specs.declared.entry.Entry.TheVariants.{Ends}
-use Rattle.heap_model.specs.account.Account.{Whole, ButSpine, IsLegalBy, IsLegal}
+use Rattle.heap_model.specs.account.Account.{IsLegal}
 use Rattle.heap_model.specs.account.PhaseCounts.{has_left}
 use Rattle.heap_model.specs.account.Windows.{begins_cycle, up_to_cycle}
 use Rattle.heap_model.specs.calls.SeatCalls.{leave_entries}
 use Rattle.core_rule.specs.SweepLaws.{EachLastCycleEmpties}
-use Rattle.heap_model.specs.account.Space.{fragments_gained, fragments_lost, fragments_used, words_granted, words_returned}
+use Rattle.heap_model.specs.account.Space.{fragments_gained, fragments_lost, fragments_used, words_used, words_granted, words_returned}
 use Rattle.heap_model.specs.account.Turned.{TurnedMayStand, TurnedCountNothing}
 use Rattle.script_text.specs.declared.script.Form.TheVariants as forms
 use Rattle.script_text.specs.declared.script.Script.{Script}
@@ -20,6 +20,7 @@ use Rattle.log_merge.specs.Legal.{ShowsUse, ShowsCounts}
 use Rattle.heap_runs.specs.Play.{lines_answered, IsLastCycle, IsPlay}
 use Rattle.heap_runs.specs.PlayHeap.{PlayState, IsPlayed}
 use Rattle.heap_runs.specs.Playing.{Follows, HasAnsweredLines, HaveLeft, NotesLastCycle}
+use Rattle.heap_runs.proofs.Bounds.{returned_within}
 use Rattle.heap_runs.proofs.Following.{follows_cycle}
 use Rattle.heap_runs.proofs.LastCycle.{left_still, up_to_last_later}
 
@@ -30,9 +31,9 @@ shows_use counts heap state history used follows shows =
     let same = subst (λ es. ShowsUse es used) (sym follows.same) shows in
     omega (arith, same, stay.gained_stay, stay.lost_stay)
 
--- nothing is in use where the last cycle began after every seat had left
+-- no fragment and no spine word is in use where the last cycle began after every seat had left
 none_used : EachLastCycleEmpties → (heap : Heap) (told turned : List Entry) → IsPlayed heap (told ++ turned) → ((number : ℕ) → number < heap.seats → has_left number told ≡ true) → IsLastCycle turned
-    → fragments_lost (told ++ turned) ≡ fragments_gained (told ++ turned)
+    → (fragments_lost (told ++ turned) ≡ fragments_gained (told ++ turned)) × (words_returned (told ++ turned) ≡ words_granted (told ++ turned))
 none_used empties heap told turned played gone cycle =
     let last = cycle.last in
     let ending : List Entry = Ends last.cycle last.kept ∷ [] in
@@ -42,8 +43,8 @@ none_used empties heap told turned played gone cycle =
     let left : (number : ℕ) → number < heap.seats → has_left number (up_to_cycle (before ++ last.steps)) ≡ true
     = λ number under. ap (has_left number) (up_to_last_later begins_cycle before last.steps last.begins)
     ∙ left_still number before (up_to_cycle last.steps) (left_still number told cycle.under_way (gone number under)) in
-    let empty = empties ButSpine heap true (before ++ last.steps) last.cycle last.kept (subst (IsLegalBy ButSpine heap true) all played.legal) left in
-    omega (arith, ap fragments_used all, empty, played.none_short)
+    let empty = empties heap true (before ++ last.steps) last.cycle last.kept (subst (IsLegal heap true) all played.legal) left in
+    (omega (arith, ap fragments_used all, empty.0, played.none_short), omega (arith, ap words_used all, empty.1, returned_within heap (told ++ turned) played.legal))
 
 -- the whole play: the script was answered, the seats have left, and a last cycle was made
 pub whole_play : TurnedMayStand → TurnedCountNothing → EachLastCycleEmpties → (script : Script) (middle gone last : PlayState) (front between entries : List Entry) (mark : SpaceMark) (used : ℕ) (told : History)
@@ -71,16 +72,12 @@ whole_play stand counts empties script middle gone last front between entries ma
       form = refl;
       heap = refl;
       legal = record {
-        entries = stand ButSpine script.heap entries (subst (IsLegalBy ButSpine script.heap true) (sym follows.same) played_last.legal) follows.right;
+        entries = stand script.heap entries (subst (IsLegal script.heap true) (sym follows.same) played_last.legal) follows.right;
         mark = rw front_is shown;
         end_used = end_shown;
       };
-      whole = λ none. record {
-        entries = stand Whole script.heap entries (subst (IsLegal script.heap true) (sym follows.same) (played_last.whole (ap words_granted (sym follows.same) ∙ last_counts.granted_stay ∙ none))) follows.right;
-        mark = rw front_is shown;
-        end_used = end_shown;
-      };
-      none_used = omega (arith, at_end, ap fragments_lost notes.told, ap fragments_gained notes.told, empty);
+      none_used = omega (arith, at_end, ap fragments_lost notes.told, ap fragments_gained notes.told, empty.0);
+      all_returned = sym last_counts.returned_stay ∙ ap words_returned follows.same ∙ ap words_returned notes.told ∙ empty.1 ∙ sym (ap words_granted notes.told) ∙ sym (ap words_granted follows.same) ∙ last_counts.granted_stay;
       parted = record {
         commands = ap (flat_map lines_answered) front_is ∙ answered.commands;
         last = rw front_is answered.last;

@@ -3,8 +3,7 @@ use Rattle.std.specs.Prelude.{◌≡◌, ℕ, Bool, true, false, ◌⊎◌, List
 use Rattle.std.specs.List.{AllByRecursion, flat_map, list_any, range_with_len}
 use Rattle.heap_model.specs.declared.entry.Entry.{Entry}
 use Rattle.heap_model.specs.declared.entry.Entry.TheVariants.{Said, Advance, Frees, Returns, Swings, Ends, Turned}
-use Rattle.heap_model.specs.account.Cycles.{ButSpine}
-use Rattle.heap_model.specs.account.Space.{words_granted}
+use Rattle.heap_model.specs.account.Space.{words_granted, words_returned}
 use Rattle.heap_model.specs.account.Windows.{begins_cycle}
 use Rattle.heap_model.specs.calls.SeatCalls.{leave_entries}
 use Rattle.script_text.specs.declared.script.Form.TheVariants as forms
@@ -12,7 +11,7 @@ use Rattle.script_text.specs.declared.script.Line.{Line}
 use Rattle.script_text.specs.declared.script.Line.TheVariants as lines
 use Rattle.script_text.specs.declared.script.Script.{Script}
 use Rattle.reply_text.specs.declared.history.History.{History}
-use Rattle.log_merge.specs.Legal.{IsLegalHistoryBy, IsLegalHistory}
+use Rattle.log_merge.specs.Legal.{IsLegalHistory}
 
 -- the line of a script that an entry answers, if it answers one
 abbrev pub lines_answered : Entry → List Line
@@ -64,12 +63,11 @@ pub record IsParted (script : Script) (front behind : List Entry) : Type 0 where
   pub cycle : IsLastCycle turned
   pub behind_is : behind ≡ leaving ++ turned
 
--- the history is a play of the script: it is legal but for the spine words at the ends of cycles, and by the whole of the rules where it makes no array; it is
--- parted by its mark, and at its end no fragment is in use
+-- the history is a play of the script: it is legal and parted by its mark, and at its end no fragment and no spine word is in use
 pub record IsPlay (script : Script) (history : History) : Type 0 where
   pub form : history.form ≡ forms.Play
   pub heap : history.heap ≡ script.heap
-  pub legal : IsLegalHistoryBy ButSpine history
-  pub whole : words_granted history.entries ≡ 0 → IsLegalHistory history
+  pub legal : IsLegalHistory history
   pub none_used : history.end_used ≡ 0
+  pub all_returned : words_returned history.entries ≡ words_granted history.entries
   pub parted : IsSomeAnd history.mark (λ mark. IsParted script (take mark.before history.entries) (drop mark.before history.entries))

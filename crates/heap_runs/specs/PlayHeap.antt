@@ -13,7 +13,7 @@ use Rattle.heap_model.specs.declared.calls.collector_calls.Turn.TheVariants.{Ste
 use Rattle.heap_model.specs.Command.{IsCommand}
 use Rattle.heap_model.specs.Limits.{group_fragments}
 use Rattle.heap_model.specs.Needs.{spine_need_of}
-use Rattle.heap_model.specs.account.Account.{ButSpine, IsLegalBy, IsLegal}
+use Rattle.heap_model.specs.account.Account.{IsLegal}
 use Rattle.heap_model.specs.account.Noting.{is_collectors}
 use Rattle.heap_model.specs.account.Phases.{IsBehind}
 use Rattle.heap_model.specs.account.PhaseCounts.{phase}
@@ -36,11 +36,9 @@ pub record PlayState : Type 0 where
   pub last_turn : Option Turn
   pub turns_left : ℕ
 
--- the entries are legal as a play but for the spine words at the ends of cycles, and by the whole of the rules where no array was made; no more fragments
--- were lost than gained, and no more spine words are in use than the heap has
+-- the entries are legal as a play; no more fragments were lost than gained, and no more spine words are in use than the heap has
 pub record IsPlayed (heap : Heap) (entries : List Entry) : Type 0 where
-  pub legal : IsLegalBy ButSpine heap true entries
-  pub whole : words_granted entries ≡ 0 → IsLegal heap true entries
+  pub legal : IsLegal heap true entries
   pub none_short : fragments_lost entries ≤ fragments_gained entries
   pub words_fit : words_granted entries ≤ heap.spine + words_returned entries
 

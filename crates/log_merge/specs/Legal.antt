@@ -4,21 +4,17 @@ use Rattle.heap_model.specs.declared.heap.Heap.{Heap}
 use Rattle.heap_model.specs.declared.entry.Entry.{Entry}
 use Rattle.heap_model.specs.Limits.{group_fragments}
 use Rattle.heap_model.specs.graph.Legal.{IsObjectLegal}
-use Rattle.heap_model.specs.account.Account.{Judged, Whole, IsLegalBy}
+use Rattle.heap_model.specs.account.Account.{IsLegal}
 use Rattle.heap_model.specs.account.Space.{fragments_gained, fragments_lost, words_granted, words_returned}
 use Rattle.script_text.specs.declared.script.Form.{Form}
 use Rattle.script_text.specs.declared.script.Form.TheVariants.{Play, Run}
 use Rattle.reply_text.specs.declared.history.History.{History}
 use Rattle.reply_text.specs.declared.history.SpaceMark.{SpaceMark}
 
--- the entries are legal: those of a play by the rules that it is judged by, those of a run for their objects
-abbrev pub AreLegalBy : Judged → Form → Heap → List Entry → Type 0
-AreLegalBy judged Play heap entries = IsLegalBy judged heap true entries
-AreLegalBy judged Run heap entries = IsObjectLegal heap entries
-
--- those of a play by the whole of the rules
+-- the entries are legal: those of a play by all rules, those of a run for their objects
 abbrev pub AreLegal : Form → Heap → List Entry → Type 0
-AreLegal form heap entries = AreLegalBy Whole form heap entries
+AreLegal Play heap entries = IsLegal heap true entries
+AreLegal Run heap entries = IsObjectLegal heap entries
 
 -- so many fragments are in use after these entries; there is no such number where more were lost than gained
 abbrev pub ShowsUse : List Entry → ℕ → Type 0
@@ -36,12 +32,8 @@ abbrev pub ShowsAtMark : Heap → List Entry → Option SpaceMark → Type 0
 ShowsAtMark heap entries None = Unit {0}
 ShowsAtMark heap entries (Some mark) = ShowsCounts heap (take mark.before entries) mark
 
--- the history is legal by the rules that it is judged by
-pub record IsLegalHistoryBy (judged : Judged) (history : History) : Type 0 where
-  pub entries : AreLegalBy judged history.form history.heap history.entries
+-- the history is legal
+pub record IsLegalHistory (history : History) : Type 0 where
+  pub entries : AreLegal history.form history.heap history.entries
   pub mark : ShowsAtMark history.heap history.entries history.mark
   pub end_used : ShowsUse history.entries history.end_used
-
--- the history is legal
-abbrev pub IsLegalHistory : History → Type 0
-IsLegalHistory history = IsLegalHistoryBy Whole history

@@ -1,5 +1,6 @@
 mod arrays;
 mod collects;
+mod copies;
 mod cycles;
 mod judged;
 mod machine;

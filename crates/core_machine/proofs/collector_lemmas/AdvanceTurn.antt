@@ -7,5 +7,5 @@ use Rattle.core_machine.proofs.collector_lemmas.Standing.{StageStands, begin_fit
 pub advance_stands : StageStands stages.Advancing
 advance_stands heap collector limits fits advancing is = record {
   step = record { in_table = tt; wide = λ found small. omega (arith, fits.phase_within); leads = λ found led. tt };
-  fits = λ found led may. begin_fits heap collector (Advance (collector.phase + 1)) limits fits may;
+  fits = λ found small led may. begin_fits heap collector (Advance (collector.phase + 1)) limits fits may;
 }

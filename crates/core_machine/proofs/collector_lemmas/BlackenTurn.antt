@@ -11,4 +11,4 @@ pub blacken_stands : (scan : Scan) → StageStands (stages.Blackening scan)
 blacken_stands scan heap collector limits fits blackening here =
     work_stands heap (Turning (turning.Blacken scan.fragment)) (λ word. record collector { stage = stages.Passing (scan.fragment / 16) true })
     record { in_table = omega (arith, here.fragment_within); wide = λ found small. blacken_wide scan.fragment found small; leads = λ found led. tt }
-    (λ word led. stage_fits heap collector (stages.Passing (scan.fragment / 16) true) fits record { marks = here.marks; group_within = omega (arith, here.fragment_within) })
+    (λ word small led. stage_fits heap collector (stages.Passing (scan.fragment / 16) true) fits record { marks = here.marks; group_within = omega (arith, here.fragment_within) })

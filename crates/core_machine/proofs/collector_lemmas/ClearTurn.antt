@@ -23,5 +23,5 @@ pub clear_stands : (group kept : ℕ) → StageStands (stages.Clearing group kep
 clear_stands group kept heap collector limits fits clearing here =
     work_stands heap (Turning (turning.Clear group)) (λ word. record collector { stage = after_cleared heap group (kept + taken_count_of word) })
     record { in_table = here.group_within; wide = λ found small. and_wide found _ small; leads = λ found led. tt }
-    (λ word led. stage_fits heap collector (after_cleared heap group (kept + taken_count_of word)) fits
+    (λ word small led. stage_fits heap collector (after_cleared heap group (kept + taken_count_of word)) fits
     (fits_cleared heap collector.phase collector.looked group kept (taken_count_of word) here (taken_few word)))

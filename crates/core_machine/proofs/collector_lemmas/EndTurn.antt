@@ -7,5 +7,5 @@ use Rattle.core_machine.proofs.collector_lemmas.Standing.{StageStands, begin_fit
 pub end_stands : (kept : ℕ) → StageStands (stages.Ending kept)
 end_stands kept heap collector limits fits ending here = record {
   step = record { in_table = tt; wide = λ found small. omega (arith, fits.phase_within); leads = λ found led. tt };
-  fits = λ found led may. begin_fits heap collector (Ends (collector.phase / 7) kept) limits fits may;
+  fits = λ found small led may. begin_fits heap collector (Ends (collector.phase / 7) kept) limits fits may;
 }

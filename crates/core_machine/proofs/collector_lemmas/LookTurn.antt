@@ -3,6 +3,8 @@ use Rattle.std.proofs.Common.{suc, ◌≡◌, ℕ, ◌+◌, ◌%◌, ◌<◌, co
 use Rattle.std.proofs.lemmas.Bool.Decides.{eqb_tells, leb_tells}
 use Rattle.heap_model.specs.declared.heap.Heap.{Heap}
 use Rattle.heap_model.specs.Heap.{IsHeap}
+use Rattle.core_machine.specs.declared.collector.stage.Copying.TheVariants.{Visiting}
+use Rattle.core_machine.specs.declared.collector.stage.Stage.{Stage}
 use Rattle.core_machine.specs.declared.collector.stage.Stage.TheVariants as stages
 use Rattle.core_machine.specs.declared.step.Step.TheVariants.{Turning}
 use Rattle.core_machine.specs.declared.step.TurningStep.TheVariants as turning
@@ -12,20 +14,30 @@ use Rattle.core_machine.proofs.collector_lemmas.Standing.{StageStands, quiet_sta
 use Rattle.core_machine.proofs.table_lemmas.Bits.{bool_tells}
 use Rattle.core_machine.proofs.table_lemmas.StepStands.{load_stands}
 
+-- what a phase is for that comes behind copying, or no work
+abbrev later_work : ℕ → Stage
+later_work phase = cond (eqb (phase % 7) 5) (stages.Sweeping 0) (cond (eqb (phase % 7) 6) (stages.Clearing 0 0) stages.Advancing)
+
 module _ (heap : Heap) (collector : Collector) (limits : IsHeap heap) (fits : CollectorFits heap collector) (looking : collector.stage ≡ stages.Looking) (within : collector.looked < heap.seats) where
   -- it stands before a seat of the heap
   fits_looking : (looked : ℕ) → looked < heap.seats → CollectorFits heap (record collector { looked = looked })
   fits_looking looked below = record { phase_within = fits.phase_within; phase_told = fits.phase_told; at_stage = rw looking below }
 
+  fits_later_work : FitsStage heap collector.phase heap.seats (later_work collector.phase)
+  fits_later_work = elim (eqb_tells (collector.phase % 7) 5) as (λ _. FitsStage heap collector.phase heap.seats (later_work collector.phase)) [
+    | inl sweeps ↦ rw sweeps.0 (record { all = refl; for_sweep = sweeps.1; group_within = limits.some_group })
+    | inr other ↦ rw other.0 (elim (eqb_tells (collector.phase % 7) 6) as (λ _. FitsStage heap collector.phase heap.seats (cond (eqb (collector.phase % 7) 6) (stages.Clearing 0 0) stages.Advancing)) [
+      | inl clears ↦ rw clears.0 (record { all = refl; for_clearing = clears.1; group_within = limits.some_group; kept_within = omega arith })
+      | inr goes ↦ rw goes.0 (record { all = refl; goes_on = goes.1 })
+    ])
+  ]
+
   fits_first_work : FitsStage heap collector.phase heap.seats (first_work collector.phase)
   fits_first_work = elim (eqb_tells (collector.phase % 7) 3) as (λ _. FitsStage heap collector.phase heap.seats (first_work collector.phase)) [
     | inl marks ↦ rw marks.0 (record { marks = record { all = refl; for_marking = marks.1 }; group_within = limits.some_group })
-    | inr other ↦ rw other.0 (elim (eqb_tells (collector.phase % 7) 5) as (λ _. FitsStage heap collector.phase heap.seats (cond (eqb (collector.phase % 7) 5) (stages.Sweeping 0) (cond (eqb (collector.phase % 7) 6) (stages.Clearing 0 0) stages.Advancing))) [
-      | inl sweeps ↦ rw sweeps.0 (record { all = refl; for_sweep = sweeps.1; group_within = limits.some_group })
-      | inr other_ ↦ rw other_.0 (elim (eqb_tells (collector.phase % 7) 6) as (λ _. FitsStage heap collector.phase heap.seats (cond (eqb (collector.phase % 7) 6) (stages.Clearing 0 0) stages.Advancing)) [
-        | inl clears ↦ rw clears.0 (record { all = refl; for_clearing = clears.1; group_within = limits.some_group; kept_within = omega arith })
-        | inr goes ↦ rw goes.0 (record { all = refl; goes_on = goes.1 })
-      ])
+    | inr other ↦ rw other.0 (elim (eqb_tells (collector.phase % 7) 4) as (λ _. FitsStage heap collector.phase heap.seats (cond (eqb (collector.phase % 7) 4) (stages.Copying (Visiting 0)) (later_work collector.phase))) [
+      | inl copies ↦ rw copies.0 (record { all = refl; for_copying = copies.1 }, limits.some_group)
+      | inr later ↦ rw later.0 fits_later_work
     ])
   ]
 
@@ -47,4 +59,4 @@ module _ (heap : Heap) (collector : Collector) (limits : IsHeap heap) (fits : Co
 pub look_stands : StageStands stages.Looking
 look_stands heap collector limits fits looking within =
     quiet_stands heap (Turning (turning.LookLoad collector.looked)) (after_look heap collector) (look_answer collector)
-    (load_stands heap (Turning (turning.LookLoad collector.looked)) refl (omega (arith, within, limits.seats_fit))) (λ found led. fits_looked_at heap collector limits fits looking within found)
+    (load_stands heap (Turning (turning.LookLoad collector.looked)) refl (omega (arith, within, limits.seats_fit))) (λ found small led. fits_looked_at heap collector limits fits looking within found)

@@ -16,7 +16,7 @@ use Rattle.core_machine.proofs.table_lemmas.StepStands.{load_stands}
 module _ (heap : Heap) (limits : IsHeap heap) (phase looked : ℕ) (marks : IsMarking heap.seats phase looked) where
   fits_last_group : (found : Bool) → FitsStage heap phase looked (after_last_group found)
   fits_last_group true = record { marks = marks; group_within = limits.some_group }
-  fits_last_group false = record { all = marks.all; goes_on = λ last. absurd (omega (arith, last, marks.for_marking)) }
+  fits_last_group false = marks
 
   fits_group : (group : ℕ) (found : Bool) → FitsStage heap phase looked (after_group heap group found)
   fits_group group found = elim (leb_tells (suc (group + 1)) heap.groups) as (λ _. FitsStage heap phase looked (after_group heap group found)) [
@@ -34,5 +34,5 @@ pub pass_stands : (group : ℕ) (found : Bool) → StageStands (stages.Passing g
 pass_stands group found heap collector limits fits passing here =
     work_stands heap (Turning (turning.GroupLoad group)) (λ word. record collector { stage = after_pass heap group found (lowest_grey_of word) })
     (load_stands heap (Turning (turning.GroupLoad group)) refl here.group_within)
-    (λ word led. stage_fits heap collector (after_pass heap group found (lowest_grey_of word)) fits
+    (λ word small led. stage_fits heap collector (after_pass heap group found (lowest_grey_of word)) fits
     (fits_pass heap limits collector.phase collector.looked here.marks group found (lowest_grey_of word) here.group_within (grey_place word)))

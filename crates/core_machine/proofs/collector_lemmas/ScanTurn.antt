@@ -2,10 +2,6 @@
 use Rattle.std.specs.Prelude.{IfSome}
 use Rattle.std.proofs.Common.{suc, ◌≡◌, ℕ, ◌*◌, ◌^◌, ◌<◌, ◌≤◌, Option, Some, None, refl, inl, inr, arith}
 use Rattle.std.proofs.lemmas.Bool.Decides.{eqb_tells, leb_tells}
-use Rattle.heap_words.specs.declared.cell.Cell.{Cell}
-use Rattle.heap_words.specs.declared.kind.Kind.{Kind}
-use Rattle.heap_words.specs.declared.kind.Kind.TheVariants as kinds
-use Rattle.heap_words.specs.Cell.{cell_of}
 use Rattle.heap_model.specs.declared.heap.Heap.{Heap}
 use Rattle.core_machine.specs.declared.collector.stage.Scan.{Scan}
 use Rattle.core_machine.specs.declared.collector.stage.Stage.TheVariants as stages
@@ -13,9 +9,10 @@ use Rattle.core_machine.specs.declared.step.Step.TheVariants.{Turning}
 use Rattle.core_machine.specs.declared.step.TurningStep.TheVariants as turning
 use Rattle.core_machine.specs.collector.Marking.{part_after, scan_step, scan_at, after_scan_load, array_at, after_first_load}
 use Rattle.core_machine.specs.collector.FitsTurns.{FitsStage, IsMarking, IsScanning}
-use Rattle.core_machine.specs.table.Decode.{is_meta, pointer_in, array_length, array_length_in, array_length_of, IsWithinHeap}
+use Rattle.core_machine.specs.table.Decode.{is_meta, pointer_in, array_length_of, IsWithinHeap}
 use Rattle.core_machine.proofs.collector_lemmas.Standing.{StageStands, work_stands, stage_fits}
 use Rattle.core_machine.proofs.table_lemmas.Bits.{bool_tells}
+use Rattle.core_machine.proofs.table_lemmas.Lengths.{length_few}
 use Rattle.core_machine.proofs.table_lemmas.StepStands.{load_stands}
 
 -- each word comes after the one before it, and none after the fourth
@@ -50,16 +47,10 @@ fits_scan heap phase looked scan next (Some target) here before below led = reco
   few_steps = omega (arith, here.few_steps);
 }
 
--- a fragment's first word alone tells the length of an array, and of no more cells than thirteen bits tell
-length_told : (kind : Kind) (cell : Cell) → IfSome (array_length_in kind cell) (λ cells. cells < 2 ^ 13)
-length_told kinds.Fixed cell = elim (leb_tells (suc cell.value) (2 ^ 29)) as (λ _. IfSome (array_length cell) (λ cells. cells < 2 ^ 13)) [ inl of_record ↦ rw of_record.0 tt | inr of_array ↦ rw of_array.0 (omega arith) ]
-length_told kinds.Nil cell = tt
-length_told kinds.Number cell = tt
-length_told kinds.Reference cell = tt
-
+-- a fragment's first word alone tells the length of an array
 pub array_told : (part word : ℕ) → IfSome (array_at part word) (λ cells. (part ≡ 0) × (cells < 2 ^ 13))
 array_told part word = elim (eqb_tells part 0) as (λ _. IfSome (array_at part word) (λ cells. (part ≡ 0) × (cells < 2 ^ 13))) [
-  | inl first ↦ rw first.0 (on (array_length_of word) first.1 (length_told (cell_of word).kind (cell_of word)))
+  | inl first ↦ rw first.0 (on (array_length_of word) first.1 (length_few word))
   | inr later ↦ rw later.0 tt
 ]
   where
@@ -83,6 +74,6 @@ scan_stands scan heap collector limits fits scanning here =
     work_stands heap (Turning (turning.ScanLoad scan.fragment scan.part))
     (λ word. record collector { stage = after_first_load scan (array_at scan.part word) (part_after scan.part word) (pointer_in scan.part word) })
     (load_stands heap (Turning (turning.ScanLoad scan.fragment scan.part)) refl (here.fragment_within, here.part_within))
-    (λ word led. let after = after_part scan.part word here.part_within in
+    (λ word small led. let after = after_part scan.part word here.part_within in
     stage_fits heap collector (after_first_load scan (array_at scan.part word) (part_after scan.part word) (pointer_in scan.part word)) fits
     (fits_first_load heap collector.phase collector.looked scan (array_at scan.part word) (part_after scan.part word) (pointer_in scan.part word) here (array_told scan.part word) after.0 after.1 led))

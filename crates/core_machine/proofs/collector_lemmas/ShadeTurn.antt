@@ -13,5 +13,5 @@ pub shade_stands : (scan : Scan) (target next : ℕ) → StageStands (stages.Sha
 shade_stands scan target next heap collector limits fits shading here =
     work_stands heap (Turning (turning.MarkShade target)) (λ word. record collector { stage = scan_at (scan_step scan) next })
     record { in_table = omega (arith, here.target_within); wide = λ found small. shade_wide target found small; leads = λ found led. tt }
-    (λ word led. stage_fits heap collector (scan_at (scan_step scan) next) fits
+    (λ word small led. stage_fits heap collector (scan_at (scan_step scan) next) fits
     (fits_at heap collector.phase collector.looked here.marks (scan_step scan) here.fragment_within next here.next_within (omega (arith, here.few_steps, here.part_before))))

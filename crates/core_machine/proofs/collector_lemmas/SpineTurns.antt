@@ -41,14 +41,14 @@ pub locate_stands : (scan : Scan) (words : ℕ) → StageStands (stages.Locating
 locate_stands scan words heap collector limits fits locating here =
     work_stands heap (Spine (AddressLoad scan.fragment)) (λ word. record collector { stage = after_address scan words word })
     (load_stands heap (Spine (AddressLoad scan.fragment)) refl (here.fragment_within, omega arith))
-    (λ word led. stage_fits heap collector (after_address scan words word) fits
+    (λ word small led. stage_fits heap collector (after_address scan words word) fits
     (fits_spine heap collector.phase collector.looked _ here.marks here.fragment_within here.words_few (omega arith) (told_spot word) (omega (arith, here.first_step))))
 
 pub index_stands : (s : SpineScan) → StageStands (stages.Indexing s)
 index_stands s heap collector limits fits indexing here =
     work_stands heap (Spine (WordLoad s.spine.half (s.spine.offset + s.index))) (λ word. record collector { stage = stages.Spreading (spine_step s) (payload_in word) })
     (load_stands heap (Spine (WordLoad s.spine.half (s.spine.offset + s.index))) refl here.spine_within.half_within)
-    (λ word led. stage_fits heap collector (stages.Spreading (spine_step s) (payload_in word)) fits (record {
+    (λ word small led. stage_fits heap collector (stages.Spreading (spine_step s) (payload_in word)) fits (record {
       marks = here.marks;
       fragment_within = here.fragment_within;
       words_few = here.words_few;
@@ -62,5 +62,5 @@ pub spread_stands : (s : SpineScan) (target : ℕ) → StageStands (stages.Sprea
 spread_stands s target heap collector limits fits spreading here =
     work_stands heap (Turning (turning.MarkShade target)) (λ word. record collector { stage = after_spread s })
     record { in_table = omega (arith, here.target_within); wide = λ found small. shade_wide target found small; leads = λ found led. tt }
-    (λ word led. stage_fits heap collector (after_spread s) fits
+    (λ word small led. stage_fits heap collector (after_spread s) fits
     (fits_spine heap collector.phase collector.looked _ here.marks here.fragment_within here.words_few (omega (arith, here.index_within)) here.spine_within (omega (arith, here.steps_made))))

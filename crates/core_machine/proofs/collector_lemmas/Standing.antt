@@ -15,8 +15,8 @@ use Rattle.core_machine.proofs.table_lemmas.StepStands.{StepStands}
 
 pub record TurnStands (heap : Heap) (turn : Turn) : Type 0 where
   pub step : StepStands heap turn.step
-  -- the collector's data fit together after it, where the word found leads within the heap
-  pub fits : (found : ℕ) → FoundPointsWithin heap (address_of turn.step) found → turn.may → CollectorFits heap (collector_after turn found)
+  -- the collector's data fit together after it, where the word found has 64 bits and leads within the heap
+  pub fits : (found : ℕ) → found < 2 ^ 64 → FoundPointsWithin heap (address_of turn.step) found → turn.may → CollectorFits heap (collector_after turn found)
 
 -- so stands the turn that is due at this stage
 abbrev pub StageStands : Stage → Type 0
@@ -25,13 +25,13 @@ StageStands stage = (heap : Heap) (collector : Collector) → IsHeap heap → Co
 
 -- a turn that adds no entry
 pub quiet_stands : (heap : Heap) (step : Step) (told : ℕ → Collector) (answer : ℕ → TurnAnswer) → StepStands heap step
-    → ((found : ℕ) → FoundPointsWithin heap (address_of step) found → CollectorFits heap (told found)) → TurnStands heap (quiet_turn step told answer)
+    → ((found : ℕ) → found < 2 ^ 64 → FoundPointsWithin heap (address_of step) found → CollectorFits heap (told found)) → TurnStands heap (quiet_turn step told answer)
 quiet_stands heap step told answer stands fits = record {
   step = stands;
-  fits = λ found led may. record {
-    phase_within = (fits found led).phase_within;
-    phase_told = omega (arith, (fits found led).phase_told, length-append (told found).log []);
-    at_stage = (fits found led).at_stage;
+  fits = λ found small led may. record {
+    phase_within = (fits found small led).phase_within;
+    phase_told = omega (arith, (fits found small led).phase_told, length-append (told found).log []);
+    at_stage = (fits found small led).at_stage;
   };
 }
 
@@ -42,7 +42,7 @@ stage_fits heap collector stage fits here = record { phase_within = fits.phase_w
 
 -- a turn of a phase's work that adds no entry
 pub work_stands : (heap : Heap) (step : Step) (told : ℕ → Collector) → StepStands heap step
-    → ((found : ℕ) → FoundPointsWithin heap (address_of step) found → CollectorFits heap (told found)) → TurnStands heap (work_turn step told)
+    → ((found : ℕ) → found < 2 ^ 64 → FoundPointsWithin heap (address_of step) found → CollectorFits heap (told found)) → TurnStands heap (work_turn step told)
 work_stands heap step told stands fits = quiet_stands heap step told (λ found. Stepped) stands fits
 
 -- a turn that begins the next phase of which this entry tells

@@ -1,19 +1,25 @@
--- The sweep looks for what is dead in a group, looks at it and frees it.
-use Rattle.std.proofs.Common.{suc, ◌≡◌, ℕ, ◌+◌, ◌*◌, ◌^◌, ◌<◌, [], ◌∷◌, count_ones, Option, Some, None, length-append, refl, inl, inr, arith}
+-- The sweep looks for what is dead in a group, looks at it, frees it and returns its spine words.
+use Rattle.std.proofs.Common.{suc, ◌≡◌, ℕ, ◌+◌, ◌*◌, ◌^◌, ◌<◌, ◌≤◌, [], ◌∷◌, count_ones, Option, Some, None, length-append, refl, inl, inr, arith}
 use Rattle.std.specs.Int.{bit_at}
 use Rattle.std.specs.Prelude.{IfSome}
 use Rattle.std.proofs.lemmas.Bool.Decides.{eqb_tells, leb_tells}
-use Rattle.heap_model.specs.declared.entry.Entry.TheVariants.{Frees}
+use Rattle.heap_model.specs.declared.entry.Entry.TheVariants.{Frees, Returns}
 use Rattle.heap_model.specs.declared.heap.Heap.{Heap}
 use Rattle.core_machine.specs.declared.collector.stage.Stage.TheVariants as stages
 use Rattle.core_machine.specs.declared.step.Step.TheVariants.{Turning}
 use Rattle.core_machine.specs.declared.step.TurningStep.TheVariants as turning
-use Rattle.core_machine.specs.collector.Sweeping.{dead_bits_of, next_place_of, after_swept, after_examined}
+use Rattle.core_machine.specs.collector.Sweeping.{dead_bits_of, next_place_of, after_swept, after_examined, after_freed}
 use Rattle.core_machine.specs.collector.FitsTurns.{FitsStage, IsSweeping}
+use Rattle.core_machine.specs.table.Decode.{spine_words_in}
 use Rattle.core_machine.proofs.collector_lemmas.Standing.{StageStands, work_stands, stage_fits}
-use Rattle.core_machine.proofs.table_lemmas.DeadBits.{dead_few, place_stands}
+use Rattle.core_machine.proofs.table_lemmas.DeadBits.{dead_few, place_stands, place_from}
+use Rattle.core_machine.proofs.table_lemmas.Lengths.{spine_words_few}
 use Rattle.core_machine.proofs.table_lemmas.StepStands.{load_stands}
 use Rattle.core_machine.proofs.table_lemmas.Wide.{and_wide}
+
+-- one more place tells of one spine more at most
+more_words : (words more place : ℕ) → words ≤ 2048 * place → more ≤ 2048 → words + more ≤ 2048 * (place + 1)
+more_words words more place few one = omega (arith, few, one)
 
 module _ (heap : Heap) (phase looked group : ℕ) (sweeps : IsSweeping heap phase looked group) where
   -- the next group's turn comes, or the phase is done
@@ -23,34 +29,55 @@ module _ (heap : Heap) (phase looked group : ℕ) (sweeps : IsSweeping heap phas
     | inr last ↦ rw last.0 (record { all = sweeps.all; goes_on = λ clears. absurd (omega (arith, clears, sweeps.for_sweep)) })
   ]
 
-  -- a dead fragment is looked at, or they are freed
-  fits_examined : (dead : ℕ) (place : Option ℕ) → dead < 2 ^ 16 → IfSome place (λ i. (i < 16) × (bit_at dead i ≡ 1)) → FitsStage heap phase looked (after_examined heap group dead place)
-  fits_examined dead (Some place) few is = record { sweeps = sweeps; dead_within = few; place_within = is.0; is_dead = is.1 }
-  fits_examined dead None few is = elim (eqb_tells dead 0) as (λ _. FitsStage heap phase looked (after_examined heap group dead None)) [
+  -- a dead fragment is looked at, or they are freed; each place before the next one has told of one spine at most
+  fits_examined : (dead words from : ℕ) (place : Option ℕ) → dead < 2 ^ 16 → words ≤ 2048 * from → from ≤ 16 → IfSome place (λ i. (i < 16) × (bit_at dead i ≡ 1))
+      → IfSome place (λ i. from ≤ i) → FitsStage heap phase looked (after_examined heap group dead words place)
+  fits_examined dead words from (Some place) few told below is behind =
+      record { sweeps = sweeps; dead_within = few; place_within = is.0; is_dead = is.1; words_few = omega (arith, told, behind) }
+  fits_examined dead words from None few told below is behind = elim (eqb_tells dead 0) as (λ _. FitsStage heap phase looked (after_examined heap group dead words None)) [
     | inl none ↦ rw none.0 fits_swept
-    | inr some ↦ rw some.0 (record { sweeps = sweeps; dead_within = few; some_dead = some.1 })
+    | inr some ↦ rw some.0 (record { sweeps = sweeps; dead_within = few; some_dead = some.1; words_few = omega (arith, told, below) })
+  ]
+
+  -- their spine words are returned, where there are any
+  fits_freed : (words : ℕ) → words ≤ 2048 * 16 → FitsStage heap phase looked (after_freed heap group words)
+  fits_freed words few = elim (eqb_tells words 0) as (λ _. FitsStage heap phase looked (after_freed heap group words)) [
+    | inl none ↦ rw none.0 fits_swept
+    | inr some ↦ rw some.0 (record { sweeps = sweeps; some_words = some.1; words_few = few })
   ]
 
 pub sweep_stands : (group : ℕ) → StageStands (stages.Sweeping group)
 sweep_stands group heap collector limits fits sweeping here =
-    work_stands heap (Turning (turning.GroupLoad group)) (λ word. record collector { stage = after_examined heap group (dead_bits_of word) (next_place_of (dead_bits_of word) 0) })
+    work_stands heap (Turning (turning.GroupLoad group)) (λ word. record collector { stage = after_examined heap group (dead_bits_of word) 0 (next_place_of (dead_bits_of word) 0) })
     (load_stands heap (Turning (turning.GroupLoad group)) refl here.group_within)
-    (λ word led. stage_fits heap collector (after_examined heap group (dead_bits_of word) (next_place_of (dead_bits_of word) 0)) fits
-    (fits_examined heap collector.phase collector.looked group here (dead_bits_of word) (next_place_of (dead_bits_of word) 0) (dead_few word) (place_stands (dead_bits_of word) 0)))
+    (λ word small led. stage_fits heap collector (after_examined heap group (dead_bits_of word) 0 (next_place_of (dead_bits_of word) 0)) fits
+    (fits_examined heap collector.phase collector.looked group here (dead_bits_of word) 0 0 (next_place_of (dead_bits_of word) 0) (dead_few word) (omega arith) (omega arith)
+    (place_stands (dead_bits_of word) 0) (place_from (dead_bits_of word) 0)))
 
-pub examine_stands : (group dead place : ℕ) → StageStands (stages.Examining group dead place)
-examine_stands group dead place heap collector limits fits examining here =
-    work_stands heap (Turning (turning.MetaLoad (16 * group + place))) (λ word. record collector { stage = after_examined heap group dead (next_place_of dead (place + 1)) })
+pub examine_stands : (group dead place words : ℕ) → StageStands (stages.Examining group dead place words)
+examine_stands group dead place words heap collector limits fits examining here =
+    work_stands heap (Turning (turning.MetaLoad (16 * group + place))) (λ word. record collector { stage = after_examined heap group dead (words + spine_words_in word) (next_place_of dead (place + 1)) })
     (load_stands heap (Turning (turning.MetaLoad (16 * group + place))) refl (omega (arith, here.sweeps.group_within, here.place_within), omega arith))
-    (λ word led. stage_fits heap collector (after_examined heap group dead (next_place_of dead (place + 1))) fits
-    (fits_examined heap collector.phase collector.looked group here.sweeps dead (next_place_of dead (place + 1)) here.dead_within (place_stands dead (place + 1))))
+    (λ word small led. stage_fits heap collector (after_examined heap group dead (words + spine_words_in word) (next_place_of dead (place + 1))) fits
+    (fits_examined heap collector.phase collector.looked group here.sweeps dead (words + spine_words_in word) (place + 1) (next_place_of dead (place + 1)) here.dead_within
+    (more_words words (spine_words_in word) place here.words_few (spine_words_few word)) (omega (arith, here.place_within)) (place_stands dead (place + 1)) (place_from dead (place + 1))))
 
-pub free_stands : (group dead : ℕ) → StageStands (stages.Freeing group dead)
-free_stands group dead heap collector limits fits freeing here = record {
+pub free_stands : (group dead words : ℕ) → StageStands (stages.Freeing group dead words)
+free_stands group dead words heap collector limits fits freeing here = record {
   step = record { in_table = here.sweeps.group_within; wide = λ found small. and_wide found _ small; leads = λ found led. tt };
-  fits = λ found led may. record {
+  fits = λ found small led may. record {
     phase_within = fits.phase_within;
     phase_told = omega (arith, fits.phase_told, length-append collector.log (Frees (count_ones dead) ∷ []));
+    at_stage = fits_freed heap collector.phase collector.looked group here.sweeps words here.words_few;
+  };
+}
+
+pub return_stands : (group words : ℕ) → StageStands (stages.Returning group words)
+return_stands group words heap collector limits fits returning here = record {
+  step = record { in_table = tt; wide = λ found small. omega arith; leads = λ found led. tt };
+  fits = λ found small led may. record {
+    phase_within = fits.phase_within;
+    phase_told = omega (arith, fits.phase_told, length-append collector.log (Returns words ∷ []));
     at_stage = fits_swept heap collector.phase collector.looked group here.sweeps;
   };
 }

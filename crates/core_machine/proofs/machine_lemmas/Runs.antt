@@ -104,7 +104,7 @@ machine_turned heap state machine may =
       leads = leads-put heap state.words (address_of step) (word_after step found) there (stands.step.leads found (machine.leads (address_of step) there)) machine.leads;
       seated = machine.seated;
       fit = machine.fit;
-      collector_fit = stands.fits found (machine.leads (address_of step) there) may;
+      collector_fit = stands.fits found (at-lt heap state.words (address_of step) machine.wide) (machine.leads (address_of step) there) may;
     }
 
 -- who has a move is a seat

@@ -9,7 +9,7 @@ use Rattle.std.proofs.lemmas.Nat.{and_le_l}
 use Rattle.std.proofs.lemmas.Nat.Bits.{bit_at_and, bit_at_not, bit_at-lt}
 use Rattle.heap_words.specs.Control.{dead_bits_of, next_place_of}
 use Rattle.heap_words.proofs.Grey.{part_bit}
-use Rattle.core_machine.proofs.table_lemmas.FindLemmas.{find_within, found_passes, none_passes}
+use Rattle.core_machine.proofs.table_lemmas.FindLemmas.{find_within, find_from, found_passes, none_passes}
 
 -- they are among sixteen
 pub dead_few : (word : ℕ) → dead_bits_of word < 2 ^ 16
@@ -56,3 +56,7 @@ place_stands bits from = on (next_place_of bits from) refl
     on : (o : Option ℕ) → next_place_of bits from ≡ o → IfSome o (λ i. (i < 16) × (bit_at bits i ≡ 1))
     on None is = tt
     on (Some i) is = place_found bits from i is
+
+-- and no place before the one from which it was looked for
+pub place_from : (bits from : ℕ) → IfSome (next_place_of bits from) (λ i. from ≤ i)
+place_from bits from = find_from (λ place. eqb (bit_at bits place) 1) from (16 - from)

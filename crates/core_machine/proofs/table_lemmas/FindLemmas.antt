@@ -18,6 +18,19 @@ find_within p a (suc n) =
     on None within = tt
     on (Some i) within = omega (arith, within)
 
+-- and none of those before the first one
+pub find_from : (p : ℕ → Bool) (a n : ℕ) → IfSome (find p (range_with_len a n)) (λ i. a ≤ i)
+find_from p a zero = tt
+find_from p a (suc n) =
+    elim (bool_tells (p a)) as (λ _. IfSome (find p (range_with_len a (suc n))) (λ i. a ≤ i)) [
+      | inl yes_ ↦ rw yes_ (omega arith)
+      | inr no_ ↦ rw no_ (on (find p (range_with_len (a + 1) n)) (find_from p (a + 1) n))
+    ]
+  where
+    on : (o : Option ℕ) → IfSome o (λ i. a + 1 ≤ i) → IfSome o (λ i. a ≤ i)
+    on None behind = tt
+    on (Some i) behind = omega (arith, behind)
+
 -- what is found passes
 pub found_passes : (p : ℕ → Bool) (xs : List ℕ) (x : ℕ) → find p xs ≡ Some x → p x ≡ true
 found_passes p [] x is = cc

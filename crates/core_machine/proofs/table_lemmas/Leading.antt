@@ -111,7 +111,7 @@ record_leads heap name fields fragments k part owner count few some small each =
 array_meta_leads : (heap : Heap) (cells : ℕ) → cells < 2 ^ 13 → IsWithinHeap heap (pointer_in 0 (array_meta cells))
 array_meta_leads heap cells few = subst (IsWithinHeap heap) (sym (cell_lead 0 kinds.Fixed (2 ^ 29 + cells) 0 (omega arith) (omega arith))) (rw (le-ltb (2 ^ 29 + cells) (2 ^ 29) (omega arith)) tt)
 
-spot_leads : (heap : Heap) (spot : Spot) → FitsSpot spot → IsWithinHeap heap (pointer_in 2 (spot_word spot))
+pub spot_leads : (heap : Heap) (spot : Spot) → FitsSpot spot → IsWithinHeap heap (pointer_in 2 (spot_word spot))
 spot_leads heap spot fits = subst (IsWithinHeap heap) (sym (cell_lead 2 kinds.Fixed spot.half spot.offset (omega (arith, fits.half_within)) (omega (arith, fits.offset_within)))) tt
 
 -- the words of an array whose cells were never set lead nowhere

@@ -20,7 +20,7 @@ abbrev pub IsArray : Command → Type 0
 IsArray (Array d cells) = Unit {0}
 IsArray _ = ⊥
 
--- the machine serves the command: all but a collect, which it makes by inner calls
+-- the machine serves the command: all but a collect, which is made of inner calls
 abbrev pub IsServed : Command → Type 0
 IsServed (New d fields) = Unit {0}
 IsServed (Array d cells) = Unit {0}

@@ -139,7 +139,8 @@ impl SpineCopy {
 
     /// Its word was copied: the next one comes.
     fn copied(&self) -> Stage
-        requires { self.now.index < self.now.array.words }
+        requires index { self.now.index < self.now.array.words }
+        requires words { self.now.array.words ≤ spine_most }
         ensures { result ≡ after_copied self.now }
     {
         let copy = SpineCopy {

@@ -87,17 +87,30 @@ pub enum Stage {
     /// It looks whether a seat has answered.
     Looking,
     /// A group's control word is loaded, in a pass that has found a grey fragment so far or hasn't.
-    Passing { group: u16, found: bool },
+    Passing {
+        group: u16,
+        found: bool,
+    },
     /// A word of a grey fragment is loaded.
     Scanning(Scan),
     /// The fragment to which that word led is marked; the word `next` comes after it.
-    Shading { scan: Scan, target: u16, next: u8 },
+    Shading {
+        scan: Scan,
+        target: u16,
+        next: u8,
+    },
     /// The place of an array's spine is loaded, which has so many words.
-    Locating { scan: Scan, words: u16 },
+    Locating {
+        scan: Scan,
+        words: u16,
+    },
     /// A spine word is loaded.
     Indexing(SpineScan),
     /// The fragment that it names is marked.
-    Spreading { scan: SpineScan, target: u16 },
+    Spreading {
+        scan: SpineScan,
+        target: u16,
+    },
     /// All words of the fragment are seen to: it is told to be scanned.
     Blackening(Scan),
     /// Marking has ended: the next spine gets its place in the other half.
@@ -105,7 +118,9 @@ pub enum Stage {
     /// Spines are copied into the other half.
     Copying(Copying),
     /// A group's control word is loaded for what is dead in it.
-    Sweeping { group: u16 },
+    Sweeping {
+        group: u16,
+    },
     /// The first word of a dead fragment of the group is loaded; arrays that begin before it had so many spine words.
     Examining {
         group: u16,
@@ -114,13 +129,25 @@ pub enum Stage {
         words: u32,
     },
     /// The group's dead fragments are freed, among them arrays with so many spine words.
-    Freeing { group: u16, dead: u16, words: u32 },
+    Freeing {
+        group: u16,
+        dead: u16,
+        words: u32,
+    },
     /// The spine words of the group's dead arrays are granted no longer.
-    Returning { group: u16, words: u32 },
+    Returning {
+        group: u16,
+        words: u32,
+    },
     /// A group's marks are cleared; so many fragments were taken in the groups before it.
-    Clearing { group: u16, kept: u64 },
+    Clearing {
+        group: u16,
+        kept: u64,
+    },
     /// All groups are cleared, and so many fragments were taken in them: the cycle ends.
-    Ending { kept: u64 },
+    Ending {
+        kept: u64,
+    },
     /// Every seat has answered, and the phase's work is done: the next phase begins.
     Advancing,
 }

@@ -1,4 +1,5 @@
 ghost use Rattle.std.specs.Prelude.{◌≡◌, ◌<◌, ◌^◌, IfSome};
+ghost use Rattle.heap_model.specs.Needs.{array_words as array_words_of};
 ghost use Rattle.core_machine.specs.table.Decode.{head_of, pointer_in, is_meta as is_meta_of, array_length_of, spine_words_in, payload_in, link_of, id_of, stamp_of, plain_of};
 
 use crate::seat::register::Register;

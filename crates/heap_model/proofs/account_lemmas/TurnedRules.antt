@@ -13,9 +13,9 @@ use Rattle.heap_model.specs.account.Windows.{is_reply_to, begins_phase, since_re
 use Rattle.heap_model.specs.account.PhaseCounts.{AllAnswered, BeganSince}
 use Rattle.heap_model.specs.account.Phases.{ShowsPhases, ShowsRightly, AnswersPhase, BeginsPhase}
 use Rattle.heap_model.specs.account.Refusals.{ShowsSpace, ShowsSpine, RefusesRightly, RefusesSpine}
-use Rattle.heap_model.specs.account.Cycles.{Judged, Whole, ButSpine, IsSpineWithinBy, EndsCycleBy}
+use Rattle.heap_model.specs.account.Cycles.{EndsCycle}
 use Rattle.heap_model.specs.account.Sweep.{HasSwung, IsArray, Sweeps}
-use Rattle.heap_model.specs.account.Account.{KeepsSpaceBy, KeepsSpaceAfterBy, TakesAndGives, MakesOfOwn}
+use Rattle.heap_model.specs.account.Account.{KeepsSpace, KeepsSpaceAfter, TakesAndGives, MakesOfOwn}
 use Rattle.heap_model.specs.account.Turned.{is_of_heap, without_turned, AnswersRightly, AllAnswerRightly, TurnedMayStand}
 use Rattle.heap_model.specs.graph.Graph.{Graph, opening}
 use Rattle.heap_model.specs.graph.Growth.{after_entry}
@@ -28,26 +28,22 @@ module _ (heap : Heap) (history : List Entry) where
   all_answered : AllAnswered heap (without_turned history) → AllAnswered heap history
   all_answered all number below present = sym (answered history number) ∙ all number below (gone history number ∙ present) ∙ here history
 
-  spine_still : (judged : Judged) (begun : List Id) → IsSpineWithinBy judged heap (without_turned history) begun → IsSpineWithinBy judged heap history begun
-  spine_still Whole begun within = omega (arith, within, granted history, returned history, spine_bounds heap history begun)
-  spine_still ButSpine begun within = tt
-
-  ends_cycle : (judged : Judged) (entry : Entry) → EndsCycleBy judged heap (without_turned history) entry → EndsCycleBy judged heap history entry
-  ends_cycle judged (entries.Ends cycle kept) ((at, all), leaves) = (
+  ends_cycle : (entry : Entry) → EndsCycle heap (without_turned history) entry → EndsCycle heap history entry
+  ends_cycle (entries.Ends cycle kept) ((at, all), leaves) = (
     (sym (here history) ∙ at, all_answered all),
     record {
       within = λ begun reach.
           let within = leaves.within begun (rw (graph_then heap history) reach) in
           record {
             used = omega (arith, within.used, gained history, lost history, bounds heap history begun);
-            spine = spine_still judged begun within.spine;
+            spine = omega (arith, within.spine, granted history, returned history, spine_bounds heap history begun);
             at_most = omega (arith, within.at_most, bounds heap history begun);
           };
       reached = λ both reach.
           subst (λ g. fragments_of_all g both ≤ kept) (graphs history heap) (leaves.reached both (rw (graph_then heap history, graphs history heap) reach));
     },
   )
-  ends_cycle judged _ ends = tt
+  ends_cycle _ ends = tt
 
   began_since : (number cycle : ℕ) → BeganSince number cycle (without_turned history) → BeganSince number cycle history
   began_since number cycle began =
@@ -115,8 +111,8 @@ module _ (heap : Heap) (history : List Entry) where
   shows_still _ is shows = tt
 
   -- so an entry that keeps the rules without such answers keeps them with them
-  keeps_still : (judged : Judged) (entry : Entry) → is_of_heap entry ≡ true → KeepsSpaceBy judged heap true (without_turned history) entry → KeepsSpaceBy judged heap true history entry
-  keeps_still judged entry is keeps = record {
+  keeps_still : (entry : Entry) → is_of_heap entry ≡ true → KeepsSpace heap true (without_turned history) entry → KeepsSpace heap true history entry
+  keeps_still entry is keeps = record {
     takes = takes_still entry keeps.takes;
     makes = makes_still entry keeps.makes;
     refuses = refuses_still entry keeps.refuses;
@@ -124,7 +120,7 @@ module _ (heap : Heap) (history : List Entry) where
     answers = answers_still entry keeps.answers;
     begins = begins_still entry keeps.begins;
     sweeps = sweeps_still entry keeps.sweeps;
-    ends = ends_cycle judged entry keeps.ends;
+    ends = ends_cycle entry keeps.ends;
     shows = shows_still entry is keeps.shows;
   }
 
@@ -133,33 +129,33 @@ objects_still g [] accepts = tt
 objects_still g (entries.Turned command reply ∷ history) accepts = (tt, objects_still g history accepts)
 objects_still g (entry ∷ history) accepts = (accepts.0, objects_still (after_entry g entry) history accepts.1)
 
-turned_keeps : (judged : Judged) (heap : Heap) (before : List Entry) (entry : Entry) → is_of_heap entry ≡ false → AnswersRightly heap before entry → KeepsSpaceBy judged heap true before entry
-turned_keeps judged heap before (entries.Turned command reply) is shows =
+turned_keeps : (heap : Heap) (before : List Entry) (entry : Entry) → is_of_heap entry ≡ false → AnswersRightly heap before entry → KeepsSpace heap true before entry
+turned_keeps heap before (entries.Turned command reply) is shows =
     record { takes = tt; makes = tt; refuses = tt; refuses_spine = tt; answers = tt; begins = tt; sweeps = tt; ends = tt; shows = shows }
-turned_keeps judged heap before _ is shows = cc is
+turned_keeps heap before _ is shows = cc is
 
-space_still : (judged : Judged) (heap : Heap) (before history : List Entry) → KeepsSpaceAfterBy judged heap true (without_turned before) (without_turned history) → AllAnswerRightly heap before history
-    → KeepsSpaceAfterBy judged heap true before history
-space_still judged heap before [] keeps right = tt
-space_still judged heap before (entry ∷ history) keeps right = by (is_of_heap entry) refl keeps (space_still judged heap (before ++ entry ∷ []) history)
+space_still : (heap : Heap) (before history : List Entry) → KeepsSpaceAfter heap true (without_turned before) (without_turned history) → AllAnswerRightly heap before history
+    → KeepsSpaceAfter heap true before history
+space_still heap before [] keeps right = tt
+space_still heap before (entry ∷ history) keeps right = by (is_of_heap entry) refl keeps (space_still heap (before ++ entry ∷ []) history)
   where
     more : (b : Bool) → is_of_heap entry ≡ b → without_turned (before ++ entry ∷ []) ≡ without_turned before ++ cond b (entry ∷ []) []
     more b is = filter-append is_of_heap before (entry ∷ []) ∙ ap (λ x. without_turned before ++ cond x (entry ∷ []) []) is
 
-    by : (b : Bool) → is_of_heap entry ≡ b → KeepsSpaceAfterBy judged heap true (without_turned before) (cond b (entry ∷ without_turned history) (without_turned history))
-        → (KeepsSpaceAfterBy judged heap true (without_turned (before ++ entry ∷ [])) (without_turned history) → AllAnswerRightly heap (before ++ entry ∷ []) history → KeepsSpaceAfterBy judged heap true (before ++ entry ∷ []) history)
-        → KeepsSpaceAfterBy judged heap true before (entry ∷ history)
+    by : (b : Bool) → is_of_heap entry ≡ b → KeepsSpaceAfter heap true (without_turned before) (cond b (entry ∷ without_turned history) (without_turned history))
+        → (KeepsSpaceAfter heap true (without_turned (before ++ entry ∷ [])) (without_turned history) → AllAnswerRightly heap (before ++ entry ∷ []) history → KeepsSpaceAfter heap true (before ++ entry ∷ []) history)
+        → KeepsSpaceAfter heap true before (entry ∷ history)
     by true is kept rest = (
-      keeps_still heap before judged entry is kept.0,
-      rest (subst (λ es. KeepsSpaceAfterBy judged heap true es (without_turned history)) (sym (more true is)) kept.1) right.1,
+      keeps_still heap before entry is kept.0,
+      rest (subst (λ es. KeepsSpaceAfter heap true es (without_turned history)) (sym (more true is)) kept.1) right.1,
     )
     by false is kept rest = (
-      turned_keeps judged heap before entry is right.0,
-      rest (subst (λ es. KeepsSpaceAfterBy judged heap true es (without_turned history)) (sym (more false is ∙ append-nil (without_turned before))) kept) right.1,
+      turned_keeps heap before entry is right.0,
+      rest (subst (λ es. KeepsSpaceAfter heap true es (without_turned history)) (sym (more false is ∙ append-nil (without_turned before))) kept) right.1,
     )
 
 pub turned_may_stand : TurnedMayStand
-turned_may_stand judged heap history legal right = record {
+turned_may_stand heap history legal right = record {
   objects = objects_still (opening heap) history legal.objects;
-  space = space_still judged heap [] history legal.space right;
+  space = space_still heap [] history legal.space right;
 }

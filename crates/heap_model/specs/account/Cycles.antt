@@ -14,11 +14,6 @@ use Rattle.heap_model.specs.account.Space.{total, fragments_gained, fragments_lo
 use Rattle.heap_model.specs.account.Windows.{up_to_reply, since_reply, up_to_cycle, since_cycle}
 use Rattle.heap_model.specs.account.PhaseCounts.{phase, AllAnswered}
 
--- a history is judged by the whole of the rules, or by all of them but what they say of the spine words in use at the end of a cycle
-pub data Judged : Type 0 where
-  Whole : Judged
-  ButSpine : Judged
-
 -- the graph after a history from the opening on
 abbrev pub graph_of : Heap → List Entry → Graph
 graph_of heap history = graph_after (opening heap) history
@@ -45,24 +40,15 @@ pub record IsReachOfBoth (g h : Graph) (ids : List Id) : Type 0 where
   pub ordered : AllPairs IsBefore ids
   pub reached : (id : Id) → Contains ids id ↔ Reaches g id × Reaches h id
 
--- the spine words in use are within their bound, where they are judged
-abbrev pub IsSpineWithinBy : Judged → Heap → List Entry → List Id → Type 0
-IsSpineWithinBy Whole heap before begun = words_granted before ≤ words_returned before + spine_bound heap begun before
-IsSpineWithinBy ButSpine heap before begun = Unit {0}
-
 -- what is in use and what was kept are within the bounds
-pub record IsWithinBoundsBy (judged : Judged) (heap : Heap) (before : List Entry) (kept : ℕ) (begun : List Id) : Type 0 where
+pub record IsWithinBounds (heap : Heap) (before : List Entry) (kept : ℕ) (begun : List Id) : Type 0 where
   pub used : fragments_gained before ≤ fragments_lost before + bound heap begun before
-  pub spine : IsSpineWithinBy judged heap before begun
+  pub spine : words_granted before ≤ words_returned before + spine_bound heap begun before
   pub at_most : kept ≤ bound heap begun before
 
 -- no more is left than the bounds say, by what was reached when the cycle began
-abbrev pub LeavesWithinBoundsBy : Judged → Heap → List Entry → ℕ → Type 0
-LeavesWithinBoundsBy judged heap before kept = (begun : List Id) → IsReach (graph_of heap (up_to_cycle before)) begun → IsWithinBoundsBy judged heap before kept begun
-
--- so it is by the whole of the rules
 abbrev pub LeavesWithinBounds : Heap → List Entry → ℕ → Type 0
-LeavesWithinBounds heap before kept = LeavesWithinBoundsBy Whole heap before kept
+LeavesWithinBounds heap before kept = (begun : List Id) → IsReach (graph_of heap (up_to_cycle before)) begun → IsWithinBounds heap before kept begun
 
 -- what was reached both when the cycle began and now was kept
 abbrev pub KeepsReached : Heap → List Entry → ℕ → Type 0
@@ -70,23 +56,15 @@ KeepsReached heap before kept =
     (both : List Id) → IsReachOfBoth (graph_of heap (up_to_cycle before)) (graph_of heap before) both → fragments_of_all (graph_of heap before) both ≤ kept
 
 -- a cycle leaves little, and keeps what is reached
-pub record LeavesLittleBy (judged : Judged) (heap : Heap) (before : List Entry) (kept : ℕ) : Type 0 where
-  pub within : LeavesWithinBoundsBy judged heap before kept
+pub record LeavesLittle (heap : Heap) (before : List Entry) (kept : ℕ) : Type 0 where
+  pub within : LeavesWithinBounds heap before kept
   pub reached : KeepsReached heap before kept
-
--- so it does by the whole of the rules
-abbrev pub LeavesLittle : Heap → List Entry → ℕ → Type 0
-LeavesLittle heap before kept = LeavesLittleBy Whole heap before kept
 
 -- the cycle stands in its last phase, and all have answered that
 abbrev pub IsThroughCycle : Heap → List Entry → ℕ → Type 0
 IsThroughCycle heap before cycle = (phase before ≡ cycle_phases * cycle + clearing) × AllAnswered heap before
 
 -- a cycle ends once all have answered its last phase, and leaves little
-abbrev pub EndsCycleBy : Judged → Heap → List Entry → Entry → Type 0
-EndsCycleBy judged heap before (entries.Ends cycle kept) = IsThroughCycle heap before cycle × LeavesLittleBy judged heap before kept
-EndsCycleBy judged heap before _ = Unit {0}
-
--- so it ends by the whole of the rules
 abbrev pub EndsCycle : Heap → List Entry → Entry → Type 0
-EndsCycle heap before entry = EndsCycleBy Whole heap before entry
+EndsCycle heap before (entries.Ends cycle kept) = IsThroughCycle heap before cycle × LeavesLittle heap before kept
+EndsCycle heap before _ = Unit {0}

@@ -3,8 +3,7 @@ use Rattle.std.specs.Prelude.{◌≡◌, ℕ, Bool, true, false, List, [], ◌�
 use Rattle.heap_model.specs.declared.heap.Heap.{Heap}
 use Rattle.heap_model.specs.declared.entry.Entry.{Entry}
 use Rattle.heap_model.specs.declared.entry.Entry.TheVariants as entries
-use Rattle.heap_model.specs.account.Account.{IsLegalBy}
-use Rattle.heap_model.specs.account.Cycles.{Judged}
+use Rattle.heap_model.specs.account.Account.{IsLegal}
 use Rattle.heap_model.specs.account.Phases.{IsBehind, TurnShows}
 use Rattle.heap_model.specs.account.Space.{fragments_gained, fragments_lost, words_granted, words_returned}
 
@@ -29,8 +28,8 @@ AllAnswerRightly heap before (entry ∷ rest) = AnswersRightly heap before entry
 
 -- answers to commands of the collector may be put between the entries of a play, each where it shows what is so, and all stays legal
 abbrev pub TurnedMayStand : Type 0
-TurnedMayStand = (judged : Judged) (heap : Heap) (history : List Entry) → IsLegalBy judged heap true (without_turned history) → AllAnswerRightly heap [] history
-    → IsLegalBy judged heap true history
+TurnedMayStand = (heap : Heap) (history : List Entry) → IsLegal heap true (without_turned history) → AllAnswerRightly heap [] history
+    → IsLegal heap true history
 
 -- they change no count of fragments or spine words
 pub record CountsStay (history : List Entry) : Type 0 where

@@ -1,6 +1,7 @@
 mod arrays;
 mod barrier;
 mod calls;
+mod copying;
 mod fields;
 mod making;
 mod marking;

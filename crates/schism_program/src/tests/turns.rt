@@ -42,12 +42,13 @@ const BARRIERS: (&str, &str, &str) = (
     "legal 40",
 );
 
-// A record of three fragments is dropped before the cycle begins. Marking ends in the third phase, the fourth has no work, and
-// the fifth frees the three, which the next record takes again. In the sixth the marks are cleared and the cycle ends: the
+// A record of three fragments is dropped before the cycle begins. Marking ends in the third phase. The fourth is fifteen turns: a
+// look, the group's load, the load of a first word for each of twelve marked fragments, which begin no array, and the advance. The
+// fifth phase frees the three, which the next record takes again. In the sixth the marks are cleared and the cycle ends: the
 // board's fragments, the first record's and the reserve's are taken, 13. Then the next cycle's rest waits for an answer.
 const SWEPT: (&str, &str, &str) = (
-    "schism 1; heap 1 0 1; 0 new 1 2; 0 new 2 8; 0 nil 2; c turns 2; 0 poll; c turns 2; 0 poll; c turns 2; 0 poll; c turns 1000; 0 poll; c turns 2; 0 new 3 5; 0 poll; c turns 1000; 0 poll; c turns 1000; 0 new 3 5",
-    "history 1 play; heap 1 0 1; 0 takes 5; 0 new 1 2 = 0.0; 0 new 2 8 = 0.1; 0 nil 2 = ok; c phase 1; c turns 2 = done; 0 answers 1; 0 poll = 1; c phase 2; c turns 2 = done; 0 answers 2; 0 poll = 2; c phase 3; c turns 2 = done; 0 answers 3; 0 poll = 3; c phase 4; c turns 1000 = waits 0 answered 3 phase 4; 0 answers 4; 0 poll = 4; c phase 5; c turns 2 = done; 0 new 3 5 = full need 2 found 1; 0 answers 5; 0 poll = 5; c frees 3; c phase 6; c turns 1000 = waits 0 answered 5 phase 6; 0 answers 6; 0 poll = 6; c ends 0 kept 13; c turns 1000 = waits 0 answered 6 phase 7; 0 takes 3; 0 new 3 5 = 0.2; space used 16 of 16 spine 0 of 0; 0 gives back 2; 0 leave = ok; c phase 8; c phase 9; c phase 10; c phase 11; c phase 12; c frees 14; c phase 13; c ends 1 kept 0; end used 0",
+    "schism 1; heap 1 0 1; 0 new 1 2; 0 new 2 8; 0 nil 2; c turns 2; 0 poll; c turns 2; 0 poll; c turns 2; 0 poll; c turns 1000; 0 poll; c turns 15; 0 new 3 5; 0 poll; c turns 1000; 0 poll; c turns 1000; 0 new 3 5",
+    "history 1 play; heap 1 0 1; 0 takes 5; 0 new 1 2 = 0.0; 0 new 2 8 = 0.1; 0 nil 2 = ok; c phase 1; c turns 2 = done; 0 answers 1; 0 poll = 1; c phase 2; c turns 2 = done; 0 answers 2; 0 poll = 2; c phase 3; c turns 2 = done; 0 answers 3; 0 poll = 3; c phase 4; c turns 1000 = waits 0 answered 3 phase 4; 0 answers 4; 0 poll = 4; c phase 5; c turns 15 = done; 0 new 3 5 = full need 2 found 1; 0 answers 5; 0 poll = 5; c frees 3; c phase 6; c turns 1000 = waits 0 answered 5 phase 6; 0 answers 6; 0 poll = 6; c ends 0 kept 13; c turns 1000 = waits 0 answered 6 phase 7; 0 takes 3; 0 new 3 5 = 0.2; space used 16 of 16 spine 0 of 0; 0 gives back 2; 0 leave = ok; c phase 8; c phase 9; c phase 10; c phase 11; c phase 12; c frees 14; c phase 13; c ends 1 kept 0; end used 0",
     "legal 44",
 );
 

@@ -86,7 +86,7 @@ fn takes_spine_words_back(rt: HostRuntime) -> Result<(), Fail> {
 /// An array of five cells in the fragments 11 to 13, whose last cell, in the fragment 13, refers to it. A register holds it, so its
 /// first fragment is grey as marking begins; the board is scanned in the next 75 turns. Then the array's first fragment: its
 /// meta, the place of its spine, and each spine word before the fragment that it names is marked. The payload fragments have four
-/// words of cells each. The next pass finds nothing, and the next phase begins.
+/// words of cells each. The next pass finds nothing: the flip comes, and the next phase begins.
 const SCANNED: &[&str] = &[
     "0 array 1 5 => 0 takes 5; 0 array 1 5 = 0.0",
     "0 set 1 4 1 => 0 set 1 4 1 = was -",
@@ -121,6 +121,7 @@ const SCANNED: &[&str] = &[
     "c step => blacken 13 found 1fff3fff3fffffff",
     "c step => group 0 found 3fff3fff3fffffff",
     "c step => group 0 found 3fff3fff3fffffff",
+    "c step => flip 1 found c000000000000002",
     "c step => advance 4 found 3; c phase 4",
 ];
 

@@ -69,6 +69,7 @@ const TAKEN_OUT: &[&str] = &[
     "c step => blacken 12 found 4fff5fff7fffffff",
     "c step => group 0 found 5fff5fff7fffffff",
     "c step => group 0 found 5fff5fff7fffffff",
+    "c step => flip 1 found c000000000000000",
     "c step => advance 4 found 3; c phase 4",
     "c due => look 0",
     "control 0 => 5fff5fff7fffffff at 19",
@@ -89,8 +90,9 @@ fn keeps_what_a_set_takes_out(rt: HostRuntime) -> Result<(), Fail> {
 /// While the seat's answer is 5, also when the phase is 6 already, a set loads the old value and shades it and the new one.
 /// They are marked, so no control word changes. Once it has answered 6 a set goes from the way to the swap.
 ///
-/// Marking takes 90 steps: the look, the group's load, 75 for the board with each group's load after a scan, 5 for the
-/// fragment 11 and 4 for 12, with a group's load after each, the load of the next pass and the advance.
+/// Marking takes 91 steps: the look, the group's load, 75 for the board with each group's load after a scan, 5 for the
+/// fragment 11 and 4 for 12, with a group's load after each, the load of the next pass, the flip and the advance. Copying takes 16:
+/// the look, the group's load, the load of a first word for each of the 13 marked fragments, and the advance.
 const AROUND_THE_SWEEP: &[&str] = &[
     "0 new 1 2 => 0 takes 5; 0 new 1 2 = 0.0",
     "0 new 2 2 => 0 new 2 2 = 0.1",
@@ -101,9 +103,9 @@ const AROUND_THE_SWEEP: &[&str] = &[
     "0 poll => 0 answers 2; 0 poll = 2",
     "c steps 2 => advance 3 found 2; c phase 3",
     "0 poll => 0 answers 3; 0 poll = 3",
-    "c steps 90 => advance 4 found 3; c phase 4",
+    "c steps 91 => advance 4 found 3; c phase 4",
     "0 poll => 0 answers 4; 0 poll = 4",
-    "c steps 2 => advance 5 found 4; c phase 5",
+    "c steps 16 => advance 5 found 4; c phase 5",
     "0 poll => 0 answers 5; 0 poll = 5",
     "0 begin set 1 0 1 => true",
     "0 step => walk 11 found c000000200000000",

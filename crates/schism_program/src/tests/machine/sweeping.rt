@@ -8,6 +8,9 @@ use std::test::Fail;
 /// The board's scans are 75 turns: 6 for its head, 7 for each of nine fragments and 6 for its last one, the group's load
 /// after each counted in. The record's are 3 loads, and it is told to be scanned.
 ///
+/// Then the flip lets the next spine begin in the other half of the spine space, which has no words here. Of the twelve marked
+/// fragments copying loads the first words, and finds no array.
+///
 /// The sweep finds 12 to 14 born and not marked, looks at their first words, a meta, a link and the last link, and frees
 /// them. What isn't born stays. As the marks are cleared the board's fragments, 11 and 15 are taken, and so 13 are kept.
 ///
@@ -32,10 +35,15 @@ const TWO_CYCLES: &[&str] = &[
     "c steps 4 => blacken 11 found 7ff0fff7fffffff",
     "c step => group 0 found fff0fff7fffffff",
     "c step => group 0 found fff0fff7fffffff",
+    "c step => flip 1 found c000000000000000",
     "c step => advance 4 found 3; c phase 4",
     "c turn => waits for 0 at 3 of 4",
     "0 poll => 0 answers 4; 0 poll = 4",
-    "c steps 2 => advance 5 found 4; c phase 5",
+    "c step => look 0 found 4",
+    "c step => group 0 found fff0fff7fffffff",
+    "c step => meta 0 found c000002000000001",
+    "c steps 11 => meta 11 found c000000200000000",
+    "c step => advance 5 found 4; c phase 5",
     "c turn => waits for 0 at 4 of 5",
     "0 poll => 0 answers 5; 0 poll = 5",
     "c step => look 0 found 5",
@@ -71,9 +79,10 @@ const TWO_CYCLES: &[&str] = &[
     "c step => group 0 found 19fffffff",
     "c steps 75 => group 0 found 7ff07ff9fffffff",
     "c step => group 0 found 7ff07ff9fffffff",
+    "c step => flip 0 found c000000100000000",
     "c step => advance 11 found a; c phase 11",
     "0 poll => 0 answers 11; 0 poll = 11",
-    "c steps 2 => advance 12 found b; c phase 12",
+    "c steps 14 => advance 12 found b; c phase 12",
     "0 poll => 0 answers 12; 0 poll = 12",
     "c step => look 0 found c",
     "c step => group 0 found 7ff07ff9fffffff",
@@ -131,9 +140,13 @@ const TWO_GROUPS: &[&str] = &[
     "c step => group 1 found 200020007ffff",
     "c step => group 0 found 7ff07ffffffffff",
     "c step => group 1 found 200020007ffff",
+    "c step => flip 1 found c000000000000000",
     "c step => advance 4 found 3; c phase 4",
     "0 poll => 0 answers 4; 0 poll = 4",
-    "c steps 3 => advance 5 found 4; c phase 5",
+    "c steps 3 => group 0 found 7ff07ffffffffff",
+    "c steps 12 => group 1 found 200020007ffff",
+    "c step => meta 17 found c000000200000000",
+    "c step => advance 5 found 4; c phase 5",
     "0 poll => 0 answers 5; 0 poll = 5",
     "c steps 2 => look 1 found ffffffffffffffff",
     "c step => group 0 found 7ff07ffffffffff",
@@ -192,9 +205,10 @@ const A_LEAVE: &[&str] = &[
     "c steps 4 => blacken 11 found 7ff0fff3fff3fff",
     "c step => group 0 found fff0fff3fff3fff",
     "c step => group 0 found fff0fff3fff3fff",
+    "c step => flip 1 found c000000000000000",
     "c step => advance 4 found 3; c phase 4",
     "0 poll => 0 answers 4; 0 poll = 4",
-    "c steps 3 => advance 5 found 4; c phase 5",
+    "c steps 16 => advance 5 found 4; c phase 5",
     "0 poll => 0 answers 5; 0 poll = 5",
     "c steps 2 => look 1 found ffffffffffffffff",
     "c step => group 0 found fff0fff3fff3fff",

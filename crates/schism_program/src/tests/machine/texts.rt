@@ -1,4 +1,6 @@
-use core_machine::{AccessStep, HandshakeStep, MakingStep, SpineStep, Step, TurningStep};
+use core_machine::{
+    AccessStep, CopyingStep, HandshakeStep, MakingStep, SpineStep, Step, TurningStep,
+};
 use heap_model::Turn;
 use std::alloc::{AllocError, Global};
 
@@ -16,6 +18,7 @@ pub(super) fn due_text(alloc: Global, step: &Step) -> Result<String, AllocError>
         Step::Access(step) => access_text(alloc, step),
         Step::Spine(step) => spine_text(alloc, step),
         Step::Handshake(step) => handshake_text(alloc, step),
+        Step::Copying(step) => copying_text(alloc, step),
         Step::Turning(step) => turning_text(alloc, step),
     }
 }
@@ -76,6 +79,19 @@ fn handshake_text(alloc: Global, step: HandshakeStep) -> Result<String, AllocErr
     match step {
         HandshakeStep::AnswerStore { seat, phase } => format!(in alloc; "answer {seat} {phase}"),
         HandshakeStep::LeaveStore { seat } => format!(in alloc; "leave {seat}"),
+    }
+}
+
+fn copying_text(alloc: Global, step: CopyingStep) -> Result<String, AllocError> {
+    match step {
+        CopyingStep::FlipStore { half } => format!(in alloc; "flip {half}"),
+        CopyingStep::CopyClaim { words } => format!(in alloc; "copy {words}"),
+        CopyingStep::CopyLoad { half, offset } => format!(in alloc; "read {half}.{offset}"),
+        CopyingStep::CopyStore { half, offset, word } => {
+            format!(in alloc; "write {half}.{offset} {word:x}")
+        }
+        CopyingStep::SwingStore { sentinel, spot } => format!(in alloc; "swing {sentinel} {spot:x}"),
+        CopyingStep::BudgetReturn { words } => format!(in alloc; "return {words}"),
     }
 }
 

@@ -1,5 +1,4 @@
--- The laws of answers to commands of the collector, and of what is legal but for spine words.
-use Rattle.heap_model.proofs.account_lemmas.Judging.{whole_is_but_spine, is_whole_without_arrays}
+-- The laws of answers to commands of the collector.
 use Rattle.heap_model.proofs.account_lemmas.TurnedRules.{turned_may_stand}
 use Rattle.heap_model.proofs.account_lemmas.TurnedCounts.{turned_count_nothing, turned_hold_nobody}
 use Rattle.heap_model.proofs.account.laws.account_laws.Goals as goal
@@ -12,9 +11,3 @@ returns-clause-counts c = turned_count_nothing
 
 pub returns-clause-behind : goal.returns-clause-behind
 returns-clause-behind c = turned_hold_nobody
-
-pub returns-clause-but_spine : goal.returns-clause-but_spine
-returns-clause-but_spine c = whole_is_but_spine
-
-pub returns-clause-whole : goal.returns-clause-whole
-returns-clause-whole c = is_whole_without_arrays
