@@ -7,3 +7,4 @@ pub mod BegunArrays
 pub mod SwungWords
 pub mod SwungSources
 pub mod SwungObjects
+pub mod SwungBook
