@@ -8,3 +8,4 @@ pub mod SwungWords
 pub mod SwungSources
 pub mod SwungObjects
 pub mod SwungBook
+pub mod SwungSeats

@@ -24,6 +24,7 @@ use Rattle.core_machine.specs.table.Decode.{spine_words_in}
 use Rattle.core_machine.specs.table.Layout.{at, put, spine_place, FitsSpot}
 use Rattle.core_machine.specs.table.Newborn.{spine_word}
 use Rattle.core_rule.specs.Book.{Book, fragment_at, id_at}
+use Rattle.core_rule.specs.Colours.{WordPointsTo}
 use Rattle.core_rule.specs.Objects.{Objects, IsKept, node_at}
 use Rattle.core_rule.specs.Owners.{SpineOwner, Kept, Placed, Spined}
 use Rattle.core_rule.specs.Replicas.{CopyInHand, IsToCopy}
@@ -32,7 +33,7 @@ use Rattle.core_rule.specs.Spines.{SpinesStand, IsWordOf, next_spine}
 use Rattle.core_rule.proofs.copies.BegunArrays.{begun_there, begun_fits}
 use Rattle.core_rule.proofs.copies.CopyingStages.{fits_from}
 use Rattle.core_rule.proofs.copies.SwungObjects.{objects_swung}
-use Rattle.core_rule.proofs.copies.SwungSources.{words_swung}
+use Rattle.core_rule.proofs.copies.SwungSources.{leads_swung}
 use Rattle.core_rule.proofs.copies.SwungWords.{swung_spines, spine_here, spine_other, swung_word, word_own, placed_was, spined_stays, spined_was}
 use Rattle.core_rule.proofs.copies.VisitsOn.{found_from}
 use Rattle.core_rule.proofs.objects.ObjectWords.{spine_place_at}
@@ -120,6 +121,11 @@ module _ (heap : Heap) (state : State) (book : Book) (rule : Rule heap state boo
   objects_stand = objects_swung heap state.words rule.machine.table g book.made book.owner book.fragments book.spines i s copy.to inside to_copy.found.begins.kept its.3 to_copy.found.begins.is_array copy_listed
       rule.heap_stands.objects
 
+  -- every fragment leads where it led
+  pub leads_back : (f source x : ℕ) → WordPointsTo heap now f source x → WordPointsTo heap state.words f source x
+  leads_back = leads_swung heap state.words rule.machine.table s inside copy.from copy.to from_fits to_fits place_told copied
+
+  -- the next spine has its place where it had it
   spot_same : at heap now addresses.Spot ≡ at heap state.words addresses.Spot
   spot_same = at-put_apart heap state.words (Word s 2) addresses.Spot (spot_word copy.to) (λ e. omega (arith, e))
 
