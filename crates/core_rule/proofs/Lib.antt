@@ -1,4 +1,5 @@
 pub mod colours
+pub mod copies
 pub mod counts
 pub mod cycle
 pub mod entries

@@ -6,6 +6,7 @@ pub mod ClearLemmas
 pub mod ControlLemmas
 pub mod ControlSteps
 pub mod MarkBits
+pub mod MarkedPlaces
 pub mod SetBits
 pub mod SweepBits
 pub mod SweepWords

@@ -12,6 +12,9 @@ pub mod ScanStep
 pub mod LocateStep
 pub mod IndexStep
 pub mod SpreadStep
+pub mod VisitStep
+pub mod InspectStep
+pub mod FindStep
 pub mod SweepStep
 pub mod FreeStep
 pub mod ClearStep

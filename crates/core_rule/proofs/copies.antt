@@ -1,0 +1,11 @@
+-- The copies of spines: the collector's visits to marked fragments, the words of its copy, and what an array leaves as it swings to that.
+pub mod Visits
+pub mod CopyingStages
+pub mod VisitsOn
+pub mod InspectedWords
+pub mod BegunArrays
+pub mod SwungWords
+pub mod SwungSources
+pub mod SwungObjects
+pub mod SwungBook
+pub mod SwungSeats

@@ -1,0 +1,201 @@
+-- What stands in the phase of copying whichever of its stages the collector comes to.
+use Rattle.std.specs.Prelude.{IfSome}
+use Rattle.std.proofs.Common.{◌≡◌, ◌≢◌, ◌⊎◌, ℕ, ◌+◌, ◌/◌, ◌%◌, ◌<◌, true, List, [], length, Option, Some, None, inl, inr, refl, sym, ap, ◌∙◌, subst, arith}
+use Rattle.heap_model.specs.declared.heap.Heap.{Heap}
+use Rattle.heap_model.specs.account.Cycles.{graph_of}
+use Rattle.core_machine.specs.collector.Copying.{next_half, left_half, next_place_of, after_seen}
+use Rattle.core_machine.specs.collector.FitsTurns.{FitsStage, FitsCopying}
+use Rattle.core_machine.specs.declared.collector.stage.Copying.{Copying}
+use Rattle.core_machine.specs.declared.collector.stage.Stage.{Stage}
+use Rattle.core_machine.specs.declared.collector.stage.Stage.TheVariants as stages
+use Rattle.core_machine.specs.declared.collector.stage.Visit.{Visit}
+use Rattle.core_machine.specs.declared.table.address.Address.{Address}
+use Rattle.core_machine.specs.machine.Machine.{State, seat_at}
+use Rattle.core_machine.specs.machine.Value.{IsMachine}
+use Rattle.core_machine.specs.table.Layout.{at, put}
+use Rattle.core_rule.specs.Book.{Book, Colour, fragment_at}
+use Rattle.core_rule.specs.Budgets.{BudgetsStand, SweepCounts, copying_words, returning}
+use Rattle.core_rule.specs.Halves.{HalvesStand, AwaitsCopy, IsToVisit, IsLeaving, WhileCopying, half_at}
+use Rattle.core_rule.specs.Marking.{ScanStands, IsFewWords, PassStands, AfterMarking, MarkingStands}
+use Rattle.core_rule.specs.Objects.{IsKept, node_at}
+use Rattle.core_rule.specs.Owners.{Owner, SpineOwner, Placed}
+use Rattle.core_rule.specs.Replicas.{AreMarked, CopyingStands, CopyInHand, copy_in}
+use Rattle.core_rule.specs.Rule.{Rule}
+use Rattle.core_rule.specs.Spines.{next_spine}
+use Rattle.core_rule.specs.Sweep.{SweepStands}
+use Rattle.core_rule.proofs.copies.Visits.{seen_cases, awaits_on}
+use Rattle.core_rule.proofs.footprint.BookGoing.{book_stays}
+use Rattle.core_rule.proofs.steps.Assemble.{Keeps}
+use Rattle.core_rule.proofs.steps.TurnSteps.{after_turn, quiet, load_turns_with}
+
+-- a stage of copying, or the one behind the last
+abbrev pub IsOfCopying : Stage → Type 0
+IsOfCopying (stages.Copying stage) = Unit {0}
+IsOfCopying stages.Advancing = Unit {0}
+IsOfCopying _ = ⊥
+
+-- at such a stage nothing is scanned, passed or swept
+module _ (heap : Heap) (words : List ℕ) (owner : ℕ → Owner) (colour : ℕ → Colour) (fragments : ℕ → List ℕ) (phase : ℕ) (copies : phase % 7 ≡ 4) where
+  no_scan : (stage : Stage) → IsOfCopying stage → ScanStands heap words owner colour fragments stage × PassStands colour stage × SweepStands heap owner colour phase stage
+  no_scan (stages.Copying stage) of = (tt, tt, tt)
+  no_scan stages.Advancing of = (tt, tt, λ swept. absurd (omega (arith, copies, swept)))
+  no_scan _ of = absurd of
+
+  -- so what stands of marking is what stands once that has ended
+  pub marks_copying : AfterMarking owner colour → (stage : Stage) → IsOfCopying stage → IsFewWords stage → MarkingStands heap words owner colour fragments phase stage
+  marks_copying after stage of few = record {
+    grey = λ f grey. absurd (after.no_grey f grey);
+    scan = (no_scan stage of).0;
+    few = few;
+    pass = (no_scan stage of).1;
+    sweep_stands = (no_scan stage of).2;
+    alive = λ going. absurd (going (inr (inl copies)));
+    after = λ settled. after;
+  }
+
+-- nor is anything returned or counted
+pub none_returned : (stage : Stage) → IsOfCopying stage → returning stage ≡ 0
+none_returned (stages.Copying stage) of = refl
+none_returned stages.Advancing of = refl
+none_returned _ of = absurd of
+
+pub none_counted : (words : ℕ → ℕ) (owner : ℕ → Owner) (stage : Stage) → IsOfCopying stage → SweepCounts words owner stage
+none_counted words owner (stages.Copying stage) of = tt
+none_counted words owner stages.Advancing of = tt
+none_counted words owner _ of = absurd of
+
+-- spines have their places in the half that this cycle's flip has gone to
+pub half_copying : (phase : ℕ) (stage : Stage) → phase % 7 ≡ 4 → half_at phase stage ≡ next_half phase
+half_copying phase stage copies = rw copies refl
+
+-- which is the other one
+pub halves_apart : (phase : ℕ) → left_half phase ≢ next_half phase
+halves_apart phase same = omega (arith, same)
+
+-- no copy is in progress at the stage
+pub record IsFree (stage : Stage) : Type 0 where
+  pub of_copying : IsOfCopying stage
+  pub few : IsFewWords stage
+  pub none : copy_in stage ≡ None
+  pub no_words : copying_words stage ≡ 0
+
+-- so the collector has no words
+pub no_copy : (heap : Heap) (words : List ℕ) (spine_owner : ℕ → ℕ → SpineOwner) (stage : Stage) → copy_in stage ≡ None → ((half offset j : ℕ) → spine_owner half offset ≢ Placed heap.seats j)
+    → CopyInHand heap words spine_owner stage
+no_copy heap words spine_owner stage none unplaced = record { placed = rw none tt; own = λ half offset j is. absurd (unplaced half offset j is); copied = rw none tt }
+
+-- and has none where it had none
+pub none_placed : (heap : Heap) (words : List ℕ) (spine_owner : ℕ → ℕ → SpineOwner) (stage : Stage) → copy_in stage ≡ None → CopyInHand heap words spine_owner stage
+    → (half offset j : ℕ) → spine_owner half offset ≢ Placed heap.seats j
+none_placed heap words spine_owner stage none old half offset j is = let its = old.own half offset j is in let both : None ≡ Some its.copy = sym none ∙ its.progress in cc both
+
+-- behind a visit's fragment no copy is in progress
+pub seen_free : (heap : Heap) (phase group marked : ℕ) (o : Option ℕ) → IsFree (after_seen heap group marked o)
+seen_free heap phase group marked = seen_cases heap phase group marked IsFree
+    (λ more. record { of_copying = tt; few = tt; none = refl; no_words = refl })
+    (λ last. record { of_copying = tt; few = tt; none = refl; no_words = refl })
+    (λ place. record { of_copying = tt; few = tt; none = refl; no_words = refl })
+
+-- what is asked of the stage to which a load leads
+pub record LeadsTo (heap : Heap) (state : State) (book : Book) (stage : Stage) : Type 0 where
+  pub of_copying : IsOfCopying stage
+  pub few : IsFewWords stage
+  pub as_many : copying_words stage ≡ copying_words state.collector.stage
+  pub arrays : (i : ℕ) → i < length book.made → IsKept book.owner book.fragments i → (node_at (graph_of heap book.history) book.made i).array ≡ true
+      → ((book.spines i).half ≡ (next_spine heap state.words).half) ⊎ AwaitsCopy state.collector.phase stage (fragment_at (book.fragments i) 0)
+  pub copies : WhileCopying (CopyingStands (node_at (graph_of heap book.history) book.made) book.made book.owner book.colour book.fragments book.spines (next_spine heap state.words).half) stage
+  pub copy : CopyInHand heap state.words book.spine_owner stage
+
+module _ (heap : Heap) (state : State) (book : Book) (rule : Rule heap state book) (from : Copying) (was : state.collector.stage ≡ stages.Copying from) where
+  fits_copying : (state.collector.looked ≡ heap.seats) × (state.collector.phase % 7 ≡ 4) × FitsCopying heap from
+  fits_copying = let fits = subst (FitsStage heap state.collector.phase state.collector.looked) was rule.machine.collector_fit.at_stage in (fits.0.all, fits.0.for_copying, fits.1)
+
+  -- all have answered
+  pub all_looked : state.collector.looked ≡ heap.seats
+  all_looked = fits_copying.0
+
+  -- the phase is that of copying
+  pub in_copying : state.collector.phase % 7 ≡ 4
+  in_copying = fits_copying.1
+
+  pub fits_from : FitsCopying heap from
+  fits_from = fits_copying.2
+
+  -- the array that is copied has few words
+  pub few_from : IsFewWords (stages.Copying from)
+  few_from = subst IsFewWords was rule.marks_stand.heap_marks.few
+
+  pub leaving : (stage : Stage) → IsLeaving state.collector.phase stage
+  leaving stage = inr (inl in_copying)
+
+  pub after_marking : AfterMarking book.owner book.colour
+  after_marking = rule.marks_stand.heap_marks.after (inr (inl in_copying))
+
+  pub half_next : (next_spine heap state.words).half ≡ next_half state.collector.phase
+  half_next = rule.space.halves.half ∙ half_copying state.collector.phase state.collector.stage in_copying
+
+  -- a load leaves the spine space
+  pub halves_copying : (stage : Stage) → LeadsTo heap state book stage → HalvesStand heap (after_turn state state.words (record state.collector { stage = stage })) book
+  halves_copying stage leads = let old = rule.space.halves in record {
+    half = half_next ∙ sym (half_copying state.collector.phase stage in_copying);
+    before = λ half offset some. elim (old.before half offset some) [
+      | inl here ↦ inl here
+      | inr behind ↦ inr record { leaving = leaving stage; a_half = behind.a_half; other = behind.other; before = behind.before }
+    ];
+    arrays = leads.arrays;
+    hands = λ r below has. elim (old.hands r below has) [
+      | inl here ↦ inl here
+      | inr early ↦ inr record { leaving = leaving stage; behind = early.behind }
+    ];
+    swung = old.swung;
+    copies = leads.copies;
+    copy = leads.copy;
+  }
+
+  pub budgets_copying : (stage : Stage) → LeadsTo heap state book stage → BudgetsStand heap (after_turn state state.words (record state.collector { stage = stage })) book
+  budgets_copying stage leads =
+      let old = rule.space.budgets in
+      let none : returning stage ≡ returning state.collector.stage = none_returned stage leads.of_copying ∙ ap returning (sym was) in
+      record {
+        level = λ goes. absurd (goes (leaving stage));
+        leaving = λ _. omega (arith, old.leaving (leaving state.collector.stage), leads.as_many);
+        word = omega (arith, old.word, none);
+        told = omega (arith, old.told, none);
+        low = omega (arith, old.low, none);
+        returned = omega (arith, old.returned, none);
+        early = old.early;
+        counts = none_counted _ book.owner stage leads.of_copying;
+      }
+
+  -- and keeps the rule
+  pub copying_loads : (stage : Stage) → LeadsTo heap state book stage → (a : Address)
+      → IsMachine heap (after_turn state (put heap state.words a (at heap state.words a)) (quiet (record state.collector { stage = stage })))
+      → Keeps heap state (after_turn state (put heap state.words a (at heap state.words a)) (quiet (record state.collector { stage = stage }))) book book.begun []
+  copying_loads stage leads a machine = load_turns_with heap state book a (record state.collector { stage = stage }) book rule machine refl rule.heap_stands (λ r below stands. stands)
+      record { log = rule.collector_stands.log; phase_told = rule.collector_stands.phase_told; looked = rule.collector_stands.looked }
+      record {
+        heap_marks = marks_copying heap state.words book.owner book.colour book.fragments state.collector.phase in_copying after_marking stage leads.of_copying leads.few;
+        roots = λ r below marks. absurd (omega (arith, marks.phase, in_copying));
+      }
+      record { budgets = budgets_copying stage leads; halves = halves_copying stage leads }
+      (book_stays heap state book book.history book.begun)
+
+  module _ (free : IsFree (stages.Copying from)) where
+    -- while no copy is in progress the collector has no spine words
+    pub unplaced : (half offset j : ℕ) → book.spine_owner half offset ≢ Placed heap.seats j
+    unplaced = none_placed heap state.words book.spine_owner (stages.Copying from) free.none (subst (CopyInHand heap state.words book.spine_owner) was rule.space.halves.copy)
+
+    -- and a stage without a copy may come, where arrays are in this half or to be visited, and copying has found what it is to have
+    pub leads_free : (stage : Stage) → IsFree stage
+        → ((i : ℕ) → i < length book.made → IsKept book.owner book.fragments i → (node_at (graph_of heap book.history) book.made i).array ≡ true
+        → ((book.spines i).half ≡ (next_spine heap state.words).half) ⊎ AwaitsCopy state.collector.phase stage (fragment_at (book.fragments i) 0))
+        → WhileCopying (CopyingStands (node_at (graph_of heap book.history) book.made) book.made book.owner book.colour book.fragments book.spines (next_spine heap state.words).half) stage
+        → LeadsTo heap state book stage
+    leads_free stage next arrays copies = record {
+      of_copying = next.of_copying;
+      few = next.few;
+      as_many = next.no_words ∙ sym (ap copying_words was ∙ free.no_words);
+      arrays = arrays;
+      copies = copies;
+      copy = no_copy heap state.words book.spine_owner stage next.none unplaced;
+    }

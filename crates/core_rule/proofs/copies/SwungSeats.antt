@@ -1,0 +1,173 @@
+-- The heap and each seat stand once an array has swung: a call that has loaded its old place reads a replica that the array has left.
+use Rattle.std.proofs.Common.{◌≡◌, ◌≢◌, ◌⊎◌, ℕ, ◌+◌, ◌*◌, ◌/◌, ◌%◌, ◌<◌, ◌≤◌, false, List, [], ◌∷◌, ◌++◌, length, inl, inr, refl, sym, ap, ◌∙◌, subst, arith}
+use Rattle.std.proofs.lemmas.Bool.{cases_eq}
+use Rattle.heap_words.specs.declared.spot.Spot.{Spot}
+use Rattle.heap_words.specs.Spot.{spot_word}
+use Rattle.heap_model.specs.declared.entry.Entry.{Entry}
+use Rattle.heap_model.specs.declared.heap.Heap.{Heap}
+use Rattle.heap_model.specs.account.Account.{IsLegal}
+use Rattle.heap_model.specs.account.Cycles.{graph_of}
+use Rattle.heap_model.specs.account.PhaseCounts.{phase, last_answer, has_left}
+use Rattle.heap_model.specs.graph.Graph.{Graph}
+use Rattle.heap_model.specs.graph.Objects.{graph_seat}
+use Rattle.heap_model.specs.graph.Sizes.{spine_words_of}
+use Rattle.heap_model.proofs.Histories.{total-more}
+use Rattle.core_machine.specs.declared.collector.stage.Copying.TheVariants.{Swinging}
+use Rattle.core_machine.specs.declared.collector.stage.SpineCopy.{SpineCopy}
+use Rattle.core_machine.specs.declared.collector.stage.Stage.TheVariants as stages
+use Rattle.core_machine.specs.declared.place.Access.TheVariants.{Indexing}
+use Rattle.core_machine.specs.declared.place.Place.{Place}
+use Rattle.core_machine.specs.declared.place.Place.TheVariants as places
+use Rattle.core_machine.specs.declared.table.address.Address.TheVariants.{Word, Answer, Phase, Control}
+use Rattle.core_machine.specs.machine.Machine.{State, seat_at}
+use Rattle.core_machine.specs.seat.Seat.{Seat}
+use Rattle.core_machine.specs.table.Layout.{at, spine_place}
+use Rattle.core_rule.specs.Book.{Book}
+use Rattle.core_rule.specs.Colours.{IsBetween}
+use Rattle.core_rule.specs.Cycle.{HeapInCycle, SeatInCycle}
+use Rattle.core_rule.specs.Objects.{node_at}
+use Rattle.core_rule.specs.Replicas.{AddressStands, IsLeftReplica}
+use Rattle.core_rule.specs.Rule.{Rule, HeapStands, SeatStands}
+use Rattle.core_rule.proofs.colours.MarkWords.{marks_same}
+use Rattle.core_rule.proofs.copies.CopyingStages.{in_copying}
+use Rattle.core_rule.proofs.copies.SwungBook.{to_copy, i, s, its, inside, listed, leads_back, now, entry, book_swung, graph_swung, objects_stand, spines_stand}
+use Rattle.core_rule.proofs.copies.SwungWords.{word_left, spine_other, placed_stays, placed_was, swung_word}
+use Rattle.core_rule.proofs.cycle.CycleFrames.{coloured_stays, cycle_watched}
+use Rattle.core_rule.proofs.cycle.CycleHistory.{heap_cycle_more, cycle_other}
+use Rattle.core_rule.proofs.entries.AtRest.{seat_fits, in_flight}
+use Rattle.core_rule.proofs.entries.InFlight.{stored_within}
+use Rattle.core_rule.proofs.entries.Others.{gathers_stay}
+use Rattle.core_rule.proofs.frames.SeatFrames.{same_party, told_other, kept_owners, seat_left}
+use Rattle.core_rule.proofs.hand.HandMoves.{same_hand}
+use Rattle.core_rule.proofs.hand.StoredFrames.{stored_store}
+use Rattle.core_rule.proofs.owners.OwnerLemmas.{own_keeps_none}
+use Rattle.core_rule.proofs.spines.SpineFrames.{SpinesLeft, same_kept, spine_words_stay}
+use Rattle.core_rule.proofs.words.Addresses.{at-put_apart, control_after_word, spines_after_word, SameSpines}
+use Rattle.core_rule.proofs.words.ControlLemmas.{bits_same}
+
+module _ (heap : Heap) (state : State) (book : Book) (rule : Rule heap state book) (copy : SpineCopy) (swinging : state.collector.stage ≡ stages.Copying (Swinging copy)) where
+  abbrev words : List ℕ
+  words = now heap state book rule copy swinging
+
+  abbrev later : Book
+  later = book_swung heap state book rule copy swinging
+
+  abbrev n : ℕ
+  n = i heap state book rule copy swinging
+
+  abbrev f : ℕ
+  f = s heap state book rule copy swinging
+
+  abbrev told : Entry
+  told = entry heap state book rule copy swinging
+
+  -- no control word, answer or spine word changes, nor the phase
+  same_spines : SameSpines heap state.words words
+  same_spines = spines_after_word heap state.words (spot_word copy.to) f 2 (inside heap state book rule copy swinging) (omega arith)
+
+  controls : (group : ℕ) → group < heap.groups → at heap words (Control group) ≡ at heap state.words (Control group)
+  controls group below = control_after_word heap state.words (spot_word copy.to) f 2 group below
+
+  answers : (r : ℕ) → r < heap.seats → at heap words (Answer r) ≡ at heap state.words (Answer r)
+  answers r below = at-put_apart heap state.words (Word f 2) (Answer r) (spot_word copy.to) (λ e. omega (arith, e, below, rule.machine.limits.seats_fit))
+
+  -- the heap stands
+  cycle_swung : HeapInCycle heap words (phase book.history) book.owner book.colour book.fragments
+  cycle_swung = let old = rule.heap_stands.cycle in record {
+    word = at-put_apart heap state.words (Word f 2) Phase (spot_word copy.to) (λ e. omega (arith, e)) ∙ old.word;
+    marks = marks_same heap state.words words book.colour controls old.marks;
+    coloured = coloured_stays heap state.words words book.owner book.owner book.colour book.fragments (phase book.history)
+        (λ making x source y born leads. inl (leads_back heap state book rule copy swinging x source y leads)) (λ x marked born. born) (λ x j k keeps. keeps) old.coloured;
+  }
+
+  pub heap_swung : IsLegal heap false later.history → HeapStands heap words later
+  heap_swung legal = let stands = rule.heap_stands in let graph = graph_swung heap state book rule copy swinging in record {
+    control_words = bits_same heap state.words words book.owner controls stands.control_words;
+    owners = stands.owners;
+    ids = rw graph stands.ids;
+    objects = rw graph (objects_stand heap state book rule copy swinging);
+    spines = rw graph (spines_stand heap state book rule copy swinging);
+    used = rw (total-more (λ e. e.given) book.history told, total-more (λ e. e.freed) book.history told, total-more (λ e. e.taken) book.history told) (omega (arith, stands.used));
+    cycle = heap_cycle_more heap words book.owner book.colour book.history told refl book.fragments cycle_swung;
+    legal = legal;
+  }
+
+  -- what a party has it had
+  pub parties_left : (r : ℕ) → r < heap.seats → SpinesLeft r book.spine_owner later.spine_owner
+  parties_left r below = record {
+    stays = λ half offset k is. placed_stays heap.seats n (book.spine_owner half offset) r k (λ e. omega (arith, e, below)) is;
+    own = λ half offset k is. (placed_was heap.seats n (book.spine_owner half offset) r k is).0;
+  }
+
+  module _ (r : ℕ) (below : r < heap.seats) where
+    abbrev seat : Seat
+    seat = seat_at state r
+
+    -- a call on its way has answered the phase of copying, or the one before
+    is_late : seat.place ≢ places.Idle → IsBetween 3 4 seat.answered
+    is_late busy =
+        let agrees = (rule.seats_stand r below).cycle.answers_told in
+        let fourth : phase book.history % 7 ≡ 4 = ap (λ p. p % 7) (sym rule.collector_stands.phase_told) ∙ in_copying heap state book rule (Swinging copy) swinging in
+        elim (agrees.near (in_flight rule r below busy)) [
+          | inl same ↦ record { from = omega (arith, same, fourth); upto = omega (arith, same, fourth) }
+          | inr behind ↦ record { from = omega (arith, behind, fourth); upto = omega (arith, behind, fourth) }
+        ]
+
+    abbrev IsReplica : ℕ → Spot → Type 0
+    IsReplica j address = IsLeftReplica heap words (node_at (graph_of heap book.history) book.made j) (book.fragments j) later.spine_owner seat.answered address
+
+    -- what was left before is so yet
+    replica_stays : (j : ℕ) → IsLeftReplica heap state.words (node_at (graph_of heap book.history) book.made j) (book.fragments j) book.spine_owner seat.answered seat.address → IsReplica j seat.address
+    replica_stays j old = record {
+      late = old.late;
+      left = λ k less. ap (swung_word heap.seats n) (old.left k less);
+      listed = λ k less. same_spines seat.address.half (seat.address.offset + k) ∙ old.listed k less;
+    }
+
+    -- the place where the array stood is left then
+    place_left : seat.place ≢ places.Idle → seat.address ≡ book.spines n → IsReplica n seat.address
+    place_left busy there = subst (IsReplica n) (sym there) record {
+      late = is_late busy;
+      left = λ k less. word_left heap.seats n (book.spine_owner (book.spines n).half ((book.spines n).offset + k)) k
+          (rule.heap_stands.spines.kept n k (its heap state book rule copy swinging).0 (its heap state book rule copy swinging).1 less);
+      listed = λ k less. same_spines (book.spines n).half ((book.spines n).offset + k) ∙ listed heap state book rule copy swinging k less;
+    }
+
+    abbrev AddressAt : Place → Type 0
+    AddressAt place = AddressStands heap words (node_at (graph_of heap book.history) book.made) book.owner book.fragments later.spines later.spine_owner seat place
+
+    address_swung : (place : Place) → seat.place ≡ place
+        → AddressStands heap state.words (node_at (graph_of heap book.history) book.made) book.owner book.fragments book.spines book.spine_owner seat place → AddressAt place
+    address_swung (places.Access Indexing) is old = λ j kept. elim (old j kept) as (λ _. (seat.address ≡ later.spines j) ⊎ IsReplica j seat.address) [
+      | inr replica ↦ inr (replica_stays j replica)
+      | inl there ↦ elim (cases_eq j n) as (λ _. (seat.address ≡ later.spines j) ⊎ IsReplica j seat.address) [
+        | inl same ↦ inr (subst (λ m. IsReplica m seat.address) (sym same) (place_left (λ idle. absurd (cc (is, idle))) (there ∙ ap book.spines same)))
+        | inr other ↦ inl (there ∙ sym (spine_other n copy.to book.spines j other))
+      ]
+    ]
+    address_swung _ is old = tt
+
+    cycle_seat : SeatInCycle heap words (phase book.history) (last_answer r book.history) (has_left r book.history) book.owner book.colour r seat
+    cycle_seat = cycle_watched heap state.words words book.owner book.owner book.colour book.colour (phase book.history) (last_answer r book.history) (has_left r book.history) r seat
+        (answers r below) (λ x marked. marked) (λ x borne. (borne, refl)) (λ making reaching is watching x leads. inl (leads_back heap state book rule copy swinging seat.reached seat.part x leads))
+        (rule.seats_stand r below).cycle
+
+    -- and each seat stands
+    pub seat_swung : SeatStands heap state.words book r seat → SeatStands heap words later r seat
+    seat_swung stands =
+        let fits = seat_fits rule r below in
+        let graph = graph_swung heap state book rule copy swinging in
+        seat_left heap state.words words book later r seat record {
+          calls = refl;
+          party = same_party (graph_of heap book.history) (graph_of heap later.history) r (ap (λ (g : Graph). graph_seat g r) graph);
+          told = told_other r book.history told refl;
+          kept = rw graph (kept_owners (graph_of heap book.history) book.made book.owner book.owner book.fragments (same_kept book.owner));
+          hand = same_hand r book.owner;
+          stored = stored_store heap state.words book.owner r seat f 2 (spot_word copy.to) stands.own.holding (stored_within heap seat seat.place fits.at_place) (omega arith)
+              (λ own. own_keeps_none r n 0 (book.owner f) own (to_copy heap state book rule copy swinging).found.begins.kept) stands.own.stored;
+          spines = parties_left r below;
+          spine_stored = spine_words_stay heap state.words words seat same_spines stands.own.spine.stored;
+          address = rw graph (address_swung seat.place refl stands.names.address);
+          gathers = gathers_stay heap book.owner r book.history (book.begun r) told seat.cursor seat.tried seat.given stands.told.began.earlier stands.told.gathers;
+          cycle = cycle_other heap words book.owner book.colour book.history told refl r seat cycle_seat refl;
+        } stands

@@ -1,0 +1,90 @@
+-- The visits of copying: the bits that a group's control word tells, which fragments are yet to be visited, and where a visit goes on.
+use Rattle.std.specs.Int.{bit_at}
+use Rattle.std.proofs.Common.{◌≡◌, ◌≢◌, ℕ, suc, ◌+◌, ◌*◌, ◌/◌, ◌%◌, ◌<◌, ◌≤◌, List, length, Option, Some, None, inl, inr, refl, sym, ap, ◌∙◌, subst, arith}
+use Rattle.std.proofs.lemmas.Bool.Decides.{leb_tells, eqb_tells}
+use Rattle.heap_model.specs.declared.heap.Heap.{Heap}
+use Rattle.core_machine.specs.collector.Copying.{marked_bits_of, next_place_of, after_visited, after_seen, visit_on}
+use Rattle.core_machine.specs.collector.CopyingTurns.{visited}
+use Rattle.core_machine.specs.collector.FitsCopying.{FitsVisit}
+use Rattle.core_machine.specs.declared.collector.stage.Copying.TheVariants as copying
+use Rattle.core_machine.specs.declared.collector.stage.Stage.{Stage}
+use Rattle.core_machine.specs.declared.collector.stage.Stage.TheVariants as stages
+use Rattle.core_machine.specs.declared.collector.stage.Visit.{Visit}
+use Rattle.core_machine.specs.declared.table.address.Address.TheVariants.{Control}
+use Rattle.core_machine.specs.table.Layout.{at, table_length}
+use Rattle.core_machine.proofs.table_lemmas.DeadBits.{place_found, place_none}
+use Rattle.core_rule.specs.Book.{Colour, White, Grey, Black}
+use Rattle.core_rule.specs.Colours.{Marks, IsMarked, marked_bit}
+use Rattle.core_rule.specs.Halves.{IsToVisit, AwaitsCopy}
+use Rattle.core_rule.specs.Replicas.{AreMarked}
+use Rattle.core_rule.proofs.colours.MarkWords.{found_marked}
+use Rattle.core_rule.proofs.words.MarkedPlaces.{marked_tells, marked_within, next_first}
+
+-- what is marked has its bit, and only that
+marked_one : (c : Colour) → c ≢ White → marked_bit c ≡ 1
+marked_one White some = absurd (some refl)
+marked_one Grey some = refl
+marked_one Black some = refl
+
+one_marked : (c : Colour) → marked_bit c ≡ 1 → c ≢ White
+one_marked White one white = absurd (omega (arith, one))
+one_marked Grey one white = absurd (cc)
+one_marked Black one white = absurd (cc)
+
+module _ (heap : Heap) (words : List ℕ) (colour : ℕ → Colour) (group : ℕ) (whole : length words ≡ table_length heap) (below : group < heap.groups) (marks : Marks heap words colour) where
+  abbrev bits : ℕ
+  bits = marked_bits_of (at heap words (Control group))
+
+  bit_told : (f : ℕ) → f / 16 ≡ group → bit_at bits (f % 16) ≡ marked_bit (colour f)
+  bit_told f here = marked_tells (at heap words (Control group)) (f % 16) (omega arith) ∙ found_marked heap words colour colour group 0 whole below marks f here
+
+  -- so each marked fragment of the group has its bit
+  pub has_bit : (f : ℕ) → f / 16 ≡ group → IsMarked colour f → bit_at bits (f % 16) ≡ 1
+  has_bit f here marked = bit_told f here ∙ marked_one (colour f) marked
+
+  -- and each bit is one's
+  pub are_marked : (place : ℕ) → AreMarked colour (record { group = group; marked = bits; place = place })
+  are_marked first place one =
+      let within : place < 16 = marked_within (at heap words (Control group)) place one in
+      let rest : (16 * group + place) % 16 ≡ place = omega (arith, within) in
+      one_marked (colour (16 * group + place)) (sym (bit_told (16 * group + place) (omega (arith, within))) ∙ ap (bit_at bits) rest ∙ one)
+
+module _ (heap : Heap) (phase group : ℕ) where
+  -- where the next group's turn comes, or the phase is done
+  pub visited_cases : (P : Stage → Type 0) → (group + 1 < heap.groups → P (stages.Copying (copying.Visiting (group + 1)))) → (heap.groups ≤ group + 1 → P stages.Advancing) → P (after_visited heap group)
+  visited_cases P on end = elim (leb_tells (suc (group + 1)) heap.groups) as (λ _. P (after_visited heap group)) [
+    | inl more ↦ rw more.0 (on (omega (arith, more.1)))
+    | inr last ↦ rw last.0 (end (omega (arith, last.1)))
+  ]
+
+  -- a fragment of a later group is yet to be visited
+  later_awaits : (f : ℕ) → f < 16 * heap.groups → group < f / 16 → AwaitsCopy phase (after_visited heap group) f
+  later_awaits f below later = visited_cases (λ stage. AwaitsCopy phase stage f) (λ more. omega (arith, later)) (λ last. absurd (omega (arith, below, later, last)))
+
+  module _ (marked : ℕ) where
+    -- what comes after a fragment was seen
+    pub seen_cases : (P : Stage → Type 0) → (group + 1 < heap.groups → P (stages.Copying (copying.Visiting (group + 1)))) → (heap.groups ≤ group + 1 → P stages.Advancing)
+        → ((place : ℕ) → P (stages.Copying (copying.Inspecting (record { group = group; marked = marked; place = place })))) → (o : Option ℕ) → P (after_seen heap group marked o)
+    seen_cases P on end next None = visited_cases P on end
+    seen_cases P on end next (Some place) = next place
+
+    -- what was yet to be visited from a place on is so where the visit goes on
+    pub awaits_on : (from f : ℕ) → f < 16 * heap.groups → IsToVisit (record { group = group; marked = marked; place = from }) f → AwaitsCopy phase (after_seen heap group marked (next_place_of marked from)) f
+    awaits_on from f below (inl later) = seen_later (next_place_of marked from)
+      where
+        seen_later : (o : Option ℕ) → AwaitsCopy phase (after_seen heap group marked o) f
+        seen_later None = later_awaits f below later
+        seen_later (Some place) = inl later
+    awaits_on from f below (inr here) = seen_here (next_place_of marked from) refl
+      where
+        seen_here : (o : Option ℕ) → next_place_of marked from ≡ o → AwaitsCopy phase (after_seen heap group marked o) f
+        seen_here None none = absurd (omega (arith, place_none marked from (f % 16) none here.1 (omega arith), here.2))
+        seen_here (Some place) is = inr (here.0, (elim (leb_tells place (f % 16)) as (λ _. place ≤ f % 16) [
+          | inl from_ ↦ from_.1
+          | inr before ↦ absurd (omega (arith, next_first marked from place (f % 16) is here.1 (omega (arith, before.1)), here.2))
+        ]), here.2)
+
+-- what is yet to be visited and isn't where the visit stands is so from the next place on
+pub to_visit_on : (visit : Visit) (f : ℕ) → f ≢ visited visit → IsToVisit visit f → IsToVisit (record visit { place = visit.place + 1 }) f
+to_visit_on visit f other (inl later) = inl later
+to_visit_on visit f other (inr here) = inr (here.0, omega (arith, here.0, here.1, λ (same : f % 16 ≡ visit.place). other (omega (arith, here.0, same))), here.2)

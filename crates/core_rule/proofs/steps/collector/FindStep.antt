@@ -1,0 +1,91 @@
+-- The loads of the name of an array that a visit has found, and of the place of its spine, keep the rule.
+use Rattle.std.specs.Prelude.{if◌then◌else◌}
+use Rattle.std.proofs.Common.{◌≡◌, ◌≢◌, ℕ, ◌+◌, ◌==◌, ◌<◌, ◌≤◌, true, length, refl, sym, ap, ◌∙◌, subst, inl, inr, arith}
+use Rattle.std.proofs.lemmas.Bool.Decides.{eqb_tells}
+use Rattle.heap_words.specs.declared.spot.Spot.{Spot}
+use Rattle.heap_words.specs.Spot.{spot_in}
+use Rattle.heap_model.specs.declared.heap.Heap.{Heap}
+use Rattle.heap_model.specs.account.Cycles.{graph_of}
+use Rattle.heap_model.specs.graph.Graph.{Graph, Node}
+use Rattle.core_machine.specs.collector.Copying.{left_half, next_half, visit_on, after_located}
+use Rattle.core_machine.specs.collector.CopyingTurns.{visited, sentinel_at}
+use Rattle.core_machine.specs.declared.collector.stage.ArrayAt.{ArrayAt}
+use Rattle.core_machine.specs.declared.collector.stage.Copying.TheVariants.{Naming, Locating, Claiming}
+use Rattle.core_machine.specs.declared.collector.stage.Stage.TheVariants as stages
+use Rattle.core_machine.specs.declared.collector.stage.Visit.{Visit}
+use Rattle.core_machine.specs.declared.table.address.Address.TheVariants.{Word}
+use Rattle.core_machine.specs.machine.Machine.{State}
+use Rattle.core_machine.specs.table.Decode.{id_of}
+use Rattle.core_machine.specs.table.Layout.{at, FitsSpot}
+use Rattle.core_rule.specs.Book.{Book, fragment_at, id_at}
+use Rattle.core_rule.specs.Objects.{IsKept, node_at}
+use Rattle.core_rule.specs.Replicas.{AreMarked, BeginsArray, IsFound}
+use Rattle.core_rule.specs.Rule.{Rule}
+use Rattle.core_rule.specs.Spines.{next_spine}
+use Rattle.core_rule.proofs.copies.BegunArrays.{begun_name, begun_fits, begun_spine, begun_alone}
+use Rattle.core_rule.proofs.copies.CopyingStages.{IsFree, LeadsTo, copying_loads, leads_free, few_from, half_next, halves_apart}
+use Rattle.core_rule.proofs.copies.VisitsOn.{arrays_from, arrays_behind, found_from, leads_seen}
+use Rattle.core_rule.proofs.steps.TurnSteps.{StageKeeps}
+
+module _ (heap : Heap) (state : State) (book : Book) (rule : Rule heap state book) (visit : Visit) (words : ℕ) (naming : state.collector.stage ≡ stages.Copying (Naming visit words)) where
+  found : AreMarked book.colour visit × BeginsArray (node_at (graph_of heap book.history) book.made) book.owner (visited visit) words
+  found = found_from heap state book rule (Naming visit words) naming
+
+  abbrev named : ArrayAt
+  named = record { visit = visit; words = words; id = id_of (at heap state.words (Word (visited visit) 1)) }
+
+  name_leads : LeadsTo heap state book (stages.Copying (Locating named))
+  name_leads = leads_free heap state book rule (Naming visit words) naming record { of_copying = tt; few = few_from heap state book rule (Naming visit words) naming; none = refl; no_words = refl }
+      (stages.Copying (Locating named)) record { of_copying = tt; few = few_from heap state book rule (Naming visit words) naming; none = refl; no_words = refl }
+      (arrays_from heap state book rule (Naming visit words) naming)
+      record { marked = found.0; begins = found.1; named = begun_name heap state book rule (visited visit) words found.1 }
+
+-- the load of the name keeps the rule
+pub name_copy_keeps : (visit : Visit) (words : ℕ) → StageKeeps (stages.Copying (Naming visit words))
+name_copy_keeps visit words heap state book rule naming machine =
+    copying_loads heap state book rule (Naming visit words) naming (stages.Copying (Locating (named heap state book rule visit words naming))) (name_leads heap state book rule visit words naming) (Word (visited visit) 1) machine
+
+module _ (heap : Heap) (state : State) (book : Book) (rule : Rule heap state book) (array : ArrayAt) (locating : state.collector.stage ≡ stages.Copying (Locating array)) where
+  abbrev from : Spot
+  from = spot_in (at heap state.words (Word (sentinel_at array) 2))
+
+  located : IsFound (node_at (graph_of heap book.history) book.made) book.made book.owner book.colour array
+  located = found_from heap state book rule (Locating array) locating
+
+  free : IsFree (stages.Copying (Locating array))
+  free = record { of_copying = tt; few = few_from heap state book rule (Locating array) locating; none = refl; no_words = refl }
+
+  own : from ≡ book.spines located.begins.index
+  own = begun_spine heap state book rule (sentinel_at array) array.words located.begins
+
+  fits : FitsSpot (book.spines located.begins.index)
+  fits = begun_fits heap state book rule (sentinel_at array) array.words located.begins
+
+  half : (next_spine heap state.words).half ≡ next_half state.collector.phase
+  half = half_next heap state book rule (Locating array) locating
+
+  -- a spine that doesn't stand in the half that was left stands in the other one
+  in_this : from.half ≢ left_half state.collector.phase → (i : ℕ) → i < length book.made → fragment_at (book.fragments i) 0 ≡ sentinel_at array → IsKept book.owner book.fragments i
+      → (node_at (graph_of heap book.history) book.made i).array ≡ true → (book.spines i).half ≡ (next_spine heap state.words).half
+  in_this other i below same kept an_array =
+      let index = begun_alone heap state book rule (sentinel_at array) array.words located.begins i same kept in
+      let here : from.half ≡ (book.spines i).half = ap (λ (s : Spot). s.half) own ∙ ap (λ j. (book.spines j).half) (sym index) in
+      let small : (book.spines i).half < 2 = subst (λ j. (book.spines j).half < 2) (sym index) fits.half_within in
+      let apart : (book.spines i).half ≢ left_half state.collector.phase = λ left. other (here ∙ left) in
+      omega (arith, half, small, apart)
+
+  locate_leads : LeadsTo heap state book (after_located heap state.collector.phase array from)
+  locate_leads = elim (eqb_tells from.half (left_half state.collector.phase)) as (λ _. LeadsTo heap state book (after_located heap state.collector.phase array from)) [
+    | inl left ↦ rw left.0 (leads_free heap state book rule (Locating array) locating free (stages.Copying (Claiming array from))
+        record { of_copying = tt; few = few_from heap state book rule (Locating array) locating; none = refl; no_words = refl }
+        (arrays_from heap state book rule (Locating array) locating)
+        record { found = located; own = own; left = λ same. halves_apart state.collector.phase (sym left.1 ∙ same ∙ half) })
+    | inr other ↦ rw other.0 (leads_seen heap state book rule (Locating array) locating free (record array.visit { place = array.visit.place + 1 }) located.marked
+        (arrays_behind heap state book rule array.visit (in_this other.1) (arrays_from heap state book rule (Locating array) locating)))
+  ]
+
+-- the load of the place keeps the rule
+pub find_keeps : (array : ArrayAt) → StageKeeps (stages.Copying (Locating array))
+find_keeps array heap state book rule locating machine =
+    copying_loads heap state book rule (Locating array) locating (after_located heap state.collector.phase array (from heap state book rule array locating)) (locate_leads heap state book rule array locating)
+    (Word (sentinel_at array) 2) machine

@@ -1,0 +1,51 @@
+-- The load of a group's control word, which tells the marked fragments to be visited, keeps the rule.
+use Rattle.std.proofs.Common.{◌≡◌, ℕ, ◌*◌, ◌/◌, ◌%◌, ◌≤◌, inl, inr, refl, sym, arith}
+use Rattle.std.proofs.lemmas.Bool.{cases_lt}
+use Rattle.heap_model.specs.declared.heap.Heap.{Heap}
+use Rattle.core_machine.specs.collector.Copying.{marked_bits_of, after_visit}
+use Rattle.core_machine.specs.declared.collector.stage.Copying.TheVariants.{Visiting}
+use Rattle.core_machine.specs.declared.collector.stage.Stage.TheVariants as stages
+use Rattle.core_machine.specs.declared.collector.stage.Visit.{Visit}
+use Rattle.core_machine.specs.declared.table.address.Address.TheVariants.{Control}
+use Rattle.core_machine.specs.machine.Machine.{State}
+use Rattle.core_machine.specs.table.Layout.{at}
+use Rattle.core_rule.specs.Book.{Book, fragment_at}
+use Rattle.core_rule.specs.Halves.{IsToVisit}
+use Rattle.core_rule.specs.Rule.{Rule}
+use Rattle.core_rule.proofs.copies.CopyingStages.{LeadsTo, copying_loads, fits_from, after_marking}
+use Rattle.core_rule.proofs.copies.Visits.{has_bit, are_marked}
+use Rattle.core_rule.proofs.copies.VisitsOn.{ArraysOr, arrays_from, leads_seen, kept_marked}
+use Rattle.core_rule.proofs.steps.TurnSteps.{StageKeeps}
+
+module _ (heap : Heap) (state : State) (book : Book) (rule : Rule heap state book) (group : ℕ) (visiting : state.collector.stage ≡ stages.Copying (Visiting group)) where
+  abbrev begun : Visit
+  begun = record { group = group; marked = marked_bits_of (at heap state.words (Control group)); place = 0 }
+
+  abbrev head : ℕ → ℕ
+  head i = fragment_at (book.fragments i) 0
+
+  -- an array that was to be visited has its bit where its group's turn has come
+  to_visit : ArraysOr heap state book rule (IsToVisit begun)
+  to_visit i below kept an_array = elim (arrays_from heap state book rule (Visiting group) visiting i below kept an_array) [
+    | inl here ↦ inl here
+    | inr waits ↦ inr (by waits)
+  ]
+    where
+      by : group ≤ head i / 16 → IsToVisit begun (head i)
+      by waits = elim (cases_lt group (head i / 16)) [
+        | inl later ↦ inl later
+        | inr here ↦ let same : group ≡ head i / 16 = omega (arith, waits, here) in inr (
+          same,
+          omega arith,
+          has_bit heap state.words book.colour group rule.machine.table (fits_from heap state book rule (Visiting group) visiting) rule.heap_stands.cycle.marks (head i) (sym same)
+          (kept_marked book.owner book.colour (after_marking heap state book rule (Visiting group) visiting) (head i) i 0 kept),
+        )
+      ]
+
+  visit_leads : LeadsTo heap state book (after_visit heap group (at heap state.words (Control group)))
+  visit_leads = leads_seen heap state book rule (Visiting group) visiting record { of_copying = tt; few = tt; none = refl; no_words = refl } begun
+      (are_marked heap state.words book.colour group rule.machine.table (fits_from heap state book rule (Visiting group) visiting) rule.heap_stands.cycle.marks 0) to_visit
+
+pub visit_keeps : (group : ℕ) → StageKeeps (stages.Copying (Visiting group))
+visit_keeps group heap state book rule visiting machine =
+    copying_loads heap state book rule (Visiting group) visiting (after_visit heap group (at heap state.words (Control group))) (visit_leads heap state book rule group visiting) (Control group) machine
