@@ -13,6 +13,7 @@ pub mod SpotWritten
 pub mod Flips
 pub mod LeftHalf
 pub mod PhaseSpaces
+pub mod SweepSums
 pub mod UsedWords
 pub mod DyingWords
 pub mod WeightSums
