@@ -17,6 +17,7 @@ pub mod LeftHalf
 pub mod PhaseSpaces
 pub mod HalvesMoves
 pub mod OffsetWithin
+pub mod SweepSums
 pub mod UsedWords
 pub mod DyingWords
 pub mod WeightSums

@@ -29,7 +29,7 @@ use Rattle.core_rule.proofs.spines.BudgetFrames.{none_granted_by, none_returned_
 use Rattle.core_rule.proofs.spines.Leaving.{none_copied, copy_away}
 use Rattle.core_rule.proofs.spines.LeftHalf.{let_go, some_here}
 use Rattle.core_rule.proofs.spines.OtherWords.{LeavesSpines}
-use Rattle.core_rule.proofs.spines.StagesOn.{IsIdle, idle_returns, idle_copied, idle_copy}
+use Rattle.core_rule.proofs.spines.StagesOn.{IsIdle, idle_quiet, quiet_returns, quiet_copied, quiet_copy}
 use Rattle.core_rule.proofs.steps.TurnSteps.{after_turn}
 
 -- the phase ends at this stage: nothing is copied or returned, and behind the flip alone arrays await their copies
@@ -130,8 +130,8 @@ module _ (heap : Heap) (state : State) (book : Book) (rule : Rule heap state boo
       let granted = none_granted_by book.history entry begins.granted in
       let returned = none_returned_by book.history entry begins.returned in
       let in_cycle = less_returned book.history p entry begins in
-      let none = idle_returns state.collector.stage ends.idle in
-      let copied = idle_copied state.collector.stage ends.idle in
+      let none = quiet_returns state.collector.stage (idle_quiet state.collector.stage ends.idle) in
+      let copied = quiet_copied state.collector.stage (idle_quiet state.collector.stage ends.idle) in
       record {
         level = rw leaves.spot (λ unleft. elim (eqb_tells (p % 7) 5) as (λ _. next.offset ≡ placed_words heap begun now next.half + unreturned heap begun now) [
           | inl swept ↦ omega (arith, old.leaving (inr (inr swept.1)), here next.half, dead, none_dead swept.1, copied)
@@ -193,7 +193,7 @@ module _ (heap : Heap) (state : State) (book : Book) (rule : Rule heap state boo
         swung = λ copies i below is has. absurd (none_swung book.history p entry begins (id_at book.made i) has);
         copies = tt;
         copy = copy_away heap words spine_owner stages.Looking refl (λ half offset k placed.
-            none_copied heap state.words book.spine_owner state.collector.stage (idle_copy state.collector.stage ends.idle) old.copy half offset k
+            none_copied heap state.words book.spine_owner state.collector.stage (quiet_copy state.collector.stage (idle_quiet state.collector.stage ends.idle)) old.copy half offset k
             (sym (lets.stays half offset (λ none. absurd (cc (placed, none)))) ∙ placed));
       }
 

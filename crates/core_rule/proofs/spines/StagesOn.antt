@@ -72,47 +72,61 @@ module _ (heap : Heap) (words : List ℕ) (now : Book) (was is : Collector) (pha
     copy = copy;
   }
 
--- nothing is copied, returned or counted at the stage
+-- nothing is copied or returned at the stage
+abbrev pub IsQuiet : Stage → Type 0
+IsQuiet (stages.Copying (copying.Visiting group)) = Unit {0}
+IsQuiet (stages.Copying stage) = ⊥
+IsQuiet (stages.Returning group counted) = ⊥
+IsQuiet _ = Unit {0}
+
+pub quiet_returns : (stage : Stage) → IsQuiet stage → returning stage ≡ 0
+quiet_returns (stages.Returning group counted) still = absurd still
+quiet_returns _ still = refl
+
+pub quiet_copied : (stage : Stage) → IsQuiet stage → copying_words stage ≡ 0
+quiet_copied (stages.Copying (copying.Visiting group)) still = refl
+quiet_copied (stages.Copying stage) still = absurd still
+quiet_copied _ still = refl
+
+pub quiet_copy : (stage : Stage) → IsQuiet stage → copy_in stage ≡ None
+quiet_copy (stages.Copying (copying.Visiting group)) still = refl
+quiet_copy (stages.Copying stage) still = absurd still
+quiet_copy _ still = refl
+
+pub quiet_copies : (P : Copying → Type 0) → ((group : ℕ) → P (copying.Visiting group)) → (stage : Stage) → IsQuiet stage → WhileCopying P stage
+quiet_copies P visiting (stages.Copying (copying.Visiting group)) still = visiting group
+quiet_copies P visiting (stages.Copying stage) still = absurd still
+quiet_copies P visiting _ still = tt
+
+-- so a turn from one such stage to another goes on, where what awaits a copy does, and the sweep has counted
+pub quiet_goes_on : (heap : Heap) (words later : List ℕ) (now : Book) (was is : Collector) → is.phase ≡ was.phase → IsBeforeFlip was.phase was.stage is.stage → IsQuiet was.stage → IsQuiet is.stage
+    → ((f : ℕ) → AwaitsCopy was.phase was.stage f → AwaitsCopy was.phase is.stage f) → SweepCounts (words_of (nodes_in heap now)) now.owner is.stage
+    → SameSpines heap words later → CopyInHand heap words now.spine_owner was.stage → StageGoesOn heap later now was is
+quiet_goes_on heap words later now was is phase flip before after awaits counts same copy =
+    goes_within heap later now was is phase flip awaits (quiet_returns is.stage after ∙ sym (quiet_returns was.stage before)) (quiet_copied is.stage after ∙ sym (quiet_copied was.stage before)) counts
+    (quiet_copies (CopyingStands (nodes_in heap now) now.made now.owner now.colour now.fragments now.spines (next_spine heap later).half) (λ group. tt) is.stage after)
+    (copy_moves heap words later now.spine_owner was.stage is.stage same (quiet_copy is.stage after ∙ sym (quiet_copy was.stage before)) copy)
+
+-- and nothing is counted
 abbrev pub IsIdle : Stage → Type 0
-IsIdle (stages.Copying (copying.Visiting group)) = Unit {0}
-IsIdle (stages.Copying stage) = ⊥
 IsIdle (stages.Examining group dead place counted) = ⊥
 IsIdle (stages.Freeing group dead counted) = ⊥
-IsIdle (stages.Returning group counted) = ⊥
-IsIdle _ = Unit {0}
+IsIdle stage = IsQuiet stage
 
-pub idle_returns : (stage : Stage) → IsIdle stage → returning stage ≡ 0
-idle_returns (stages.Returning group counted) idle = absurd idle
-idle_returns _ idle = refl
-
-pub idle_copied : (stage : Stage) → IsIdle stage → copying_words stage ≡ 0
-idle_copied (stages.Copying (copying.Visiting group)) idle = refl
-idle_copied (stages.Copying stage) idle = absurd idle
-idle_copied _ idle = refl
-
-pub idle_copy : (stage : Stage) → IsIdle stage → copy_in stage ≡ None
-idle_copy (stages.Copying (copying.Visiting group)) idle = refl
-idle_copy (stages.Copying stage) idle = absurd idle
-idle_copy _ idle = refl
+pub idle_quiet : (stage : Stage) → IsIdle stage → IsQuiet stage
+idle_quiet (stages.Examining group dead place counted) idle = absurd idle
+idle_quiet (stages.Freeing group dead counted) idle = absurd idle
+idle_quiet _ idle = idle
 
 idle_counts : (words : ℕ → ℕ) (owner : ℕ → Owner) (stage : Stage) → IsIdle stage → SweepCounts words owner stage
 idle_counts words owner (stages.Examining group dead place counted) idle = absurd idle
 idle_counts words owner (stages.Freeing group dead counted) idle = absurd idle
 idle_counts words owner _ idle = tt
 
-idle_copies : (P : Copying → Type 0) → ((group : ℕ) → P (copying.Visiting group)) → (stage : Stage) → IsIdle stage → WhileCopying P stage
-idle_copies P visiting (stages.Copying (copying.Visiting group)) idle = visiting group
-idle_copies P visiting (stages.Copying stage) idle = absurd idle
-idle_copies P visiting _ idle = tt
-
--- so a turn from one such stage to another goes on, where what awaits a copy does
 pub idle_goes_on : (heap : Heap) (words later : List ℕ) (now : Book) (was is : Collector) → is.phase ≡ was.phase → IsBeforeFlip was.phase was.stage is.stage → IsIdle was.stage → IsIdle is.stage
     → ((f : ℕ) → AwaitsCopy was.phase was.stage f → AwaitsCopy was.phase is.stage f) → SameSpines heap words later → CopyInHand heap words now.spine_owner was.stage → StageGoesOn heap later now was is
-idle_goes_on heap words later now was is phase flip before after awaits same copy =
-    goes_within heap later now was is phase flip awaits (idle_returns is.stage after ∙ sym (idle_returns was.stage before)) (idle_copied is.stage after ∙ sym (idle_copied was.stage before))
-    (idle_counts (words_of (nodes_in heap now)) now.owner is.stage after)
-    (idle_copies (CopyingStands (nodes_in heap now) now.made now.owner now.colour now.fragments now.spines (next_spine heap later).half) (λ group. tt) is.stage after)
-    (copy_moves heap words later now.spine_owner was.stage is.stage same (idle_copy is.stage after ∙ sym (idle_copy was.stage before)) copy)
+idle_goes_on heap words later now was is phase flip before after awaits =
+    quiet_goes_on heap words later now was is phase flip (idle_quiet was.stage before) (idle_quiet is.stage after) awaits (idle_counts (words_of (nodes_in heap now)) now.owner is.stage after)
 
 -- at a plain stage nothing is, and nothing awaits a copy
 plain_idle : (stage : Stage) → IsPlain stage → IsIdle stage
