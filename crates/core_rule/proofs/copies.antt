@@ -9,3 +9,4 @@ pub mod SwungSources
 pub mod SwungObjects
 pub mod SwungBook
 pub mod SwungSeats
+pub mod SwungSpace
