@@ -93,7 +93,7 @@ module _ (heap : Heap) (state : State) (book : Book) (rule : Rule heap state boo
   abbrev visit : Visit
   visit = copy.array.visit
 
-  abbrev stage : Stage
+  abbrev pub stage : Stage
   stage = visit_on heap visit
 
   -- the collector then, with these entries
@@ -140,7 +140,7 @@ module _ (heap : Heap) (state : State) (book : Book) (rule : Rule heap state boo
   nodes_same : nodes_in heap later ≡ nodes
   nodes_same = ap (λ (g : Graph). node_at g book.made) (graph_swung heap state book rule copy swinging)
 
-  free : IsFree stage
+  pub free : IsFree stage
   free = seen_free heap state.collector.phase visit.group visit.marked (next_place_of visit.marked (visit.place + 1))
 
   -- the granted words stand
