@@ -4,6 +4,7 @@ pub mod CopyingStages
 pub mod VisitsOn
 pub mod InspectedWords
 pub mod BegunArrays
+pub mod CopyWords
 pub mod SwungWords
 pub mod SwungSources
 pub mod SwungObjects
