@@ -4,8 +4,10 @@ pub mod CopyingStages
 pub mod VisitsOn
 pub mod InspectedWords
 pub mod BegunArrays
+pub mod CopyWords
 pub mod SwungWords
 pub mod SwungSources
 pub mod SwungObjects
 pub mod SwungBook
 pub mod SwungSeats
+pub mod SwungSpace

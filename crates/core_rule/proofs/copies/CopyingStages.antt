@@ -1,6 +1,7 @@
 -- What stands in the phase of copying whichever of its stages the collector comes to.
 use Rattle.std.specs.Prelude.{IfSome}
 use Rattle.std.proofs.Common.{◌≡◌, ◌≢◌, ◌⊎◌, ℕ, ◌+◌, ◌/◌, ◌%◌, ◌<◌, true, List, [], length, Option, Some, None, inl, inr, refl, sym, ap, ◌∙◌, subst, arith}
+use Rattle.heap_model.specs.declared.entry.Entry.{Entry}
 use Rattle.heap_model.specs.declared.heap.Heap.{Heap}
 use Rattle.heap_model.specs.account.Cycles.{graph_of}
 use Rattle.core_machine.specs.collector.Copying.{next_half, left_half, next_place_of, after_seen}
@@ -10,6 +11,7 @@ use Rattle.core_machine.specs.declared.collector.stage.Stage.{Stage}
 use Rattle.core_machine.specs.declared.collector.stage.Stage.TheVariants as stages
 use Rattle.core_machine.specs.declared.collector.stage.Visit.{Visit}
 use Rattle.core_machine.specs.declared.table.address.Address.{Address}
+use Rattle.core_machine.specs.declared.table.address.Address.TheVariants.{Budget, Spot}
 use Rattle.core_machine.specs.machine.Machine.{State, seat_at}
 use Rattle.core_machine.specs.machine.Value.{IsMachine}
 use Rattle.core_machine.specs.table.Layout.{at, put}
@@ -96,15 +98,19 @@ seen_free heap phase group marked = seen_cases heap phase group marked IsFree
     (λ last. record { of_copying = tt; few = tt; none = refl; no_words = refl })
     (λ place. record { of_copying = tt; few = tt; none = refl; no_words = refl })
 
--- what is asked of the stage to which a load leads
-pub record LeadsTo (heap : Heap) (state : State) (book : Book) (stage : Stage) : Type 0 where
+-- what is asked of the stage to which a turn leads that leaves these words, and the place of the next spine
+pub record LeadsBy (heap : Heap) (state : State) (book : Book) (words : List ℕ) (stage : Stage) : Type 0 where
   pub of_copying : IsOfCopying stage
   pub few : IsFewWords stage
   pub as_many : copying_words stage ≡ copying_words state.collector.stage
   pub arrays : (i : ℕ) → i < length book.made → IsKept book.owner book.fragments i → (node_at (graph_of heap book.history) book.made i).array ≡ true
       → ((book.spines i).half ≡ (next_spine heap state.words).half) ⊎ AwaitsCopy state.collector.phase stage (fragment_at (book.fragments i) 0)
   pub copies : WhileCopying (CopyingStands (node_at (graph_of heap book.history) book.made) book.made book.owner book.colour book.fragments book.spines (next_spine heap state.words).half) stage
-  pub copy : CopyInHand heap state.words book.spine_owner stage
+  pub copy : CopyInHand heap words book.spine_owner stage
+
+-- and to which a load does
+abbrev pub LeadsTo : Heap → State → Book → Stage → Type 0
+LeadsTo heap state book stage = LeadsBy heap state book state.words stage
 
 module _ (heap : Heap) (state : State) (book : Book) (rule : Rule heap state book) (from : Copying) (was : state.collector.stage ≡ stages.Copying from) where
   fits_copying : (state.collector.looked ≡ heap.seats) × (state.collector.phase % 7 ≡ 4) × FitsCopying heap from
@@ -134,40 +140,45 @@ module _ (heap : Heap) (state : State) (book : Book) (rule : Rule heap state boo
   pub half_next : (next_spine heap state.words).half ≡ next_half state.collector.phase
   half_next = rule.space.halves.half ∙ half_copying state.collector.phase state.collector.stage in_copying
 
-  -- a load leaves the spine space
-  pub halves_copying : (stage : Stage) → LeadsTo heap state book stage → HalvesStand heap (after_turn state state.words (record state.collector { stage = stage })) book
-  halves_copying stage leads = let old = rule.space.halves in record {
-    half = half_next ∙ sym (half_copying state.collector.phase stage in_copying);
-    before = λ half offset some. elim (old.before half offset some) [
-      | inl here ↦ inl here
-      | inr behind ↦ inr record { leaving = leaving stage; a_half = behind.a_half; other = behind.other; before = behind.before }
-    ];
-    arrays = leads.arrays;
-    hands = λ r below has. elim (old.hands r below has) [
-      | inl here ↦ inl here
-      | inr early ↦ inr record { leaving = leaving stage; behind = early.behind }
-    ];
-    swung = old.swung;
-    copies = leads.copies;
-    copy = leads.copy;
-  }
+  module _ (words : List ℕ) (spot : at heap words Spot ≡ at heap state.words Spot) (log : List Entry) (stage : Stage) (leads : LeadsBy heap state book words stage) where
+    abbrev turned : State
+    turned = after_turn state words (record state.collector { stage = stage; log = log })
 
-  pub budgets_copying : (stage : Stage) → LeadsTo heap state book stage → BudgetsStand heap (after_turn state state.words (record state.collector { stage = stage })) book
-  budgets_copying stage leads =
-      let old = rule.space.budgets in
-      let none : returning stage ≡ returning state.collector.stage = none_returned stage leads.of_copying ∙ ap returning (sym was) in
-      record {
-        level = λ goes. absurd (goes (leaving stage));
-        leaving = λ _. omega (arith, old.leaving (leaving state.collector.stage), leads.as_many);
-        word = omega (arith, old.word, none);
-        told = omega (arith, old.told, none);
-        low = omega (arith, old.low, none);
-        returned = omega (arith, old.returned, none);
-        early = old.early;
-        counts = none_counted _ book.owner stage leads.of_copying;
-      }
+    -- spines stand in their halves there
+    pub halves_copying : HalvesStand heap turned book
+    halves_copying = let old = rule.space.halves in record {
+      half = rw spot (half_next ∙ sym (half_copying state.collector.phase stage in_copying));
+      before = rw spot (λ half offset some. elim (old.before half offset some) [
+        | inl here ↦ inl here
+        | inr behind ↦ inr record { leaving = leaving stage; a_half = behind.a_half; other = behind.other; before = behind.before }
+      ]);
+      arrays = rw spot leads.arrays;
+      hands = rw spot (λ r below has. elim (old.hands r below has) [
+        | inl here ↦ inl here
+        | inr early ↦ inr record { leaving = leaving stage; behind = early.behind }
+      ]);
+      swung = rw spot old.swung;
+      copies = rw spot leads.copies;
+      copy = leads.copy;
+    }
 
-  -- and keeps the rule
+    -- and as many words are granted
+    pub budgets_copying : at heap words Budget ≡ at heap state.words Budget → BudgetsStand heap turned book
+    budgets_copying budget =
+        let old = rule.space.budgets in
+        let none : returning stage ≡ returning state.collector.stage = none_returned stage leads.of_copying ∙ ap returning (sym was) in
+        record {
+          level = λ goes. absurd (goes (leaving stage));
+          leaving = λ _. rw spot (omega (arith, old.leaving (leaving state.collector.stage), leads.as_many));
+          word = omega (arith, budget, old.word, none);
+          told = omega (arith, old.told, none);
+          low = omega (arith, old.low, none);
+          returned = omega (arith, old.returned, none);
+          early = old.early;
+          counts = none_counted _ book.owner stage leads.of_copying;
+        }
+
+  -- a load keeps the rule
   pub copying_loads : (stage : Stage) → LeadsTo heap state book stage → (a : Address)
       → IsMachine heap (after_turn state (put heap state.words a (at heap state.words a)) (quiet (record state.collector { stage = stage })))
       → Keeps heap state (after_turn state (put heap state.words a (at heap state.words a)) (quiet (record state.collector { stage = stage }))) book book.begun []
@@ -177,7 +188,7 @@ module _ (heap : Heap) (state : State) (book : Book) (rule : Rule heap state boo
         heap_marks = marks_copying heap state.words book.owner book.colour book.fragments state.collector.phase in_copying after_marking stage leads.of_copying leads.few;
         roots = λ r below marks. absurd (omega (arith, marks.phase, in_copying));
       }
-      record { budgets = budgets_copying stage leads; halves = halves_copying stage leads }
+      record { budgets = budgets_copying state.words refl state.collector.log stage leads refl; halves = halves_copying state.words refl state.collector.log stage leads }
       (book_stays heap state book book.history book.begun)
 
   module _ (free : IsFree (stages.Copying from)) where

@@ -2,7 +2,7 @@
 use Rattle.std.proofs.Common.{◌≡◌, ◌≢◌, ◌⊎◌, ℕ, ◌+◌, ◌*◌, ◌/◌, ◌%◌, ◌<◌, ◌≤◌, true, false, List, [], ◌∷◌, ◌++◌, length, Some, inl, inr, refl, sym, ap, ◌∙◌, subst, arith}
 use Rattle.std.proofs.lemmas.Bool.{cases_eq}
 use Rattle.heap_words.specs.declared.spot.Spot.{Spot}
-use Rattle.heap_words.specs.Spot.{spot_in, spot_word}
+use Rattle.heap_words.specs.Spot.{spot_word}
 use Rattle.heap_model.specs.declared.entry.Entry.{Entry}
 use Rattle.heap_model.specs.declared.entry.Entry.TheVariants.{Swings}
 use Rattle.heap_model.specs.declared.heap.Heap.{Heap}
@@ -126,11 +126,8 @@ module _ (heap : Heap) (state : State) (book : Book) (rule : Rule heap state boo
   leads_back = leads_swung heap state.words rule.machine.table s inside copy.from copy.to from_fits to_fits place_told copied
 
   -- the next spine has its place where it had it
-  spot_same : at heap now addresses.Spot ≡ at heap state.words addresses.Spot
+  pub spot_same : at heap now addresses.Spot ≡ at heap state.words addresses.Spot
   spot_same = at-put_apart heap state.words (Word s 2) addresses.Spot (spot_word copy.to) (λ e. omega (arith, e))
-
-  pub next_same : next_spine heap now ≡ next_spine heap state.words
-  next_same = ap spot_in spot_same
 
   old : SpinesStand heap state.words heap.seats (length book.made) nodes book.owner book.fragments book.spines book.spine_owner
   old = rule.heap_stands.spines

@@ -1,0 +1,91 @@
+-- An array swings to the collector's copy of its spine: that keeps the rule.
+use Rattle.std.specs.Option.{IsSomeAnd}
+use Rattle.std.proofs.Common.{◌≡◌, ℕ, ◌%◌, ◌<◌, true, false, List, [], ◌∷◌, ◌++◌, length, Some, inl, refl, sym, ap, ◌∙◌, subst, arith}
+use Rattle.std.proofs.lemmas.List.Elements.{filter-append}
+use Rattle.heap_words.specs.declared.spot.Spot.{Spot}
+use Rattle.heap_model.specs.declared.entry.Entry.{Entry}
+use Rattle.heap_model.specs.declared.heap.Heap.{Heap}
+use Rattle.heap_model.specs.account.Account.{IsLegal}
+use Rattle.heap_model.specs.account.Cycles.{graph_of}
+use Rattle.heap_model.specs.account.PhaseCounts.{phase}
+use Rattle.heap_model.specs.account.Sweep.{IsArray, HasSwung}
+use Rattle.heap_model.specs.graph.Graph.{Graph, Node}
+use Rattle.heap_model.specs.graph.Objects.{node}
+use Rattle.core_machine.specs.collector.Collector.{turn_at}
+use Rattle.core_machine.specs.declared.collector.stage.Copying.TheVariants.{Swinging}
+use Rattle.core_machine.specs.declared.collector.stage.SpineCopy.{SpineCopy}
+use Rattle.core_machine.specs.declared.collector.stage.Stage.TheVariants as stages
+use Rattle.core_machine.specs.machine.Machine.{State}
+use Rattle.core_rule.specs.Book.{Book, id_at}
+use Rattle.core_rule.specs.Counts.{is_collectors}
+use Rattle.core_rule.specs.Objects.{node_at}
+use Rattle.core_rule.specs.Phases.{CollectorAgrees}
+use Rattle.core_rule.specs.Rule.{Rule}
+use Rattle.core_rule.specs.Spines.{next_spine}
+use Rattle.core_rule.proofs.copies.CopyingStages.{in_copying, after_marking, marks_copying}
+use Rattle.core_rule.proofs.copies.SwungBook.{to_copy, its, now, entry, book_swung}
+use Rattle.core_rule.proofs.copies.SwungSeats.{heap_swung, seat_swung}
+use Rattle.core_rule.proofs.copies.SwungSpace.{collector_swung, stage, free, space_swung}
+use Rattle.core_rule.proofs.entries.Legality.{legal_more, keeps_swings}
+use Rattle.core_rule.proofs.entries.PhaseEntries.{phase_stays, answered_stays, left_stays}
+use Rattle.core_rule.proofs.footprint.BookGoing.{owners_stay}
+use Rattle.core_rule.proofs.graph.SameNodes.{made_node}
+use Rattle.core_rule.proofs.steps.TurnSteps.{TurnKeeps, turn_steps}
+
+module _ (heap : Heap) (state : State) (book : Book) (rule : Rule heap state book) (copy : SpineCopy) (swinging : state.collector.stage ≡ stages.Copying (Swinging copy)) where
+  abbrev g : Graph
+  g = graph_of heap book.history
+
+  abbrev later : Book
+  later = book_swung heap state book rule copy swinging
+
+  abbrev log : List Entry
+  log = state.collector.log ++ entry heap state book rule copy swinging ∷ []
+
+  fourth : phase book.history % 7 ≡ 4
+  fourth = ap (λ p. p % 7) (sym rule.collector_stands.phase_told) ∙ in_copying heap state book rule (Swinging copy) swinging
+
+  -- it is an array
+  is_array : IsArray g copy.array.id
+  is_array =
+      let found = (to_copy heap state book rule copy swinging).found in
+      let made : node g (id_at book.made found.begins.index) ≡ Some (node_at g book.made found.begins.index)
+      = made_node (node g (id_at book.made found.begins.index)) (rule.heap_stands.ids.in_graph found.begins.index (its heap state book rule copy swinging).0) in
+      subst (λ o. IsSomeAnd o (λ (object : Node). object.array ≡ true)) (sym (ap (node g) found.named ∙ made)) found.begins.is_array
+
+  -- that hasn't swung in this phase
+  unswung : ¬ HasSwung copy.array.id book.history
+  unswung swung =
+      let copies = to_copy heap state book rule copy swinging in
+      let there = its heap state book rule copy swinging in
+      copies.left (ap (λ (p : Spot). p.half) copies.own ∙ rule.space.halves.swung (in_copying heap state book rule (Swinging copy) swinging) copies.found.begins.index there.0 there.1
+      (subst (λ id. HasSwung id book.history) copies.found.named swung))
+
+  legal : IsLegal heap false later.history
+  legal = legal_more heap false book.history (entry heap state book rule copy swinging) rule.heap_stands.legal tt
+      (keeps_swings heap false book.history copy.array.id (fourth, is_array, unswung))
+
+  module _ (there : copy.to.half ≡ (next_spine heap state.words).half) where
+    agrees : CollectorAgrees heap (collector_swung heap state book rule copy swinging there log) later.history
+    agrees =
+        let told = entry heap state book rule copy swinging in
+        let stands = rule.collector_stands in
+        record {
+          log = rw (filter-append is_collectors book.history (told ∷ []), stands.log) refl;
+          phase_told = stands.phase_told ∙ sym (phase_stays book.history told refl);
+          looked = λ number less below present.
+              answered_stays book.history told number refl ∙ stands.looked number less below (sym (left_stays book.history told number refl) ∙ present) ∙ sym (phase_stays book.history told refl);
+        }
+
+    swing_turns : TurnKeeps heap state book (turn_at heap state.collector (stages.Copying (Swinging copy)))
+    swing_turns machine =
+        let goes_free = free heap state book rule copy swinging there in
+        turn_steps heap state book (now heap state book rule copy swinging) (collector_swung heap state book rule copy swinging there log) later (entry heap state book rule copy swinging ∷ []) rule machine refl
+        (heap_swung heap state book rule copy swinging legal) (λ r below stands. seat_swung heap state book rule copy swinging r below stands) agrees
+        record {
+          heap_marks = marks_copying heap (now heap state book rule copy swinging) book.owner book.colour book.fragments state.collector.phase (in_copying heap state book rule (Swinging copy) swinging)
+              (after_marking heap state book rule (Swinging copy) swinging) (stage heap state book rule copy swinging there) goes_free.of_copying goes_free.few;
+          roots = λ r below marks. absurd (omega (arith, marks.phase, in_copying heap state book rule (Swinging copy) swinging));
+        }
+        (space_swung heap state book rule copy swinging there log)
+        record { made = λ j below. refl; owners = owners_stay (length book.made) book.owner; marked = λ f j k owned below marked. inl marked }
