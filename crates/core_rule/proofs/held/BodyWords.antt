@@ -50,37 +50,39 @@ module _ (heap : Heap) (state : State) (book : Book) (rule : Rule heap state boo
       cc (held, bears)
 
   -- so the seat stands at a birth
+  birth_place : (place : Place) → FitsPlace heap seat place → place ≡ places.Making Bearing
+  birth_place (places.Making Bearing) fits = refl
+  birth_place (places.Making Granting) fits = absurd (some_body fits.0.no_body)
+  birth_place (places.Making Withdrawing) fits = absurd (some_body fits.rests.no_body)
+  birth_place (places.Making Gathering) fits = absurd (some_body fits.no_body)
+  birth_place (places.Making Returning) fits = absurd (some_body fits.0.no_body)
+  birth_place (places.Making Refusing) fits = absurd (some_body fits.0.no_body)
+  birth_place (places.Making Placing) fits = absurd (some_borne fits.0.2.all_unborn)
+  birth_place (places.Making Listing) fits = absurd (some_borne fits.0.2.all_unborn)
+  birth_place (places.Making Storing) fits = absurd (some_borne fits.1)
+  birth_place places.Idle fits = absurd (some_body fits.no_body)
+  birth_place places.Local fits = absurd (some_body fits.0.no_body)
+  birth_place (places.Access place) fits = absurd (some_body fits.no_body)
+  birth_place (places.Polling place) fits = absurd (some_body fits.no_body)
+  birth_place (places.Collecting place) fits = absurd (some_body fits.0.no_body)
+  birth_place (places.Leaving place) fits = absurd (some_body fits.0.no_body)
+
   pub bears_at_birth : seat.place ≡ places.Making Bearing
-  bears_at_birth = by seat.place (seat_fits rule number here).at_place
-    where
-      by : (place : Place) → FitsPlace heap seat place → place ≡ places.Making Bearing
-      by (places.Making Bearing) fits = refl
-      by (places.Making Granting) fits = absurd (some_body fits.0.no_body)
-      by (places.Making Withdrawing) fits = absurd (some_body fits.rests.no_body)
-      by (places.Making Gathering) fits = absurd (some_body fits.no_body)
-      by (places.Making Returning) fits = absurd (some_body fits.0.no_body)
-      by (places.Making Refusing) fits = absurd (some_body fits.0.no_body)
-      by (places.Making Placing) fits = absurd (some_borne fits.0.2.all_unborn)
-      by (places.Making Listing) fits = absurd (some_borne fits.0.2.all_unborn)
-      by (places.Making Storing) fits = absurd (some_borne fits.1)
-      by places.Idle fits = absurd (some_body fits.no_body)
-      by places.Local fits = absurd (some_body fits.0.no_body)
-      by (places.Access place) fits = absurd (some_body fits.no_body)
-      by (places.Polling place) fits = absurd (some_body fits.no_body)
-      by (places.Collecting place) fits = absurd (some_body fits.0.no_body)
-      by (places.Leaving place) fits = absurd (some_body fits.0.no_body)
+  bears_at_birth = birth_place seat.place (seat_fits rule number here).at_place
 
   -- and has stored each word of the object and of its spine
-  pub bearing : HasBody seat × (seat.stored ≡ 4 * length seat.body) × IsListed seat.command seat.spine seat.listed × (IsArray seat.command → HasPlace seat seat.place)
-  bearing =
-      let fits = subst (FitsPlace heap seat) bears_at_birth (seat_fits rule number here).at_place in
-      (fits.0, fits.3, fits.4, λ an_array. subst (HasPlace seat) (sym bears_at_birth) an_array)
+  pub bearing : (place : Place) → FitsPlace heap seat place
+      → HasBody seat × (seat.stored ≡ 4 * length seat.body) × IsListed seat.command seat.spine seat.listed × (IsArray seat.command → HasPlace seat place)
+  bearing place fits =
+      let birth = birth_place place fits in
+      let there = subst (FitsPlace heap seat) birth fits in
+      (there.0, there.3, there.4, λ an_array. subst (HasPlace seat) (sym birth) an_array)
 
   -- a source of the fragment leads to one of the seat's
   pub borne_leads : (source x : ℕ) → WordPointsTo heap state.words f source x → IsAlive (book.owner x)
   borne_leads source x leads =
       let fits = seat_fits rule number here in
-      let has = bearing in
+      let has = bearing seat.place fits.at_place in
       let place = place_within f seat.body in_body in
       let k : ℕ = place_of f seat.body in
       let next = body_leads heap state.words book.owner number seat rule.machine.limits here has.0 fits.hand stands.own.holding

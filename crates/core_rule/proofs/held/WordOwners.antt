@@ -149,7 +149,7 @@ module _ (heap : Heap) (state : State) (book : Book) (rule : Rule heap state boo
 
     pub borne_word : IsInHandOf state number half offset
     borne_word =
-        let has = bearing heap state book rule number f bears in
+        let has = bearing heap state book rule number f bears seat.place (seat_fits rule number here).at_place in
         let place = place_within f seat.body (in_body heap state book rule number f bears) in
         by_command seat.command refl has.0.makes.an_object has.0.makes.in_range has.3 place.0
         (λ part within. subst (λ x. at heap state.words (Word x part) ≡ newborn_word_of number seat k part) place.1
