@@ -81,7 +81,7 @@ module _ (heap : Heap) (words : List ℕ) (g : Graph) (made : List Id) (owner : 
   one_kept n c =
       let first : ℕ = fragment_at (fragments n) 0 in
       let less = sum_le (16 * heap.groups) (λ f. kept_weight (λ i. if i == n then c else 0) (owner f)) (λ f. if first == f then c else 0) (λ f below.
-          elim (head_or_none (owner f)) [ inl head ↦ rw head.1 (at_first f head.0 head.1) | inr none ↦ omega (arith, none (λ i. if i == n then c else 0)) ]) in
+      elim (head_or_none (owner f)) [ inl head ↦ rw head.1 (at_first f head.0 head.1) | inr none ↦ omega (arith, none (λ i. if i == n then c else 0)) ]) in
       omega (arith, less, sum_at_one (16 * heap.groups) first c)
     where
       at_first : (f i : ℕ) → owner f ≡ Kept i 0 → (if i == n then c else 0) ≤ (if fragment_at (fragments n) 0 == f then c else 0)

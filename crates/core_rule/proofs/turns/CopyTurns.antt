@@ -47,7 +47,7 @@ module _ (heap : Heap) (phase looked : ℕ) (words : List ℕ) where
     visit_on_leaves : left_at (visit_on heap visit) + copy_most ≤ visit_left heap.groups visit
     visit_on_leaves =
         let next = seen_leaves visit.group visit.marked (visit.place + 1) (next_place_of visit.marked (visit.place + 1)) fits.group_within
-            (place_after visit.marked (visit.place + 1)) (place_within visit.marked (visit.place + 1)) in
+        (place_after visit.marked (visit.place + 1)) (place_within visit.marked (visit.place + 1)) in
         omega (arith, next, fits.place_within)
 
     inspected_leaves : (cells : Option ℕ) → left_at (after_inspected heap visit cells) < visit_left heap.groups visit
