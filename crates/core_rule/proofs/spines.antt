@@ -14,6 +14,7 @@ pub mod Flips
 pub mod LeftHalf
 pub mod PhaseSpaces
 pub mod SweepSums
+pub mod SweptSpace
 pub mod UsedWords
 pub mod DyingWords
 pub mod WeightSums
