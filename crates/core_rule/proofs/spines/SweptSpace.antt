@@ -1,5 +1,5 @@
 -- The spine space where the sweep frees what is to be freed, and returns the words of arrays among it.
-use Rattle.std.proofs.Common.{◌≡◌, ◌≢◌, ℕ, ◌+◌, ◌*◌, ◌/◌, ◌%◌, ◌<◌, ◌≤◌, ◌⊎◌, true, List, None, length, inl, inr, refl, sym, ap, ◌∙◌, arith}
+use Rattle.std.proofs.Common.{◌≡◌, ℕ, ◌+◌, ◌%◌, ◌<◌, ◌⊎◌, true, List, None, length, inl, inr, refl, sym, ap, ◌∙◌, arith}
 use Rattle.heap_words.specs.declared.spot.Spot.{Spot}
 use Rattle.heap_model.specs.declared.entry.Entry.{Entry}
 use Rattle.heap_model.specs.declared.heap.Heap.{Heap}
@@ -19,7 +19,7 @@ use Rattle.core_rule.specs.Objects.{IsKept, node_at}
 use Rattle.core_rule.specs.Owners.{Owner}
 use Rattle.core_rule.specs.Replicas.{copy_in}
 use Rattle.core_rule.specs.Rule.{Rule, SpaceStands}
-use Rattle.core_rule.specs.Spines.{HasPlace, next_spine}
+use Rattle.core_rule.specs.Spines.{next_spine}
 use Rattle.core_rule.proofs.objects.ObjectFrames.{SameKept}
 use Rattle.core_rule.proofs.spines.BudgetFrames.{kept_sum_stays}
 use Rattle.core_rule.proofs.spines.OtherWords.{LeavesPlaces}

@@ -1,5 +1,5 @@
 -- The collector returns the spine words of a group's arrays that it has freed: that keeps the rule.
-use Rattle.std.proofs.Common.{◌≡◌, ℕ, ◌+◌, ◌-◌, ◌%◌, ◌^◌, ◌<◌, ◌≤◌, false, List, [], ◌∷◌, ◌++◌, inr, refl, sym, ap, ◌∙◌, subst, arith}
+use Rattle.std.proofs.Common.{◌≡◌, ℕ, ◌+◌, ◌-◌, ◌%◌, ◌^◌, ◌<◌, false, List, [], ◌∷◌, ◌++◌, inr, refl, sym, ap, ◌∙◌, subst, arith}
 use Rattle.std.proofs.lemmas.List.Elements.{filter-append}
 use Rattle.heap_model.specs.declared.entry.Entry.{Entry}
 use Rattle.heap_model.specs.declared.entry.Entry.TheVariants.{Returns}
@@ -7,7 +7,7 @@ use Rattle.heap_model.specs.declared.heap.Heap.{Heap}
 use Rattle.heap_model.specs.account.Account.{IsLegal}
 use Rattle.heap_model.specs.account.Cycles.{graph_of}
 use Rattle.heap_model.specs.account.PhaseCounts.{phase}
-use Rattle.heap_model.specs.account.Space.{words_granted, words_returned}
+use Rattle.heap_model.specs.account.Space.{words_returned}
 use Rattle.heap_model.specs.account.Windows.{begins_cycle, since_cycle}
 use Rattle.heap_model.specs.graph.Graph.{Graph, opening}
 use Rattle.heap_model.specs.graph.Objects.{graph_seat}
@@ -23,7 +23,7 @@ use Rattle.core_machine.specs.machine.Machine.{State, seat_at}
 use Rattle.core_machine.specs.table.Layout.{at}
 use Rattle.core_machine.proofs.table_lemmas.Addresses.{at-put_same}
 use Rattle.core_rule.specs.Book.{Book}
-use Rattle.core_rule.specs.Budgets.{SweepCounts, dead_sum, words_of, nodes_in, returning, returned_in_cycle}
+use Rattle.core_rule.specs.Budgets.{SweepCounts, dead_sum, words_of, nodes_in, returning}
 use Rattle.core_rule.specs.Counts.{is_collectors}
 use Rattle.core_rule.specs.Marking.{MarkingStands}
 use Rattle.core_rule.specs.Objects.{node_at}
@@ -43,7 +43,7 @@ use Rattle.core_rule.proofs.spines.BudgetFrames.{none_granted_by}
 use Rattle.core_rule.proofs.spines.BudgetSteps.{budget_small, budget_falls}
 use Rattle.core_rule.proofs.spines.SpineFrames.{same_kept}
 use Rattle.core_rule.proofs.spines.SweptSpace.{CopiesNone, Sweeps, space_swept}
-use Rattle.core_rule.proofs.steps.TurnSteps.{StageKeeps, after_turn, turn_steps}
+use Rattle.core_rule.proofs.steps.TurnSteps.{StageKeeps, turn_steps}
 
 module _ (heap : Heap) (state : State) (book : Book) (rule : Rule heap state book) (group counted : ℕ) (returns : state.collector.stage ≡ stages.Returning group counted) where
   fits : IsReturning heap state.collector.phase state.collector.looked group counted
