@@ -22,6 +22,7 @@ use Rattle.core_rule.specs.Rule.{Rule, SpaceStands}
 use Rattle.core_rule.specs.Spines.{next_spine}
 use Rattle.core_rule.proofs.objects.ObjectFrames.{SameKept}
 use Rattle.core_rule.proofs.spines.BudgetFrames.{kept_sum_stays}
+use Rattle.core_rule.proofs.spines.Leaving.{arrays_here}
 use Rattle.core_rule.proofs.spines.OtherWords.{LeavesPlaces}
 use Rattle.core_rule.proofs.spines.StagesOn.{copy_moves}
 use Rattle.core_rule.proofs.steps.TurnSteps.{after_turn}
@@ -124,10 +125,7 @@ module _ (heap : Heap) (state : State) (book : Book) (rule : Rule heap state boo
       half_same = rw swept refl
 
       array_here : (i : ℕ) → i < length book.made → IsKept book.owner book.fragments i → (nodes_in heap book i).array ≡ true → (book.spines i).half ≡ next.half
-      array_here i below is kind = elim (rule.space.halves.arrays i below is kind) as (λ _. (book.spines i).half ≡ next.half) [
-        | inl there ↦ there
-        | inr waits ↦ absurd (none_awaits p state.collector.stage (fragment_at (book.fragments i) 0) swept was_none waits)
-      ]
+      array_here = arrays_here heap state book rule.space.halves (λ f. none_awaits p state.collector.stage f swept was_none)
 
   -- so it stands
   pub space_swept : (returns : ℕ) → Sweeps returns → SpaceStands heap turned later
